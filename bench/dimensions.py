@@ -29,6 +29,7 @@ BEYOND = "beyond reading"
 @dataclass(frozen=True)
 class Run:
     """A script, and the texts of its grids by name."""
+
     script: str
     grids: dict[str, str]
 
@@ -36,6 +37,7 @@ class Run:
 @dataclass(frozen=True)
 class Dimension:
     """What grows, the smallest of its three sizes, and the run of a size. `off` is what is taken off it, an empty run or BEYOND."""
+
     title: str
     least: int
     run: Callable[[int], Run]
@@ -48,7 +50,9 @@ def header(rows, cols, more=""):
 
 def grid(rows, cols, cell, between=" ", end="\n", more=""):
     """The text of a grid, each cell by its row and column."""
-    return header(rows, cols, more) + "".join(between.join(cell(row, col) for col in range(cols)) + end for row in range(rows))
+    return header(rows, cols, more) + "".join(
+        between.join(cell(row, col) for col in range(cols)) + end for row in range(rows)
+    )
 
 
 def noise(row, col):
@@ -97,7 +101,9 @@ def of_noise(script):
 
 def assigned(title, least, expression):
     """An expression by its size, over 1,000 cells."""
-    return Dimension(title, least, over(SMALL, lambda n: f"r.mapcalc m = {expression(n)}\n"), BEYOND)
+    return Dimension(
+        title, least, over(SMALL, lambda n: f"r.mapcalc m = {expression(n)}\n"), BEYOND
+    )
 
 
 def comb(rows):
@@ -130,47 +136,118 @@ GRIDS = (
     Dimension("rows, two blanks", 400, apart("  ")),
     Dimension("rows, cells set right in five places", 400, apart(" ", 5)),
     Dimension("rows, CR LF", 400, lambda n: reading(grid(n, COLS, noise, end="\r\n"))),
-    Dimension("rows, all cells equal", 1600, lambda n: reading(grid(n, COLS, lambda row, col: "7"))),
+    Dimension(
+        "rows, all cells equal", 1600, lambda n: reading(grid(n, COLS, lambda row, col: "7"))
+    ),
     Dimension("rows, no two cells alike", 400, lambda n: reading(distinct(n))),
-    Dimension("blanks between two cells", 250_000, lambda n: reading(header(1, 2) + "1" + n * " " + "2\n")),
-    Dimension("line feeds between two cells", 250_000, lambda n: reading(header(1, 2) + "1" + n * "\n" + "2\n")),
-    Dimension("blanks, few, between each two of 5,000 cells", 15, lambda n: reading(grid(50, COLS, noise, n * " "))),
-    Dimension("blanks, many, between each two of 1,000 cells", 100, lambda n: reading(grid(10, COLS, noise, n * " "))),
-    Dimension("digits of each of 5,000 cells, zeros in front", 15,
-              lambda n: reading(grid(50, COLS, lambda row, col: noise(row, col).zfill(n)))),
-    Dimension("bytes of the null text, 5,000 times", 15,
-              lambda n: reading(grid(50, COLS, lambda row, col: n * "x", more=f"null: {n * 'x'}\n"))),
+    Dimension(
+        "blanks between two cells", 250_000, lambda n: reading(header(1, 2) + "1" + n * " " + "2\n")
+    ),
+    Dimension(
+        "line feeds between two cells",
+        250_000,
+        lambda n: reading(header(1, 2) + "1" + n * "\n" + "2\n"),
+    ),
+    Dimension(
+        "blanks, few, between each two of 5,000 cells",
+        15,
+        lambda n: reading(grid(50, COLS, noise, n * " ")),
+    ),
+    Dimension(
+        "blanks, many, between each two of 1,000 cells",
+        100,
+        lambda n: reading(grid(10, COLS, noise, n * " ")),
+    ),
+    Dimension(
+        "digits of each of 5,000 cells, zeros in front",
+        15,
+        lambda n: reading(grid(50, COLS, lambda row, col: noise(row, col).zfill(n))),
+    ),
+    Dimension(
+        "bytes of the null text, 5,000 times",
+        15,
+        lambda n: reading(grid(50, COLS, lambda row, col: n * "x", more=f"null: {n * 'x'}\n")),
+    ),
     Dimension("grids", 100, lambda n: Run("", {f"g{i}": ONE for i in range(n)})),
 )
 SCRIPTS = (
-    Dimension("maps, each over the one before", 500,
-              over(ONE, lambda n: "r.mapcalc a0 = g\n" + every(n, lambda i: f"r.mapcalc a{i + 1} = a{i}\n"))),
-    Dimension("bytes of the names of 400 maps", 15,
-              over(ONE, lambda n: every(400, lambda i: f"r.mapcalc {f'_{i}'.rjust(n, 'a')} = 1\n"))),
+    Dimension(
+        "maps, each over the one before",
+        500,
+        over(
+            ONE, lambda n: "r.mapcalc a0 = g\n" + every(n, lambda i: f"r.mapcalc a{i + 1} = a{i}\n")
+        ),
+    ),
+    Dimension(
+        "bytes of the names of 400 maps",
+        15,
+        over(ONE, lambda n: every(400, lambda i: f"r.mapcalc {f'_{i}'.rjust(n, 'a')} = 1\n")),
+    ),
     Dimension("tables", 1000, over(ONE, lambda n: n * "r.stats -c input=g\n")),
     Dimension("blank lines", 100_000, over(ONE, lambda n: n * "\n")),
     Dimension("comments", 10_000, over(ONE, lambda n: n * "# a comment\n")),
     Dimension("bytes of a comment", 16_000, over(ONE, lambda n: "#" + n * "x")),
     Dimension("blanks in a line", 16_000, over(ONE, lambda n: "r.stats" + n * " " + "input=g\n")),
-    Dimension("r.reclass, each of the map before", 250,
-              over(ONE, lambda n: "r.mapcalc a0 = g\n"
-                   + every(n, lambda i: f"r.reclass input=a{i} output=a{i + 1}\n* = *\nend\n"))),
-    Dimension("r.clump, each of the map before", 250,
-              over(ONE, lambda n: "r.mapcalc a0 = g\n" + every(n, lambda i: f"r.clump input=a{i} output=a{i + 1}\n"))),
+    Dimension(
+        "r.reclass, each of the map before",
+        250,
+        over(
+            ONE,
+            lambda n: "r.mapcalc a0 = g\n"
+            + every(n, lambda i: f"r.reclass input=a{i} output=a{i + 1}\n* = *\nend\n"),
+        ),
+    ),
+    Dimension(
+        "r.clump, each of the map before",
+        250,
+        over(
+            ONE,
+            lambda n: "r.mapcalc a0 = g\n"
+            + every(n, lambda i: f"r.clump input=a{i} output=a{i + 1}\n"),
+        ),
+    ),
 )
 RULES = (
-    Dimension("rules of a category each", 1000, over(SMALL, lambda n: rules(every(n, lambda i: f"{i} = {i}\n"))), BEYOND),
-    Dimension("rules of ranges, each within the one before", 1000,
-              over(SMALL, lambda n: rules(every(n, lambda i: f"{i} thru {2 * n - i} = {i}\n"))), BEYOND),
-    Dimension("rules of ranges, each around the one before", 1000,
-              over(SMALL, lambda n: rules(every(n, lambda i: f"{n - i} thru {n + i} = {i}\n"))), BEYOND),
-    Dimension("categories of one rule", 2000, over(SMALL, lambda n: rules(every(n, str, " ") + " = 1\n")), BEYOND),
+    Dimension(
+        "rules of a category each",
+        1000,
+        over(SMALL, lambda n: rules(every(n, lambda i: f"{i} = {i}\n"))),
+        BEYOND,
+    ),
+    Dimension(
+        "rules of ranges, each within the one before",
+        1000,
+        over(SMALL, lambda n: rules(every(n, lambda i: f"{i} thru {2 * n - i} = {i}\n"))),
+        BEYOND,
+    ),
+    Dimension(
+        "rules of ranges, each around the one before",
+        1000,
+        over(SMALL, lambda n: rules(every(n, lambda i: f"{n - i} thru {n + i} = {i}\n"))),
+        BEYOND,
+    ),
+    Dimension(
+        "categories of one rule",
+        2000,
+        over(SMALL, lambda n: rules(every(n, str, " ") + " = 1\n")),
+        BEYOND,
+    ),
     Dimension("rules of `*`", 4000, over(SMALL, lambda n: rules(n * "* = 1\n")), BEYOND),
-    Dimension("hundreds of labels, printed by -l", 10,
-              lambda n: Run(rules(every(100 * n, lambda i: f"{i} = {i} label {i}\n"), "r.stats -cl input=m\n"),
-                            {"g": grid(n, COLS, lambda row, col: str(row * COLS + col))}), BEYOND),
-    Dimension("bytes of a label", 16_000,
-              over(SMALL, lambda n: rules(f"* = 1 {n * 'x'}\n", "r.stats -cl input=m\n")), BEYOND),
+    Dimension(
+        "hundreds of labels, printed by -l",
+        10,
+        lambda n: Run(
+            rules(every(100 * n, lambda i: f"{i} = {i} label {i}\n"), "r.stats -cl input=m\n"),
+            {"g": grid(n, COLS, lambda row, col: str(row * COLS + col))},
+        ),
+        BEYOND,
+    ),
+    Dimension(
+        "bytes of a label",
+        16_000,
+        over(SMALL, lambda n: rules(f"* = 1 {n * 'x'}\n", "r.stats -cl input=m\n")),
+        BEYOND,
+    ),
 )
 EXPRESSIONS = (
     ("terms of a sum", 100, lambda n: every(n, lambda i: "g", "+")),
@@ -185,26 +262,79 @@ EXPRESSIONS = (
     ("neighbours", 30, lambda n: every(n, lambda i: f"g[{i // 11},{i % 11}]", "+")),
 )
 WINDOWS = (
-    Dimension("maps of a sum", 50, over(SMALL, lambda n: f"{made(n)}r.mapcalc m = {names(n)}\n"), BEYOND),
-    Dimension("rows of an offset, 3,000 cells", 60, over(TALL, lambda n: f"r.mapcalc m = g[{n},0] + g[-{n},0]\n"), BEYOND),
-    Dimension("columns of an offset, 3,000 cells", 60, over(WIDE, lambda n: f"r.mapcalc m = g[0,{n}] + g[0,-{n}]\n"), BEYOND),
+    Dimension(
+        "maps of a sum", 50, over(SMALL, lambda n: f"{made(n)}r.mapcalc m = {names(n)}\n"), BEYOND
+    ),
+    Dimension(
+        "rows of an offset, 3,000 cells",
+        60,
+        over(TALL, lambda n: f"r.mapcalc m = g[{n},0] + g[-{n},0]\n"),
+        BEYOND,
+    ),
+    Dimension(
+        "columns of an offset, 3,000 cells",
+        60,
+        over(WIDE, lambda n: f"r.mapcalc m = g[0,{n}] + g[0,-{n}]\n"),
+        BEYOND,
+    ),
 )
 TABLES = (
-    Dimension("hundreds of categories, each once", 40, of_distinct(lambda n: "r.stats -c input=g\n"), BEYOND),
-    Dimension("hundreds of combinations of two maps, each once", 40,
-              of_distinct(lambda n: "r.mapcalc h = row()\nr.stats -c input=g,h\n"), BEYOND),
-    Dimension("maps of a table of 1,000 cells", 4,
-              over(SMALL, lambda n: f"r.stats -c input={every(n, lambda i: 'g', ',')}\n"), BEYOND),
+    Dimension(
+        "hundreds of categories, each once",
+        40,
+        of_distinct(lambda n: "r.stats -c input=g\n"),
+        BEYOND,
+    ),
+    Dimension(
+        "hundreds of combinations of two maps, each once",
+        40,
+        of_distinct(lambda n: "r.mapcalc h = row()\nr.stats -c input=g,h\n"),
+        BEYOND,
+    ),
+    Dimension(
+        "maps of a table of 1,000 cells",
+        4,
+        over(SMALL, lambda n: f"r.stats -c input={every(n, lambda i: 'g', ',')}\n"),
+        BEYOND,
+    ),
     Dimension("rows of cells printed by -1", 100, of_noise("r.stats -1 input=g\n"), BEYOND),
-    Dimension("hundreds of categories, half of them passed by `after=`", 40,
-              of_distinct(lambda n: "r.stats -c input=g after=500000\n"), BEYOND),
-    Dimension("tables with `after=`, of 1,000 categories", 10,
-              over(distinct(10), lambda n: n * "r.stats -c input=g after=500000\n"), BEYOND),
-    Dimension("hundreds of patches of a cell", 100, of_distinct(lambda n: "r.clump input=g output=m\n"), BEYOND),
-    Dimension("rows of a comb, one area", 100, lambda n: Run("r.clump input=g output=m\n", {"g": comb(n)}), BEYOND),
-    Dimension("rows of noise, their patches and sizes", 100, of_noise("r.clump input=g output=m\nr.stats -c input=m\n"), BEYOND),
+    Dimension(
+        "hundreds of categories, half of them passed by `after=`",
+        40,
+        of_distinct(lambda n: "r.stats -c input=g after=500000\n"),
+        BEYOND,
+    ),
+    Dimension(
+        "tables with `after=`, of 1,000 categories",
+        10,
+        over(distinct(10), lambda n: n * "r.stats -c input=g after=500000\n"),
+        BEYOND,
+    ),
+    Dimension(
+        "hundreds of patches of a cell",
+        100,
+        of_distinct(lambda n: "r.clump input=g output=m\n"),
+        BEYOND,
+    ),
+    Dimension(
+        "rows of a comb, one area",
+        100,
+        lambda n: Run("r.clump input=g output=m\n", {"g": comb(n)}),
+        BEYOND,
+    ),
+    Dimension(
+        "rows of noise, their patches and sizes",
+        100,
+        of_noise("r.clump input=g output=m\nr.stats -c input=m\n"),
+        BEYOND,
+    ),
     Dimension("rows written, noise", 100, of_noise("r.out.ascii input=g\n"), BEYOND),
-    Dimension("rows written, no two cells alike", 100, of_distinct(lambda n: "r.out.ascii input=g\n"), BEYOND),
+    Dimension(
+        "rows written, no two cells alike",
+        100,
+        of_distinct(lambda n: "r.out.ascii input=g\n"),
+        BEYOND,
+    ),
 )
 DIMENSIONS = (*GRIDS, *SCRIPTS, *RULES, *(assigned(*it) for it in EXPRESSIONS), *WINDOWS, *TABLES)
 
@@ -216,10 +346,19 @@ def counted(program, run):
             with open(f"{folder}/{name}.txt", "w", encoding="ascii", newline="") as file:
                 file.write(text)
         named = [f"{name}={folder}/{name}.txt" for name in run.grids]
-        words = ["valgrind", "--tool=callgrind", "--callgrind-out-file=/dev/null", program, f"{folder}/script.txt", *named]
+        words = [
+            "valgrind",
+            "--tool=callgrind",
+            "--callgrind-out-file=/dev/null",
+            program,
+            f"{folder}/script.txt",
+            *named,
+        ]
         done = subprocess.run(words, stdout=subprocess.DEVNULL, stderr=subprocess.PIPE, text=True)
     if done.returncode != 0:
-        raise SystemExit(f"a run ended with status {done.returncode}: {run.script[:200]}\n{done.stderr[-2000:]}")
+        raise SystemExit(
+            f"a run ended with status {done.returncode}: {run.script[:200]}\n{done.stderr[-2000:]}"
+        )
     return int(COLLECTED.search(done.stderr)[1])
 
 
@@ -246,7 +385,9 @@ def rows(program, word):
     yield "| --- | --- | --- | --- |"
     wanted, empty = [it for it in DIMENSIONS if word in it.title], counted(program, EMPTY)
     with concurrent.futures.ThreadPoolExecutor(len(os.sched_getaffinity(0))) as pool:
-        for dimension, found in zip(wanted, pool.map(lambda it: [*costs(program, it, empty)], wanted)):
+        for dimension, found in zip(
+            wanted, pool.map(lambda it: [*costs(program, it, empty)], wanted)
+        ):
             yield row(dimension, found)
 
 

@@ -56,19 +56,32 @@ def taken(command):
 print(json.dumps({name: taken(command) for name, command in json.loads(sys.argv[1]).items()}))
 """
 HELPERS = {
-    "cat to a file": "exec cat lc.asc > copy", "rcell-aaigrid to a file": "exec {helpers}/rcell-aaigrid lc.asc lc.txt",
-    "cat of noise": "exec cat noise.asc > copy", "rcell-aaigrid of noise": "exec {helpers}/rcell-aaigrid noise.asc noise.txt",
-    "cat to cat": "cat lc.asc | cat > copy", "cat to rcell-aaigrid": "cat lc.asc | {helpers}/rcell-aaigrid > copy",
+    "cat to a file": "exec cat lc.asc > copy",
+    "rcell-aaigrid to a file": "exec {helpers}/rcell-aaigrid lc.asc lc.txt",
+    "cat of noise": "exec cat noise.asc > copy",
+    "rcell-aaigrid of noise": "exec {helpers}/rcell-aaigrid noise.asc noise.txt",
+    "cat to cat": "cat lc.asc | cat > copy",
+    "cat to rcell-aaigrid": "cat lc.asc | {helpers}/rcell-aaigrid > copy",
     "rcell-tif and rcell": "{helpers}/rcell-tif lc.tif t.txt && {rcell} counts lc=t.txt > table",
 }
-GRASS = {"r.in.gdal and r.stats": "r.in.gdal -o input=lc.tif output=lc --overwrite --quiet && g.region raster=lc && r.stats -cn lc --quiet > table.grass"}
-BOUNDS = (("rcell-aaigrid to a file", "cat to a file", TIMES_CAT), ("rcell-aaigrid of noise", "cat of noise", TIMES_CAT),
-          ("cat to rcell-aaigrid", "cat to cat", TIMES_CAT),
-          ("rcell-tif and rcell", "r.in.gdal and r.stats", TIMES_GRASS))
+GRASS = {
+    "r.in.gdal and r.stats": "r.in.gdal -o input=lc.tif output=lc --overwrite --quiet && g.region raster=lc && r.stats -cn lc --quiet > table.grass"
+}
+BOUNDS = (
+    ("rcell-aaigrid to a file", "cat to a file", TIMES_CAT),
+    ("rcell-aaigrid of noise", "cat of noise", TIMES_CAT),
+    ("cat to rcell-aaigrid", "cat to cat", TIMES_CAT),
+    ("rcell-tif and rcell", "r.in.gdal and r.stats", TIMES_GRASS),
+)
 
 
 def taken(room, commands, inside=()):
-    ran = subprocess.run([*inside, PYTHON, "-c", TIME, json.dumps(commands)], cwd=room, stdout=subprocess.PIPE, stderr=subprocess.PIPE)
+    ran = subprocess.run(
+        [*inside, PYTHON, "-c", TIME, json.dumps(commands)],
+        cwd=room,
+        stdout=subprocess.PIPE,
+        stderr=subprocess.PIPE,
+    )
     if ran.returncode:
         sys.exit(ran.stderr.decode())
     return json.loads(ran.stdout.splitlines()[-1])
@@ -77,10 +90,15 @@ def taken(room, commands, inside=()):
 def measured(room, rounds):
     """The smallest time of each way, over rounds by turns."""
     least = {}
-    helpers = {name: command.format(helpers=f"{ROOT}/helpers", rcell=f"{ROOT}/bin/rcell") for name, command in HELPERS.items()}
+    helpers = {
+        name: command.format(helpers=f"{ROOT}/helpers", rcell=f"{ROOT}/bin/rcell")
+        for name, command in HELPERS.items()
+    }
     has_grass = bool(shutil.which("grass"))
     if has_grass:
-        subprocess.run(["grass", "-e", "-c", "XY", "here"], cwd=room, check=True, capture_output=True)
+        subprocess.run(
+            ["grass", "-e", "-c", "XY", "here"], cwd=room, check=True, capture_output=True
+        )
     else:
         print("grass: not installed, left out")
     for _ in range(rounds):
@@ -91,17 +109,25 @@ def measured(room, rounds):
 
 
 def main():
-    words = argparse.ArgumentParser(description=__doc__, formatter_class=argparse.RawDescriptionHelpFormatter)
+    words = argparse.ArgumentParser(
+        description=__doc__, formatter_class=argparse.RawDescriptionHelpFormatter
+    )
     words.add_argument("--cells", type=int, default=20_000_000)
     words.add_argument("--rounds", type=int, default=5)
     settings = words.parse_args()
     passed = failed = 0
     with tempfile.TemporaryDirectory(prefix="rcell-speed-") as room:
-        subprocess.run([PYTHON, "-c", MAKE, str(settings.cells // COLUMNS), str(COLUMNS)], cwd=room, check=True)
+        subprocess.run(
+            [PYTHON, "-c", MAKE, str(settings.cells // COLUMNS), str(COLUMNS)], cwd=room, check=True
+        )
         with open(f"{room}/counts", "w", encoding="ascii") as file:
             file.write("r.stats -c -n input=lc\n")
         least = measured(room, settings.rounds)
-        tables = [open(f"{room}/{name}", "rb").read() for name in ("table", "table.grass") if os.path.exists(f"{room}/{name}")]
+        tables = [
+            open(f"{room}/{name}", "rb").read()
+            for name in ("table", "table.grass")
+            if os.path.exists(f"{room}/{name}")
+        ]
     for name, time in least.items():
         print(f"{name}: {time:.3f} s")
     for name, beside, bound in BOUNDS:

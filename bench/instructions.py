@@ -16,7 +16,10 @@ from rcell_front.pipe import Block, Map, request  # noqa: E402
 
 SIDE = 2000
 CELLS = SIDE * SIDE
-MARKS = ("<!-- The table of instructions of rcell-pipe -->\n", "<!-- End of the instructions of rcell-pipe -->\n")
+MARKS = (
+    "<!-- The table of instructions of rcell-pipe -->\n",
+    "<!-- End of the instructions of rcell-pipe -->\n",
+)
 TASKS = {"table": b"r.stats -c input=g\n", "in and out": b"r.out.ascii input=g\n"}
 TYPES = {"u8": "B", "i16": "h", "i32": "i"}
 
@@ -25,7 +28,11 @@ def rows(program):
     yield f"| Cells | {' | '.join(f'{kind}, {task}' for kind in ('patchy', 'noise') for task in TASKS)} |"
     yield "| --- | --- | --- | --- | --- |"
     for name, code in TYPES.items():
-        found = [f"{sent(program, kind, name, code, script) / CELLS:.1f}" for kind in ("patchy", "noise") for script in TASKS.values()]
+        found = [
+            f"{sent(program, kind, name, code, script) / CELLS:.1f}"
+            for kind in ("patchy", "noise")
+            for script in TASKS.values()
+        ]
         yield f"| {name} | {' | '.join(found)} |"
 
 
@@ -33,9 +40,26 @@ def sent(program, kind, name, code, script):
     """How many instructions a request takes."""
     with open(grid_file(kind, 1, SIDE), encoding="ascii") as file:
         rows = file.read().split("\n")[HEADER_LINES:]
-    cells = array.array(code, [0 if word == "*" else int(word) for row in rows for word in row.split()])
+    cells = array.array(
+        code, [0 if word == "*" else int(word) for row in rows for word in row.split()]
+    )
     with open(f"{OUT}/request", "w+b") as file:
-        file.writelines(request([Map("g", (str(SIDE), "0", str(SIDE), "0"), SIDE, SIDE, name, [Block(cells)], nodata=0)], script))
+        file.writelines(
+            request(
+                [
+                    Map(
+                        "g",
+                        (str(SIDE), "0", str(SIDE), "0"),
+                        SIDE,
+                        SIDE,
+                        name,
+                        [Block(cells)],
+                        nodata=0,
+                    )
+                ],
+                script,
+            )
+        )
         file.seek(0)
         return instructions([program], file)
 

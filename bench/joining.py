@@ -31,7 +31,9 @@ ROOT = os.path.dirname(HERE)
 DOCUMENT = f"{ROOT}/bench/RESULTS.md"
 MARKS = ("<!-- The tables of bench/joining.py -->\n", "<!-- End of them -->\n")
 ENVIRONMENT = {"PATH": "/usr/bin:/bin", "LC_ALL": "C"}
-ROW_OF_CATEGORIES = 4  # categories of the cells of a side: few, so that clumps continue in the next tile
+ROW_OF_CATEGORIES = (
+    4  # categories of the cells of a side: few, so that clumps continue in the next tile
+)
 LENGTH_OF_A_RUN = 8
 ADDING = "NR == 1 || $1 != before { if (NR > 1) print before, cells; before = $1; cells = 0 } { cells += $2 } END { print before, cells }"
 MEGABYTE = 2**20
@@ -55,13 +57,24 @@ def cost_of(commands: list[list[str]], output: str = "/dev/null") -> Cost:
         for place, words in enumerate(commands):
             before, is_last = running[-1].stdout if running else None, place == len(commands) - 1
             timed = ["/usr/bin/time", "-f", "%M", "-o", f"{told}/{place}", *words]
-            running.append(subprocess.Popen(timed, stdin=before, stdout=file if is_last else subprocess.PIPE, env=ENVIRONMENT))
+            running.append(
+                subprocess.Popen(
+                    timed,
+                    stdin=before,
+                    stdout=file if is_last else subprocess.PIPE,
+                    env=ENVIRONMENT,
+                )
+            )
             if before:
                 before.close()
         used = [os.wait4(process.pid, 0) for process in running]
         if any(status for _, status, _ in used):
-            sys.exit(f"{commands} ended in {[os.waitstatus_to_exitcode(status) for _, status, _ in used]}")
-        memory = [int(open(f"{told}/{place}", encoding="ascii").read()) for place in range(len(commands))]
+            sys.exit(
+                f"{commands} ended in {[os.waitstatus_to_exitcode(status) for _, status, _ in used]}"
+            )
+        memory = [
+            int(open(f"{told}/{place}", encoding="ascii").read()) for place in range(len(commands))
+        ]
     return Cost(sum(it.ru_utime + it.ru_stime for _, _, it in used), 1024 * max(memory))
 
 
@@ -71,7 +84,11 @@ def least(contenders: dict[str, Callable[[], Cost]], rounds: int) -> dict[str, C
     for _ in range(rounds):
         for name, run in contenders.items():
             cost, known = run(), found.get(name)
-            found[name] = cost if known is None else Cost(min(cost.seconds, known.seconds), min(cost.memory, known.memory))
+            found[name] = (
+                cost
+                if known is None
+                else Cost(min(cost.seconds, known.seconds), min(cost.memory, known.memory))
+            )
     return found
 
 
@@ -89,30 +106,46 @@ def make_tables(folder: str, tiles: int, entries: int, shared: int) -> list[str]
     apart = np.array_split(random.permutation(whole), tiles)
     paths = []
     for tile in range(tiles):
-        of_tile = apart[tile] if shared == 1 else random.choice(whole, entries // tiles, replace=False)
+        of_tile = (
+            apart[tile] if shared == 1 else random.choice(whole, entries // tiles, replace=False)
+        )
         categories = np.sort(of_tile)
         cells = random.integers(1, 10**6, len(categories))
         paths.append(f"{folder}/{tile}.table")
         with open(paths[-1], "w", encoding="ascii") as file:
-            file.writelines(f"{category} {count}\n" for category, count in zip(categories.tolist(), cells.tolist()))
+            file.writelines(
+                f"{category} {count}\n"
+                for category, count in zip(categories.tolist(), cells.tolist())
+            )
     return paths
 
 
-def time_tables(program: str, folder: str, tiles: int, entries: int, shared: int, rounds: int) -> Iterator[str]:
+def time_tables(
+    program: str, folder: str, tiles: int, entries: int, shared: int, rounds: int
+) -> Iterator[str]:
     paths = make_tables(folder, tiles, entries, shared)
     sort = ["sort", "-m", "-n", "-s", "-k1,1", f"--batch-size={tiles}", *paths]
     awk = ["awk", "-v", "OFMT=%.0f", "-v", "CONVFMT=%.0f", ADDING]
     for name, commands in (("joined", [[program, "tables", *paths]]), ("added", [sort, awk])):
         cost_of(commands, f"{folder}/{name}")
     subprocess.run(["cmp", f"{folder}/joined", f"{folder}/added"], check=True)
-    found = least({"join": lambda: cost_of([[program, "tables", *paths]]), "sort": lambda: cost_of([sort]), "both": lambda: cost_of([sort, awk])}, rounds)
+    found = least(
+        {
+            "join": lambda: cost_of([[program, "tables", *paths]]),
+            "sort": lambda: cost_of([sort]),
+            "both": lambda: cost_of([sort, awk]),
+        },
+        rounds,
+    )
     join, alone, both = (found[name] for name in ("join", "sort", "both"))
-    yield f"{tiles:,} | {entries:,} | {shared} | {join.seconds:.2f} s | {alone.seconds:.2f} s | {join.seconds / alone.seconds:.2f} | {both.seconds:.2f} s | " \
-          f"{join.seconds / both.seconds:.2f} | {1e9 * join.seconds / entries:.0f} ns | {megabytes(join.memory)} | {megabytes(alone.memory)}"
+    yield f"{tiles:,} | {entries:,} | {shared} | {join.seconds:.2f} s | {alone.seconds:.2f} s | {join.seconds / alone.seconds:.2f} | {both.seconds:.2f} s | " f"{join.seconds / both.seconds:.2f} | {1e9 * join.seconds / entries:.0f} ns | {megabytes(join.memory)} | {megabytes(alone.memory)}"
 
 
-TABLES = ("Tables", "`rcell-join tables`, each entry in one of the tables, in all, or in some four of them.",
-          "Tables | entries of all | each in | rcell-join | `sort -m` | ratio | `sort -m \\| awk` | ratio | an entry | memory: rcell-join | `sort -m`")
+TABLES = (
+    "Tables",
+    "`rcell-join tables`, each entry in one of the tables, in all, or in some four of them.",
+    "Tables | entries of all | each in | rcell-join | `sort -m` | ratio | `sort -m \\| awk` | ratio | an entry | memory: rcell-join | `sort -m`",
+)
 
 # Clumps
 
@@ -145,42 +178,68 @@ def random_side(random: np.random.Generator, length: int, begun: Any) -> Side:
     runs = -(-length // LENGTH_OF_A_RUN)
     numbers = np.sort(random.choice(int(begun[0]), runs, replace=False)) + 1
     categories = random.integers(1, ROW_OF_CATEGORIES + 1, runs)
-    return Side(np.repeat(categories, LENGTH_OF_A_RUN)[:length], np.repeat(numbers, LENGTH_OF_A_RUN)[:length])
+    return Side(
+        np.repeat(categories, LENGTH_OF_A_RUN)[:length],
+        np.repeat(numbers, LENGTH_OF_A_RUN)[:length],
+    )
 
 
-def write_border(path: str, place: tuple[int, int], shape: tuple[int, int], sides: list[Side], begun: list[int]) -> None:
+def write_border(
+    path: str, place: tuple[int, int], shape: tuple[int, int], sides: list[Side], begun: list[int]
+) -> None:
     (top, left), (rows, cols) = place, shape
     width = max(rows, cols, 4)
     lines = [line for side in sides for line in side.lines] + [[rows, cols, sum(begun), 4], begun]
     with open(path, "w", encoding="ascii") as file:
-        file.write(f"north: {-top}\nsouth: {-top - rows}\neast: {left + cols}\nwest: {left}\nrows: 10\ncols: {width}\n")
-        file.writelines(" ".join(map(str, line)) + " *" * (width - len(line)) + "\n" for line in lines)
+        file.write(
+            f"north: {-top}\nsouth: {-top - rows}\neast: {left + cols}\nwest: {left}\nrows: 10\ncols: {width}\n"
+        )
+        file.writelines(
+            " ".join(map(str, line)) + " *" * (width - len(line)) + "\n" for line in lines
+        )
 
 
 def meeting(one: Side, first: int, other: Side, second: int) -> Any:
     """The pairs of clumps, counted through all tiles, that meet over a seam."""
     alike = one.cells == other.cells
-    return np.unique(np.stack([one.numbers[alike] - 1 + first, other.numbers[alike] - 1 + second]), axis=1)
+    return np.unique(
+        np.stack([one.numbers[alike] - 1 + first, other.numbers[alike] - 1 + second]), axis=1
+    )
 
 
 def make_borders(folder: str, grid: tuple[int, int], shape: tuple[int, int], clumps: int) -> Made:
     """Borders of a grid of tiles of one shape, of so many clumps each, of which half begin in the first row."""
     random, (rows, cols) = np.random.default_rng(grid[0] + shape[1]), shape
-    begun = [clumps] if rows == 1 else [clumps - clumps // 2, *np.diff(np.linspace(0, clumps // 2, rows).astype(int)).tolist()]
+    begun = (
+        [clumps]
+        if rows == 1
+        else [
+            clumps - clumps // 2,
+            *np.diff(np.linspace(0, clumps // 2, rows).astype(int)).tolist(),
+        ]
+    )
     paths, pairs, above, on_sides = [], [], {}, 0
     for row in range(grid[0]):
         east = None
         for col in range(grid[1]):
             base = len(paths) * clumps
-            first, last, west, own_east = (random_side(random, length, begun) for length in (cols, cols, rows, rows))
-            on_sides += len(np.unique(np.concatenate([side.numbers for side in (first, last, west, own_east)])))
+            first, last, west, own_east = (
+                random_side(random, length, begun) for length in (cols, cols, rows, rows)
+            )
+            on_sides += len(
+                np.unique(np.concatenate([side.numbers for side in (first, last, west, own_east)]))
+            )
             paths.append(f"{folder}/{row:05d}-{col:03d}.border")
-            write_border(paths[-1], (row * rows, col * cols), shape, [first, last, west, own_east], begun)
+            write_border(
+                paths[-1], (row * rows, col * cols), shape, [first, last, west, own_east], begun
+            )
             pairs += [meeting(above[col], base - grid[1] * clumps, first, base)] if row else []
             pairs += [meeting(east, base - clumps, west, base)] if east else []
             above[col], east = last, own_east
     np.save(f"{folder}/pairs.npy", np.concatenate(pairs, axis=1))
-    return Made(paths, f"{folder}/pairs.npy", len(paths) * clumps, on_sides, len(paths) * 2 * (rows + cols))
+    return Made(
+        paths, f"{folder}/pairs.npy", len(paths) * clumps, on_sides, len(paths) * 2 * (rows + cols)
+    )
 
 
 UNION = """
@@ -199,13 +258,19 @@ print(count, time.process_time() - begin, resource.getrusage(resource.RUSAGE_SEL
 def union(made: Made) -> tuple[int, Cost]:
     """How many clumps scipy finds, and what its union alone costs, without the start of Python and the reading of pairs."""
     words = [sys.executable, "-c", UNION, made.pairs, str(made.clumps)]
-    count, seconds, memory = subprocess.run(words, check=True, capture_output=True, text=True, env=ENVIRONMENT).stdout.split()
+    count, seconds, memory = subprocess.run(
+        words, check=True, capture_output=True, text=True, env=ENVIRONMENT
+    ).stdout.split()
     return int(count), Cost(float(seconds), int(memory))
 
 
 def greatest_number(path: str) -> int:
     """The largest number of a numbering."""
-    ran = subprocess.run(["awk", "{ n = $4 + $3 - $2; if (n > most) most = n } END { printf \"%d\\n\", most }", path], check=True, capture_output=True)
+    ran = subprocess.run(
+        ["awk", '{ n = $4 + $3 - $2; if (n > most) most = n } END { printf "%d\\n", most }', path],
+        check=True,
+        capture_output=True,
+    )
     return int(ran.stdout)
 
 
@@ -215,7 +280,14 @@ def lines_of(path: str) -> int:
         return sum(1 for _ in file)
 
 
-def time_clumps(program: str, folder: str, grid: tuple[int, int], shape: tuple[int, int], clumps: int, rounds: int) -> Iterator[str]:
+def time_clumps(
+    program: str,
+    folder: str,
+    grid: tuple[int, int],
+    shape: tuple[int, int],
+    clumps: int,
+    rounds: int,
+) -> Iterator[str]:
     made = make_borders(folder, grid, shape, clumps)
     words = [program, "clumps", *made.paths]
     cost_of([words], f"{folder}/numbering")
@@ -224,15 +296,20 @@ def time_clumps(program: str, folder: str, grid: tuple[int, int], shape: tuple[i
     costs = least({"join": lambda: cost_of([words]), "scipy": lambda: union(made)[1]}, rounds)
     join, scipy = costs["join"], costs["scipy"]
     text = sum(os.path.getsize(path) for path in made.paths)
-    limit = MOST_WITHOUT_CELLS + BYTES_OF_A_CELL * made.cells + BYTES_OF_A_LINE * lines_of(f"{folder}/numbering")
-    yield f"{grid[0]:,} x {grid[1]} of {shape[0]:,} x {shape[1]:,} | {made.clumps:,} | {made.on_sides:,} | {megabytes(text)} | {join.seconds:.2f} s | " \
-          f"{scipy.seconds:.2f} s | {join.seconds / scipy.seconds:.2f} | {1e9 * join.seconds / made.cells:.0f} ns | {megabytes(join.memory)} | " \
-          f"{megabytes(limit)} | {megabytes(scipy.memory)}"
+    limit = (
+        MOST_WITHOUT_CELLS
+        + BYTES_OF_A_CELL * made.cells
+        + BYTES_OF_A_LINE * lines_of(f"{folder}/numbering")
+    )
+    yield f"{grid[0]:,} x {grid[1]} of {shape[0]:,} x {shape[1]:,} | {made.clumps:,} | {made.on_sides:,} | {megabytes(text)} | {join.seconds:.2f} s | " f"{scipy.seconds:.2f} s | {join.seconds / scipy.seconds:.2f} | {1e9 * join.seconds / made.cells:.0f} ns | {megabytes(join.memory)} | " f"{megabytes(limit)} | {megabytes(scipy.memory)}"
 
 
-CLUMPS = ("Clumps", "`rcell-join clumps` of borders, in runs of 8 cells of four categories, and scipy's union of the same pairs, without "
-          "the reading of texts, the search for pairs and the writing of numbers.",
-          "Tiles | clumps | on sides | borders | rcell-join | scipy's union | ratio | a cell of the sides | memory: rcell-join | limit | scipy")
+CLUMPS = (
+    "Clumps",
+    "`rcell-join clumps` of borders, in runs of 8 cells of four categories, and scipy's union of the same pairs, without "
+    "the reading of texts, the search for pairs and the writing of numbers.",
+    "Tiles | clumps | on sides | borders | rcell-join | scipy's union | ratio | a cell of the sides | memory: rcell-join | limit | scipy",
+)
 
 
 # Sizes
@@ -249,14 +326,26 @@ def time_sizes(program: str, folder: str, tiles: int, clumps: int, rounds: int) 
             file.write(text)
     words = [program, "sizes", f"{folder}/numbering", *tables]
     cost_of([words], f"{folder}/sizes")
-    added = subprocess.run(["awk", "{ cells += $2 } END { printf \"%d %.0f\\n\", NR, cells }", f"{folder}/sizes"], check=True, capture_output=True, text=True)
-    if added.stdout.split() != [str(count), str(tiles * sum(1 + clump % 97 for clump in range(1, clumps + 1)))]:
+    added = subprocess.run(
+        ["awk", '{ cells += $2 } END { printf "%d %.0f\\n", NR, cells }', f"{folder}/sizes"],
+        check=True,
+        capture_output=True,
+        text=True,
+    )
+    if added.stdout.split() != [
+        str(count),
+        str(tiles * sum(1 + clump % 97 for clump in range(1, clumps + 1))),
+    ]:
         sys.exit(f"sizes: {added.stdout}, where {count} clumps are")
     cost = least({"join": lambda: cost_of([words])}, rounds)["join"]
     yield f"{tiles:,} | {tiles * clumps:,} | {cost.seconds:.2f} s | {1e9 * cost.seconds / tiles / clumps:.0f} ns | {megabytes(cost.memory)} | {megabytes(8 * count)}"
 
 
-SIZES = ("Sizes", "`rcell-join sizes`.", "Tiles | entries of all tables | rcell-join | an entry | memory | formula")
+SIZES = (
+    "Sizes",
+    "`rcell-join sizes`.",
+    "Tiles | entries of all tables | rcell-join | an entry | memory | formula",
+)
 
 
 def machine() -> str:
@@ -268,20 +357,56 @@ def machine() -> str:
 def table(part: tuple[str, str, str], rows: list[str]) -> str:
     title, text, header = part
     columns = header.replace("\\|", "").count("|") + 1
-    return "\n".join([f"**{title}.** {text}", "", f"| {header} |", "|---" * columns + "|", *(f"| {row} |" for row in rows), ""])
+    return "\n".join(
+        [
+            f"**{title}.** {text}",
+            "",
+            f"| {header} |",
+            "|---" * columns + "|",
+            *(f"| {row} |" for row in rows),
+            "",
+        ]
+    )
 
 
 def measured(given: argparse.Namespace) -> Iterator[str]:
     part, rounds = (10, 1) if given.short else (1, given.rounds)
-    kinds = [(64, 1, 4), (64, 2, 4), (64, 1, 1), (64, 2, 1), (64, 1, 64), (2, 1, 1), (2, 1, 2), (1000, 1, 1), (1000, 2, 1), (1000, 1, 4)]
+    kinds = [
+        (64, 1, 4),
+        (64, 2, 4),
+        (64, 1, 1),
+        (64, 2, 1),
+        (64, 1, 64),
+        (2, 1, 1),
+        (2, 1, 2),
+        (1000, 1, 1),
+        (1000, 2, 1),
+        (1000, 1, 4),
+    ]
     tables = [(tiles, millions * 1_000_000 // part, shared) for tiles, millions, shared in kinds]
     columns = [(tiles // part, 1) for tiles in (1000, 2000, 1000, 1000, 1000, 1000, 1000)]
-    wide, many = (1000, 1000, 2000, 4000, 1000, 1000, 1000), (10_000, 10_000, 10_000, 10_000, 20_000, 40_000, 100_000)
+    wide, many = (1000, 1000, 2000, 4000, 1000, 1000, 1000), (
+        10_000,
+        10_000,
+        10_000,
+        10_000,
+        20_000,
+        40_000,
+        100_000,
+    )
     borders = [(grid, (1, cols), clumps) for grid, cols, clumps in zip(columns, wide, many)]
-    borders += [((61, 8), (1025, 8200), clumps) for clumps in (10_000, 1_000_000)] if part == 1 else [((6, 8), (1025, 8200), 10_000)]
+    borders += (
+        [((61, 8), (1025, 8200), clumps) for clumps in (10_000, 1_000_000)]
+        if part == 1
+        else [((6, 8), (1025, 8200), 10_000)]
+    )
     borders += [((down // part, right), (256, 256), 4_000) for down, right in ((30, 50), (50, 100))]
     sizes = [(100, clumps // part) for clumps in (50_000, 100_000, 200_000)]
-    for kind, run, inputs in ((TABLES, time_tables, tables), (CLUMPS, time_clumps, borders), (SIZES, time_sizes, sizes)):
+    for kind, run, inputs in (
+        (TABLES, time_tables, tables),
+        (CLUMPS, time_clumps, borders),
+        (SIZES, time_sizes, sizes),
+    ):
         if given.only and given.only not in kind[0].lower():
             continue
         rows = []

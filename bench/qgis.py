@@ -56,23 +56,35 @@ class Way:
 def patches(seed: int, rows: int, cols: int, classes: int) -> NDArray[np.uint8]:
     """Ragged patches of some dozen cells across, as of land cover; 2.4 % are null."""
     generator = np.random.default_rng(seed)
-    codes = generator.choice(np.array([0, *range(11, 11 + 6 * classes, 6)], np.uint8), (rows // 16 + 3, cols // 16 + 3),
-                             p=[0.024, *[0.976 / classes] * classes])
+    codes = generator.choice(
+        np.array([0, *range(11, 11 + 6 * classes, 6)], np.uint8),
+        (rows // 16 + 3, cols // 16 + 3),
+        p=[0.024, *[0.976 / classes] * classes],
+    )
     # Patches get ragged edges: each cell takes the code of a block next to its own, as far as two waves say.
     down, across = np.arange(rows)[:, None], np.arange(cols)[None, :]
     shift_down = 6 * np.sin(across / 9.0) + 3 * np.sin(down / 5.0)
     shift_across = 6 * np.sin(down / 11.0) + 3 * np.sin(across / 4.0)
-    return codes[((down + shift_down + 16) // 16).astype(np.intp), ((across + shift_across + 16) // 16).astype(np.intp)]
+    return codes[
+        ((down + shift_down + 16) // 16).astype(np.intp),
+        ((across + shift_across + 16) // 16).astype(np.intp),
+    ]
 
 
 def maps(room: str, short: bool) -> list[Map]:
     """The maps, written."""
     found = []
-    sizes = {"patches": (400, 500) if short else (4000, 5000), "noise": (300, 300) if short else (2000, 2000)}
+    sizes = {
+        "patches": (400, 500) if short else (4000, 5000),
+        "noise": (300, 300) if short else (2000, 2000),
+    }
     for name, (rows, cols) in sizes.items():
         cells = patches(1, rows, cols, 15) if name == "patches" else made.noise(2, rows, cols)
         zones = patches(3, rows, cols, 8) if name == "patches" else made.noise(4, rows, cols, 5)
-        paths = [made.write(f"{room}/{name}{at}.tif", array, gdal.GDT_Byte, nodata=0) for at, array in enumerate((cells, zones))]
+        paths = [
+            made.write(f"{room}/{name}{at}.tif", array, gdal.GDT_Byte, nodata=0)
+            for at, array in enumerate((cells, zones))
+        ]
         found.append(Map(name, paths[0], paths[1], rows * cols))
     return found
 
@@ -82,30 +94,120 @@ ZONES = "class by zone, two maps"
 RULES = "a map by rules"
 PATCHES = "patches"
 MODE = "majority of 3 x 3"
-GRASS_TABLE = {"separator": "space", "null_value": "*", "nsteps": 255, "sort": 0, "-c": True, "-n": True, "-1": False}
+GRASS_TABLE = {
+    "separator": "space",
+    "null_value": "*",
+    "nsteps": 255,
+    "sort": 0,
+    "-c": True,
+    "-n": True,
+    "-1": False,
+}
 NATIVE_RULES = [0, 30, 1, 31, 60, 2, 61, 255, 3]
 
 WAYS = [
-    Way(COUNT, "native:rasterlayeruniquevaluesreport", "native:rasterlayeruniquevaluesreport",
-        lambda it, to: {"INPUT": it.path, "BAND": 1, "OUTPUT_TABLE": f"{to}.gpkg"}),
-    Way(COUNT, "rcell:composition", "rcell:composition", lambda it, to: {"INPUT": it.path, "OUTPUT": f"{to}.gpkg"}),
-    Way(COUNT, "grass7:r.stats", "grass7:r.stats", lambda it, to: {"input": [it.path], "html": f"{to}.html", **GRASS_TABLE}),
-    Way(ZONES, "rcell:cross", "rcell:cross", lambda it, to: {"INPUT": [it.path, it.zones], "OUTPUT": f"{to}.gpkg"}),
-    Way(ZONES, "grass7:r.stats", "grass7:r.stats", lambda it, to: {"input": [it.path, it.zones], "html": f"{to}.html", **GRASS_TABLE}),
-    Way(ZONES, "native:rasterlayerzonalstats, sums of codes", "native:rasterlayerzonalstats",
-        lambda it, to: {"INPUT": it.path, "BAND": 1, "ZONES": it.zones, "ZONES_BAND": 1, "OUTPUT_TABLE": f"{to}.gpkg"}),
-    Way(RULES, "native:reclassifybytable", "native:reclassifybytable",
-        lambda it, to: {"INPUT_RASTER": it.path, "RASTER_BAND": 1, "TABLE": NATIVE_RULES, "RANGE_BOUNDARIES": 2, "NODATA_FOR_MISSING": True,
-                        "OUTPUT": f"{to}.tif"}),
-    Way(RULES, "rcell:reclass", "rcell:reclass",
-        lambda it, to: {"INPUT": it.path, "RULES": "0 thru 30 = 1 low\n31 thru 60 = 2\n61 thru 255 = 3", "OUTPUT": f"{to}.tif"}),
-    Way(PATCHES, "rcell:patches, map and table", "rcell:patches", lambda it, to: {"INPUT": it.path, "MAP": f"{to}.tif", "OUTPUT": f"{to}.gpkg"}),
-    Way(PATCHES, "rcell:patches, table alone", "rcell:patches", lambda it, to: {"INPUT": it.path, "OUTPUT": f"{to}.gpkg"}),
-    Way(PATCHES, "grass7:r.clump, map alone", "grass7:r.clump", lambda it, to: {"input": it.path, "title": "clumps", "output": f"{to}.tif"}),
-    Way(PATCHES, "gdal:polygonize, polygons", "gdal:polygonize",
-        lambda it, to: {"INPUT": it.path, "BAND": 1, "FIELD": "class", "OUTPUT": f"{to}.gpkg"}, "patches"),
-    Way(MODE, "rcell:majority", "rcell:majority", lambda it, to: {"INPUT": it.path, "OUTPUT": f"{to}.tif"}),
-    Way(MODE, "grass7:r.neighbors", "grass7:r.neighbors", lambda it, to: {"input": it.path, "method": 2, "size": 3, "output": f"{to}.tif"}),
+    Way(
+        COUNT,
+        "native:rasterlayeruniquevaluesreport",
+        "native:rasterlayeruniquevaluesreport",
+        lambda it, to: {"INPUT": it.path, "BAND": 1, "OUTPUT_TABLE": f"{to}.gpkg"},
+    ),
+    Way(
+        COUNT,
+        "rcell:composition",
+        "rcell:composition",
+        lambda it, to: {"INPUT": it.path, "OUTPUT": f"{to}.gpkg"},
+    ),
+    Way(
+        COUNT,
+        "grass7:r.stats",
+        "grass7:r.stats",
+        lambda it, to: {"input": [it.path], "html": f"{to}.html", **GRASS_TABLE},
+    ),
+    Way(
+        ZONES,
+        "rcell:cross",
+        "rcell:cross",
+        lambda it, to: {"INPUT": [it.path, it.zones], "OUTPUT": f"{to}.gpkg"},
+    ),
+    Way(
+        ZONES,
+        "grass7:r.stats",
+        "grass7:r.stats",
+        lambda it, to: {"input": [it.path, it.zones], "html": f"{to}.html", **GRASS_TABLE},
+    ),
+    Way(
+        ZONES,
+        "native:rasterlayerzonalstats, sums of codes",
+        "native:rasterlayerzonalstats",
+        lambda it, to: {
+            "INPUT": it.path,
+            "BAND": 1,
+            "ZONES": it.zones,
+            "ZONES_BAND": 1,
+            "OUTPUT_TABLE": f"{to}.gpkg",
+        },
+    ),
+    Way(
+        RULES,
+        "native:reclassifybytable",
+        "native:reclassifybytable",
+        lambda it, to: {
+            "INPUT_RASTER": it.path,
+            "RASTER_BAND": 1,
+            "TABLE": NATIVE_RULES,
+            "RANGE_BOUNDARIES": 2,
+            "NODATA_FOR_MISSING": True,
+            "OUTPUT": f"{to}.tif",
+        },
+    ),
+    Way(
+        RULES,
+        "rcell:reclass",
+        "rcell:reclass",
+        lambda it, to: {
+            "INPUT": it.path,
+            "RULES": "0 thru 30 = 1 low\n31 thru 60 = 2\n61 thru 255 = 3",
+            "OUTPUT": f"{to}.tif",
+        },
+    ),
+    Way(
+        PATCHES,
+        "rcell:patches, map and table",
+        "rcell:patches",
+        lambda it, to: {"INPUT": it.path, "MAP": f"{to}.tif", "OUTPUT": f"{to}.gpkg"},
+    ),
+    Way(
+        PATCHES,
+        "rcell:patches, table alone",
+        "rcell:patches",
+        lambda it, to: {"INPUT": it.path, "OUTPUT": f"{to}.gpkg"},
+    ),
+    Way(
+        PATCHES,
+        "grass7:r.clump, map alone",
+        "grass7:r.clump",
+        lambda it, to: {"input": it.path, "title": "clumps", "output": f"{to}.tif"},
+    ),
+    Way(
+        PATCHES,
+        "gdal:polygonize, polygons",
+        "gdal:polygonize",
+        lambda it, to: {"INPUT": it.path, "BAND": 1, "FIELD": "class", "OUTPUT": f"{to}.gpkg"},
+        "patches",
+    ),
+    Way(
+        MODE,
+        "rcell:majority",
+        "rcell:majority",
+        lambda it, to: {"INPUT": it.path, "OUTPUT": f"{to}.tif"},
+    ),
+    Way(
+        MODE,
+        "grass7:r.neighbors",
+        "grass7:r.neighbors",
+        lambda it, to: {"input": it.path, "method": 2, "size": 3, "output": f"{to}.tif"},
+    ),
 ]
 
 
@@ -131,7 +233,11 @@ def measured(found: list[Map], rounds: int) -> dict[tuple[str, str, str], float]
                     cost = (spent() - before) / it.cells * 1e9
                 key = way.question, way.name, it.name
                 least[key] = min(cost, least.get(key, cost))
-                print(f"turn {turn + 1}: {way.question}: {way.name}: {it.name}: {cost:.0f} ns", file=sys.stderr, flush=True)
+                print(
+                    f"turn {turn + 1}: {way.question}: {way.name}: {it.name}: {cost:.0f} ns",
+                    file=sys.stderr,
+                    flush=True,
+                )
     return least
 
 

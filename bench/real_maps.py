@@ -76,23 +76,48 @@ def unpacked(package, pattern, room):
 
 def land(room):
     if not os.path.exists(f"{OUT}/sea.tif"):
-        run("gmt", "grdlandmask", f"-R{REGION}", f"-I{STEP}", "-r", "-Df", "-N0/1/2/3/4", f"-G{room}/sea.nc=nb", cwd=room)
-        run("gdal_translate", "-q", "-ot", "Byte", "-a_nodata", "none", f"{room}/sea.nc", f"{OUT}/sea.tif")
+        run(
+            "gmt",
+            "grdlandmask",
+            f"-R{REGION}",
+            f"-I{STEP}",
+            "-r",
+            "-Df",
+            "-N0/1/2/3/4",
+            f"-G{room}/sea.nc=nb",
+            cwd=room,
+        )
+        run(
+            "gdal_translate",
+            "-q",
+            "-ot",
+            "Byte",
+            "-a_nodata",
+            "none",
+            f"{room}/sea.nc",
+            f"{OUT}/sea.tif",
+        )
     write_grid("real-land", gdal.Open(f"{OUT}/sea.tif").ReadAsArray(), SEA_REGION)
 
 
 def countries(room):
     run("/usr/bin/python3", COUNTRIES, f"{room}/countries.geojson", f"{room}/labels", cwd=room)
     sea = gdal.Open(f"{OUT}/sea.tif")
-    made = gdal.GetDriverByName("GTiff").Create(f"{room}/countries.tif", sea.RasterXSize, sea.RasterYSize, 1, gdal.GDT_UInt16)
+    made = gdal.GetDriverByName("GTiff").Create(
+        f"{room}/countries.tif", sea.RasterXSize, sea.RasterYSize, 1, gdal.GDT_UInt16
+    )
     made.SetGeoTransform(sea.GetGeoTransform())
     made = None
     run("gdal_rasterize", "-q", "-a", "code", f"{room}/countries.geojson", f"{room}/countries.tif")
-    write_grid("real-countries", gdal.Open(f"{room}/countries.tif").ReadAsArray(), SEA_REGION, null=0)
+    write_grid(
+        "real-countries", gdal.Open(f"{room}/countries.tif").ReadAsArray(), SEA_REGION, null=0
+    )
 
 
 def cover(room):
-    cells = gdal.Open(unpacked("r-cran-stars", "usr/lib/R/site-library/stars/tif/lc.tif", room)).ReadAsArray()
+    cells = gdal.Open(
+        unpacked("r-cran-stars", "usr/lib/R/site-library/stars/tif/lc.tif", room)
+    ).ReadAsArray()
     cells = np.tile(cells, COVER_COPIES)
     write_grid("real-cover", cells, in_cells(cells), null=0)
 
@@ -103,7 +128,12 @@ def heights(room):
     write_grid("real-heights", cells, in_cells(cells))
 
 
-MAPS = {"real-land": land, "real-countries": countries, "real-cover": cover, "real-heights": heights}
+MAPS = {
+    "real-land": land,
+    "real-countries": countries,
+    "real-cover": cover,
+    "real-heights": heights,
+}
 
 
 def main():

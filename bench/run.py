@@ -53,6 +53,7 @@ MILLION = 1e6
 @dataclass(frozen=True)
 class Task:
     """What is done: the lines of the script, and the words of the yardstick."""
+
     title: str
     script: str
     words: tuple[str, str]
@@ -63,6 +64,7 @@ class Task:
 class Bench:
     """Tasks, each over grids of some kinds of make_grid.cpp with the seeds 1, 2, .. `side` is their rows and columns, or a pair of
     both; `most` is the ratio aimed at."""
+
     title: str
     side: int | tuple[int, int]
     tasks: tuple[tuple[Task, tuple[str, ...]], ...]
@@ -72,6 +74,7 @@ class Bench:
 @dataclass
 class Taken:
     """The processor time of each round, in seconds, and the largest peak of memory, in bytes."""
+
     rounds: list[float] = field(default_factory=list)
     peak: int = 0
 
@@ -92,6 +95,7 @@ class Taken:
 @dataclass(frozen=True)
 class Goal:
     """The most that is aimed at, as ratios to the yardstick and to the program of --limit."""
+
     yardstick: float | None = None
     limit: float | None = None
 
@@ -99,13 +103,16 @@ class Goal:
 @dataclass(frozen=True)
 class Race:
     """Tasks, each over grids of a kind, of seeds 1, 2, ..; with each what is aimed at."""
+
     title: str
     tasks: tuple[tuple[Task, str, Goal], ...]
     side: int = FEW_SIDE
 
 
 NINE = " + ".join(f"g[{row},{col}]" for row in (-1, 0, 1) for col in (-1, 0, 1))
-CHOICE = "if(isnull(g), 40, if(g == 1, 10, if(g == 2 || g == 3, 20, if(g > 6 && g < 10, 30, g + 100))))"
+CHOICE = (
+    "if(isnull(g), 40, if(g == 1, 10, if(g == 2 || g == 3, 20, if(g > 6 && g < 10, 30, g + 100))))"
+)
 RULES = "1 thru 3 = 1\n4 6 = 2\n11 thru 24 = 3\n31 41 thru 43 = 4\n52 thru 71 = 5\n90 thru 95 = NULL\n* = 6\nend\n"
 
 READ = Task("reading", "", ("none", "nothing"))
@@ -114,13 +121,25 @@ STATS = Task("r.stats -c", "r.stats -c input=g\n", ("none", "stats"))
 STATS_TWO = Task("r.stats -c of two maps", "r.stats -c input=g,h\n", ("none", "stats"), 2)
 CLUMP = Task("r.clump", "r.clump input=g output=m\n", ("clump", "nothing"))
 CLUMP_CORNERS = Task("r.clump -d", "r.clump -d input=g output=m\n", ("clump-d", "nothing"))
-CLUMP_WRITE = Task("r.clump, r.out.ascii", CLUMP.script + "r.out.ascii input=m\n", ("clump", "ascii"))
-CLUMP_CORNERS_WRITE = Task("r.clump -d, r.out.ascii", CLUMP_CORNERS.script + "r.out.ascii input=m\n", ("clump-d", "ascii"))
+CLUMP_WRITE = Task(
+    "r.clump, r.out.ascii", CLUMP.script + "r.out.ascii input=m\n", ("clump", "ascii")
+)
+CLUMP_CORNERS_WRITE = Task(
+    "r.clump -d, r.out.ascii", CLUMP_CORNERS.script + "r.out.ascii input=m\n", ("clump-d", "ascii")
+)
 SUM = Task("sum of nine offsets", f"r.mapcalc m = {NINE}\n", ("sum", "nothing"))
-SUM_WRITE = Task("sum of nine offsets, r.out.ascii", SUM.script + "r.out.ascii input=m\n", ("sum", "ascii"))
+SUM_WRITE = Task(
+    "sum of nine offsets, r.out.ascii", SUM.script + "r.out.ascii input=m\n", ("sum", "ascii")
+)
 LONG_IF = Task("long `if`", f"r.mapcalc m = {CHOICE}\n", ("choice", "nothing"))
-LONG_IF_STATS = Task("long `if`, r.stats -c", LONG_IF.script + "r.stats -c input=m\n", ("choice", "stats"))
-RECLASS_STATS = Task("r.reclass, r.stats -c", f"r.reclass input=g output=m\n{RULES}r.stats -c input=m\n", ("reclass", "stats"))
+LONG_IF_STATS = Task(
+    "long `if`, r.stats -c", LONG_IF.script + "r.stats -c input=m\n", ("choice", "stats")
+)
+RECLASS_STATS = Task(
+    "r.reclass, r.stats -c",
+    f"r.reclass input=g output=m\n{RULES}r.stats -c input=m\n",
+    ("reclass", "stats"),
+)
 
 READING = (READ, STATS, WRITE)
 AREAS = (READ, CLUMP, CLUMP_CORNERS, CLUMP_WRITE, CLUMP_CORNERS_WRITE)
@@ -142,20 +161,36 @@ RACED = (
     (WRITE, Goal(0.45, 1.6), Goal(0.4, 1.7), Goal(0.9)),
 )
 # What the program of --limit calls a task.
-LIMIT_WORDS = {READ: "read", STATS: "count", STATS_TWO: "count2", CLUMP: "clump", CLUMP_CORNERS: "clumpd", CLUMP_WRITE: "clumpout",
-               WRITE: "out"}
+LIMIT_WORDS = {
+    READ: "read",
+    STATS: "count",
+    STATS_TWO: "count2",
+    CLUMP: "clump",
+    CLUMP_CORNERS: "clumpd",
+    CLUMP_WRITE: "clumpout",
+    WRITE: "out",
+}
 
 
 def raced(title, kind, goals):
     """All ten tasks over a kind of grid, with the goals in a column of RACED."""
-    tasks = tuple((task, kind, goal[goals] if goals is not None else Goal()) for task, *goal in RACED)
+    tasks = tuple(
+        (task, kind, goal[goals] if goals is not None else Goal()) for task, *goal in RACED
+    )
     return Race(f"{title}, 4 million cells", tasks)
 
 
 # Other layouts of a grid's cells: as many digits as the largest, two blanks or tabs between them, or a line each.
-LAYOUTS = tuple((Task(f"{kind}, {layout}", READ.script, READ.words), f"{kind}@{word}", Goal(1)) for kind, layout, word in (
-    ("noise", "two blanks between cells", "two"), ("noise", "tabs between cells", "tabs"), ("noise", "a line for each cell", "lines"),
-    ("noise", "cells five places wide", "padded"), ("patchy", "cells five places wide", "padded")))
+LAYOUTS = tuple(
+    (Task(f"{kind}, {layout}", READ.script, READ.words), f"{kind}@{word}", Goal(1))
+    for kind, layout, word in (
+        ("noise", "two blanks between cells", "two"),
+        ("noise", "tabs between cells", "tabs"),
+        ("noise", "a line for each cell", "lines"),
+        ("noise", "cells five places wide", "padded"),
+        ("patchy", "cells five places wide", "padded"),
+    )
+)
 
 # No dimension may take more than so many times as long as the yardstick.
 MOST = 3
@@ -172,8 +207,14 @@ def counted(title, *kinds):
 
 
 COUNTED = (
-    *(counted(f"{count:,} categories at random", f"random:{count}") for count in (10_000, 100_000, 1_000_000)),
-    *(counted(f"two maps of {count:,} values at random", *[f"random:{count}"] * 2) for count in (40, 100, 300, 1000, 3000)),
+    *(
+        counted(f"{count:,} categories at random", f"random:{count}")
+        for count in (10_000, 100_000, 1_000_000)
+    ),
+    *(
+        counted(f"two maps of {count:,} values at random", *[f"random:{count}"] * 2)
+        for count in (40, 100, 300, 1000, 3000)
+    ),
     counted("two maps of heights of five digits", *["heights:5"] * 2),
     counted("three land covers", *["cover"] * 3),
 )
@@ -190,20 +231,47 @@ PARTS = {
     "Larger maps": (
         Bench("patchy land cover, 25 million cells", 5000, over("patchy", READING)),
         Bench("noise, 25 million cells", 5000, over("noise", READING)),
-        Bench("negative numbers at random, `null: -9999`, 25 million cells", 5000, over("negative", READING)),
+        Bench(
+            "negative numbers at random, `null: -9999`, 25 million cells",
+            5000,
+            over("negative", READING),
+        ),
         Bench("negative patches, `null: -9999`, 25 million cells", 5000, over("cold", READING)),
-        Bench("a category in each block of 60 by 60 cells, 36 million cells", 6000, over("blocks:60", READING)),
+        Bench(
+            "a category in each block of 60 by 60 cells, 36 million cells",
+            6000,
+            over("blocks:60", READING),
+        ),
     ),
     "Patches of difficult shapes": tuple(
         Bench(f"{title}, 4 million cells", 2000, over(kind, AREAS))
-        for title, kind in (("a comb of width 2000", "comb"), ("a spiral", "spiral"), ("a checkerboard", "checkerboard"))
+        for title, kind in (
+            ("a comb of width 2000", "comb"),
+            ("a spiral", "spiral"),
+            ("a checkerboard", "checkerboard"),
+        )
     ),
     "Dimensions beside C++": (
-        *(Bench(f"noise, 65,535 rows by {cols}", (65535, cols), over("noise", NARROW), MOST) for cols in (1, 2, 4, 8, 16, 61)),
+        *(
+            Bench(f"noise, 65,535 rows by {cols}", (65535, cols), over("noise", NARROW), MOST)
+            for cols in (1, 2, 4, 8, 16, 61)
+        ),
         Bench("r.stats -c of 4 million cells", 2000, COUNTED, MOST),
-        Bench("r.stats -c of 10 million cells", 3163, (counted("another category in each cell", "blocks:1"),), MOST),
-        Bench("r.stats -c of 1 million cells", 1000, tuple(counted(f"{maps} maps of four values at random", *["random:4"] * maps)
-                                                           for maps in (8, 12, 16)), MOST),
+        Bench(
+            "r.stats -c of 10 million cells",
+            3163,
+            (counted("another category in each cell", "blocks:1"),),
+            MOST,
+        ),
+        Bench(
+            "r.stats -c of 1 million cells",
+            1000,
+            tuple(
+                counted(f"{maps} maps of four values at random", *["random:4"] * maps)
+                for maps in (8, 12, 16)
+            ),
+            MOST,
+        ),
     ),
 }
 
@@ -218,8 +286,10 @@ PARTS[REAL_MAPS] = tuple(
     )
 )
 # The title of a table of GRASS is the title of the grid.
-GRASS_GRIDS = (("patchy land cover, 25 million cells", "patchy", 1, 5000),
-               ("real land and lakes of South-East Asia, 27 million cells", f"{REAL}land", 0, 0))
+GRASS_GRIDS = (
+    ("patchy land cover, 25 million cells", "patchy", 1, 5000),
+    ("real land and lakes of South-East Asia, 27 million cells", f"{REAL}land", 0, 0),
+)
 TITLES = (*PARTS, "GRASS")
 
 
@@ -236,7 +306,15 @@ def build():
 
 
 def compile_to(program, name, machine="native"):
-    words = [compiler(), "-std=c++20", "-O3", f"-march={machine}", "-o", f"{OUT}/{program}", f"{HERE}/{name}.cpp"]
+    words = [
+        compiler(),
+        "-std=c++20",
+        "-O3",
+        f"-march={machine}",
+        "-o",
+        f"{OUT}/{program}",
+        f"{HERE}/{name}.cpp",
+    ]
     subprocess.run(words, check=True)
 
 
@@ -245,11 +323,15 @@ def grid_file(kind, seed, side):
     if kind.startswith(REAL):
         return f"{OUT}/{kind}.txt"
     rows, cols = side if isinstance(side, tuple) else (side, side)
-    path = f"{OUT}/{kind.replace(':', '-')}-{seed}-{rows}" + (f"-{cols}.txt" if cols != rows else ".txt")
+    path = f"{OUT}/{kind.replace(':', '-')}-{seed}-{rows}" + (
+        f"-{cols}.txt" if cols != rows else ".txt"
+    )
     if not os.path.exists(path):
         say(f"  writing {os.path.basename(path)}")
         with open(f"{path}.part", "wb") as file:
-            subprocess.run([f"{OUT}/make_grid", kind, str(rows), str(cols), str(seed)], stdout=file, check=True)
+            subprocess.run(
+                [f"{OUT}/make_grid", kind, str(rows), str(cols), str(seed)], stdout=file, check=True
+            )
         os.rename(f"{path}.part", path)
     return path
 
@@ -275,14 +357,21 @@ def instructions(words, given=subprocess.DEVNULL):
     """How many instructions a run takes, or None if valgrind is not installed."""
     if not shutil.which("valgrind"):
         return None
-    ran = subprocess.run(["valgrind", "--tool=callgrind", "--callgrind-out-file=/dev/null", *words], check=True, stdin=given,
-                         stdout=subprocess.DEVNULL, stderr=subprocess.PIPE, text=True)
+    ran = subprocess.run(
+        ["valgrind", "--tool=callgrind", "--callgrind-out-file=/dev/null", *words],
+        check=True,
+        stdin=given,
+        stdout=subprocess.DEVNULL,
+        stderr=subprocess.PIPE,
+        text=True,
+    )
     return int(COLLECTED.search(ran.stderr)[1])
 
 
 @dataclass
 class Contest:
     """One task with rcell, the yardstick and, if it is given, the program of --limit, over given grids."""
+
     task: Task
     paths: list[str]
     program: str
@@ -333,7 +422,12 @@ def row(contest, most):
     cells = cells_of(contest.paths[0])
     times = [it.seconds * 1000 * MILLION / cells for it in (contest.rcell, contest.yardstick)]
     peaks = [it.peak / cells for it in (contest.rcell, contest.yardstick)]
-    return [contest.task.title, *(f"{time:.1f}" for time in times), ratio_cell(times[0] / times[1], most), *(f"{it:.2f}" for it in peaks)]
+    return [
+        contest.task.title,
+        *(f"{time:.1f}" for time in times),
+        ratio_cell(times[0] / times[1], most),
+        *(f"{it:.2f}" for it in peaks),
+    ]
 
 
 HEAD = ("Task", "rcell ms", "yardstick ms", "ratio", "bytes a cell: rcell", "yardstick")
@@ -341,8 +435,15 @@ HEAD = ("Task", "rcell ms", "yardstick ms", "ratio", "bytes a cell: rcell", "yar
 
 def run(bench, wanted, side):
     """The lines of a table."""
-    contests = [Contest(task, [grid_file(kind, seed, side) for seed, kind in enumerate(kinds, 1)], wanted.program, number)
-                for number, (task, kinds) in enumerate(bench.tasks)]
+    contests = [
+        Contest(
+            task,
+            [grid_file(kind, seed, side) for seed, kind in enumerate(kinds, 1)],
+            wanted.program,
+            number,
+        )
+        for number, (task, kinds) in enumerate(bench.tasks)
+    ]
     is_small = cells_of(contests[0].paths[0]) <= FEW_SIDE * FEW_SIDE
     take_turns(contests, wanted.rounds * (ROUNDS_FOR_FEW if is_small else 1))
     return [row(contest, bench.most) for contest in contests]
@@ -352,26 +453,57 @@ def take_turns(contests, rounds):
     for contest in contests:
         contest.check()
     for number in range(rounds):
-        print(f"\r  round {number + 1} of {rounds}", end="\n" if number + 1 == rounds else "", file=sys.stderr, flush=True)
+        print(
+            f"\r  round {number + 1} of {rounds}",
+            end="\n" if number + 1 == rounds else "",
+            file=sys.stderr,
+            flush=True,
+        )
         for contest in contests:
             contest.turn()
 
 
-RACE_HEAD = ("Task", "rcell ms", "yardstick ms", "ratio: smallest, median", "over the limit: smallest, median",
-             "instructions a cell: rcell, yardstick", "bytes a cell: rcell, yardstick")
+RACE_HEAD = (
+    "Task",
+    "rcell ms",
+    "yardstick ms",
+    "ratio: smallest, median",
+    "over the limit: smallest, median",
+    "instructions a cell: rcell, yardstick",
+    "bytes a cell: rcell, yardstick",
+)
 
 
 def race(bench, wanted, side):
     """The lines of a table: one run by turns."""
-    contests = [Contest(task, [grid_file(kind, seed + 1, side) for seed in range(task.maps)], wanted.program, number,
-                        wanted.limit if goal.limit else None) for number, (task, kind, goal) in enumerate(bench.tasks)]
+    contests = [
+        Contest(
+            task,
+            [grid_file(kind, seed + 1, side) for seed in range(task.maps)],
+            wanted.program,
+            number,
+            wanted.limit if goal.limit else None,
+        )
+        for number, (task, kind, goal) in enumerate(bench.tasks)
+    ]
     take_turns(contests, wanted.rounds)
     for contest, (task, _, goal) in zip(contests, bench.tasks):
-        times = [f"{it.seconds * 1000 * MILLION / side ** 2:.1f}" for it in (contest.rcell, contest.yardstick)]
-        counts = [f"{count / side ** 2:.1f}" for count in contest.instructions() if count is not None]
+        times = [
+            f"{it.seconds * 1000 * MILLION / side ** 2:.1f}"
+            for it in (contest.rcell, contest.yardstick)
+        ]
+        counts = [
+            f"{count / side ** 2:.1f}" for count in contest.instructions() if count is not None
+        ]
         peaks = [f"{it.peak / side ** 2:.2f}" for it in (contest.rcell, contest.yardstick)]
-        yield (task.title, *times, ratios_cell(contest.rcell, contest.yardstick, goal.yardstick),
-               ratios_cell(contest.rcell, contest.fastest, goal.limit), ", ".join(counts), ", ".join(peaks))
+        yield (
+            task.title,
+            *times,
+            ratios_cell(contest.rcell, contest.yardstick, goal.yardstick),
+            ratios_cell(contest.rcell, contest.fastest, goal.limit),
+            ", ".join(counts),
+            ", ".join(peaks),
+        )
 
 
 def ratios_cell(ours, theirs, most):
@@ -385,14 +517,24 @@ def ratios_cell(ours, theirs, most):
 
 def lines_of(title, head, rows):
     """A table of the document."""
-    return [title, "", *("| " + " | ".join(words) + " |" for words in (head, ["---"] * len(head), *rows)), ""]
+    return [
+        title,
+        "",
+        *("| " + " | ".join(words) + " |" for words in (head, ["---"] * len(head), *rows)),
+        "",
+    ]
 
 
 def has_real_maps(wanted):
     """Whether the real maps are there, once what can be made is made."""
     if wanted.short:
         return False
-    made = subprocess.run(["/usr/bin/python3", f"{HERE}/real_maps.py"], stdout=subprocess.DEVNULL).returncode == 0
+    made = (
+        subprocess.run(
+            ["/usr/bin/python3", f"{HERE}/real_maps.py"], stdout=subprocess.DEVNULL
+        ).returncode
+        == 0
+    )
     if not made:
         say("  the real maps cannot be made here (bench/real_maps.py), they are left out")
     return made
@@ -405,7 +547,9 @@ def tables(benches, wanted):
         say(f"{bench.title}")
         table, head = (race, RACE_HEAD) if isinstance(bench, Race) else (run, HEAD)
         rows = table(bench, wanted, side)
-        title = bench.title + (" (here 1 million)" if wanted.short and bench.side != SHORT_SIDE else "")
+        title = bench.title + (
+            " (here 1 million)" if wanted.short and bench.side != SHORT_SIDE else ""
+        )
         yield from lines_of(title, head, rows)
 
 
@@ -422,7 +566,9 @@ def grass_tables(wanted):
             def seconds(words, environment):
                 return measure(words, environment=environment)[0]
 
-            rows = beside_grass.table(path, cells_of(path), wanted.program, ROUNDS_OF_GRASS, seconds)
+            rows = beside_grass.table(
+                path, cells_of(path), wanted.program, ROUNDS_OF_GRASS, seconds
+            )
             yield from lines_of(title, beside_grass.HEAD, rows)
 
 
@@ -456,10 +602,15 @@ def mark():
 def machine(rounds):
     """A sentence on what was measured, where."""
     with open("/proc/cpuinfo", encoding="utf-8") as file:
-        model = next((line.split(":")[1].strip() for line in file if line.startswith("model name")), "an unknown processor")
+        model = next(
+            (line.split(":")[1].strip() for line in file if line.startswith("model name")),
+            "an unknown processor",
+        )
     day, load = time.strftime("%Y-%m-%d"), os.getloadavg()[0]
-    return (f"{mark()}Measured on {day} with the program of commit {commit()}: {len(os.sched_getaffinity(0))} processors ({model}), "
-            f"Linux {os.uname().release.split('-')[0]}, {compiler()}, load {load:.0f} at the start, {rounds} rounds.\n")
+    return (
+        f"{mark()}Measured on {day} with the program of commit {commit()}: {len(os.sched_getaffinity(0))} processors ({model}), "
+        f"Linux {os.uname().release.split('-')[0]}, {compiler()}, load {load:.0f} at the start, {rounds} rounds.\n"
+    )
 
 
 def compiler():
@@ -478,14 +629,22 @@ def put_between(marks, text):
 
 def parts_of(text):
     """The parts of the figures in the document, by their titles."""
-    return {title: rest for title, _, rest in (part.partition("\n") for part in text.split("\n## ")[1:])}
+    return {
+        title: rest for title, _, rest in (part.partition("\n") for part in text.split("\n## ")[1:])
+    }
 
 
 def write(found):
     """Puts the parts that were measured into the document, in place of the same parts there."""
+
     def with_parts(old):
         parts = parts_of(old) | found
-        return "".join(f"\n## {title}\n{parts[title].rstrip()}\n" for title in TITLES if title in parts) + "\n"
+        return (
+            "".join(
+                f"\n## {title}\n{parts[title].rstrip()}\n" for title in TITLES if title in parts
+            )
+            + "\n"
+        )
 
     put_between(MARKS, with_parts)
 

@@ -106,7 +106,11 @@ def read(path: pathlib.Path) -> Case:
         crs="".join(blocks.get("crs", [])),
         over=str(HERE / "rasters" / blocks["over"][0]) if "over" in blocks else "",
         expected=expected,
-        left_out={key.split()[1]: " ".join(lines) for key, lines in blocks.items() if key.startswith("without ")},
+        left_out={
+            key.split()[1]: " ".join(lines)
+            for key, lines in blocks.items()
+            if key.startswith("without ")
+        },
     )
 
 

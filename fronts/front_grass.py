@@ -22,7 +22,9 @@ NO_MAP = re.compile(r"Raster map <([^>]*)> (.*)")
 
 
 def called(*words: str, text: str | None = None) -> subprocess.CompletedProcess[str]:
-    return subprocess.run(words, input=text, capture_output=True, encoding="utf-8", errors="replace")
+    return subprocess.run(
+        words, input=text, capture_output=True, encoding="utf-8", errors="replace"
+    )
 
 
 def raster_of(path: str) -> str:
@@ -35,7 +37,9 @@ def import_all() -> None:
     for path in sorted({path for case in cases() for path in case.maps.values()}):
         module = "r.in.ascii" if path.endswith(".txt") else "r.in.gdal"
         words = ("null_value=*",) if path.endswith(".txt") else ("-o", "band=1")
-        called(module, *words, f"input={path}", f"output={raster_of(path)}", "--quiet", "--overwrite")
+        called(
+            module, *words, f"input={path}", f"output={raster_of(path)}", "--quiet", "--overwrite"
+        )
 
 
 def plain(row: list[str], titles: list[str]) -> list[str]:
@@ -51,7 +55,11 @@ def tables_of(case: Case) -> list[pipe.Statement]:
     """The statements of a script that print tables; none of a script that is rejected."""
     program = str(pathlib.Path(os.environ["RCELL"]).with_name("rcell-pipe"))
     try:
-        return [it for it in pipe.plan(program, list(case.maps), case.script.encode()) if it.command == "r.stats"]
+        return [
+            it
+            for it in pipe.plan(program, list(case.maps), case.script.encode())
+            if it.command == "r.stats"
+        ]
     except pipe.Rejected:
         return []
 
@@ -62,17 +70,25 @@ def titles_of(case: Case) -> list[str]:
     table = tables_of(case)[0]
     for name in table.inputs:
         count = titles.count(name)
-        titles += [f"{name}_{count + 1}" if count else name] + [f"{name}_label"] * ("l" in table.options)
+        titles += [f"{name}_{count + 1}" if count else name] + [f"{name}_label"] * (
+            "l" in table.options
+        )
     return titles + ["cells"] * ("c" in table.options)
 
 
 def of_table(case: Case, text: str) -> list[str]:
     titles = titles_of(case)
-    return ["|".join(titles)] + ["|".join(plain(line.split("|"), titles)) for line in text.splitlines()]
+    return ["|".join(titles)] + [
+        "|".join(plain(line.split("|"), titles)) for line in text.splitlines()
+    ]
 
 
 def of_grid(name: str) -> list[str]:
-    return called("r.out.ascii", "-hi", f"input={name}", "null_value=*", "--quiet").stdout.replace(" \n", "\n").splitlines()
+    return (
+        called("r.out.ascii", "-hi", f"input={name}", "null_value=*", "--quiet")
+        .stdout.replace(" \n", "\n")
+        .splitlines()
+    )
 
 
 def asked(case: Case) -> tuple[str, list[str]]:
@@ -86,19 +102,36 @@ def asked(case: Case) -> tuple[str, list[str]]:
 
 def refusal(case: Case, told: str) -> list[str]:
     """What r.rcell says, in the keys of the table of cases. (GRASS breaks a long line, and what follows is left.)"""
-    text = " ".join(line.removeprefix("ERROR: ").strip() for line in told.splitlines() if not line.startswith(("    ", "WARNING")))
+    text = " ".join(
+        line.removeprefix("ERROR: ").strip()
+        for line in told.splitlines()
+        if not line.startswith(("    ", "WARNING"))
+    )
     found = REFUSED.search(text)
     if found:
         # The mark is below its column, four blanks farther to the right.
         beneath = [line for line in told.splitlines() if line.startswith("    ")]
         marks = [len(line) - 4 for line in beneath[1:] if line.endswith("^")]
-        lines = [("kind", "refused"), ("source", found[1]), ("line", int(found[2]) or None), ("column", marks[0] if marks else None)]
-        return [f"{key}: {value}" for key, value in [*lines, ("text", found[3].strip())] if value is not None]
+        lines = [
+            ("kind", "refused"),
+            ("source", found[1]),
+            ("line", int(found[2]) or None),
+            ("column", marks[0] if marks else None),
+        ]
+        return [
+            f"{key}: {value}"
+            for key, value in [*lines, ("text", found[3].strip())]
+            if value is not None
+        ]
     missing = NO_MAP.search(text)
     names = {raster_of(path): name for name, path in case.maps.items()}
     if missing:
         kind = "read failed" if missing[2].startswith("not found") else "bad map"
-        return [f"kind: {kind}", f"source: {names.get(missing[1], missing[1])}", f"text: {missing[2]}"]
+        return [
+            f"kind: {kind}",
+            f"source: {names.get(missing[1], missing[1])}",
+            f"text: {missing[2]}",
+        ]
     return ["kind: refused", f"text: {text}"]
 
 
@@ -107,7 +140,9 @@ def answer(case: Case) -> list[str]:
     called("g.region", f"raster={first}", "--quiet")
     script, words = asked(case)
     maps = ",".join(f"{name}={raster_of(path)}" for name, path in case.maps.items())
-    ran = called("r.rcell", "script=-", f"maps={maps}", *words, "--quiet", "--overwrite", text=script)
+    ran = called(
+        "r.rcell", "script=-", f"maps={maps}", *words, "--quiet", "--overwrite", text=script
+    )
     if ran.returncode:
         return refusal(case, ran.stderr)
     return of_table(case, ran.stdout) if case.call == "table" else of_grid("found")
@@ -125,11 +160,22 @@ def main() -> int:
     """Makes a location without a projection, and runs the cases within it."""
     with tempfile.TemporaryDirectory(prefix="rcell-grass-") as room:
         os.mkdir(f"{room}/path")
-        os.symlink(pathlib.Path(os.environ["RCELL"]).with_name("rcell-pipe"), f"{room}/path/rcell-pipe")
+        os.symlink(
+            pathlib.Path(os.environ["RCELL"]).with_name("rcell-pipe"), f"{room}/path/rcell-pipe"
+        )
         os.symlink(HERE.parent / "grass/r.rcell/r.rcell.py", f"{room}/path/r.rcell")
         environment = {**os.environ, "PATH": f"{room}/path:/usr/bin:/bin", "HOME": room}
-        subprocess.run(["grass", "-e", "-c", "XY", f"{room}/here"], env=environment, capture_output=True)
-        words = ["grass", f"{room}/here/PERMANENT", "--exec", sys.executable, str(HERE / "front_grass.py"), "inside"]
+        subprocess.run(
+            ["grass", "-e", "-c", "XY", f"{room}/here"], env=environment, capture_output=True
+        )
+        words = [
+            "grass",
+            f"{room}/here/PERMANENT",
+            "--exec",
+            sys.executable,
+            str(HERE / "front_grass.py"),
+            "inside",
+        ]
         return subprocess.run(words, env=environment).returncode
 
 

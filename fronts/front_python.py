@@ -13,7 +13,13 @@ import rasterio.errors
 import rcell
 from cases import Case, cases, copied
 
-KINDS = [("other crs", rcell.OtherCrs), ("other region", rcell.OtherRegion), ("read failed", rcell.ReadFailed), ("bad map", rcell.BadMap), ("refused", rcell.Refused)]
+KINDS = [
+    ("other crs", rcell.OtherCrs),
+    ("other region", rcell.OtherRegion),
+    ("read failed", rcell.ReadFailed),
+    ("bad map", rcell.BadMap),
+    ("refused", rcell.Refused),
+]
 
 
 # The type of each parameter of the seven functions that is not a map.
@@ -39,7 +45,9 @@ def of_table(case: Case) -> list[str]:
         table = table.with_area(case.area)
     if case.percent:
         table = table.with_percent()
-    return ["|".join(table.columns)] + ["|".join(plain(value) for value in row) for row in table.rows]
+    return ["|".join(table.columns)] + [
+        "|".join(plain(value) for value in row) for row in table.rows
+    ]
 
 
 def of_grid(grid: rcell.Grid) -> list[str]:
@@ -48,14 +56,22 @@ def of_grid(grid: rcell.Grid) -> list[str]:
 
 def of_frame(case: Case, frame: Any) -> list[str]:
     rows = frame.itertuples(index=False, name=None)
-    return ["|".join(map(str, frame.columns))] + ["|".join(plain(value, case.digits) for value in row) for row in rows]
+    return ["|".join(map(str, frame.columns))] + [
+        "|".join(plain(value, case.digits) for value in row) for row in rows
+    ]
 
 
 def answered(case: Case) -> list[str]:
     """One of the seven functions."""
-    options = {key: case.maps[text] if key in ("zones", "to") else OPTIONS[key](text) for key, text in case.options.items() if key != "table"}
+    options = {
+        key: case.maps[text] if key in ("zones", "to") else OPTIONS[key](text)
+        for key, text in case.options.items()
+        if key != "table"
+    }
     if case.call == "cross":
-        return of_frame(case, rcell.cross({name: case.maps[name] for name in case.words}, **options))
+        return of_frame(
+            case, rcell.cross({name: case.maps[name] for name in case.words}, **options)
+        )
     maps: list[Any] = [case.maps[name] for name in case.words]
     if case.call == "change":
         found = rcell.change(*maps, **options) if len(maps) == 2 else rcell.change(maps, **options)
@@ -67,7 +83,11 @@ def answered(case: Case) -> list[str]:
     if case.call == "align":
         facts = answer.aligned
         names = ("shift_rows", "shift_columns", "cells_used", "cells_repeated", "cells_lost")
-        return ["|".join(names), "|".join(plain(getattr(facts, name)) for name in names), *of_grid(rcell.grid("", "x", x=answer))]
+        return [
+            "|".join(names),
+            "|".join(plain(getattr(facts, name)) for name in names),
+            *of_grid(rcell.grid("", "x", x=answer)),
+        ]
     return of_frame(case, answer)
 
 

@@ -17,16 +17,25 @@ HERE = pathlib.Path(__file__).resolve().parent
 os.environ.setdefault("QT_QPA_PLATFORM", "offscreen")
 sys.path[:0] = [str(HERE.parent / "qgis"), "/usr/share/qgis/python/plugins"]
 
-from cases import ANSWERS, Case, cases, copied  # noqa: E402  (the path above has to be set first)
-from osgeo import gdal  # noqa: E402
-from qgis.core import NULL, QgsApplication, QgsProcessingException, QgsRasterLayer, QgsVectorLayer  # noqa: E402
+from cases import ANSWERS, Case, cases, copied
+from osgeo import gdal
+from qgis.core import (
+    NULL,
+    QgsApplication,
+    QgsProcessingException,
+    QgsRasterLayer,
+    QgsVectorLayer,
+)
 
 # QGIS has one kind of error; the text identifies ours (fronts/README.md lists them).
 KINDS = [
     ("other crs", r"its coordinate reference system is |it has no coordinate reference system"),
     ("other region", r"not of the region of |shifted by |cells of "),
     ("read failed", r"cannot open|rows \d+ to \d+ cannot be read"),
-    ("bad map", r"not a map of whole numbers|has \d+ bands|a (rotated )?transform|its values are scaled|no polygon|not polygons|no field "),
+    (
+        "bad map",
+        r"not a map of whole numbers|has \d+ bands|a (rotated )?transform|its values are scaled|no polygon|not polygons|no field ",
+    ),
     ("refused", r""),
 ]
 # Parts of a change that are outputs of their own.
@@ -35,18 +44,33 @@ FACTS = ("SHIFT_ROWS", "SHIFT_COLUMNS", "CELLS_USED", "CELLS_REPEATED", "CELLS_L
 
 
 def plain(value: Any, digits: int = 12) -> str:
-    return "*" if value is None or value == NULL else f"{value:.{digits}g}" if isinstance(value, float) else str(value)
+    return (
+        "*"
+        if value is None or value == NULL
+        else f"{value:.{digits}g}"
+        if isinstance(value, float)
+        else str(value)
+    )
 
 
 def asked(case: Case) -> tuple[str, dict[str, Any]]:
     """The algorithm and its parameters."""
     kind, *words = case.call.split()
-    common = {"INPUT": list(case.maps.values()), "NAMES": ",".join(case.maps), "SCRIPT": case.script}
+    common = {
+        "INPUT": list(case.maps.values()),
+        "NAMES": ",".join(case.maps),
+        "SCRIPT": case.script,
+    }
     if case.crs:
         common["CRS"] = case.crs
     if kind in ("grid", "write"):
         return "rcell:script", {**common, "MAP": words[0]}
-    return "rcell:script", {**common, "AREA": case.area or "none", "PERCENT": case.percent, "TABLE": "TEMPORARY_OUTPUT"}
+    return "rcell:script", {
+        **common,
+        "AREA": case.area or "none",
+        "PERCENT": case.percent,
+        "TABLE": "TEMPORARY_OUTPUT",
+    }
 
 
 def of_raster(path: str) -> list[str]:
@@ -58,12 +82,19 @@ def of_raster(path: str) -> list[str]:
 
 def of_layer(layer: Any, digits: int = 12) -> list[str]:
     titles = [field.name() for field in layer.fields()]
-    return ["|".join(titles)] + ["|".join(plain(value, digits) for value in feature.attributes()) for feature in layer.getFeatures()]
+    return ["|".join(titles)] + [
+        "|".join(plain(value, digits) for value in feature.attributes())
+        for feature in layer.getFeatures()
+    ]
 
 
 def layer_of(case: Case, name: str) -> Any:
     path = case.maps[name]
-    return QgsVectorLayer(path, name, "ogr") if path.endswith(".geojson") else QgsRasterLayer(path, name)
+    return (
+        QgsVectorLayer(path, name, "ogr")
+        if path.endswith(".geojson")
+        else QgsRasterLayer(path, name)
+    )
 
 
 def answered(case: Case, room: str) -> list[str]:
@@ -71,18 +102,38 @@ def answered(case: Case, room: str) -> list[str]:
     import processing
 
     layers = [layer_of(case, name) for name in case.words]
-    parameters: dict[str, Any] = {"INPUT": layers if case.call in ("cross", "change") else layers[0]}
+    parameters: dict[str, Any] = {
+        "INPUT": layers if case.call in ("cross", "change") else layers[0]
+    }
     if case.call == "zonal":
         parameters["ZONES"] = layers[1]
     for key, text in case.options.items():
         if key != "table":
-            parameters[key.upper()] = layer_of(case, text) if key in ("zones", "to") else text == "yes" if key in ("fill", "null") else text
+            parameters[key.upper()] = (
+                layer_of(case, text)
+                if key in ("zones", "to")
+                else text == "yes"
+                if key in ("fill", "null")
+                else text
+            )
     if case.call in ("majority", "align"):
-        found = processing.run(f"rcell:{case.call}", {**parameters, "OUTPUT": os.path.join(room, f"{case.name}.tif")})
-        facts = ["|".join(FACTS).lower(), "|".join(plain(found[name]) for name in FACTS)] if case.call == "align" else []
+        found = processing.run(
+            f"rcell:{case.call}", {**parameters, "OUTPUT": os.path.join(room, f"{case.name}.tif")}
+        )
+        facts = (
+            ["|".join(FACTS).lower(), "|".join(plain(found[name]) for name in FACTS)]
+            if case.call == "align"
+            else []
+        )
         return [*facts, *of_raster(found["OUTPUT"])]
     part = PARTS.get(case.options.get("table", ""), "OUTPUT")
-    return of_layer(processing.run(f"rcell:{case.call}", {**parameters, "OUTPUT": "TEMPORARY_OUTPUT", part: "TEMPORARY_OUTPUT"})[part], case.digits)
+    return of_layer(
+        processing.run(
+            f"rcell:{case.call}",
+            {**parameters, "OUTPUT": "TEMPORARY_OUTPUT", part: "TEMPORARY_OUTPUT"},
+        )[part],
+        case.digits,
+    )
 
 
 def answer(case: Case, room: str) -> list[str]:
@@ -94,8 +145,15 @@ def answer(case: Case, room: str) -> list[str]:
     if case.call.startswith("table"):
         return of_layer(processing.run(algorithm, parameters)["TABLE"])
     if case.over:
-        path = processing.run(algorithm, {**parameters, "OUTPUT": copied(case.over, room)})["OUTPUT"]
-        again = {"INPUT": [path], "NAMES": "x", "SCRIPT": "r.stats -c -l input=x", "TABLE": "TEMPORARY_OUTPUT"}
+        path = processing.run(algorithm, {**parameters, "OUTPUT": copied(case.over, room)})[
+            "OUTPUT"
+        ]
+        again = {
+            "INPUT": [path],
+            "NAMES": "x",
+            "SCRIPT": "r.stats -c -l input=x",
+            "TABLE": "TEMPORARY_OUTPUT",
+        }
         return of_layer(processing.run("rcell:script", again)["TABLE"])
     path = os.path.join(room, f"{case.name}.tif")
     return of_raster(processing.run(algorithm, {**parameters, "OUTPUT": path})["OUTPUT"])
@@ -129,7 +187,9 @@ def main() -> None:
         shutil.copytree(HERE / "rasters", f"{room}/rasters")
         shutil.copytree(HERE.parent / "examples/rasters", f"{room}/rasters", dirs_exist_ok=True)
         for case in (it for it in cases() if "qgis" not in it.left_out):
-            case.maps = {name: f"{room}/rasters/{os.path.basename(path)}" for name, path in case.maps.items()}
+            case.maps = {
+                name: f"{room}/rasters/{os.path.basename(path)}" for name, path in case.maps.items()
+            }
             try:
                 lines = answer(case, room)
             except QgsProcessingException as error:

@@ -29,11 +29,31 @@ OWN_FORM = "north: 5400000\nsouth: 5399920\neast: 500100\nwest: 500000\nrows: 4\
 METRES = Affine(20, 0, 500000, 0, -20, 5400000)
 
 
-def write(name: str, cells: object, dtype: str = "int16", *, transform: Affine = METRES, crs: str = "EPSG:32632",
-          nodata: float | None = NULL, bands: int = 1, scale: float | None = None) -> None:
+def write(
+    name: str,
+    cells: object,
+    dtype: str = "int16",
+    *,
+    transform: Affine = METRES,
+    crs: str = "EPSG:32632",
+    nodata: float | None = NULL,
+    bands: int = 1,
+    scale: float | None = None,
+) -> None:
     array = np.asarray(cells, dtype)
-    with rasterio.open(ROOM / f"{name}.tif", "w", driver="GTiff", height=array.shape[0], width=array.shape[1], count=bands,
-                       dtype=dtype, crs=crs, transform=transform, nodata=nodata, compress="deflate") as file:
+    with rasterio.open(
+        ROOM / f"{name}.tif",
+        "w",
+        driver="GTiff",
+        height=array.shape[0],
+        width=array.shape[1],
+        count=bands,
+        dtype=dtype,
+        crs=crs,
+        transform=transform,
+        nodata=nodata,
+        compress="deflate",
+    ) as file:
         for band in range(1, bands + 1):
             file.write(array, band)
         if scale is not None:
@@ -43,25 +63,49 @@ def write(name: str, cells: object, dtype: str = "int16", *, transform: Affine =
 def write_wide(name: str, cells: object) -> None:
     """Whole numbers of 64 bits, with GDAL itself: rasterio 1.3 takes signed ones for unsigned."""
     array = np.asarray(cells, "int64")
-    file = gdal.GetDriverByName("GTiff").Create(str(ROOM / f"{name}.tif"), array.shape[1], array.shape[0], 1, gdal.GDT_Int64, ["COMPRESS=DEFLATE"])
+    file = gdal.GetDriverByName("GTiff").Create(
+        str(ROOM / f"{name}.tif"),
+        array.shape[1],
+        array.shape[0],
+        1,
+        gdal.GDT_Int64,
+        ["COMPRESS=DEFLATE"],
+    )
     file.SetGeoTransform(METRES.to_gdal())
     file.SetProjection(rasterio.crs.CRS.from_epsg(32632).to_wkt())
     file.GetRasterBand(1).WriteArray(array)
     file.GetRasterBand(1).SetNoDataValue(NULL)
 
 
-def write_by_gdal(name: str, bands: list[object], kind: int, *, transform: Sequence[float] = METRES.to_gdal(), options: Sequence[str] = (),
-                  nodata: int | None = None) -> None:
+def write_by_gdal(
+    name: str,
+    bands: list[object],
+    kind: int,
+    *,
+    transform: Sequence[float] = METRES.to_gdal(),
+    options: Sequence[str] = (),
+    nodata: int | None = None,
+) -> None:
     """What rasterio does not write: complex cells, alpha bands, transforms that are no place, 64 bits without a sign."""
     arrays = [np.asarray(cells) for cells in bands]
-    file = gdal.GetDriverByName("GTiff").Create(str(ROOM / f"{name}.tif"), arrays[0].shape[1], arrays[0].shape[0], len(arrays), kind, list(options))
+    file = gdal.GetDriverByName("GTiff").Create(
+        str(ROOM / f"{name}.tif"),
+        arrays[0].shape[1],
+        arrays[0].shape[0],
+        len(arrays),
+        kind,
+        list(options),
+    )
     file.SetGeoTransform(transform)
     file.SetProjection(rasterio.crs.CRS.from_epsg(32632).to_wkt())
     for number, array in enumerate(arrays, 1):
         file.GetRasterBand(number).WriteArray(array)
     if nodata is not None:
         band = file.GetRasterBand(1)
-        set_nodata = {gdal.GDT_Int64: band.SetNoDataValueAsInt64, gdal.GDT_UInt64: band.SetNoDataValueAsUInt64}
+        set_nodata = {
+            gdal.GDT_Int64: band.SetNoDataValueAsInt64,
+            gdal.GDT_UInt64: band.SetNoDataValueAsUInt64,
+        }
         set_nodata.get(kind, band.SetNoDataValue)(nodata)
 
 
@@ -72,9 +116,17 @@ def write_edges() -> None:
     bytes_of_cover = np.where(cover == NULL, 9, cover).astype("uint8")
     grey = ["ALPHA=YES", "PHOTOMETRIC=MINISBLACK"]
     write_by_gdal("alpha", [bytes_of_cover, alpha.astype("uint8")], gdal.GDT_Byte, options=grey)
-    write_by_gdal("alpha_nodata", [bytes_of_cover, alpha.astype("uint8")], gdal.GDT_Byte, options=grey, nodata=3)
+    write_by_gdal(
+        "alpha_nodata",
+        [bytes_of_cover, alpha.astype("uint8")],
+        gdal.GDT_Byte,
+        options=grey,
+        nodata=3,
+    )
     write_by_gdal("complex", [np.where(cover == NULL, 0, cover) + 5j], gdal.GDT_CFloat32)
-    write_by_gdal("nowhere_at_all", [cover], gdal.GDT_Int16, transform=(nan, 20, 0, 5400000, 0, -20))
+    write_by_gdal(
+        "nowhere_at_all", [cover], gdal.GDT_Int16, transform=(nan, 20, 0, 5400000, 0, -20)
+    )
     write_by_gdal("endless", [cover], gdal.GDT_Int16, transform=(500000, inf, 0, 5400000, 0, -20))
     write_by_gdal("mirrored", [cover], gdal.GDT_Int16, transform=(500100, -20, 0, 5400000, 0, -20))
     great = np.where(cover == NULL, 0, cover).astype("uint64")
@@ -101,9 +153,16 @@ def write_labels(name: str) -> None:
 
 def write_table(name: str, labels: Mapping[float, str]) -> None:
     """An attribute table next to the raster."""
-    rows = "".join(f'<Row index="{at}"><F>{value}</F><F>{escape(label)}</F></Row>' for at, (value, label) in enumerate(labels.items()))
-    fields = "".join(f'<FieldDefn index="{at}"><Name>{title}</Name><Type>{kind}</Type><Usage>{usage}</Usage></FieldDefn>'
-                     for at, (title, kind, usage) in enumerate([("Value", int(any(value % 1 for value in labels)), 5), ("Class", 2, 2)]))
+    rows = "".join(
+        f'<Row index="{at}"><F>{value}</F><F>{escape(label)}</F></Row>'
+        for at, (value, label) in enumerate(labels.items())
+    )
+    fields = "".join(
+        f'<FieldDefn index="{at}"><Name>{title}</Name><Type>{kind}</Type><Usage>{usage}</Usage></FieldDefn>'
+        for at, (title, kind, usage) in enumerate(
+            [("Value", int(any(value % 1 for value in labels)), 5), ("Class", 2, 2)]
+        )
+    )
     text = f'<PAMDataset><PAMRasterBand band="1"><GDALRasterAttributeTable tableType="thematic">{fields}{rows}</GDALRasterAttributeTable></PAMRasterBand></PAMDataset>\n'
     (ROOM / f"{name}.tif.aux.xml").write_text(text, encoding="utf-8")
 
@@ -115,26 +174,54 @@ def write_text(name: str, rows: list[str]) -> None:
 
 def write_polygons() -> None:
     """Districts by name and number, of which two overlap and one has no centre of a cell; and one in another reference system."""
-    boxes = [("Nord", 20, 0, 0, 60, 40), ("S\u00fcd", 10, 0, 40, 60, 80), ("Ost", 30, 50, 0, 100, 55), ("Punkt", 40, 99, 79, 100, 80)]
+    boxes = [
+        ("Nord", 20, 0, 0, 60, 40),
+        ("S\u00fcd", 10, 0, 40, 60, 80),
+        ("Ost", 30, 50, 0, 100, 55),
+        ("Punkt", 40, 99, 79, 100, 80),
+    ]
     features = []
     for name, number, west, top, east, bottom in boxes:
-        ring = [[500000 + x, 5400000 - y] for x, y in [(west, top), (east, top), (east, bottom), (west, bottom), (west, top)]]
-        features.append({"type": "Feature", "properties": {"name": name, "number": number}, "geometry": {"type": "Polygon", "coordinates": [ring]}})
-    for file, code, kept in [("districts", 32632, features), ("far_districts", 31467, features), ("dot", 32632, features[3:])]:
+        ring = [
+            [500000 + x, 5400000 - y]
+            for x, y in [(west, top), (east, top), (east, bottom), (west, bottom), (west, top)]
+        ]
+        features.append(
+            {
+                "type": "Feature",
+                "properties": {"name": name, "number": number},
+                "geometry": {"type": "Polygon", "coordinates": [ring]},
+            }
+        )
+    for file, code, kept in [
+        ("districts", 32632, features),
+        ("far_districts", 31467, features),
+        ("dot", 32632, features[3:]),
+    ]:
         crs = {"type": "name", "properties": {"name": f"urn:ogc:def:crs:EPSG::{code}"}}
-        text = json.dumps({"type": "FeatureCollection", "crs": crs, "features": kept}, ensure_ascii=False, indent=None)
+        text = json.dumps(
+            {"type": "FeatureCollection", "crs": crs, "features": kept},
+            ensure_ascii=False,
+            indent=None,
+        )
         (ROOM / f"{file}.geojson").write_text(text + "\n", encoding="utf-8")
 
 
 def write_legends() -> None:
     """Write legends of the cover: right but one class short, with a class twice, and with labels that may not be guessed."""
-    (ROOM / "legend.csv").write_text('value,label,colour\n1,"wood, wet",#228b22\n2,Wiese \u00fc,#9acd32\n', encoding="utf-8")
+    (ROOM / "legend.csv").write_text(
+        'value,label,colour\n1,"wood, wet",#228b22\n2,Wiese \u00fc,#9acd32\n', encoding="utf-8"
+    )
     (ROOM / "twice.csv").write_text("value,label\n1,wood\n2,meadow\n1,town\n", encoding="utf-8")
-    (ROOM / "latin.csv").write_text("value,label\n1,wood\n2,Gr\u00fcnland\n3,town\n", encoding="latin-1")
+    (ROOM / "latin.csv").write_text(
+        "value,label\n1,wood\n2,Gr\u00fcnland\n3,town\n", encoding="latin-1"
+    )
     (ROOM / "sixteens.csv").write_text("value,label\n0x1,wood\n", encoding="utf-8")
     (ROOM / "lines.csv").write_text("value,label\n0_1,wood\n", encoding="utf-8")
     (ROOM / "comma.csv").write_text("value,label\n1,wood, wet\n2,meadow\n", encoding="utf-8")
-    (ROOM / "comma_for_colour.csv").write_text("value,label,colour\n1,wood, wet\n2,meadow,#9acd32\n", encoding="utf-8")
+    (ROOM / "comma_for_colour.csv").write_text(
+        "value,label,colour\n1,wood, wet\n2,meadow,#9acd32\n", encoding="utf-8"
+    )
 
 
 def write_masked(name: str, cells: object) -> None:
@@ -161,7 +248,9 @@ def write_other_masks() -> None:
 
 def noise(rows: int, cols: int) -> object:
     """Three classes and some nulls, without a pattern."""
-    cells = np.random.default_rng(7).choice([1, 2, 3, NULL], (rows, cols), p=[0.32, 0.32, 0.31, 0.05])
+    cells = np.random.default_rng(7).choice(
+        [1, 2, 3, NULL], (rows, cols), p=[0.32, 0.32, 0.31, 0.05]
+    )
     return cells
 
 
@@ -197,10 +286,20 @@ def main() -> None:
     write("one", [[5]])
     write("ends", [[2147483647, -2147483647, 0], [-2147483648, -1, 1]], "int32", nodata=-2147483648)
     write("nan", np.where(np.asarray(COVER) == NULL, np.nan, COVER), "float32", nodata=None)
-    write("least_float", np.where(np.asarray(COVER) == NULL, LEAST_FLOAT, COVER), "float32", nodata=LEAST_FLOAT)
+    write(
+        "least_float",
+        np.where(np.asarray(COVER) == NULL, LEAST_FLOAT, COVER),
+        "float32",
+        nodata=LEAST_FLOAT,
+    )
     write("zero", np.where(np.asarray(COVER) == NULL, 0, COVER), "uint8", nodata=0)
     write("undeclared", COVER, nodata=None)
-    write("signed", np.where(np.asarray(COVER) == 3, -5, np.where(np.asarray(COVER) == NULL, -128, COVER)), "int8", nodata=-128)
+    write(
+        "signed",
+        np.where(np.asarray(COVER) == 3, -5, np.where(np.asarray(COVER) == NULL, -128, COVER)),
+        "int8",
+        nodata=-128,
+    )
     write_wide("wide", COVER)
     write_wide("beyond_wide", changed(3, 1, 3e9))
     write("odd", [[-3, 7, 12], [100000, 100001, NULL]], "int32")
@@ -212,7 +311,9 @@ def main() -> None:
     write_other_masks()
     write("later", LATER)
     write("heights", HEIGHTS, "int32")
-    write("lonlat", COVER, transform=Affine(0.0003, 0, 8.9999, 0, -0.0002, 48.75305), crs="EPSG:4326")
+    write(
+        "lonlat", COVER, transform=Affine(0.0003, 0, 8.9999, 0, -0.0002, 48.75305), crs="EPSG:4326"
+    )
     write_polygons()
     write_legends()
     write_edges()

@@ -38,11 +38,23 @@ MOST_CATEGORY = 2147483647
 NULL = -2147483648  # among cells that come back
 EXACT_FLOAT = 2**53
 TYPES = {
-    gdal.GDT_Byte: np.uint8, gdal.GDT_UInt16: np.uint16, gdal.GDT_Int16: np.int16, gdal.GDT_UInt32: np.uint32, gdal.GDT_Int32: np.int32,
-    gdal.GDT_Float32: np.float32, gdal.GDT_Float64: np.float64, gdal.GDT_Int64: np.int64, gdal.GDT_UInt64: np.uint64,
+    gdal.GDT_Byte: np.uint8,
+    gdal.GDT_UInt16: np.uint16,
+    gdal.GDT_Int16: np.int16,
+    gdal.GDT_UInt32: np.uint32,
+    gdal.GDT_Int32: np.int32,
+    gdal.GDT_Float32: np.float32,
+    gdal.GDT_Float64: np.float64,
+    gdal.GDT_Int64: np.int64,
+    gdal.GDT_UInt64: np.uint64,
 }
 SYSTEMS = (0, 4326, 25832, 32632, 2263, 31467, 9707)
-BLOCKS: tuple[list[str], ...] = (["TILED=YES", "BLOCKXSIZE=16", "BLOCKYSIZE=16"], ["BLOCKYSIZE=1"], ["BLOCKYSIZE=5"], [])
+BLOCKS: tuple[list[str], ...] = (
+    ["TILED=YES", "BLOCKXSIZE=16", "BLOCKYSIZE=16"],
+    ["BLOCKYSIZE=1"],
+    ["BLOCKYSIZE=5"],
+    [],
+)
 NAMES = ["", "water", "a b", "", "Wald", "5"]
 REFUSED_SYSTEM = "reference system|CRS"
 
@@ -81,15 +93,25 @@ class Made:
 
 def place_of(random: Any) -> Place:
     chance = random.random()
-    rows, cols = (int(size) for size in random.integers(1, 19, 2)) if chance < 0.9 else (int(random.integers(1, 60)), 40)
+    rows, cols = (
+        (int(size) for size in random.integers(1, 19, 2))
+        if chance < 0.9
+        else (int(random.integers(1, 60)), 40)
+    )
     if chance > 0.99:
         rows, cols = int(random.integers(900, 1500)), 1000  # more than a package reads at once
-    width, height = (float(size) for size in random.choice([0.5, 1, 10, 25, 30, 1 / 3, 1 / 120, 1000], 2))
+    width, height = (
+        float(size) for size in random.choice([0.5, 1, 10, 25, 30, 1 / 3, 1 / 120, 1000], 2)
+    )
     west, north = float(random.integers(-1000, 1000)), float(random.integers(-1000, 1000)) / 3
     usual = (west, width, 0.0, north, 0.0, -height)
     forms: list[tuple[tuple[float, ...] | None, str]] = [
-        (None, ""), ((*usual[:5], height), ""), ((*usual[:5], height), ""), ((*usual[:2], 0.5, *usual[3:]), "rotated|mirrored"),
-        ((west, -width, *usual[2:]), "west|mirrored"), ((float("nan"), *usual[1:]), "finite"),
+        (None, ""),
+        ((*usual[:5], height), ""),
+        ((*usual[:5], height), ""),
+        ((*usual[:2], 0.5, *usual[3:]), "rotated|mirrored"),
+        ((west, -width, *usual[2:]), "west|mirrored"),
+        ((float("nan"), *usual[1:]), "finite"),
     ]
     kind = int(random.integers(24))
     transform, reason = forms[kind] if kind < len(forms) else (usual, "")
@@ -99,10 +121,22 @@ def place_of(random: Any) -> Place:
 def cells_of(random: Any, dtype: Any, shape: tuple[int, int]) -> Any:
     """Whole numbers that the type holds: a few, many, or any; sometimes the largest among them."""
     is_real = np.dtype(dtype).kind == "f"
-    limits = (-(2**24), 2**24) if dtype == np.float32 else (-MOST_CATEGORY, MOST_CATEGORY) if is_real else (np.iinfo(dtype).min, np.iinfo(dtype).max)
+    limits = (
+        (-(2**24), 2**24)
+        if dtype == np.float32
+        else (-MOST_CATEGORY, MOST_CATEGORY)
+        if is_real
+        else (np.iinfo(dtype).min, np.iinfo(dtype).max)
+    )
     least, most = max(int(limits[0]), -MOST_CATEGORY), min(int(limits[1]), MOST_CATEGORY)
     span = int(random.choice([2, 9, 300, 70_000, 2**33]))
-    low = int(random.integers(least, most + 1)) if random.random() < 0.3 else 0 if least == 0 else -(span // 3)
+    low = (
+        int(random.integers(least, most + 1))
+        if random.random() < 0.3
+        else 0
+        if least == 0
+        else -(span // 3)
+    )
     low = max(least, min(low, most))
     cells = random.integers(low, min(low + span, most) + 1, shape, np.int64)
     if random.random() < 0.2:
@@ -114,11 +148,32 @@ def nodata_of(random: Any, cells: Any) -> Any:
     """A nodata value, or None: one of the cells, one that no cell has or no cell can have, an end of the type, NaN."""
     is_real, is_wide = cells.dtype.kind == "f", cells.dtype.itemsize == 8
     limits: Any = np.finfo(cells.dtype) if is_real else np.iinfo(cells.dtype)
-    one, end, before = cells.reshape(-1)[random.integers(cells.size)].item(), limits.max.item() if is_real else limits.max, limits.min
-    odd = [-9999, 255, 0.5, float("nan"), 2**31, -(2**31), 1e30] if is_real or not is_wide else [255, 2**31, end - 1]
-    choices = [None, None, one, one, one + 1, end, before.item() if is_real else before, odd[random.integers(len(odd))]]
+    one, end, before = (
+        cells.reshape(-1)[random.integers(cells.size)].item(),
+        limits.max.item() if is_real else limits.max,
+        limits.min,
+    )
+    odd = (
+        [-9999, 255, 0.5, float("nan"), 2**31, -(2**31), 1e30]
+        if is_real or not is_wide
+        else [255, 2**31, end - 1]
+    )
+    choices = [
+        None,
+        None,
+        one,
+        one,
+        one + 1,
+        end,
+        before.item() if is_real else before,
+        odd[random.integers(len(odd))],
+    ]
     found = choices[random.integers(len(choices))]
-    return min(found, end) if found is not None and found == found and is_wide and not is_real else found
+    return (
+        min(found, end)
+        if found is not None and found == found and is_wide and not is_real
+        else found
+    )
 
 
 def null_cells(cells: Any, nodata: Any, opaque: list[Any]) -> Any:
@@ -127,10 +182,15 @@ def null_cells(cells: Any, nodata: Any, opaque: list[Any]) -> Any:
         null |= mask == 0
     if nodata is None or nodata != nodata:
         return null
-    if cells.dtype.kind != "f" and not (nodata == int(nodata) and np.iinfo(cells.dtype).min <= int(nodata) <= np.iinfo(cells.dtype).max):
+    if cells.dtype.kind != "f" and not (
+        nodata == int(nodata)
+        and np.iinfo(cells.dtype).min <= int(nodata) <= np.iinfo(cells.dtype).max
+    ):
         return null
     with np.errstate(over="ignore"):
-        return null | (cells == cells.dtype.type(nodata if cells.dtype.kind == "f" else int(nodata)))
+        return null | (
+            cells == cells.dtype.type(nodata if cells.dtype.kind == "f" else int(nodata))
+        )
 
 
 def spoil(random: Any, cells: Any, nodata: Any, null: Any) -> str:
@@ -168,11 +228,19 @@ class Form:
 def form_of(random: Any, kind: int, shape: tuple[int, int]) -> Form:
     chance = random.random(6)
     opaque = random.choice([0, 1, 100], shape, p=[0.2, 0.1, 0.7]).astype(TYPES[kind])
-    options = [*BLOCKS[random.integers(len(BLOCKS))], *(["COMPRESS=DEFLATE"] if chance[0] < 0.2 else [])]
+    options = [
+        *BLOCKS[random.integers(len(BLOCKS))],
+        *(["COMPRESS=DEFLATE"] if chance[0] < 0.2 else []),
+    ]
     return Form(
-        kind, options + (["ALPHA=YES", "PHOTOMETRIC=MINISBLACK"] if chance[1] < 0.15 else []), opaque if chance[1] < 0.15 else None,
-        np.where(random.random(shape) < 0.2, 0, 255).astype(np.uint8) if chance[2] < 0.1 else None, bool(chance[3] < 0.01), bool(chance[4] < 0.01),
-        NAMES if kind == gdal.GDT_Byte and chance[5] < 0.1 else [])
+        kind,
+        options + (["ALPHA=YES", "PHOTOMETRIC=MINISBLACK"] if chance[1] < 0.15 else []),
+        opaque if chance[1] < 0.15 else None,
+        np.where(random.random(shape) < 0.2, 0, 255).astype(np.uint8) if chance[2] < 0.1 else None,
+        bool(chance[3] < 0.01),
+        bool(chance[4] < 0.01),
+        NAMES if kind == gdal.GDT_Byte and chance[5] < 0.1 else [],
+    )
 
 
 def make(random: Any, place: Place, path: str, projection: str) -> Made:
@@ -184,15 +252,34 @@ def make(random: Any, place: Place, path: str, projection: str) -> Made:
     reason = spoil(random, cells, nodata, null) if random.random() < 0.04 else ""
     write(place, path, projection, cells, nodata, form)
     reason = "|".join(["type|complex"] * form.is_complex + ["scale"] * form.is_scaled) or reason
-    known = None if reason else np.where(null, NULL, np.where(null, 0, cells).astype(np.int64)).astype(np.int32).reshape(-1)
-    is_wide = kind in (gdal.GDT_Int64, gdal.GDT_UInt64) and nodata is not None and abs(nodata) >= EXACT_FLOAT
+    known = (
+        None
+        if reason
+        else np.where(null, NULL, np.where(null, 0, cells).astype(np.int64))
+        .astype(np.int32)
+        .reshape(-1)
+    )
+    is_wide = (
+        kind in (gdal.GDT_Int64, gdal.GDT_UInt64)
+        and nodata is not None
+        and abs(nodata) >= EXACT_FLOAT
+    )
     labels = {str(number): name for number, name in enumerate(form.labels) if name}
-    return Made(path, known, "|".join(filter(None, (place.reason, reason))), labels, form.mask is not None, is_wide)
+    return Made(
+        path,
+        known,
+        "|".join(filter(None, (place.reason, reason))),
+        labels,
+        form.mask is not None,
+        is_wide,
+    )
 
 
 def write(place: Place, path: str, projection: str, cells: Any, nodata: Any, form: Form) -> None:
     kind = gdal.GDT_CFloat32 if form.is_complex else form.kind
-    dataset = gdal.GetDriverByName("GTiff").Create(path, place.cols, place.rows, 1 + (form.alpha is not None), kind, form.options)
+    dataset = gdal.GetDriverByName("GTiff").Create(
+        path, place.cols, place.rows, 1 + (form.alpha is not None), kind, form.options
+    )
     step = 1
     if place.transform is not None:
         step = -1 if place.transform[5] > 0 else 1
@@ -208,12 +295,17 @@ def write(place: Place, path: str, projection: str, cells: Any, nodata: Any, for
     if nodata is not None:
         band.Fill(1)
         dataset.FlushCache()  # all blocks are stored now: GDAL writes nodata, rounded, in place of zeros in a block that is not
-        {gdal.GDT_Int64: band.SetNoDataValueAsInt64, gdal.GDT_UInt64: band.SetNoDataValueAsUInt64}.get(kind, band.SetNoDataValue)(nodata)
+        {
+            gdal.GDT_Int64: band.SetNoDataValueAsInt64,
+            gdal.GDT_UInt64: band.SetNoDataValueAsUInt64,
+        }.get(kind, band.SetNoDataValue)(nodata)
     for number, array in enumerate([cells] if form.alpha is None else [cells, form.alpha], 1):
         dataset.GetRasterBand(number).WriteArray(np.ascontiguousarray(array[::step]))
     if form.mask is not None:
         gdal.SetConfigOption("GDAL_TIFF_INTERNAL_MASK", "YES" if form.mask[0, 0] else "NO")
-        band.CreateMaskBand(0 if not form.mask[0, 0] and form.mask[-1, -1] else gdal.GMF_PER_DATASET)
+        band.CreateMaskBand(
+            0 if not form.mask[0, 0] and form.mask[-1, -1] else gdal.GMF_PER_DATASET
+        )
         band.GetMaskBand().WriteArray(np.ascontiguousarray(form.mask[::step]))
 
 
@@ -286,11 +378,28 @@ def answer_of_qgis(asked: Asked) -> Answer:
 def answer_of_grass(asked: Asked) -> Answer:
     from test_without_grass import handing_out, rcell
 
-    region = {"n": asked.rows, "s": 0, "e": asked.cols, "w": 0, "rows": asked.rows, "cols": asked.cols}
+    region = {
+        "n": asked.rows,
+        "s": 0,
+        "e": asked.cols,
+        "w": 0,
+        "rows": asked.rows,
+        "cols": asked.cols,
+    }
     inputs = [rcell.Input(name, f"{path}.cells") for name, path in zip(asked.names, asked.paths)]
     with handing_out():
         maps = [rcell.source_of(it, {}, region, rcell.Progress(1)) for it in inputs]
-        return parsed(asked, b"".join(rcell.tables_of(asked.script, rcell.judged(asked.script, asked.names), lambda: maps))), {}
+        return (
+            parsed(
+                asked,
+                b"".join(
+                    rcell.tables_of(
+                        asked.script, rcell.judged(asked.script, asked.names), lambda: maps
+                    )
+                ),
+            ),
+            {},
+        )
 
 
 def answer_of_shell(asked: Asked) -> Answer:
@@ -300,7 +409,9 @@ def answer_of_shell(asked: Asked) -> Answer:
     def text_of(path: str) -> bytes:
         written: list[bytes] = []
         dataset = gdal.Open(path)
-        rcell_tif.write_grid(f"{os.environ['RCELL']}-pipe", dataset, rcell_tif.one_band(dataset), written.append)
+        rcell_tif.write_grid(
+            f"{os.environ['RCELL']}-pipe", dataset, rcell_tif.one_band(dataset), written.append
+        )
         return b"".join(written)
 
     return answer_of_program(asked, text_of)
@@ -310,7 +421,9 @@ def answer_of_program(asked: Asked, text_of: Callable[[str], bytes]) -> Answer:
     """What rcell itself makes of grids."""
     words = [os.environ["RCELL"], f"{asked.paths[0]}.script"]
     for name, path in zip(["", *asked.names], [words[1], *asked.paths]):
-        pathlib.Path(path if not name else f"{path}.grid").write_bytes(text_of(path) if name else asked.script.encode())
+        pathlib.Path(path if not name else f"{path}.grid").write_bytes(
+            text_of(path) if name else asked.script.encode()
+        )
         words += [f"{name}={path}.grid"] * bool(name)
     ran = subprocess.run(words, capture_output=True, check=False)
     if ran.returncode:
@@ -321,7 +434,10 @@ def answer_of_program(asked: Asked, text_of: Callable[[str], bytes]) -> Answer:
 def parsed(asked: Asked, text: bytes) -> list[Any]:
     """The cells that are printed, as a list and as a grid."""
     lines, size = text.replace(b"*", b"%d" % NULL).split(b"\n"), asked.rows * asked.cols
-    return [np.fromstring(b" ".join(part), np.int64, sep=" ") for part in (lines[:size], lines[size + 6:])]
+    return [
+        np.fromstring(b" ".join(part), np.int64, sep=" ")
+        for part in (lines[:size], lines[size + 6 :])
+    ]
 
 
 def work(answer: Callable[[Asked], Answer]) -> None:
@@ -331,7 +447,10 @@ def work(answer: Callable[[Asked], Answer]) -> None:
         asked = Asked(int(rows), int(cols), int(again), paths)
         try:
             arrays, labels = answer(asked)
-            told = b"".join(part.reshape(asked.rows * asked.cols, -1).T.astype(np.int32).tobytes() for part in arrays)
+            told = b"".join(
+                part.reshape(asked.rows * asked.cols, -1).T.astype(np.int32).tobytes()
+                for part in arrays
+            )
             head = f"cells {len(told)} {json.dumps({str(number): label for number, label in labels.items()})}"
         except Exception as error:
             told, head = b"", f"{type(error).__name__}: {error}".replace("\n", " ")
@@ -352,33 +471,58 @@ class Front:
 
     def __post_init__(self) -> None:
         paths = {"qgis": "qgis", "grass": "grass/tests"}
-        words = ["Rscript", str(HERE / "random_rasters.R")] if self.name == "r" else [sys.executable, "-W", "ignore", __file__, "--work", self.name]
+        words = (
+            ["Rscript", str(HERE / "random_rasters.R")]
+            if self.name == "r"
+            else [sys.executable, "-W", "ignore", __file__, "--work", self.name]
+        )
         # R starts programs with fork, which copies its table of pages: huge ones are few.
-        known = {**environment(), "PYTHONPATH": str(REPOSITORY / paths.get(self.name, "python/src")), "GLIBC_TUNABLES": "glibc.malloc.hugetlb=1"}
-        self._process = subprocess.Popen(words, stdin=subprocess.PIPE, stdout=subprocess.PIPE, env=known)
+        known = {
+            **environment(),
+            "PYTHONPATH": str(REPOSITORY / paths.get(self.name, "python/src")),
+            "GLIBC_TUNABLES": "glibc.malloc.hugetlb=1",
+        }
+        self._process = subprocess.Popen(
+            words, stdin=subprocess.PIPE, stdout=subprocess.PIPE, env=known
+        )
 
     def ask(self, place: Place, rasters: list[Made], again: int) -> tuple[str, bytes]:
         """What the package returns for some rasters of one call."""
         assert self._process.stdin is not None and self._process.stdout is not None
-        line = "\t".join([str(place.rows), str(place.cols), str(again), *(made.path for made in rasters)])
+        line = "\t".join(
+            [str(place.rows), str(place.cols), str(again), *(made.path for made in rasters)]
+        )
         self._process.stdin.write(line.encode() + b"\n")
         self._process.stdin.flush()
         head = self._process.stdout.readline().decode().rstrip("\n")
-        return head, self._process.stdout.read(int(head.split()[1])) if head.startswith("cells ") else b""
+        return (
+            head,
+            self._process.stdout.read(int(head.split()[1])) if head.startswith("cells ") else b"",
+        )
 
     def judge(self, place: Place, rasters: list[Made], again: int) -> None:
         """Compares what the package returns with what numpy says."""
         head, told = self.ask(place, rasters, again)
-        wanted, labels = [made.cells.tobytes() for made in [*rasters, rasters[again]]], rasters[again].labels
+        wanted, labels = [made.cells.tobytes() for made in [*rasters, rasters[again]]], rasters[
+            again
+        ].labels
         size = len(wanted[0])
         found = [told[at : at + size] for at in range(0, len(told), size)]
-        if self.name in ("python", "qgis", "r") and found and json.loads(head.split(" ", 2)[2]) != labels:
+        if (
+            self.name in ("python", "qgis", "r")
+            and found
+            and json.loads(head.split(" ", 2)[2]) != labels
+        ):
             found = []
         for at, made in enumerate(rasters):
-            if found[at : at + 1] == wanted[at : at + 1] and (at != again or found[-1:] == wanted[-1:]):
+            if found[at : at + 1] == wanted[at : at + 1] and (
+                at != again or found[-1:] == wanted[-1:]
+            ):
                 self.passed += 1
             else:
-                self.wrong.append(f"{made.path}: {head[:300]}; {np.frombuffer(b''.join(found[at:at + 1]), np.int32)[:20]}, not {made.cells[:20]}")
+                self.wrong.append(
+                    f"{made.path}: {head[:300]}; {np.frombuffer(b''.join(found[at:at + 1]), np.int32)[:20]}, not {made.cells[:20]}"
+                )
 
     def refuses(self, place: Place, rasters: list[Made], reason: str) -> None:
         """Sees that rasters are rejected, and why."""
@@ -386,14 +530,18 @@ class Front:
         if not head.startswith("cells ") and re.search(reason, head):
             self.passed += 1
         else:
-            self.wrong.append(f"{' '.join(made.path for made in rasters)}: {head[:300]}, and not refused as {reason}")
+            self.wrong.append(
+                f"{' '.join(made.path for made in rasters)}: {head[:300]}, and not refused as {reason}"
+            )
 
     def end(self) -> None:
         """Ends the package's process."""
         self._process.communicate()
 
 
-def try_group(seed: int, number: int, room: str, fronts: list[Front], last: list[tuple[Place, Made]]) -> None:
+def try_group(
+    seed: int, number: int, room: str, fronts: list[Front], last: list[tuple[Place, Made]]
+) -> None:
     random = np.random.default_rng([seed, number])
     place = place_of(random)
     projection = projection_of(place.epsg)
@@ -404,17 +552,32 @@ def try_group(seed: int, number: int, room: str, fronts: list[Front], last: list
             if made.cells is not None:
                 made.cells.tofile(f"{made.path}.cells")
     for front in fronts:
-        mine = [made for made in rasters if front.name != "grass" or not made.reason][: 1 if front.name == "tiles" else GROUP]
+        mine = [made for made in rasters if front.name != "grass" or not made.reason][
+            : 1 if front.name == "tiles" else GROUP
+        ]
         good = [made for made in mine if not made.reason_in(front.name)]
         if good:
             front.judge(place, good, number % len(good))
-        for made in [made for made in mine if made.reason_in(front.name)][: 1 if place.reason else GROUP]:
+        for made in [made for made in mine if made.reason_in(front.name)][
+            : 1 if place.reason else GROUP
+        ]:
             front.refuses(place, [made], made.reason_in(front.name))
-        if good and last and front.name in ("python", "qgis", "r") and not last[0][1].reason_in(front.name):
-            front.refuses(place, [good[0], last[0][1]], REFUSED_SYSTEM if last[0][0].epsg != place.epsg else "")
+        if (
+            good
+            and last
+            and front.name in ("python", "qgis", "r")
+            and not last[0][1].reason_in(front.name)
+        ):
+            front.refuses(
+                place,
+                [good[0], last[0][1]],
+                REFUSED_SYSTEM if last[0][0].epsg != place.epsg else "",
+            )
     kept = "".join("\n".join(front.wrong) for front in fronts)
     for entry in list(os.scandir(room)):
-        if entry.name.split(".")[0] not in kept and not (rasters[0].cells is not None and entry.path.startswith(rasters[0].path)):
+        if entry.name.split(".")[0] not in kept and not (
+            rasters[0].cells is not None and entry.path.startswith(rasters[0].path)
+        ):
             os.unlink(entry.path)
     last[:] = [(place, rasters[0])] if not rasters[0].reason else []
 
@@ -430,8 +593,14 @@ def run(asked: argparse.Namespace, fronts: list[Front], room: str) -> None:
         done = (number + 1 - asked.start) * GROUP
         if done // PROGRESS > told:
             told = done // PROGRESS
-            counts = ", ".join(f"{front.name} {front.passed} of {front.passed + len(front.wrong)}" for front in fronts)
-            print(f"fronts: seed {asked.seed}, groups {asked.start} to {number}: {counts}; {time.monotonic() - began:.0f} s", flush=True)
+            counts = ", ".join(
+                f"{front.name} {front.passed} of {front.passed + len(front.wrong)}"
+                for front in fronts
+            )
+            print(
+                f"fronts: seed {asked.seed}, groups {asked.start} to {number}: {counts}; {time.monotonic() - began:.0f} s",
+                flush=True,
+            )
 
 
 def main() -> int:
@@ -448,20 +617,31 @@ def main() -> int:
         work(globals()[f"answer_of_{asked.work}"])
         return 0
     named = [name for name in asked.fronts or FRONTS if name in (*FRONTS, "tiles")]
-    missing = {name: MISSING[{"tiles": "python"}.get(name, name)]() if name not in ("grass", "shell") else "" for name in named}
+    missing = {
+        name: MISSING[{"tiles": "python"}.get(name, name)]()
+        if name not in ("grass", "shell")
+        else ""
+        for name in named
+    }
     for name in filter(missing.get, named):
         print(f"skipped  fronts/{name}: {missing[name]}; install: apt-get install {PACKAGES[name]}")
     fronts = [Front(name) for name in named if not missing[name]]
-    room = tempfile.mkdtemp(prefix="rasters-", dir="/dev/shm" if os.access("/dev/shm", os.W_OK) else None)
+    room = tempfile.mkdtemp(
+        prefix="rasters-", dir="/dev/shm" if os.access("/dev/shm", os.W_OK) else None
+    )
     run(asked, fronts, room)
     for front in fronts:
         front.end()
-        print(f"fronts: {front.name}: {front.passed} random rasters of {front.passed + len(front.wrong)}, seed {asked.seed}")
+        print(
+            f"fronts: {front.name}: {front.passed} random rasters of {front.passed + len(front.wrong)}, seed {asked.seed}"
+        )
         print(*front.wrong[:20], sep="\n", end="\n" * bool(front.wrong))
     failed = sum(len(front.wrong) for front in fronts)
     if not failed:
         shutil.rmtree(room)
-    print(f"{sum(front.passed for front in fronts)} passed, {failed} failed, {asked.count * sum(map(bool, missing.values()))} skipped")
+    print(
+        f"{sum(front.passed for front in fronts)} passed, {failed} failed, {asked.count * sum(map(bool, missing.values()))} skipped"
+    )
     return 1 if failed else 0
 
 

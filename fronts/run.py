@@ -21,13 +21,19 @@ FRONTS = ("python", "r", "qgis", "grass")
 
 
 def environment() -> dict[str, str]:
-    known = {"PYTHONDONTWRITEBYTECODE": "1", "LC_ALL": "C.UTF-8", "RCELL": os.environ.get("RCELL") or str(REPOSITORY / "bin/rcell")}
+    known = {
+        "PYTHONDONTWRITEBYTECODE": "1",
+        "LC_ALL": "C.UTF-8",
+        "RCELL": os.environ.get("RCELL") or str(REPOSITORY / "bin/rcell"),
+    }
     return {**os.environ, **known, "PYTHONPATH": str(REPOSITORY / "python/src")}
 
 
 def missing_of_python() -> str:
     for library in ("numpy", "rasterio", "pandas"):
-        if subprocess.run([sys.executable, "-c", f"import {library}"], capture_output=True).returncode:
+        if subprocess.run(
+            [sys.executable, "-c", f"import {library}"], capture_output=True
+        ).returncode:
             return f"{library} is not installed"
     return ""
 
@@ -36,13 +42,19 @@ def missing_of_r() -> str:
     if not shutil.which("Rscript"):
         return "R is not installed"
     test = 'for (p in c("terra", "data.table", "processx", "rcell")) if (!nzchar(system.file(package = p))) cat(p, "")'
-    missing = subprocess.run(["Rscript", "--no-init-file", "-e", test], capture_output=True, text=True).stdout.strip()
+    missing = subprocess.run(
+        ["Rscript", "--no-init-file", "-e", test], capture_output=True, text=True
+    ).stdout.strip()
     return f"packages of R are not installed: {missing}" if missing else ""
 
 
 def missing_of_qgis() -> str:
     test = "import osgeo.gdal, numpy, qgis.core, sys; sys.path.append('/usr/share/qgis/python/plugins'); import processing"
-    ran = subprocess.run([sys.executable, "-c", test], capture_output=True, env={**os.environ, "QT_QPA_PLATFORM": "offscreen"})
+    ran = subprocess.run(
+        [sys.executable, "-c", test],
+        capture_output=True,
+        env={**os.environ, "QT_QPA_PLATFORM": "offscreen"},
+    )
     return "QGIS is not installed" if ran.returncode else ""
 
 
@@ -50,7 +62,12 @@ def missing_of_grass() -> str:
     return "" if shutil.which("grass") else "GRASS is not installed"
 
 
-MISSING = {"python": missing_of_python, "r": missing_of_r, "qgis": missing_of_qgis, "grass": missing_of_grass}
+MISSING = {
+    "python": missing_of_python,
+    "r": missing_of_r,
+    "qgis": missing_of_qgis,
+    "grass": missing_of_grass,
+}
 # Packages of Debian.
 PACKAGES = {
     "python": "python3-numpy python3-rasterio python3-pandas",
@@ -68,7 +85,9 @@ COMMANDS = {
 
 def found_by(front: str) -> tuple[dict[str, list[str]], str]:
     """Return the results of a package by case, and its other output."""
-    ran = subprocess.run(COMMANDS[front], env=environment(), capture_output=True, encoding="utf-8", errors="replace")
+    ran = subprocess.run(
+        COMMANDS[front], env=environment(), capture_output=True, encoding="utf-8", errors="replace"
+    )
     found: dict[str, list[str]] = {}
     name = ""
     for line in ran.stdout.splitlines():
@@ -88,7 +107,9 @@ def is_right(case: Case, front: str, lines: list[str]) -> bool:
     told = dict(line.split(": ", 1) for line in lines if ": " in line)
     wanted = dict(line.split(": ", 1) for line in expected)
     text = wanted.pop("text", "")
-    return told.get("text", "").startswith(text) and all(told.get(key) == value for key, value in wanted.items())
+    return told.get("text", "").startswith(text) and all(
+        told.get(key) == value for key, value in wanted.items()
+    )
 
 
 def run(front: str) -> tuple[int, int, int]:
@@ -101,7 +122,13 @@ def run(front: str) -> tuple[int, int, int]:
     found, said = found_by(front)
     wrong = [case for case in tried if not is_right(case, front, found.get(case.name, []))]
     for case in wrong:
-        print(f"fronts: {front}: {case.name}", "  expected:", *(f"    {line}" for line in case.expected_of(front)[0]), "  found:", sep="\n")
+        print(
+            f"fronts: {front}: {case.name}",
+            "  expected:",
+            *(f"    {line}" for line in case.expected_of(front)[0]),
+            "  found:",
+            sep="\n",
+        )
         print(*(f"    {line}" for line in found.get(case.name, ["nothing"])), sep="\n")
     if wrong and said:
         print(said)

@@ -55,13 +55,19 @@ class Explanation:
             self.explain_arguments(line, text)
         elif text in ("cannot open", "read failed"):
             self.explain_file(source, text, names)
-        elif source in names and not column and self.messages.causes("grid", text) and not (
-                source == "script" and self.messages.causes("script", text)):
+        elif (
+            source in names
+            and not column
+            and self.messages.causes("grid", text)
+            and not (source == "script" and self.messages.causes("script", text))
+        ):
             self.explain_grid(source, line, text)
         elif source == "script":
             self.explain_script(line, text, "expression" if column else "script")
         if source != "script":
-            self.further_lines("the script also has errors:", self.rejected_lines(source != "arguments"))
+            self.further_lines(
+                "the script also has errors:", self.rejected_lines(source != "arguments")
+            )
 
     # The command line
 
@@ -87,17 +93,41 @@ class Explanation:
         if "=" in first and not os.path.exists(first):
             script = next((it for it in self.words if "=" not in it), word)
             others = [it for it in self.words if it != script]
-            self.say_known("arguments", text, "script not first", {"fixed": " ".join(["rcell", quoted(script)] + [quoted(it) for it in others])})
-        elif word == "=" or (not equals and near.startswith("=")) or (equals and not path and near and "=" not in near):
+            self.say_known(
+                "arguments",
+                text,
+                "script not first",
+                {"fixed": " ".join(["rcell", quoted(script)] + [quoted(it) for it in others])},
+            )
+        elif (
+            word == "="
+            or (not equals and near.startswith("="))
+            or (equals and not path and near and "=" not in near)
+        ):
             parts = self.words[1:]
             fixed = re.sub(r" *= *", "=", " ".join(parts))
-            self.say_known("arguments", text, "blanks", {"fixed": shown(fixed.encode("utf-8", "surrogateescape"))})
+            self.say_known(
+                "arguments",
+                text,
+                "blanks",
+                {"fixed": shown(fixed.encode("utf-8", "surrogateescape"))},
+            )
         elif not equals:
-            self.say_known("arguments", text, "no name", {"word": quoted(word), "name": as_name(os.path.basename(word).split(".")[0])})
+            self.say_known(
+                "arguments",
+                text,
+                "no name",
+                {"word": quoted(word), "name": as_name(os.path.basename(word).split(".")[0])},
+            )
         elif not path:
             self.say_known("arguments", text, "no path", {"name": quoted(name)})
         else:
-            self.say_known("arguments", text, "bad name", {"name": quoted(name), "fixed": quoted("%s=%s" % (as_name(name), path))})
+            self.say_known(
+                "arguments",
+                text,
+                "bad name",
+                {"name": quoted(name), "fixed": quoted("%s=%s" % (as_name(name), path))},
+            )
 
     # Files
 
@@ -120,18 +150,34 @@ class Explanation:
         if os.path.exists(path):
             return None if os.access(path, os.R_OK) else ("not readable", {})
         if name == "script" and path.startswith("r.") and " " in path and path.isprintable():
-            return "script itself", {"fixed": "echo %s | rcell /dev/stdin %s" % (quoted(path), " ".join(map(quoted, words[1:])))}
+            return "script itself", {
+                "fixed": "echo %s | rcell /dev/stdin %s"
+                % (quoted(path), " ".join(map(quoted, words[1:])))
+            }
         if path.startswith("~"):
-            return "tilde", {"fixed": '%s="$HOME%s"' % (name, shown(path[1:].encode("utf-8", "surrogateescape")))}
+            return "tilde", {
+                "fixed": '%s="$HOME%s"' % (name, shown(path[1:].encode("utf-8", "surrogateescape")))
+            }
         parts = path.split(",")
         if len(parts) > 1 and os.path.exists(parts[0]):
-            return "comma", {"fixed": " ".join(["%s=%s" % (name, quoted(parts[0]))] + [quoted(part) for part in parts[1:]])}
+            return "comma", {
+                "fixed": " ".join(
+                    ["%s=%s" % (name, quoted(parts[0]))] + [quoted(part) for part in parts[1:]]
+                )
+            }
         folder = os.path.dirname(path) or "."
         try:
-            near = difflib.get_close_matches(os.path.basename(path), os.listdir(folder), n=1, cutoff=0.6)
+            near = difflib.get_close_matches(
+                os.path.basename(path), os.listdir(folder), n=1, cutoff=0.6
+            )
         except OSError:
             return "no file", {"near": ": there is no folder %s" % quoted(folder)}
-        return "no file", {"near": "; the nearest name is `%s`" % quoted(os.path.join(os.path.dirname(path), near[0])) if near else ""}
+        return "no file", {
+            "near": "; the nearest name is `%s`"
+            % quoted(os.path.join(os.path.dirname(path), near[0]))
+            if near
+            else ""
+        }
 
     def explain_write(self, text):
         self.say_all("files", "write failed after N bytes")
@@ -154,7 +200,10 @@ class Explanation:
         found = cause_of(grid, line, text)
         if found is None or not self.messages.has("grid", text, found[0]):
             if given.is_kept and given.line(line) is None and line:
-                self.say("grid %s came through a pipe and line %d was not kept: run it on a file" % (source, line))
+                self.say(
+                    "grid %s came through a pipe and line %d was not kept: run it on a file"
+                    % (source, line)
+                )
             self.say_all("grid", text)
             return
         cause, values, spans = found
@@ -164,7 +213,10 @@ class Explanation:
                 self.say("  " + it)
         self.say_known("grid", text, cause, values)
         if cause in ("fraction", "no number", "beyond") and grid.is_as_converted():
-            self.say("  (if rcell-aaigrid made the file, this is line %d of the .asc file, or line %d if that has dx and dy)" % (line - 1, line))
+            self.say(
+                "  (if rcell-aaigrid made the file, this is line %d of the .asc file, or line %d if that has dx and dy)"
+                % (line - 1, line)
+            )
 
     def counted(self, grid, given):
         """Return the number of cells, and the first line whose number of cells is wrong, as text."""
@@ -186,7 +238,9 @@ class Explanation:
         if count == 0:
             return {"counted": "", "odd": ""}
         is_by_rows = odd is None or odd[0] != grid.data_line
-        said = " (line %d has %d words, not %d)" % (odd[0], odd[1], cols) if odd and is_by_rows else ""
+        said = (
+            " (line %d has %d words, not %d)" % (odd[0], odd[1], cols) if odd and is_by_rows else ""
+        )
         if count == rows * cols:
             return {"counted": "", "odd": ""}
         joint = "of" if count < rows * cols else "instead of"
@@ -200,20 +254,38 @@ class Explanation:
         return count + words, (number, words) if odd is None and words not in (0, cols) else odd
 
     def explain_region(self, grid):
-        first, _ = self.grid(self.run.given.grids[0][0]) if self.run.given.grids[0][0] != grid.name else self.first_grid()
+        first, _ = (
+            self.grid(self.run.given.grids[0][0])
+            if self.run.given.grids[0][0] != grid.name
+            else self.first_grid()
+        )
         names = (first.name, grid.name)
-        wide = max(len(name) for name in names + tuple(first.values.get(key, "") for key in SIX)) + 2
+        wide = (
+            max(len(name) for name in names + tuple(first.values.get(key, "") for key in SIX)) + 2
+        )
         self.say("  %-8s%s%s" % ("", names[0].ljust(wide), names[1]))
         differs = []
         for key in SIX:
             values = [shown(it.values.get(key, "?")) for it in (first, grid)]
             is_same = same_number(*values)
             differs += [] if is_same else [key]
-            self.say("  %-8s%s%s%s" % (key, values[0].ljust(wide), values[1], "" if is_same else "   <- differs"))
+            self.say(
+                "  %-8s%s%s%s"
+                % (key, values[0].ljust(wide), values[1], "" if is_same else "   <- differs")
+            )
         if differs and all(key in EDGES for key in differs) and is_near(first, grid):
-            right, other = sorted((first, grid), key=lambda it: sum(len(it.values[key]) for key in differs))
-            edits = "; ".join("s/^%s:.*/%s: %s/" % (key, key, shown(right.values[key])) for key in differs)
-            self.say_known("grid", "other region", "rounding", {"fixed": "sed '%s' %s > NEW" % (edits, quoted(other.path))})
+            right, other = sorted(
+                (first, grid), key=lambda it: sum(len(it.values[key]) for key in differs)
+            )
+            edits = "; ".join(
+                "s/^%s:.*/%s: %s/" % (key, key, shown(right.values[key])) for key in differs
+            )
+            self.say_known(
+                "grid",
+                "other region",
+                "rounding",
+                {"fixed": "sed '%s' %s > NEW" % (edits, quoted(other.path))},
+            )
         else:
             self.say_known("grid", "other region", "edges", {})
             self.say_warp(first, differs)
@@ -224,8 +296,16 @@ class Explanation:
 
     def say_warp(self, first, differs):
         if differs and all(key in first.values for key in SIX):
-            self.say("  to the region of %s: gdalwarp -te %s %s %s %s -ts %s %s -r near MAP.tif NEW.tif"
-                     % ((first.name,) + tuple(shown(first.values[key]) for key in ("west", "south", "east", "north", "cols", "rows"))))
+            self.say(
+                "  to the region of %s: gdalwarp -te %s %s %s %s -ts %s %s -r near MAP.tif NEW.tif"
+                % (
+                    (first.name,)
+                    + tuple(
+                        shown(first.values[key])
+                        for key in ("west", "south", "east", "north", "cols", "rows")
+                    )
+                )
+            )
 
     # The script
 
@@ -263,10 +343,16 @@ class Explanation:
         if line.text and line.faults[0].cause != "line size":
             for it in marked(line.text, [(fault.start, fault.end) for fault in line.faults]):
                 self.say("  " + it)
-        for said in dict.fromkeys(self.messages.said(it.part, it.text, it.cause, it.values) for it in line.faults):
+        for said in dict.fromkeys(
+            self.messages.said(it.part, it.text, it.cause, it.values) for it in line.faults
+        ):
             self.say_cause(*said)
-        rules = next((fault.values["file"] for fault in line.faults if fault.cause == "rules"), None)
-        mended = line.mended + (["(the rules of %s)" % rules, "end"] if line.mended and rules is not None else [])
+        rules = next(
+            (fault.values["file"] for fault in line.faults if fault.cause == "rules"), None
+        )
+        mended = line.mended + (
+            ["(the rules of %s)" % rules, "end"] if line.mended and rules is not None else []
+        )
         if mended and sum(map(len, mended)) <= LONGEST_MENDED:
             self.say("write:")
             for it in mended:
@@ -299,7 +385,10 @@ def is_near(first, grid):
         return False
     high = (values["north"] - values["south"]) / values["rows"] / 2
     wide = (values["east"] - values["west"]) / values["cols"] / 2
-    return all(abs(values[key] - others[key]) < (high if key in ("north", "south") else wide) for key in EDGES)
+    return all(
+        abs(values[key] - others[key]) < (high if key in ("north", "south") else wide)
+        for key in EDGES
+    )
 
 
 # Warnings after a successful run
@@ -309,8 +398,16 @@ def warnings_of(run, ask):
     """Return the warnings about input that is valid but probably a mistake: their places, names and values."""
     given, found = run.given, []
     if given.script and ask:
-        for line, name, values in warnings(ask, given.script.start((1 << 20) + 1), [name for name, _ in given.grids]):
-            found.append(("script:%d: " % line if line else "script: ", name, {"path": quoted(given.script.path), **values}))
+        for line, name, values in warnings(
+            ask, given.script.start((1 << 20) + 1), [name for name, _ in given.grids]
+        ):
+            found.append(
+                (
+                    "script:%d: " % line if line else "script: ",
+                    name,
+                    {"path": quoted(given.script.path), **values},
+                )
+            )
     for name, file in given.grids:
         for word in forgotten_in(file):
             values = {"name": name, "word": word.decode(), "path": quoted(file.path)}
@@ -354,7 +451,10 @@ def explained(run, words, ask):
 
 def ended(status):
     """Return the lines about a run that was ended by a signal."""
-    causes = {-4: " (the processor is older than x86-64-v2, which rcell needs)", -9: " (the system kills programs when memory runs out)"}
+    causes = {
+        -4: " (the processor is older than x86-64-v2, which rcell needs)",
+        -9: " (the system kills programs when memory runs out)",
+    }
     return ["rcell-explain: rcell was killed by signal %d%s" % (-status, causes.get(status, ""))]
 
 
@@ -379,7 +479,9 @@ def main(words, folder):
         sys.stderr.flush()
     except OSError:
         pass  # standard error is full or closed, so nothing can be reported
-    os._exit(128 - run.status if run.status < 0 else run.status)  # a thread may be waiting for a pipe that nobody writes
+    os._exit(
+        128 - run.status if run.status < 0 else run.status
+    )  # a thread may be waiting for a pipe that nobody writes
 
 
 def say(run, words, ask):
@@ -390,7 +492,10 @@ def say(run, words, ask):
         messages = Messages()
         for place, name, values in warnings_of(run, ask):
             cause, instead = messages.warned(name, values)
-            report(["rcell-explain: warning: %s%s" % (place, cause)] + ([INDENT + instead] if instead else []))
+            report(
+                ["rcell-explain: warning: %s%s" % (place, cause)]
+                + ([INDENT + instead] if instead else [])
+            )
     elif run.status < 0:
         report(ended(run.status))
     else:

@@ -14,7 +14,9 @@ from rcell_front.files import write_all
 from rcell_front.programs import close, found_on_path, pipe
 
 MOST_START = 1 << 16  # bytes at the start of a file
-MOST_TAIL = 1 << 22  # bytes at the end of a pipe that are kept: a message is about what was read last
+MOST_TAIL = (
+    1 << 22
+)  # bytes at the end of a pipe that are kept: a message is about what was read last
 MOST_SCRIPT = (1 << 20) + 1
 PIECE = 1 << 16
 LONGEST_LINE = 1 << 20  # bytes
@@ -34,7 +36,10 @@ def found_program(folder, name="rcell", variable="RCELL"):
             return path
     found = found_on_path(name)
     if found is None:
-        raise Missing("%s is neither next to this program nor on the path; set %s to its path" % (name, variable))
+        raise Missing(
+            "%s is neither next to this program nor on the path; set %s to its path"
+            % (name, variable)
+        )
     return found
 
 
@@ -144,7 +149,9 @@ class Given:
         is_whole = len(words) > 1 and all(equals and path for _, equals, path in named)
         if any(word.startswith("-") for word in words) or not is_whole:
             # rcell rejects these words; a script that can be read again is still checked.
-            self.script = File(words[0]) if words and os.path.isfile(words[0]) and len(words) > 1 else None
+            self.script = (
+                File(words[0]) if words and os.path.isfile(words[0]) and len(words) > 1 else None
+            )
             return
         self.script = self.given(0, "", words[0])
         for at, (name, _, path) in enumerate(named, 1):
@@ -180,7 +187,9 @@ class Run:
         for end in ends:
             os.set_inheritable(end, True)
         # rcell needs the descriptors that a shell has opened, as in NAME=<(..).
-        child = subprocess.Popen([program] + self.given.words, stderr=subprocess.PIPE, close_fds=False)
+        child = subprocess.Popen(
+            [program] + self.given.words, stderr=subprocess.PIPE, close_fds=False
+        )
         try:
             for end in ends:
                 close(end)

@@ -50,15 +50,21 @@ class Marked:
         self.outputs = [Output(place, it) for place, it in enumerate(writers.values(), 1)]
         lines, self.users_lines = [], []
         for number, line in enumerate(text.split(b"\n"), 1):
-            marks = [b"r.stats input=%s null_value=%s" % (nothing, self.word)] if number in writers else []
+            marks = (
+                [b"r.stats input=%s null_value=%s" % (nothing, self.word)]
+                if number in writers
+                else []
+            )
             if number == min(writers, default=0):
                 marks.insert(0, b"r.mapcalc %s = null()" % nothing)
             lines += [*marks, line]
             self.users_lines += [number] * (len(marks) + 1)
         self.text = b"\n".join(lines)
         if len(self.text) > LONGEST_SCRIPT >= len(text):
-            raise Refused("the marks of %d outputs make the script %d bytes long, but rcell takes %d: write fewer outputs in one run"
-                          % (len(self.outputs), len(self.text), LONGEST_SCRIPT))
+            raise Refused(
+                "the marks of %d outputs make the script %d bytes long, but rcell takes %d: write fewer outputs in one run"
+                % (len(self.outputs), len(self.text), LONGEST_SCRIPT)
+            )
 
     def users_message(self, message):
         """Return a message with the line number of the user's script, or the position of the user's word."""
@@ -140,7 +146,10 @@ def plan_of(program, text, words):
     """Return the plan of a script, or None if rcell is to say what is wrong."""
     try:
         return pipe.plan(program, [word.partition("=")[0] for word in words], text)
-    except (pipe.Rejected, ValueError):  # a name of other letters, or of more than 255, fits no request
+    except (
+        pipe.Rejected,
+        ValueError,
+    ):  # a name of other letters, or of more than 255, fits no request
         return None
     except (pipe.Killed, pipe.NoAnswer) as fault:
         raise Refused("%s failed: %s" % (program, fault)) from None
@@ -156,7 +165,12 @@ def run(program, words, folder, planner):
     try:
         part = os.path.join(room, "outputs")
         os.mkdir(part)
-        child = subprocess.Popen([program, script] + words[2:], stdout=subprocess.PIPE, stderr=subprocess.PIPE, close_fds=False)
+        child = subprocess.Popen(
+            [program, script] + words[2:],
+            stdout=subprocess.PIPE,
+            stderr=subprocess.PIPE,
+            close_fds=False,
+        )
         parts = Parts(part, marked)
         try:
             parts.take(child.stdout)
@@ -197,7 +211,9 @@ def main(words, here, usage):
     folder = os.path.abspath(words[1])
     try:
         refuse_existing(folder)
-        return run(found_program(here), words, folder, found_program(here, "rcell-pipe", "RCELL_PIPE"))
+        return run(
+            found_program(here), words, folder, found_program(here, "rcell-pipe", "RCELL_PIPE")
+        )
     except Refused as fault:
         sys.stderr.write("rcell-split: %s\n" % fault)
         return REFUSED_STATUS

@@ -38,7 +38,10 @@ class Region:
 
     def __init__(self, north, south, east, west, rows, cols):
         self.rows, self.cols = rows, cols
-        self.texts = {edge: edge_text(round(value * UNITS)) for edge, value in zip(EDGES, (north, south, east, west))}
+        self.texts = {
+            edge: edge_text(round(value * UNITS))
+            for edge, value in zip(EDGES, (north, south, east, west))
+        }
         self.check()
 
     def __getattr__(self, edge):
@@ -47,14 +50,24 @@ class Region:
         raise AttributeError(edge)
 
     def check(self):
-        if not (0 < self.rows <= GREATEST_SIDE and 0 < self.cols <= GREATEST_SIDE and self.rows * self.cols <= MOST_CELLS):
-            raise Refused("%d rows of %d cells: rcell takes %d of each, and %d cells in all; cut the map into tiles "
-                          "(gdal_translate -srcwin)" % (self.rows, self.cols, GREATEST_SIDE, MOST_CELLS))
+        if not (
+            0 < self.rows <= GREATEST_SIDE
+            and 0 < self.cols <= GREATEST_SIDE
+            and self.rows * self.cols <= MOST_CELLS
+        ):
+            raise Refused(
+                "%d rows of %d cells: rcell takes %d of each, and %d cells in all; cut the map into tiles "
+                "(gdal_translate -srcwin)" % (self.rows, self.cols, GREATEST_SIDE, MOST_CELLS)
+            )
         for edge in EDGES:
             if len(self.texts[edge].lstrip("-").partition(".")[0]) > EDGE_DIGITS:
-                raise Refused("the edge %s has more than %d digits before its point" % (edge, EDGE_DIGITS))
+                raise Refused(
+                    "the edge %s has more than %d digits before its point" % (edge, EDGE_DIGITS)
+                )
         if self.north <= self.south or self.east <= self.west:
-            raise Refused("north is not above south, or east is not above west, to %d decimals" % DECIMALS)
+            raise Refused(
+                "north is not above south, or east is not above west, to %d decimals" % DECIMALS
+            )
 
     @classmethod
     def of_transform(cls, transform, rows, cols):
@@ -77,14 +90,18 @@ class Region:
     def with_edges_of(self, other, name):
         """Return another region of the same size, whose edges may differ from these by half a cell."""
         if (self.rows, self.cols) != (other.rows, other.cols):
-            raise Refused("%s has %d rows of %d cells, but the map has %d of %d"
-                          % (name, other.rows, other.cols, self.rows, self.cols))
+            raise Refused(
+                "%s has %d rows of %d cells, but the map has %d of %d"
+                % (name, other.rows, other.cols, self.rows, self.cols)
+            )
         for edge in EDGES:
             length = self.east - self.west if edge in ("east", "west") else self.north - self.south
             count = self.cols if edge in ("east", "west") else self.rows
             if abs(getattr(self, edge) - getattr(other, edge)) * 2 * count > length:
-                raise Refused("%s: %s in %s, but %s in the map: more than half a cell apart"
-                              % (edge, other.texts[edge], name, self.texts[edge]))
+                raise Refused(
+                    "%s: %s in %s, but %s in the map: more than half a cell apart"
+                    % (edge, other.texts[edge], name, self.texts[edge])
+                )
         return other
 
 
@@ -134,7 +151,11 @@ def whole_cells(block, null_values, null=None):
     if bad.any():
         row, col = np.argwhere(bad)[0]
         value = block[row, col]
-        beyond = "is beyond %d" % GREATEST if value == np.rint(value) else "is not a whole number (round the map first)"
+        beyond = (
+            "is beyond %d" % GREATEST
+            if value == np.rint(value)
+            else "is not a whole number (round the map first)"
+        )
         raise BadCell(int(row), int(col), "%s %s" % (repr(float(value)), beyond))
     return np.where(null, 0, block).astype(np.int64), null
 
@@ -145,10 +166,15 @@ def whole_cells(block, null_values, null=None):
 def null_values_of(band, given):
     """Return the values that are null: the given one (`none` for no value), or else the band's nodata value."""
     if given is not None:
-        return [] if given == "none" else [float(given) if re.search("[.einEIN]", given) else int(given)]
+        return (
+            []
+            if given == "none"
+            else [float(given) if re.search("[.einEIN]", given) else int(given)]
+        )
     value = band.GetNoDataValue()
     getter = {"Int64": "GetNoDataValueAsInt64", "UInt64": "GetNoDataValueAsUInt64"}
     from osgeo import gdal
+
     exact = getattr(band, getter.get(gdal.GetDataTypeName(band.DataType), ""), None)
     if value is not None and exact is not None:
         value = exact()
@@ -158,27 +184,40 @@ def null_values_of(band, given):
 def masks_of(dataset, number, given):
     """Return the bands in which 0 makes a cell null: the mask of the band or of all bands, and the alpha band."""
     from osgeo import gdal
+
     if given is not None:
         return []
     band = dataset.GetRasterBand(number)
-    masks = [band.GetMaskBand()] if band.GetMaskFlags() in (0, gdal.GMF_PER_DATASET, gdal.GMF_PER_DATASET | gdal.GMF_NODATA) else []
+    masks = (
+        [band.GetMaskBand()]
+        if band.GetMaskFlags() in (0, gdal.GMF_PER_DATASET, gdal.GMF_PER_DATASET | gdal.GMF_NODATA)
+        else []
+    )
     return masks + [dataset.GetRasterBand(at) for at in alphas_of(dataset) if at != number]
 
 
 def alphas_of(dataset):
     from osgeo import gdal
-    return [at for at in range(1, dataset.RasterCount + 1)
-            if dataset.GetRasterBand(at).GetColorInterpretation() == gdal.GCI_AlphaBand]
+
+    return [
+        at
+        for at in range(1, dataset.RasterCount + 1)
+        if dataset.GetRasterBand(at).GetColorInterpretation() == gdal.GCI_AlphaBand
+    ]
 
 
 def check_meaning(dataset, band):
     """Reject a raster whose values are scaled, or whose position is given only by control points."""
     scale, offset = band.GetScale(), band.GetOffset()
     if scale not in (None, 1) or offset not in (None, 0):
-        raise Refused("its values are scaled: each cell times %g, plus %g; write them out as whole numbers first (gdal_translate -unscale)"
-                      % (1 if scale is None else scale, offset or 0))
+        raise Refused(
+            "its values are scaled: each cell times %g, plus %g; write them out as whole numbers first (gdal_translate -unscale)"
+            % (1 if scale is None else scale, offset or 0)
+        )
     if dataset.GetGCPCount() and dataset.GetGeoTransform(can_return_null=True) is None:
-        raise Refused("it has ground control points and no transform: warp it first (gdalwarp -r near)")
+        raise Refused(
+            "it has ground control points and no transform: warp it first (gdalwarp -r near)"
+        )
 
 
 def blocks_of(band, is_turned):
@@ -188,18 +227,26 @@ def blocks_of(band, is_turned):
     step = max(1, BLOCK_CELLS // cols)
     step = step // high * high if step >= high else step
     starts = range(0, rows, step)
-    return [(start, min(step, rows - start)) for start in (reversed(starts) if is_turned else starts)]
+    return [
+        (start, min(step, rows - start)) for start in (reversed(starts) if is_turned else starts)
+    ]
 
 
 def write_grid(program, dataset, number, write, nodata=None, like=None, like_name="the other grid"):
     """Write a band of a dataset as a grid with exact edges, as the program rcell-pipe prints it."""
     band = dataset.GetRasterBand(number)
-    region, is_turned = Region.of_transform(dataset.GetGeoTransform(can_return_null=True), band.YSize, band.XSize)
+    region, is_turned = Region.of_transform(
+        dataset.GetGeoTransform(can_return_null=True), band.YSize, band.XSize
+    )
     if like is not None:
         region = region.with_edges_of(like, like_name)
     check_meaning(dataset, band)
-    blocks = sent_blocks(band, null_values_of(band, nodata), masks_of(dataset, number, nodata), is_turned)
-    source = pipe.Map("map", tuple(region.texts.values()), region.rows, region.cols, "i32", blocks, NULL)
+    blocks = sent_blocks(
+        band, null_values_of(band, nodata), masks_of(dataset, number, nodata), is_turned
+    )
+    source = pipe.Map(
+        "map", tuple(region.texts.values()), region.rows, region.cols, "i32", blocks, NULL
+    )
     with contextlib.closing(pipe.text(program, [source], b"r.out.ascii input=map")) as pieces:
         for piece in pieces:
             write(piece)
@@ -209,11 +256,17 @@ def sent_blocks(band, values, masks, is_turned):
     """Yield the cells of a band for rcell-pipe, from north to south."""
     for first, count in blocks_of(band, is_turned):
         block = read_block(band, first, count)
-        null = np.logical_or.reduce([read_block(mask, first, count) == 0 for mask in masks]) if masks else None
+        null = (
+            np.logical_or.reduce([read_block(mask, first, count) == 0 for mask in masks])
+            if masks
+            else None
+        )
         try:
             cells = checked_cells(block, values, null, is_turned)
         except BadCell as fault:
-            north = band.YSize - first - count if is_turned else first  # rows count from the north, as in the grid
+            north = (
+                band.YSize - first - count if is_turned else first
+            )  # rows count from the north, as in the grid
             raise BadCell(north + fault.row, fault.col, fault.fault) from None
         yield pipe.Block(cells.data)
 
@@ -225,7 +278,15 @@ def checked_cells(block, values, null, is_turned):
         block, null = block[::-1], null if null is None else null[::-1]
     if block.dtype.kind == "f":
         return cells_of(*whole_cells(block, values, null))
-    return cells_of(block, null, [int(value) for value in values if value == value and abs(value) < 2**64 and value == int(value)])
+    return cells_of(
+        block,
+        null,
+        [
+            int(value)
+            for value in values
+            if value == value and abs(value) < 2**64 and value == int(value)
+        ],
+    )
 
 
 def read_block(band, first, count):
@@ -240,7 +301,10 @@ def one_band(dataset, number=None):
     count = dataset.RasterCount
     if count == 0:
         names = [name for name, _ in dataset.GetSubDatasets()]
-        raise Refused("it has no bands" + ("; take one of its parts:\n    " + "\n    ".join(names) if names else ""))
+        raise Refused(
+            "it has no bands"
+            + ("; take one of its parts:\n    " + "\n    ".join(names) if names else "")
+        )
     if number is not None:
         if not 1 <= number <= count:
             raise Refused("it has no band %d, only %d" % (number, count))
@@ -262,16 +326,21 @@ def region_of(grid):
 def write_tif(grid, path, like=None):
     """Write a grid that rcell prints as a GeoTIFF of 32-bit integers, with the transform and projection of `like`, a dataset of the same size."""
     from osgeo import gdal
+
     region = region_of(grid)
     transform = region.transform()
     if like is not None:
-        other, is_turned = Region.of_transform(like.GetGeoTransform(can_return_null=True), like.RasterYSize, like.RasterXSize)
+        other, is_turned = Region.of_transform(
+            like.GetGeoTransform(can_return_null=True), like.RasterYSize, like.RasterXSize
+        )
         if is_turned:
             raise Refused("the first row of %s is the southern one" % like.GetDescription())
         region.with_edges_of(other, like.GetDescription())
         transform = like.GetGeoTransform(can_return_null=True)
     options = ["COMPRESS=DEFLATE", "TILED=YES", "BIGTIFF=IF_SAFER"]
-    made = gdal.GetDriverByName("GTiff").Create(os.fsencode(path), grid.cols, grid.rows, 1, gdal.GDT_Int32, options)
+    made = gdal.GetDriverByName("GTiff").Create(
+        os.fsencode(path), grid.cols, grid.rows, 1, gdal.GDT_Int32, options
+    )
     if made is None:
         raise Refused("%s can't be written" % path)
     if transform is not None:

@@ -8,4 +8,9 @@ sys.path.insert(0, str(ROOT / "tools/build"))
 import linked  # noqa: E402  (the path above has to be set first)
 
 text = (ROOT / "packaging/copyright.in").read_text(encoding="utf-8")
-print(text.replace("@VERSION@", (ROOT / "VERSION").read_text(encoding="utf-8").strip()).replace("@LINKED@", linked.summary()), end="")
+print(
+    text.replace("@VERSION@", (ROOT / "VERSION").read_text(encoding="utf-8").strip()).replace(
+        "@LINKED@", linked.summary()
+    ),
+    end="",
+)

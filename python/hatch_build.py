@@ -14,7 +14,11 @@ DYNAMIC_TAG = "py3-none-linux_x86_64"
 
 
 HERE = pathlib.Path(__file__).resolve().parent
-PROGRAMS = {"rcell": "RCELL_PROGRAM", "rcell-join": "RCELL_JOIN_PROGRAM", "rcell-pipe": "RCELL_PIPE_PROGRAM"}
+PROGRAMS = {
+    "rcell": "RCELL_PROGRAM",
+    "rcell-join": "RCELL_JOIN_PROGRAM",
+    "rcell-pipe": "RCELL_PIPE_PROGRAM",
+}
 """The scripts, and the environment variables that may name what they are made of."""
 
 
@@ -52,7 +56,10 @@ def _is_static(path: str) -> bool:
         header = file.read(64)
         if header[:5] != b"\x7fELF\x02":
             return False
-        offset, size, count = (int.from_bytes(header[at : at + width], "little") for at, width in ((32, 8), (54, 2), (56, 2)))
+        offset, size, count = (
+            int.from_bytes(header[at : at + width], "little")
+            for at, width in ((32, 8), (54, 2), (56, 2))
+        )
         kinds = []
         for place in range(count):
             file.seek(offset + place * size)

@@ -35,7 +35,11 @@ def licences() -> dict[str, bytes]:
     with tempfile.TemporaryDirectory() as room:
         folder = pathlib.Path(room) / "licenses"
         said_by(sys.executable, "tools/build/linked.py", str(folder))
-        found = {f"rcell/licenses/{path.relative_to(folder).as_posix()}": path.read_bytes() for path in folder.rglob("*") if path.is_file()}
+        found = {
+            f"rcell/licenses/{path.relative_to(folder).as_posix()}": path.read_bytes()
+            for path in folder.rglob("*")
+            if path.is_file()
+        }
     return {**found, "rcell/LICENSE": (REPOSITORY / "LICENSE.md").read_bytes()}
 
 
@@ -60,7 +64,9 @@ def files(programs: dict[str, pathlib.Path]) -> dict[str, tuple[bytes, int]]:
     # Modules shared with the package for Python are copied next to `core/front/__init__.py`.
     for name in said_by("git", "ls-files", "python/src/rcell_front").splitlines():
         if not name.endswith("__init__.py"):
-            found[f"rcell/core/front/{pathlib.PurePath(name).name}"] = (REPOSITORY / name).read_bytes(), 0o644
+            found[f"rcell/core/front/{pathlib.PurePath(name).name}"] = (
+                REPOSITORY / name
+            ).read_bytes(), 0o644
     found |= {name: (content, 0o644) for name, content in licences().items()}
     found["rcell/help/qgis.html"] = page(), 0o644
     found |= {f"rcell/bin/{name}": (path.read_bytes(), 0o755) for name, path in programs.items()}
@@ -75,7 +81,9 @@ def main() -> int:
             print(f"rcell: {program} is missing: run make static first", file=sys.stderr)
             return 1
     folder.mkdir(parents=True, exist_ok=True)
-    target = folder / f"rcell-qgis-{(REPOSITORY / 'VERSION').read_text(encoding='utf-8').strip()}.zip"
+    target = (
+        folder / f"rcell-qgis-{(REPOSITORY / 'VERSION').read_text(encoding='utf-8').strip()}.zip"
+    )
     part = target.with_suffix(".part")
     with zipfile.ZipFile(part, "w", zipfile.ZIP_DEFLATED, compresslevel=9) as archive:
         for name, (content, mode) in sorted(files(programs).items()):

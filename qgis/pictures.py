@@ -56,7 +56,11 @@ def draw_dialog(country: QgsRasterLayer, hemisphere: QgsRasterLayer) -> None:
     """The table of country by hemisphere, filled in."""
     from processing.gui.AlgorithmDialog import AlgorithmDialog
 
-    dialog = AlgorithmDialog(QgsApplication.processingRegistry().createAlgorithmById("rcell:cross"), False, iface.mainWindow())
+    dialog = AlgorithmDialog(
+        QgsApplication.processingRegistry().createAlgorithmById("rcell:cross"),
+        False,
+        iface.mainWindow(),
+    )
     dialog.setParameters({"INPUT": [country.id(), hemisphere.id()], "AREA": "km2"})
     dialog.resize(920, 520)
     dialog.show()
@@ -69,12 +73,23 @@ def draw_result(country: QgsRasterLayer) -> None:
     """The largest islands and parts of countries, as a layout that could be printed."""
     import processing
 
-    found = processing.run("rcell:patches", {"INPUT": country, "CONNECTIVITY": "8", "LEAST": 250, "MAP": f"{ROOM}/areas.tif", "OUTPUT": "TEMPORARY_OUTPUT"})
+    found = processing.run(
+        "rcell:patches",
+        {
+            "INPUT": country,
+            "CONNECTIVITY": "8",
+            "LEAST": 250,
+            "MAP": f"{ROOM}/areas.tif",
+            "OUTPUT": "TEMPORARY_OUTPUT",
+        },
+    )
     areas = QgsRasterLayer(found["MAP"], "Patches", "gdal")
     QgsProject.instance().addMapLayer(areas)
     layout = QgsPrintLayout(QgsProject.instance())
     layout.initializeDefaults()
-    layout.pageCollection().page(0).setPageSize(QgsLayoutSize(240, 120, QgsUnitTypes.LayoutMillimeters))
+    layout.pageCollection().page(0).setPageSize(
+        QgsLayoutSize(240, 120, QgsUnitTypes.LayoutMillimeters)
+    )
     title = QgsLayoutItemLabel(layout)
     title.setText("Patches of one country with at least 250 cells of 16 km")
     title.setFont(QFont("DejaVu Sans", 12))
@@ -105,7 +120,9 @@ def draw_result(country: QgsRasterLayer) -> None:
     QgsLayoutExporter(layout).exportToImage(f"{ROOM}/result.png", settings)
 
 
-def put(layout: QgsPrintLayout, item: Any, left: float, top: float, width: float, height: float) -> None:
+def put(
+    layout: QgsPrintLayout, item: Any, left: float, top: float, width: float, height: float
+) -> None:
     """Places an item of a layout, in millimetres."""
     layout.addLayoutItem(item)
     item.attemptMove(QgsLayoutPoint(left, top, QgsUnitTypes.LayoutMillimeters))
@@ -119,7 +136,14 @@ def draw_model(country: QgsRasterLayer) -> None:
 
     model = QgsProcessingModelAlgorithm()
     model.fromFile(MODEL)
-    found = processing.run(model, {"cover": country, "patches:Map of patches": f"{ROOM}/model.tif", "patches:Table of patches": "TEMPORARY_OUTPUT"})
+    found = processing.run(
+        model,
+        {
+            "cover": country,
+            "patches:Map of patches": f"{ROOM}/model.tif",
+            "patches:Table of patches": "TEMPORARY_OUTPUT",
+        },
+    )
     if not os.path.isfile(f"{ROOM}/model.tif"):
         raise RuntimeError(f"the model made no map: {found}")
     designer = ModelerDialog(model)

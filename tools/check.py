@@ -55,7 +55,11 @@ class Result:
     note: str = ""
 
     def add(self, passed, failed, skipped):
-        self.passed, self.failed, self.skipped = self.passed + passed, self.failed + failed, self.skipped + skipped
+        self.passed, self.failed, self.skipped = (
+            self.passed + passed,
+            self.failed + failed,
+            self.skipped + skipped,
+        )
 
 
 def tool(name, *words):
@@ -64,26 +68,91 @@ def tool(name, *words):
 
 # Those before the proofs take seconds: if one fails, the gate ends there.
 EARLY = [
-    Part("tools", "how the gate counts, and how it tries edits", [tool("build/test_gate.py")], needs_programs=False),
-    Part("stale_edits", "the edits outside the gate still fit their files", [tool("build/stale_edits.py")], has_counts=False, needs_programs=False),
-    Part("texts", "messages, figures and pages that need no program", [tool("documents/documents.py", "--texts")], needs_programs=False),
+    Part(
+        "tools",
+        "how the gate counts, and how it tries edits",
+        [tool("build/test_gate.py")],
+        needs_programs=False,
+    ),
+    Part(
+        "stale_edits",
+        "the edits outside the gate still fit their files",
+        [tool("build/stale_edits.py")],
+        has_counts=False,
+        needs_programs=False,
+    ),
+    Part(
+        "texts",
+        "messages, figures and pages that need no program",
+        [tool("documents/documents.py", "--texts")],
+        needs_programs=False,
+    ),
     Part("lint", "widths, names, limits, licences", [tool("lint")], needs_programs=False),
 ]
-PROOFS = Part("proofs", "each proof, each edit that must fail, each test", [["rt", "ci"]], needs_programs=False)
+PROOFS = Part(
+    "proofs",
+    "each proof, each edit that must fail, each test",
+    [["rt", "ci"]],
+    needs_programs=False,
+)
 LATE = [
-    Part("edits", "wrong bodies that the proof must refuse, many in one check", [tool("build/edits.py")], needs_programs=False),
-    Part("cases", "rcell on each case, with each growth refused in turn", [tool("model/cases.py", CLANG)]),
+    Part(
+        "edits",
+        "wrong bodies that the proof must refuse, many in one check",
+        [tool("build/edits.py")],
+        needs_programs=False,
+    ),
+    Part(
+        "cases",
+        "rcell on each case, with each growth refused in turn",
+        [tool("model/cases.py", CLANG)],
+    ),
     Part("joined", "rcell-join beside a plain model and full maps", [tool("join", CLANG)]),
-    Part("pipe", "rcell-pipe on random requests beside rcell, and on damaged ones", [tool("model/test_pipe.py", CLANG), tool("model/test_plan.py")]),
+    Part(
+        "pipe",
+        "rcell-pipe on random requests beside rcell, and on damaged ones",
+        [tool("model/test_pipe.py", CLANG), tool("model/test_plan.py")],
+    ),
     Part("documents", "each example of the documents", [tool("documents/documents.py")]),
-    Part("hostile", "broken devices, bytes, sizes and memory, in short", [tool("hostile", "--short", "--clang", CLANG)]),
-    Part("models", "rcell beside the plain model of the definitions",
-         [tool("model/compare.py", "--cases"), tool("model/compare.py", "--runs", "3000", "--seed", "1"),
-          tool("model/compare.py", "--runs", "500", "--seed", "1", "--maps", "stretches", "--pieces", CLANG)], has_counts=False),
+    Part(
+        "hostile",
+        "broken devices, bytes, sizes and memory, in short",
+        [tool("hostile", "--short", "--clang", CLANG)],
+    ),
+    Part(
+        "models",
+        "rcell beside the plain model of the definitions",
+        [
+            tool("model/compare.py", "--cases"),
+            tool("model/compare.py", "--runs", "3000", "--seed", "1"),
+            tool(
+                "model/compare.py",
+                "--runs",
+                "500",
+                "--seed",
+                "1",
+                "--maps",
+                "stretches",
+                "--pieces",
+                CLANG,
+            ),
+        ],
+        has_counts=False,
+    ),
     Part("laws", "laws of a report, on outputs", [tool("model/laws")]),
-    Part("objects", "the objects that the programs were linked from", [tool("build/objects.py")], has_counts=False),
-    Part("release", "the release, without the kit and the sources", [tool("build/check_release.py")]),
-    *[Part(front, f"what {front}/ has of its own", [["sh", f"{front}/gate.sh"]]) for front in ("python", "r", "qgis", "grass", "fronts")],
+    Part(
+        "objects",
+        "the objects that the programs were linked from",
+        [tool("build/objects.py")],
+        has_counts=False,
+    ),
+    Part(
+        "release", "the release, without the kit and the sources", [tool("build/check_release.py")]
+    ),
+    *[
+        Part(front, f"what {front}/ has of its own", [["sh", f"{front}/gate.sh"]])
+        for front in ("python", "r", "qgis", "grass", "fronts")
+    ],
 ]
 PARTS = [*EARLY, PROOFS, *LATE]
 
@@ -109,13 +178,22 @@ def run(part):
     result, begun = Result(part.name), processor_seconds()
     for command in part.commands:
         words = [f"{build.kit()}/toolchain/bin/clang" if it == CLANG else it for it in command]
-        with subprocess.Popen(words, cwd=ROOT, stdin=subprocess.DEVNULL, stdout=subprocess.PIPE, text=True, errors="replace") as ran:
+        with subprocess.Popen(
+            words,
+            cwd=ROOT,
+            stdin=subprocess.DEVNULL,
+            stdout=subprocess.PIPE,
+            text=True,
+            errors="replace",
+        ) as ran:
             lines = []
             for line in ran.stdout:
                 lines.append(line)
                 print(line, end="", flush=True)
         result.add(*counts_of(lines, ran.returncode, part.has_counts))
-        result.note = next((NOTE.sub("", it).strip() for it in reversed(lines) if NOTE.match(it)), result.note)
+        result.note = next(
+            (NOTE.sub("", it).strip() for it in reversed(lines) if NOTE.match(it)), result.note
+        )
     result.seconds = processor_seconds() - begun
     return result
 
@@ -124,7 +202,9 @@ def run_all(parts):
     """Runs parts in order, to the first that the others cannot do without."""
     results = []
     for part in parts:
-        if part.needs_programs and not all(os.path.exists(f"{ROOT}/bin/{name}") for name in build.PROGRAMS.values()):
+        if part.needs_programs and not all(
+            os.path.exists(f"{ROOT}/bin/{name}") for name in build.PROGRAMS.values()
+        ):
             print(f"{part.name}: a program is missing in bin/: run make first")
             return [*results, Result(part.name, failed=1)]
         results.append(run(part))
@@ -139,7 +219,9 @@ def run_all(parts):
 
 
 def said_by(*words):
-    return subprocess.run(words, cwd=ROOT, capture_output=True, text=True, check=False).stdout.strip()
+    return subprocess.run(
+        words, cwd=ROOT, capture_output=True, text=True, check=False
+    ).stdout.strip()
 
 
 def sum_of(name):
@@ -153,19 +235,37 @@ def keep_closing(results, closing):
         return
     proofs = next(it.note for it in results if it.name == PROOFS.name)
     with open(f"{ROOT}/bin/gate", "w", encoding="utf-8") as file:
-        file.write(f"commit: {commit}\nkit: {said_by('rt', 'version')}\nprogram: {sum_of('rcell')}\njoiner: {sum_of('rcell-join')}\n"
-                   f"pipe: {sum_of('rcell-pipe')}\nproofs: {proofs}\nclosing: {closing}\n")
+        file.write(
+            f"commit: {commit}\nkit: {said_by('rt', 'version')}\nprogram: {sum_of('rcell')}\njoiner: {sum_of('rcell-join')}\n"
+            f"pipe: {sum_of('rcell-pipe')}\nproofs: {proofs}\nclosing: {closing}\n"
+        )
 
 
 def table(results, wall):
     rows = [("part", "passed", "failed", "skipped", "processor s")]
     rows += [(it.name, it.passed, it.failed, it.skipped, f"{it.seconds:.0f}") for it in results]
-    rows += [("all", *(sum(getattr(it, key) for it in results) for key in ("passed", "failed", "skipped")),
-              f"{sum(it.seconds for it in results):.0f}")]
+    rows += [
+        (
+            "all",
+            *(sum(getattr(it, key) for it in results) for key in ("passed", "failed", "skipped")),
+            f"{sum(it.seconds for it in results):.0f}",
+        )
+    ]
     lines = ["{:<12}{:>8}{:>8}{:>9}{:>13}".format(*row) for row in rows]
     notes = [f"{it.name}: {it.note}" for it in results if it.note]
-    others = "the other parts keep nothing: each of their checks was run" if len(results) > len(notes) else ""
-    return "\n".join([*lines, *notes, *filter(None, [others]), f"{wall / 60:.0f} minutes on {len(os.sched_getaffinity(0))} processors"])
+    others = (
+        "the other parts keep nothing: each of their checks was run"
+        if len(results) > len(notes)
+        else ""
+    )
+    return "\n".join(
+        [
+            *lines,
+            *notes,
+            *filter(None, [others]),
+            f"{wall / 60:.0f} minutes on {len(os.sched_getaffinity(0))} processors",
+        ]
+    )
 
 
 def hear_signals():
@@ -177,8 +277,12 @@ def hear_signals():
 
 def main():
     hear_signals()
-    words = argparse.ArgumentParser(description=__doc__, formatter_class=argparse.RawDescriptionHelpFormatter)
-    words.add_argument("--complete", action="store_true", help="what is skipped counts as a failure of the run")
+    words = argparse.ArgumentParser(
+        description=__doc__, formatter_class=argparse.RawDescriptionHelpFormatter
+    )
+    words.add_argument(
+        "--complete", action="store_true", help="what is skipped counts as a failure of the run"
+    )
     words.add_argument("parts", nargs="*", metavar="PART")
     given, begun = words.parse_args(), time.monotonic()
     names = [part.name for part in PARTS]
@@ -186,9 +290,13 @@ def main():
         print(*names, sep="\n")
         return 0
     if unknown := set(given.parts) - set(names):
-        words.error(f"no part is called {' '.join(sorted(unknown))}; the parts are {' '.join(names)}")
+        words.error(
+            f"no part is called {' '.join(sorted(unknown))}; the parts are {' '.join(names)}"
+        )
     results = run_all([part for part in PARTS if not given.parts or part.name in given.parts])
-    passed, failed, skipped = (sum(getattr(it, key) for it in results) for key in ("passed", "failed", "skipped"))
+    passed, failed, skipped = (
+        sum(getattr(it, key) for it in results) for key in ("passed", "failed", "skipped")
+    )
     closing = f"{passed} passed, {failed} failed, {skipped} skipped"
     print(table(results, time.monotonic() - begun))
     if len(results) == len(PARTS):

@@ -7,7 +7,15 @@ import rcell
 HERE = pathlib.Path(__file__).resolve().parent
 CRS = "EPSG:27700"
 LABELS = {
-    "landcover": {11: "town", 12: "industry", 21: "arable land", 23: "pasture", 31: "broad-leaved wood", 32: "conifers", 51: "water"},
+    "landcover": {
+        11: "town",
+        12: "industry",
+        21: "arable land",
+        23: "pasture",
+        31: "broad-leaved wood",
+        32: "conifers",
+        51: "water",
+    },
     "zones": {1: "core", 2: "buffer"},
 }
 

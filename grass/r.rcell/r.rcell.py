@@ -133,15 +133,28 @@ def stopped(end, script, names):
     from rcell_front.pipe import Fault
 
     fault = Fault(**end.parts(program(), script, names))
-    said, word, line = "rcell: %s:%d: %s" % (fault.source, fault.line, fault.text), "", fault.content
+    said, word, line = (
+        "rcell: %s:%d: %s" % (fault.source, fault.line, fault.text),
+        "",
+        fault.content,
+    )
     if line is None:
         return Stopped(said)
     place = fault.column
     if place and fault.text == "bad option":
-        word = ": " + line.encode("utf-8", "surrogateescape")[place - 1 :].split()[0].decode(errors="replace")
+        word = ": " + line.encode("utf-8", "surrogateescape")[place - 1 :].split()[0].decode(
+            errors="replace"
+        )
     beneath = "    %s\n" % shown(line)
     if place:
-        beneath += "    " + " " * len(shown(line.encode("utf-8", "surrogateescape")[: place - 1].decode(errors="replace"))) + "^\n"
+        beneath += (
+            "    "
+            + " "
+            * len(
+                shown(line.encode("utf-8", "surrogateescape")[: place - 1].decode(errors="replace"))
+            )
+            + "^\n"
+        )
     return Stopped(said + word, beneath + ("    try: %s\n" % fault.advice if fault.advice else ""))
 
 
@@ -164,14 +177,25 @@ def source_of(it, labels, region, progress):
     from rcell_front.pipe import Map
 
     rows, cols = region["rows"], region["cols"]
-    return Map(it.name, edge_texts(region), rows, cols, "i32", blocks_of(it.map, rows, cols, progress), NULL, labels=labels)
+    return Map(
+        it.name,
+        edge_texts(region),
+        rows,
+        cols,
+        "i32",
+        blocks_of(it.map, rows, cols, progress),
+        NULL,
+        labels=labels,
+    )
 
 
 def blocks_of(raster, rows, cols, progress):
     """The rows of a raster map."""
     from rcell_front.pipe import Block
 
-    module = gs.pipe_command("r.out.bin", flags="i", input=raster, output="-", bytes=4, null=NULL, quiet=True)
+    module = gs.pipe_command(
+        "r.out.bin", flags="i", input=raster, output="-", bytes=4, null=NULL, quiet=True
+    )
     at_once = max(1, BLOCK_CELLS // cols)
     for first in range(0, rows, at_once):
         count = min(at_once, rows - first)
@@ -195,10 +219,16 @@ def end_of(module, raster):
 
 def label_lines(frame):
     """The lines of r.category for a table of categories with labels."""
-    found = [(category, label) for category, label in zip(frame.cells.tolist(), frame.labels) if label]
+    found = [
+        (category, label) for category, label in zip(frame.cells.tolist(), frame.labels) if label
+    ]
     for category, label in found:
         if b"\t" in label:
-            raise Stopped(_("The label of category {} has a tab, which r.category does not take").format(category))
+            raise Stopped(
+                _("The label of category {} has a tab, which r.category does not take").format(
+                    category
+                )
+            )
     return [b"%d\t%s\n" % pair for pair in found]
 
 
@@ -206,7 +236,11 @@ class Imports:
     """Raster maps under names of their own, until all are there."""
 
     def __init__(self, region):
-        self.region, self.names, self.room = region, {}, tempfile.mkdtemp(dir=os.path.dirname(gs.tempfile(False)))
+        self.region, self.names, self.room = (
+            region,
+            {},
+            tempfile.mkdtemp(dir=os.path.dirname(gs.tempfile(False))),
+        )
         atexit.register(self.remove)
 
     def remove(self):
@@ -227,7 +261,17 @@ class Imports:
         with open(path, "wb") as file:
             file.write(frame.cells)
         sides, flags = {"rows": frame.rows, "cols": frame.cols}, "s" if frame.null == NULL else ""
-        gs.run_command("r.in.bin", flags=flags, input=path, output=name, bytes=BYTES[frame.type], anull=frame.null, quiet=True, **sides, **self.edges())
+        gs.run_command(
+            "r.in.bin",
+            flags=flags,
+            input=path,
+            output=name,
+            bytes=BYTES[frame.type],
+            anull=frame.null,
+            quiet=True,
+            **sides,
+            **self.edges(),
+        )
         os.remove(path)
         gs.run_command("r.region", flags="c", map=name, quiet=True)
         progress.add(frame.rows)
@@ -290,7 +334,9 @@ def find_front(path):
     try:
         import rcell_front.pipe  # noqa: F401
     except ImportError:
-        raise Stopped(_("The Python modules of {} are not in ../share/rcell next to it").format(path)) from None
+        raise Stopped(
+            _("The Python modules of {} are not in ../share/rcell next to it").format(path)
+        ) from None
 
 
 def judged(script, names):
@@ -332,10 +378,21 @@ def maps_of(script, statements, sources, outputs, labels):
     if not outputs:
         return [], {}
     made, maps = made_by(statements), sources()
-    labelled = [it.name for it in outputs if made.get(it.name) == "r.reclass" or labels.get(it.name)]
-    lines = [*("r.out.ascii input=%s" % it.name for it in outputs), *("r.stats -l -n input=%s" % name for name in labelled)]
+    labelled = [
+        it.name for it in outputs if made.get(it.name) == "r.reclass" or labels.get(it.name)
+    ]
+    lines = [
+        *("r.out.ascii input=%s" % it.name for it in outputs),
+        *("r.stats -l -n input=%s" % name for name in labelled),
+    ]
     with told(script, [it.name for it in maps]):
-        frames = pipe.run(program(), maps, "\n".join([without_tables(script, statements), *lines]).encode("utf-8", "surrogateescape"))
+        frames = pipe.run(
+            program(),
+            maps,
+            "\n".join([without_tables(script, statements), *lines]).encode(
+                "utf-8", "surrogateescape"
+            ),
+        )
     return frames[: len(outputs)], dict(zip(labelled, frames[len(outputs) :]))
 
 
@@ -344,7 +401,10 @@ def labels_of(raster):
     module = gs.pipe_command("r.category", map=raster, separator="tab", quiet=True)
     pairs = [line.rstrip(b"\n").partition(b"\t")[::2] for line in module.stdout]
     end_of(module, raster)
-    labels = {int(category): label.strip(BLANKS).decode("utf-8", "surrogateescape") for category, label in pairs}
+    labels = {
+        int(category): label.strip(BLANKS).decode("utf-8", "surrogateescape")
+        for category, label in pairs
+    }
     return {category: label for category, label in labels.items() if label}
 
 
@@ -359,8 +419,12 @@ def pairs_of(text, kind):
         raster = raster if sign else name
         name = name if sign else name.partition("@")[0]
         if not NAME.fullmatch(name):
-            raise Stopped(_("<{}>: rcell takes no map of this name; write NAME={}, with letters, digits, _ and . "
-                            "and no digit or . first").format(item, raster or "MAP"))
+            raise Stopped(
+                _(
+                    "<{}>: rcell takes no map of this name; write NAME={}, with letters, digits, _ and . "
+                    "and no digit or . first"
+                ).format(item, raster or "MAP")
+            )
         if name in [it.name for it in found] and kind is Input:
             raise Stopped(_("The name <{}> stands for two maps").format(name))
         found.append(kind(name, raster))
@@ -373,8 +437,12 @@ def look_up_inputs(inputs):
         if not it.map or not gs.find_file(it.map, element="cell")["file"]:
             raise Stopped(_("Raster map <{}> not found").format(it.map))
         if gs.raster_info(it.map)["datatype"] != "CELL":
-            raise Stopped(_("Raster map <{0}> has decimals, and rcell takes whole numbers: round it, as by "
-                            "r.mapcalc \"cells = round({0})\"").format(it.map))
+            raise Stopped(
+                _(
+                    "Raster map <{0}> has decimals, and rcell takes whole numbers: round it, as by "
+                    'r.mapcalc "cells = round({0})"'
+                ).format(it.map)
+            )
 
 
 def look_up_outputs(outputs, made, inputs):
@@ -400,8 +468,12 @@ def look_up_region():
     region = gs.region()
     rows, cols = region["rows"], region["cols"]
     if max(rows, cols) > MOST_SIDE or rows * cols > MOST_CELLS:
-        raise Stopped(_("The current region has {} rows and {} columns; rcell takes {} of each and {} cells in all. "
-                        "Work in tiles (r.tile, or g.region for each)").format(rows, cols, MOST_SIDE, MOST_CELLS))
+        raise Stopped(
+            _(
+                "The current region has {} rows and {} columns; rcell takes {} of each and {} cells in all. "
+                "Work in tiles (r.tile, or g.region for each)"
+            ).format(rows, cols, MOST_SIDE, MOST_CELLS)
+        )
     return region
 
 
@@ -414,7 +486,9 @@ def read_script(path):
         with open(path, encoding="utf-8", errors="surrogateescape", newline="") as file:
             return file.read()
     except OSError as fault:
-        raise Stopped(_("The script <{}> cannot be read: {}").format(path, fault.strerror)) from None
+        raise Stopped(
+            _("The script <{}> cannot be read: {}").format(path, fault.strerror)
+        ) from None
 
 
 class Table:
@@ -426,9 +500,16 @@ class Table:
     def __init__(self, path, script):
         self.path, self.file = path, None
         self.target = os.path.realpath(path) if path not in ("", "-") else ""
-        if self.target and os.path.isfile(self.target) and script != "-" and os.path.realpath(script) == self.target:
+        if (
+            self.target
+            and os.path.isfile(self.target)
+            and script != "-"
+            and os.path.realpath(script) == self.target
+        ):
             raise Stopped(_("The table <{}> is the script; give it another name").format(path))
-        self.is_stream = not self.target or (os.path.exists(self.target) and not os.path.isfile(self.target))
+        self.is_stream = not self.target or (
+            os.path.exists(self.target) and not os.path.isfile(self.target)
+        )
         try:
             if self.target and os.path.isdir(self.target):
                 raise IsADirectoryError(errno.EISDIR, os.strerror(errno.EISDIR))
@@ -439,7 +520,9 @@ class Table:
         atexit.register(self.remove)
 
     def failed(self, fault):
-        return Stopped(_("The table <{}> cannot be written: {}").format(self.path or "-", fault.strerror))
+        return Stopped(
+            _("The table <{}> cannot be written: {}").format(self.path or "-", fault.strerror)
+        )
 
     def remove(self):
         """Removes what did not get its name."""
@@ -464,7 +547,9 @@ class Table:
     def copy(self):
         from rcell_front.files import write_all
 
-        with open(self.file.name, "rb") as kept, open(self.target or 1, "ab", 0, closefd=bool(self.target)) as stream:
+        with open(self.file.name, "rb") as kept, open(
+            self.target or 1, "ab", 0, closefd=bool(self.target)
+        ) as stream:
             while piece := kept.read(BYTES_OF_A_PIECE):
                 write_all(stream.fileno(), piece)
 
@@ -494,7 +579,11 @@ def open_standard_streams():
 def done(options, flags):
     """All of a run: what is wrong is found before rcell begins, and what is made gets its name at the end."""
     if not program():
-        raise Stopped(_("The program rcell-pipe is not on the path: install rcell, or add its folder bin to PATH"))
+        raise Stopped(
+            _(
+                "The program rcell-pipe is not on the path: install rcell, or add its folder bin to PATH"
+            )
+        )
     find_front(program())
     inputs, asked = pairs_of(options["maps"], Input), pairs_of(options["output"], Output)
     look_up_inputs(inputs)

@@ -56,9 +56,13 @@ class Opened:
 @contextlib.contextmanager
 def handing_out():
     """A session in which maps are files of cells, and rcell-pipe is on the path."""
-    with mock.patch.object(rcell, "program", lambda: os.path.join(os.path.dirname(PROGRAM), "rcell-pipe")), \
-            mock.patch.object(rcell.gs, "pipe_command", lambda *_, input, **__: Opened(input), create=True), \
-            mock.patch.object(rcell.gs, "percent", lambda *_: None, create=True):
+    with mock.patch.object(
+        rcell, "program", lambda: os.path.join(os.path.dirname(PROGRAM), "rcell-pipe")
+    ), mock.patch.object(
+        rcell.gs, "pipe_command", lambda *_, input, **__: Opened(input), create=True
+    ), mock.patch.object(
+        rcell.gs, "percent", lambda *_: None, create=True
+    ):
         yield
 
 
@@ -75,7 +79,9 @@ class Session(unittest.TestCase):
         return rcell.judged(script, list(names))
 
     def run_(self, script, outputs=(), labels=None):
-        inputs, wanted = [rcell.Input("a", f"{self.room}/a")], [rcell.Output(name, name) for name in outputs]
+        inputs, wanted = [rcell.Input("a", f"{self.room}/a")], [
+            rcell.Output(name, name) for name in outputs
+        ]
         statements = self.statements(script)
 
         def sources():
@@ -93,43 +99,85 @@ class Session(unittest.TestCase):
 class Scripts(Session):
     def test_flag_of_labels(self):
         script = "r.stats -c input=a\n  r.stats -nl input=a\nr.stats input=a separator=-\r\n#r.stats\nr.mapcalc x = 1\nr.stats -1 input=a\nr.stats -l1 input=a"
-        wanted = ("r.stats -c input=a -l\n  r.stats -nl input=a\nr.stats input=a separator=-\r -l\n#r.stats\nr.mapcalc x = 1\nr.stats -1 input=a -l\n"
-                  "r.stats -l1 input=a")
+        wanted = (
+            "r.stats -c input=a -l\n  r.stats -nl input=a\nr.stats input=a separator=-\r -l\n#r.stats\nr.mapcalc x = 1\nr.stats -1 input=a -l\n"
+            "r.stats -l1 input=a"
+        )
         labelled = rcell.with_labels(script, self.statements(script))
         self.assertEqual(labelled, wanted)
-        self.assertEqual(["l" in it.options for it in self.statements(labelled)], [True, True, True, False, True, True])
+        self.assertEqual(
+            ["l" in it.options for it in self.statements(labelled)],
+            [True, True, True, False, True, True],
+        )
 
     def test_maps_of_tables_with_labels(self):
-        statements = self.statements("r.stats -cl input=a,c\nr.stats -c input=b\nr.out.ascii input=e\nr.stats -1l input=d\nr.stats -1 input=b", "abcde")
+        statements = self.statements(
+            "r.stats -cl input=a,c\nr.stats -c input=b\nr.out.ascii input=e\nr.stats -1l input=d\nr.stats -1 input=b",
+            "abcde",
+        )
         self.assertEqual(rcell.labelled_maps(statements), {"a", "c", "d"})
 
     def test_errors_have_the_lines_of_the_user(self):
-        self.assertEqual(self.refused("r.stats -c input=a\n\tr.mapcalc x = a + ab"),
-                         ("rcell: script:2: unknown map at column 20", "     r.mapcalc x = a + ab\n                       ^\n    try: r.mapcalc x = a + a\n"))
-        self.assertEqual(self.refused('r.mapcalc "x = a * 2"')[0], "rcell: script:1: bad byte at column 11")
-        self.assertEqual(self.refused("r.reclass input=a output=b\n1 = 2")[0], "rcell: script:1: missing end")
+        self.assertEqual(
+            self.refused("r.stats -c input=a\n\tr.mapcalc x = a + ab"),
+            (
+                "rcell: script:2: unknown map at column 20",
+                "     r.mapcalc x = a + ab\n                       ^\n    try: r.mapcalc x = a + a\n",
+            ),
+        )
+        self.assertEqual(
+            self.refused('r.mapcalc "x = a * 2"')[0], "rcell: script:1: bad byte at column 11"
+        )
+        self.assertEqual(
+            self.refused("r.reclass input=a output=b\n1 = 2")[0], "rcell: script:1: missing end"
+        )
 
     def test_the_word_that_is_no_option_is_named(self):
-        for line, word in (("r.stats -cn a", "a"), ("r.stats in=a", "in=a"), ("r.clump -n input=a output=b", "-n"),
-                           ("r.stats input=a input=a", "input=a"), ("r.out.ascii input=a null_value=a:b", "null_value=a:b"),
-                           ("r.stats -c input=a output=t.txt", "output=t.txt"), ("r.stats input=a separator=ab", "separator=ab")):
+        for line, word in (
+            ("r.stats -cn a", "a"),
+            ("r.stats in=a", "in=a"),
+            ("r.clump -n input=a output=b", "-n"),
+            ("r.stats input=a input=a", "input=a"),
+            ("r.out.ascii input=a null_value=a:b", "null_value=a:b"),
+            ("r.stats -c input=a output=t.txt", "output=t.txt"),
+            ("r.stats input=a separator=ab", "separator=ab"),
+        ):
             told, beneath = self.refused(line)
             self.assertEqual(told, "rcell: script:1: bad option: " + word)
-            self.assertEqual(beneath.split("    try: ")[0], "    %s\n    %s^\n" % (line.replace("\t", " "), " " * line.rindex(word)))
-        self.assertEqual(self.refused("\tr.stats -c -1 input=a"), ("rcell: script:1: bad option", "     r.stats -c -1 input=a\n    try: one of the two\n"))
-        self.assertEqual(self.refused("r.stats -cn a")[1].split("    try: ")[1], "r.stats -cn input=a\n")
+            self.assertEqual(
+                beneath.split("    try: ")[0],
+                "    %s\n    %s^\n" % (line.replace("\t", " "), " " * line.rindex(word)),
+            )
+        self.assertEqual(
+            self.refused("\tr.stats -c -1 input=a"),
+            (
+                "rcell: script:1: bad option",
+                "     r.stats -c -1 input=a\n    try: one of the two\n",
+            ),
+        )
+        self.assertEqual(
+            self.refused("r.stats -cn a")[1].split("    try: ")[1], "r.stats -cn input=a\n"
+        )
 
     def test_errors_of_other_places(self):
         from rcell_front.pipe import Rejected
 
-        for end, text in ((Rejected(3, "request", 0, 0, 0, "no memory"), "rcell: a:0: no memory"), (Rejected(3, "", 0, 0, 0, "no memory"), "rcell: script:0: no memory"),
-                          (Rejected(1, "request", 0, 7, 0, "cell out of range"), "rcell: a:7: cell out of range")):
+        for end, text in (
+            (Rejected(3, "request", 0, 0, 0, "no memory"), "rcell: a:0: no memory"),
+            (Rejected(3, "", 0, 0, 0, "no memory"), "rcell: script:0: no memory"),
+            (Rejected(1, "request", 0, 7, 0, "cell out of range"), "rcell: a:7: cell out of range"),
+        ):
             self.assertEqual(str(rcell.stopped(end, "r.stats input=a\n", ["a"])), text)
 
     def test_another_program(self):
-        with mock.patch.object(rcell, "program", lambda: "/bin/true"), self.assertRaises(rcell.Stopped) as caught:
+        with mock.patch.object(rcell, "program", lambda: "/bin/true"), self.assertRaises(
+            rcell.Stopped
+        ) as caught:
             self.statements("r.stats input=a")
-        self.assertEqual(str(caught.exception), "/bin/true failed: the program ended in status 0 and said: nothing")
+        self.assertEqual(
+            str(caught.exception),
+            "/bin/true failed: the program ended in status 0 and said: nothing",
+        )
 
 
 class Late(unittest.TestCase):
@@ -163,7 +211,12 @@ class Late(unittest.TestCase):
         os.close(writes)
         table, text, read = rcell.Table("-", "script"), b"1 2\n" * 50000, bytearray()
         table.file.write(text)
-        thread = self.later(lambda: [read.extend(os.read(reads, 1 << 16)) for _ in iter(lambda: len(read) < len(text), False)])
+        thread = self.later(
+            lambda: [
+                read.extend(os.read(reads, 1 << 16))
+                for _ in iter(lambda: len(read) < len(text), False)
+            ]
+        )
         table.finish()
         table.remove()
         thread.join()
@@ -187,24 +240,42 @@ class Runs(Session):
     """Maps go through rcell-pipe."""
 
     def test_what_is_printed(self):
-        text, cells, texts = self.run_("r.stats -c input=a\nr.reclass input=a output=b\n1 = 5 five, \"5\"\n* = *\nend\nr.stats -n input=a\nr.mapcalc c = null()\n"
-                                       "r.stats -cn input=c\nr.out.ascii input=b\nr.stats -1l input=b separator=:\nr.out.ascii input=b null_value=-9", ["b", "c"])
-        listed = "5:five, \"5\"\n2:\n*:no data\n" + "5:five, \"5\"\n" * 2 + "2:\n"
-        self.assertEqual(text, f"1 3\n2 2\n* 1\n1\n2\n{HEAD}5 2 *\n5 5 2\n{listed}{HEAD}null: -9\n5 2 -9\n5 5 2\n")
-        self.assertEqual([(frame.type, frame.null, frame.cells.tolist()) for frame in cells], [("u8", 255, [5, 2, 255, 5, 5, 2]), ("u8", 255, [255] * 6)])
-        self.assertEqual({name: rcell.label_lines(frame) for name, frame in texts.items()}, {"b": [b'5\tfive, "5"\n']})
+        text, cells, texts = self.run_(
+            'r.stats -c input=a\nr.reclass input=a output=b\n1 = 5 five, "5"\n* = *\nend\nr.stats -n input=a\nr.mapcalc c = null()\n'
+            "r.stats -cn input=c\nr.out.ascii input=b\nr.stats -1l input=b separator=:\nr.out.ascii input=b null_value=-9",
+            ["b", "c"],
+        )
+        listed = '5:five, "5"\n2:\n*:no data\n' + '5:five, "5"\n' * 2 + "2:\n"
+        self.assertEqual(
+            text,
+            f"1 3\n2 2\n* 1\n1\n2\n{HEAD}5 2 *\n5 5 2\n{listed}{HEAD}null: -9\n5 2 -9\n5 5 2\n",
+        )
+        self.assertEqual(
+            [(frame.type, frame.null, frame.cells.tolist()) for frame in cells],
+            [("u8", 255, [5, 2, 255, 5, 5, 2]), ("u8", 255, [255] * 6)],
+        )
+        self.assertEqual(
+            {name: rcell.label_lines(frame) for name, frame in texts.items()},
+            {"b": [b'5\tfive, "5"\n']},
+        )
 
     def test_labels_go_there_and_back(self):
-        labels = {1: "town, old", 2: "gro\u00df: \"x\" | y", 7: "\udcff"}
+        labels = {1: "town, old", 2: 'gro\u00df: "x" | y', 7: "\udcff"}
         text, _, texts = self.run_("r.stats -cl input=a separator=tab\n", ["a"], labels)
-        self.assertEqual(text, "1\ttown, old\t3\n2\tgro\u00df: \"x\" | y\t2\n*\tno data\t1\n")
-        self.assertEqual(rcell.label_lines(texts["a"]), [b"1\ttown, old\n", "2\tgro\u00df: \"x\" | y\n".encode()])
+        self.assertEqual(text, '1\ttown, old\t3\n2\tgro\u00df: "x" | y\t2\n*\tno data\t1\n')
+        self.assertEqual(
+            rcell.label_lines(texts["a"]), [b"1\ttown, old\n", '2\tgro\u00df: "x" | y\n'.encode()]
+        )
         with self.assertRaises(rcell.Stopped):
-            rcell.label_lines(self.run_("r.reclass input=a output=b\n1 = 2 a\tb\nend", ["b"])[2]["b"])
+            rcell.label_lines(
+                self.run_("r.reclass input=a output=b\n1 = 2 a\tb\nend", ["b"])[2]["b"]
+            )
 
     def test_wide_categories(self):
         text, [frame], _ = self.run_("r.mapcalc b = a * -1000000000\nr.out.ascii input=b", ["b"])
-        self.assertEqual(text, HEAD + "-1000000000 -2000000000 *\n-1000000000 -1000000000 -2000000000\n")
+        self.assertEqual(
+            text, HEAD + "-1000000000 -2000000000 *\n-1000000000 -1000000000 -2000000000\n"
+        )
         self.assertEqual((frame.type, frame.null, frame.cells[2]), ("i32", NULL, NULL))
 
     def test_a_map_that_ends_early(self):
@@ -256,7 +327,12 @@ class Tables(unittest.TestCase):
     def test_what_cannot_be_written(self):
         with open(f"{self.room}/script", "w", encoding="ascii") as file:
             file.write("r.stats input=a\n")
-        for path, script in ((f"{self.room}/script", f"{self.room}/script"), (self.room, "-"), (f"{self.room}/no/t", "-"), ("/dev/full", "-")):
+        for path, script in (
+            (f"{self.room}/script", f"{self.room}/script"),
+            (self.room, "-"),
+            (f"{self.room}/no/t", "-"),
+            ("/dev/full", "-"),
+        ):
             with self.assertRaises(rcell.Stopped):
                 self.write(path, script)
         self.assertEqual(os.listdir(self.room), ["script"])
@@ -267,7 +343,9 @@ class Form(unittest.TestCase):
 
     def test_files(self):
         folder = f"{ROOT}/grass/r.rcell"
-        self.assertEqual(sorted(os.listdir(folder)), ["Makefile", "r.rcell.html", "r.rcell.py", "testsuite"])
+        self.assertEqual(
+            sorted(os.listdir(folder)), ["Makefile", "r.rcell.html", "r.rcell.py", "testsuite"]
+        )
         with open(f"{folder}/Makefile", encoding="ascii") as file:
             self.assertIn("PGM = r.rcell\n", file.read())
         with open(f"{folder}/r.rcell.html", encoding="ascii") as file:
@@ -282,7 +360,9 @@ class Form(unittest.TestCase):
 
 
 if __name__ == "__main__":
-    result = unittest.TextTestRunner(verbosity=1).run(unittest.TestLoader().loadTestsFromModule(sys.modules[__name__]))
+    result = unittest.TextTestRunner(verbosity=1).run(
+        unittest.TestLoader().loadTestsFromModule(sys.modules[__name__])
+    )
     wrong = len(result.failures) + len(result.errors)
     print(f"{result.testsRun - wrong} passed, {wrong} failed, 0 skipped")
     sys.exit(bool(wrong))

@@ -35,7 +35,12 @@ class Room:
 
     def __init__(self, path, programs, rcell):
         self.path, self.programs, self.rcell = path, programs, rcell
-        self.environment = {"PATH": "/usr/bin:/bin", "HOME": path, "LC_ALL": "C.UTF-8", "RCELL": rcell}
+        self.environment = {
+            "PATH": "/usr/bin:/bin",
+            "HOME": path,
+            "LC_ALL": "C.UTF-8",
+            "RCELL": rcell,
+        }
         self.put("land.txt", LAND)
         os.mkdir(f"{path}/folder")
 
@@ -54,9 +59,18 @@ class Room:
 
     def shell(self, command, given=b""):
         """Runs a command of bash, in which the helpers go by their names."""
-        environment = {**self.environment, "PATH": f"{self.programs}:{os.path.dirname(self.rcell)}:/usr/bin:/bin"}
-        return subprocess.run(["bash", "-c", command], cwd=self.path, input=given, capture_output=True, env=environment,
-                              timeout=SECONDS)
+        environment = {
+            **self.environment,
+            "PATH": f"{self.programs}:{os.path.dirname(self.rcell)}:/usr/bin:/bin",
+        }
+        return subprocess.run(
+            ["bash", "-c", command],
+            cwd=self.path,
+            input=given,
+            capture_output=True,
+            env=environment,
+            timeout=SECONDS,
+        )
 
     def counts(self, grid):
         """What rcell counts in a grid, or its message."""
@@ -75,7 +89,9 @@ class Tally:
         self.passed += got == wanted
         if got != wanted:
             self.failed += 1
-            shown = difflib.unified_diff(str(wanted).splitlines(), str(got).splitlines(), "wanted", "got", lineterm="", n=2)
+            shown = difflib.unified_diff(
+                str(wanted).splitlines(), str(got).splitlines(), "wanted", "got", lineterm="", n=2
+            )
             print(f"{name}:\n    " + "\n    ".join(shown), flush=True)
 
     def true(self, name, is_so, told=""):
@@ -89,7 +105,13 @@ class Case:
     """Files by their paths, the words of rcell-explain, and what it says with which status."""
 
     def __init__(self, name):
-        self.name, self.files, self.words, self.status, self.says = name, [], "script land=land.txt", 0, ""
+        self.name, self.files, self.words, self.status, self.says = (
+            name,
+            [],
+            "script land=land.txt",
+            0,
+            "",
+        )
 
     def text(self):
         parts = [f"== {self.name}\n"]
@@ -101,7 +123,9 @@ class Case:
         """The files as bytes."""
         for kind, path, text in self.files:
             raw = text.encode("utf-8")
-            yield path, raw[:-1].decode("unicode_escape").encode("latin-1") if kind == "bytes" else raw
+            yield path, raw[:-1].decode("unicode_escape").encode(
+                "latin-1"
+            ) if kind == "bytes" else raw
 
 
 def read_cases():
@@ -139,7 +163,9 @@ def run_cases(room, tally, is_written):
     for case, (status, says) in zip(cases, answers):
         if is_written:
             case.status, case.says = status, says
-        tally.same(f"explained.txt: {case.name}", f"{status}\n{says}", f"{case.status}\n{case.says}")
+        tally.same(
+            f"explained.txt: {case.name}", f"{status}\n{says}", f"{case.status}\n{case.says}"
+        )
     if is_written:
         with open(CASES, "w", encoding="utf-8") as file:
             file.write("".join(case.text() for case in cases))
@@ -154,13 +180,19 @@ def tallied(test, programs, rcell):
 
 
 def main():
-    words = argparse.ArgumentParser(description=__doc__, formatter_class=argparse.RawDescriptionHelpFormatter)
+    words = argparse.ArgumentParser(
+        description=__doc__, formatter_class=argparse.RawDescriptionHelpFormatter
+    )
     words.add_argument("--bin")
     words.add_argument("--write", action="store_true")
     settings = words.parse_args()
     programs = os.path.abspath(settings.bin) if settings.bin else f"{ROOT}/helpers"
-    rcell = os.environ.get("RCELL") or (f"{programs}/rcell" if settings.bin else f"{ROOT}/bin/rcell")
-    tests = [lambda room, tally: run_cases(room, tally, settings.write)] + [importlib.import_module(name).test for name in TESTS]
+    rcell = os.environ.get("RCELL") or (
+        f"{programs}/rcell" if settings.bin else f"{ROOT}/bin/rcell"
+    )
+    tests = [lambda room, tally: run_cases(room, tally, settings.write)] + [
+        importlib.import_module(name).test for name in TESTS
+    ]
     with concurrent.futures.ThreadPoolExecutor() as pool:
         tallies = list(pool.map(lambda test: tallied(test, programs, rcell), tests))
     passed, failed = sum(tally.passed for tally in tallies), sum(tally.failed for tally in tallies)

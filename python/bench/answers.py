@@ -39,7 +39,10 @@ Task = Callable[[], object]
 
 def used() -> float:
     """Seconds of the processor that this process and its children have taken."""
-    return sum(part.ru_utime + part.ru_stime for part in map(resource.getrusage, (resource.RUSAGE_SELF, resource.RUSAGE_CHILDREN)))
+    return sum(
+        part.ru_utime + part.ru_stime
+        for part in map(resource.getrusage, (resource.RUSAGE_SELF, resource.RUSAGE_CHILDREN))
+    )
 
 
 def by_turns(tasks: dict[str, Task], rounds: int) -> dict[str, float]:
@@ -64,11 +67,17 @@ class Recorder:
         """Run a call and keep its requests."""
         asked = _program._frames
 
-        def recording(script: str, maps: Mapping[str, Any], wanted: Sequence[str] = (), *rest: Any) -> Any:
+        def recording(
+            script: str, maps: Mapping[str, Any], wanted: Sequence[str] = (), *rest: Any
+        ) -> Any:
             self.requests.append(f"{self._folder}/request{len(self.requests)}")
             lines = [script, *(f"r.out.ascii input={name}" for name in wanted)]
             with open(self.requests[-1], "wb") as file:
-                file.writelines(request([_program._sent(*each) for each in maps.items()], "\n".join(lines).encode()))
+                file.writelines(
+                    request(
+                        [_program._sent(*each) for each in maps.items()], "\n".join(lines).encode()
+                    )
+                )
             return asked(script, maps, wanted, *rest)
 
         _program._frames = recording  # type: ignore[assignment]
@@ -81,16 +90,24 @@ class Recorder:
         """Run the program as the call did."""
         for path in self.requests:
             with open(path, "rb") as file:
-                subprocess.run([_program.find_pipe()], stdin=file, check=True, stdout=subprocess.DEVNULL)
+                subprocess.run(
+                    [_program.find_pipe()], stdin=file, check=True, stdout=subprocess.DEVNULL
+                )
 
 
 def maps_of(folder: str, side: int) -> Maps:
     """The maps by their names."""
     land, zones = land_and_zones(folder, side)
     [cells] = read(land)
-    later = np.where(np.random.default_rng(5).random(cells.shape) < 0.05, np.roll(cells, 40, 1), cells)
-    return {"land": land, "zones": zones, "later": geotiff(f"{folder}/later.tif", later, 0),
-            "degrees": geotiff(f"{folder}/degrees.tif", cells, 0, DEGREES, "EPSG:4326")}
+    later = np.where(
+        np.random.default_rng(5).random(cells.shape) < 0.05, np.roll(cells, 40, 1), cells
+    )
+    return {
+        "land": land,
+        "zones": zones,
+        "later": geotiff(f"{folder}/later.tif", later, 0),
+        "degrees": geotiff(f"{folder}/degrees.tif", cells, 0, DEGREES, "EPSG:4326"),
+    }
 
 
 def read(*paths: str) -> list[Any]:
@@ -119,22 +136,61 @@ def patches_by_skimage(path: str) -> Any:
 def zonal_by_scipy(values: str, zones: str) -> Any:
     cells, zone = read(values, zones)
     index = np.unique(zone)
-    return [of(cells, zone, index) for of in (ndimage.mean, ndimage.variance, ndimage.minimum, ndimage.maximum, ndimage.median)]
+    return [
+        of(cells, zone, index)
+        for of in (ndimage.mean, ndimage.variance, ndimage.minimum, ndimage.maximum, ndimage.median)
+    ]
 
 
 def calls_of(maps: Maps) -> dict[str, tuple[list[str], Callable[[], object], tuple[str, Task]]]:
     """Each call, with the files that it reads and a peer."""
     land, zones, later, degrees = (maps[name] for name in ("land", "zones", "later", "degrees"))
     return {
-        "composition": ([land], lambda: rcell.composition(land), ("numpy bincount", lambda: by_bincount(land))),
-        "composition by zone": ([land, zones], lambda: rcell.composition(land, zones), ("numpy bincount", lambda: by_bincount(zones, land))),
-        "composition in degrees": ([degrees], lambda: rcell.composition(degrees), ("", lambda: None)),
-        "cross": ([land, zones], lambda: rcell.cross(a=land, b=zones), ("numpy bincount", lambda: by_bincount(land, zones))),
-        "change": ([land, later], lambda: rcell.change(land, later).summary, ("numpy bincount", lambda: by_bincount(land, later))),
-        "patches": ([land], lambda: rcell.patches(land), ("skimage label, cells alone", lambda: patches_by_skimage(land))),
-        "zonal": ([land, zones], lambda: rcell.zonal(land, zones), ("scipy ndimage", lambda: zonal_by_scipy(land, zones))),
-        "majority 3 x 3": ([land], lambda: rcell.majority(land), ("numpy, 15 masks", lambda: majority(*read(land)))),
-        "align by whole cells": ([land], lambda: rcell.align(land, to=later), ("numpy, reading alone", lambda: read(land))),
+        "composition": (
+            [land],
+            lambda: rcell.composition(land),
+            ("numpy bincount", lambda: by_bincount(land)),
+        ),
+        "composition by zone": (
+            [land, zones],
+            lambda: rcell.composition(land, zones),
+            ("numpy bincount", lambda: by_bincount(zones, land)),
+        ),
+        "composition in degrees": (
+            [degrees],
+            lambda: rcell.composition(degrees),
+            ("", lambda: None),
+        ),
+        "cross": (
+            [land, zones],
+            lambda: rcell.cross(a=land, b=zones),
+            ("numpy bincount", lambda: by_bincount(land, zones)),
+        ),
+        "change": (
+            [land, later],
+            lambda: rcell.change(land, later).summary,
+            ("numpy bincount", lambda: by_bincount(land, later)),
+        ),
+        "patches": (
+            [land],
+            lambda: rcell.patches(land),
+            ("skimage label, cells alone", lambda: patches_by_skimage(land)),
+        ),
+        "zonal": (
+            [land, zones],
+            lambda: rcell.zonal(land, zones),
+            ("scipy ndimage", lambda: zonal_by_scipy(land, zones)),
+        ),
+        "majority 3 x 3": (
+            [land],
+            lambda: rcell.majority(land),
+            ("numpy, 15 masks", lambda: majority(*read(land))),
+        ),
+        "align by whole cells": (
+            [land],
+            lambda: rcell.align(land, to=later),
+            ("numpy, reading alone", lambda: read(land)),
+        ),
     }
 
 
@@ -143,20 +199,29 @@ def lines_of(maps: Maps, folder: str, rounds: int) -> list[str]:
     for name, (paths, call, (peer, by_peer)) in calls_of(maps).items():
         recorder = Recorder(folder)
         recorder.record(call)
-        if not recorder.requests:  # alignment does not run the program: what a table of the map takes replaces it
+        if (
+            not recorder.requests
+        ):  # alignment does not run the program: what a table of the map takes replaces it
             recorder.record(lambda: rcell.composition(maps["land"]))
         reading = functools.partial(read, *paths)
-        found = by_turns({"answer": call, "program": recorder.program, "reading": reading, "peer": by_peer}, rounds)
+        found = by_turns(
+            {"answer": call, "program": recorder.program, "reading": reading, "peer": by_peer},
+            rounds,
+        )
         most = found["reading"] + SHARE * found["program"]
         told = f"{found['peer']:.2f} ({peer})" if peer else ""
         share = found["answer"] / most
-        lines.append(f"| {name} | {found['answer']:.2f} | {found['reading']:.2f} | {found['program']:.2f} | {share:.2f} | {told} |")
+        lines.append(
+            f"| {name} | {found['answer']:.2f} | {found['reading']:.2f} | {found['program']:.2f} | {share:.2f} | {told} |"
+        )
         print(lines[-1], flush=True)
     return lines
 
 
 def main() -> None:
-    words = argparse.ArgumentParser(description=__doc__, formatter_class=argparse.RawDescriptionHelpFormatter)
+    words = argparse.ArgumentParser(
+        description=__doc__, formatter_class=argparse.RawDescriptionHelpFormatter
+    )
     words.add_argument("--cells", type=int, default=25_000_000)
     words.add_argument("--rounds", type=int, default=2)
     words.add_argument("--show", action="store_true")
@@ -165,7 +230,10 @@ def main() -> None:
     side = int(settings.cells**0.5)
     with tempfile.TemporaryDirectory(prefix="rcell-answers-") as folder:
         lines = lines_of(maps_of(folder, side), folder, settings.rounds)
-    head = ["| answer | s | reading s | program s | share of reading + 2 program | peer s |", "|---|---|---|---|---|---|"]
+    head = [
+        "| answer | s | reading s | program s | share of reading + 2 program | peer s |",
+        "|---|---|---|---|---|---|",
+    ]
     if not settings.show:
         told = f"{side * side:,} cells; seconds of the processor, the least of {settings.rounds} rounds in which each had its turn; {load()}."
         put("The seven calls", "\n".join([told, "", *head, *lines]) + "\n")

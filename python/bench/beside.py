@@ -42,10 +42,34 @@ class Task(NamedTuple):
 
 
 TASKS = [
-    Task("patches by edges", "r.clump input=lc output=x", 0, "edges", lambda mosaic, out: mosaic.clump("lc", out)),
-    Task("patches by corners", "r.clump -d input=lc output=x", 0, "corners", lambda mosaic, out: mosaic.clump("lc", out, connectivity=8)),
-    Task("sum of nine offsets", f"r.mapcalc x = {SUM}", NULL, "total", lambda mosaic, out: mosaic.grid(f"x = {SUM}", out)),
-    Task("nmode over 3x3", f"r.mapcalc x = {NMODE}", NULL, "modes", lambda mosaic, out: mosaic.grid(f"x = {NMODE}", out)),
+    Task(
+        "patches by edges",
+        "r.clump input=lc output=x",
+        0,
+        "edges",
+        lambda mosaic, out: mosaic.clump("lc", out),
+    ),
+    Task(
+        "patches by corners",
+        "r.clump -d input=lc output=x",
+        0,
+        "corners",
+        lambda mosaic, out: mosaic.clump("lc", out, connectivity=8),
+    ),
+    Task(
+        "sum of nine offsets",
+        f"r.mapcalc x = {SUM}",
+        NULL,
+        "total",
+        lambda mosaic, out: mosaic.grid(f"x = {SUM}", out),
+    ),
+    Task(
+        "nmode over 3x3",
+        f"r.mapcalc x = {NMODE}",
+        NULL,
+        "modes",
+        lambda mosaic, out: mosaic.grid(f"x = {NMODE}", out),
+    ),
 ]
 
 
@@ -53,11 +77,20 @@ ALL = ["table", *(task.grass for task in TASKS), "sizes"]
 """What can be asked for: the table, maps by GRASS's names of them, and with maps of patches the sizes of these."""
 
 
-def answers(path: Path, folder: Path, sizes: list[int], workers: int, asked: Collection[str] = ALL) -> list[str]:
+def answers(
+    path: Path, folder: Path, sizes: list[int], workers: int, asked: Collection[str] = ALL
+) -> list[str]:
     """Tasks over a map, by tiles of several sizes, each compared with one run of the program, and with GRASS's maps in the folder."""
     table = [_row(_table(path, folder, sizes, workers))] if "table" in asked else []
     tasks = [task for task in TASKS if task.grass in asked]
-    return [*table, *(_row(line) for task in tasks for line in _answer(task, path, folder, sizes, workers, "sizes" in asked))]
+    return [
+        *table,
+        *(
+            _row(line)
+            for task in tasks
+            for line in _answer(task, path, folder, sizes, workers, "sizes" in asked)
+        ),
+    ]
 
 
 def _table(path: Path, folder: Path, sizes: list[int], workers: int) -> list[str]:
@@ -68,7 +101,11 @@ def _table(path: Path, folder: Path, sizes: list[int], workers: int) -> list[str
             found, figures = measured(mosaic, lambda: mosaic.table(TABLE))
         row.append(_told(found.equals(expected), figures))
     is_there = (folder / "table.txt").exists()
-    row.append(_judged(_grass_table(found) == (folder / "table.txt").read_text().splitlines()) if is_there else "")
+    row.append(
+        _judged(_grass_table(found) == (folder / "table.txt").read_text().splitlines())
+        if is_there
+        else ""
+    )
     return row
 
 
@@ -88,11 +125,17 @@ def _told(is_equal: bool, figures: Figures) -> str:
 
 def _grass_table(table: Any) -> list[str]:
     """A table as GRASS's r.stats prints it."""
-    return [f"{'*' if category is None else category} {cells}"
-            for category, cells in zip(table["lc"].astype(object).where(table["lc"].notna(), None), table["cells"])]
+    return [
+        f"{'*' if category is None else category} {cells}"
+        for category, cells in zip(
+            table["lc"].astype(object).where(table["lc"].notna(), None), table["cells"]
+        )
+    ]
 
 
-def _answer(task: Task, path: Path, folder: Path, sizes: list[int], workers: int, has_sizes: bool) -> Iterator[list[str]]:
+def _answer(
+    task: Task, path: Path, folder: Path, sizes: list[int], workers: int, has_sizes: bool
+) -> Iterator[list[str]]:
     """The row of a task; where it makes patches, and it is asked for, one of their sizes as well."""
     out = folder / "tiles.tif"
     cells, seconds, program = undivided(path, task.script)
@@ -102,8 +145,13 @@ def _answer(task: Task, path: Path, folder: Path, sizes: list[int], workers: int
             areas, figures = measured(mosaic, lambda: task.tiled(mosaic, out))
             row.append(_told(_same(cells, out, task.null), figures))
             if task.is_of_patches and has_sizes:
-                patches, figures = measured(mosaic, lambda: mosaic.patches("lc", connectivity=8 if "corners" in task.name else 4))
-                is_equal = len(patches) == areas and np.array_equal(patches["cells"].to_numpy(np.int64), _sizes_of(cells, areas))
+                patches, figures = measured(
+                    mosaic,
+                    lambda: mosaic.patches("lc", connectivity=8 if "corners" in task.name else 4),
+                )
+                is_equal = len(patches) == areas and np.array_equal(
+                    patches["cells"].to_numpy(np.int64), _sizes_of(cells, areas)
+                )
                 of_sizes.append(_told(is_equal, figures))
     yield [*row, _beside_grass(task, folder / f"{task.grass}.tif", out, areas)]
     if of_sizes:
@@ -131,7 +179,9 @@ def _watched(work: Callable[[], Any]) -> tuple[Any, float, int]:
 def undivided(lc: Any, script: str, wanted: str = "x") -> tuple[Any, float, int]:
     """A map of one run of the program over a file or an array, as `_watched` returns it."""
     given = str(lc) if isinstance(lc, Path) else lc
-    return _watched(lambda: execute(script, {"lc": source_of("lc", given)}, wanted=(wanted,))[-1].values)
+    return _watched(
+        lambda: execute(script, {"lc": source_of("lc", given)}, wanted=(wanted,))[-1].values
+    )
 
 
 def _same(cells: Any, path: Path, null: int) -> bool:
@@ -139,7 +189,7 @@ def _same(cells: Any, path: Path, null: int) -> bool:
         for top in range(0, dataset.height, STRIP):
             rows = min(STRIP, dataset.height - top)
             found = dataset.read(1, window=Window(0, top, dataset.width, rows))
-            expected = cells[top:top + rows]
+            expected = cells[top : top + rows]
             if not np.array_equal(found, np.where(expected == NULL, null, expected)):
                 return False
     return True
@@ -148,7 +198,9 @@ def _same(cells: Any, path: Path, null: int) -> bool:
 def _sizes_of(cells: Any, areas: int) -> Any:
     sizes = np.zeros(areas + 1, dtype=np.int64)
     for top in range(0, len(cells), STRIP):
-        sizes += np.bincount(np.maximum(cells[top:top + STRIP], 0).reshape(-1), minlength=areas + 1)
+        sizes += np.bincount(
+            np.maximum(cells[top : top + STRIP], 0).reshape(-1), minlength=areas + 1
+        )
     return sizes[1:]
 
 
@@ -163,24 +215,33 @@ def answers_of_array(side: int, chunk: int, folder: Path, workers: int) -> list[
     with rcell.tiles.open(scheduler=workers, lc=array) as mosaic:
         found, figures = measured(mosaic, lambda: mosaic.table(TABLE))
         rows = [_row(["table", f"{seconds:.1f} s", _told(found.equals(expected), figures)])]
-        edges, total = (next(task for task in TASKS if task.grass == name) for name in ("edges", "total"))
-        for task, lazy in ((total, lambda: mosaic.grid(f"x = {SUM}")), (edges, lambda: mosaic.clump("lc"))):
+        edges, total = (
+            next(task for task in TASKS if task.grass == name) for name in ("edges", "total")
+        )
+        for task, lazy in (
+            (total, lambda: mosaic.grid(f"x = {SUM}")),
+            (edges, lambda: mosaic.clump("lc")),
+        ):
             rows += [_row(line) for line in _answer_of_array(task, lazy, mosaic, whole, folder)]
     return rows
 
 
-def _answer_of_array(task: Task, lazy: Callable[[], Any], mosaic: rcell.tiles.Mosaic, whole: rcell.Map, folder: Path) -> Iterator[list[str]]:
+def _answer_of_array(
+    task: Task, lazy: Callable[[], Any], mosaic: rcell.tiles.Mosaic, whole: rcell.Map, folder: Path
+) -> Iterator[list[str]]:
     cells, seconds, _ = undivided(whole, task.script)
     path = folder / "expected.npy"
     expected: Any = np.lib.format.open_memmap(path, "w+", np.int32, cells.shape)  # type: ignore[no-untyped-call]
     for top in range(0, len(cells), STRIP):
-        part = cells[top:top + STRIP]
-        expected[top:top + STRIP] = np.where(part == NULL, task.null, part)
+        part = cells[top : top + STRIP]
+        expected[top : top + STRIP] = np.where(part == NULL, task.null, part)
     differing, figures = measured(mosaic, lambda: _differing(mosaic, lazy().data, path))
     yield [task.name, f"{seconds:.1f} s", _told(differing == 0, figures)]
     if task.is_of_patches:
         patches, figures = measured(mosaic, lambda: mosaic.patches("lc"))
-        is_equal = np.array_equal(patches["cells"].to_numpy(np.int64), _sizes_of(cells, len(patches)))
+        is_equal = np.array_equal(
+            patches["cells"].to_numpy(np.int64), _sizes_of(cells, len(patches))
+        )
         yield [f"sizes of the {len(patches):,} {task.name}", "", _told(is_equal, figures)]
     path.unlink()
 
@@ -220,8 +281,14 @@ done
 
 def grass_maps(path: Path, folder: Path, asked: Collection[str] = ALL) -> None:
     """Make the same maps with GRASS, as GeoTIFF in the folder; `answers` compares them with the maps of tiles."""
-    subprocess.run(["grass", "--tmp-location", "XY", "--exec", "sh", "-c", GRASS], cwd=folder, check=True, stdout=subprocess.DEVNULL,
-                   stderr=subprocess.DEVNULL, env={**os.environ, "LC": str(path), "SUM": SUM, "ASKED": " ".join(asked)})
+    subprocess.run(
+        ["grass", "--tmp-location", "XY", "--exec", "sh", "-c", GRASS],
+        cwd=folder,
+        check=True,
+        stdout=subprocess.DEVNULL,
+        stderr=subprocess.DEVNULL,
+        env={**os.environ, "LC": str(path), "SUM": SUM, "ASKED": " ".join(asked)},
+    )
 
 
 def _strips(first: Path, second: Path) -> Iterator[tuple[Any, Any]]:
@@ -251,4 +318,6 @@ def _one_to_one(first: Path, second: Path, areas: int) -> bool:
             return False
         of[one.reshape(-1)] = other.reshape(-1)
     return len(np.unique(of)) == areas + 1 and all(
-        np.array_equal(of[np.where(one == NULL, 0, one)], other) for one, other in _strips(first, second))
+        np.array_equal(of[np.where(one == NULL, 0, one)], other)
+        for one, other in _strips(first, second)
+    )

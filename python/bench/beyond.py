@@ -48,9 +48,16 @@ class MadeMap(MapFile):
     def read(self, place: Rectangle, sheet: Sheet) -> ArrayMap:
         """The cells of a rectangle."""
         across = np.arange(place.left, place.left + place.cols) // WIDTH
-        rows = np.stack([(residue - across) % RESIDUES for residue in range(RESIDUES)]).astype(np.uint8)
+        rows = np.stack([(residue - across) % RESIDUES for residue in range(RESIDUES)]).astype(
+            np.uint8
+        )
         down = np.arange(place.top, place.top + place.rows) // HEIGHT
-        return ArrayMap(self.name, rows[down % RESIDUES], Region.of_cells(place.rows, place.cols), nodata_value=0)
+        return ArrayMap(
+            self.name,
+            rows[down % RESIDUES],
+            Region.of_cells(place.rows, place.cols),
+            nodata_value=0,
+        )
 
 
 def sides(cells: int, side: int) -> Integers:
@@ -69,13 +76,21 @@ class Known(NamedTuple):
         residues = range(RESIDUES)
         high = [int(self.heights[residue::RESIDUES].sum()) for residue in residues]
         wide = [int(self.widths[residue::RESIDUES].sum()) for residue in residues]
-        found = [sum(high[(residue + other) % RESIDUES] * wide[other] for other in residues) for residue in residues]
+        found = [
+            sum(high[(residue + other) % RESIDUES] * wide[other] for other in residues)
+            for residue in residues
+        ]
         return [[residue, found[residue]] for residue in residues[1:]] + [[None, found[0]]]
 
     def edges(self) -> Integers:
         """The category and the cells of each block that is not null, row by row."""
-        residues = np.subtract.outer(np.arange(len(self.heights)), np.arange(len(self.widths))).ravel() % RESIDUES
-        found: Integers = np.stack([residues, np.multiply.outer(self.heights, self.widths).ravel()], axis=1)
+        residues = (
+            np.subtract.outer(np.arange(len(self.heights)), np.arange(len(self.widths))).ravel()
+            % RESIDUES
+        )
+        found: Integers = np.stack(
+            [residues, np.multiply.outer(self.heights, self.widths).ravel()], axis=1
+        )
         return found[residues > 0]
 
     def corners(self) -> Integers:
@@ -85,7 +100,12 @@ class Known(NamedTuple):
         for row, col in [(0, col) for col in range(right)] + [(row, 0) for row in range(1, down)]:
             count = min(down - row, right - col)
             if (row - col) % RESIDUES:
-                found.append(((row - col) % RESIDUES, int(self.heights[row : row + count] @ self.widths[col : col + count])))
+                found.append(
+                    (
+                        (row - col) % RESIDUES,
+                        int(self.heights[row : row + count] @ self.widths[col : col + count]),
+                    )
+                )
         return np.array(found)
 
 
@@ -104,16 +124,24 @@ TASKS: dict[str, tuple[str, Callable[[Mosaic], Any]]] = {
 def is_as_known(task: str, answer: Any, known: Known) -> bool:
     """Whether a result has just the numbers that are known."""
     if task == "table":
-        found = [[None if missing else int(category), int(cells)]
-                 for category, missing, cells in zip(answer["made"], answer["made"].isna(), answer["cells"])]
+        found = [
+            [None if missing else int(category), int(cells)]
+            for category, missing, cells in zip(
+                answer["made"], answer["made"].isna(), answer["cells"]
+            )
+        ]
         return found == known.table()
     expected = known.corners() if task == "corners" else known.edges()
-    is_numbered = np.array_equal(answer["patch"].to_numpy(np.int64), np.arange(1, len(expected) + 1))
+    is_numbered = np.array_equal(
+        answer["patch"].to_numpy(np.int64), np.arange(1, len(expected) + 1)
+    )
     return is_numbered and np.array_equal(answer[["class", "cells"]].to_numpy(np.int64), expected)
 
 
 def main() -> None:
-    parser = argparse.ArgumentParser(description=__doc__, formatter_class=argparse.RawDescriptionHelpFormatter)
+    parser = argparse.ArgumentParser(
+        description=__doc__, formatter_class=argparse.RawDescriptionHelpFormatter
+    )
     parser.add_argument("--rows", type=int, default=62_000)
     parser.add_argument("--cols", type=int, default=65_000)
     parser.add_argument("--size", type=int, default=4096)
@@ -126,20 +154,32 @@ def main() -> None:
     sheet = Sheet(given.rows, given.cols, (25.0, 0.0, 0.0, 0.0, -25.0, 25.0 * given.rows))
     made = MadeMap("made", "", Layer(1, "uint8", 0, False, None), False)
     cells = given.rows * given.cols
-    rows = [f"{given.rows:,} x {given.cols:,} cells, {cells / (CELL_LIMIT + 1):.2f} times what one run takes, {given.workers} workers, tiles of "
-            f"{given.size:,}. {load()}.", "", "| Task | Answer | Seconds | a cell | A worker at its peak |", "|---|---|---|---|---|"]
+    rows = [
+        f"{given.rows:,} x {given.cols:,} cells, {cells / (CELL_LIMIT + 1):.2f} times what one run takes, {given.workers} workers, tiles of "
+        f"{given.size:,}. {load()}.",
+        "",
+        "| Task | Answer | Seconds | a cell | A worker at its peak |",
+        "|---|---|---|---|---|",
+    ]
     wrong = 0
     for task in given.task or ["table", "corners"]:
         title, work = TASKS[task]
-        with Mosaic(Maps(sheet, {made.name: made}, {}, {}), (given.size, given.size), Engine(given.workers)) as mosaic:
+        with Mosaic(
+            Maps(sheet, {made.name: made}, {}, {}), (given.size, given.size), Engine(given.workers)
+        ) as mosaic:
             answer, figures = measured(mosaic, lambda: work(mosaic))
         is_right = is_as_known(task, answer, known)
         wrong += not is_right
         told = f"{len(answer):,} lines, {'all as known' if is_right else '**not as known**'}"
-        rows.append(f"| {title} | {told} | {figures.processor:.0f} s | {figures.processor / cells * 1e9:.0f} ns | {figures.both / MILLION:.0f} MB |")
+        rows.append(
+            f"| {title} | {told} | {figures.processor:.0f} s | {figures.processor / cells * 1e9:.0f} ns | {figures.both / MILLION:.0f} MB |"
+        )
         print(f"{rows[-1]} {figures.clock:.0f} s by the clock", flush=True)
     own = resource.getrusage(resource.RUSAGE_SELF).ru_maxrss * 1024 / MILLION
-    rows += ["", f"The process that asks and joins took {own:.0f} MB at most; nothing was written to a disk."]
+    rows += [
+        "",
+        f"The process that asks and joins took {own:.0f} MB at most; nothing was written to a disk.",
+    ]
     print("\n".join(rows))
     if given.write:
         put("Tiles: beyond", "\n".join(rows) + "\n")

@@ -15,7 +15,20 @@ from rasterio.windows import Window
 
 from rcell._geotiff import profile_of
 
-__all__ = ["STRIP", "TRANSFORM", "checkerboard", "comb", "geotiff", "land_and_zones", "land_cover", "land_cover_array", "noise", "runs_of", "spiral", "write"]
+__all__ = [
+    "STRIP",
+    "TRANSFORM",
+    "checkerboard",
+    "comb",
+    "geotiff",
+    "land_and_zones",
+    "land_cover",
+    "land_cover_array",
+    "noise",
+    "runs_of",
+    "spiral",
+    "write",
+]
 
 CLASSES = 12
 
@@ -36,7 +49,9 @@ def land_cover(path: Path, side: int) -> None:
     with _writing(path, side) as dataset:
         for top in range(0, side, STRIP):
             rows = np.arange(top, min(top + STRIP, side))
-            dataset.write(_land_cover(rows, np.arange(side)), 1, window=Window(0, top, side, len(rows)))
+            dataset.write(
+                _land_cover(rows, np.arange(side)), 1, window=Window(0, top, side, len(rows))
+            )
 
 
 def land_cover_array(side: int, chunk: int) -> Any:
@@ -47,14 +62,27 @@ def land_cover_array(side: int, chunk: int) -> Any:
 
     cloudpickle.register_pickle_by_value(sys.modules[__name__])  # workers do not have this module
     along = dask.array.arange(side, chunks=chunk)
-    cells = dask.array.map_blocks(lambda *place: _land_cover(*place), along[:, None], along[None, :], dtype=np.uint8, meta=np.empty((0, 0), np.uint8))
+    cells = dask.array.map_blocks(
+        lambda *place: _land_cover(*place),
+        along[:, None],
+        along[None, :],
+        dtype=np.uint8,
+        meta=np.empty((0, 0), np.uint8),
+    )
     centres = 25 * (np.arange(side) + 0.5)
-    return xarray.DataArray(cells, {"y": centres[::-1], "x": centres}, ("y", "x"), "lc", {"_FillValue": 0})
+    return xarray.DataArray(
+        cells, {"y": centres[::-1], "x": centres}, ("y", "x"), "lc", {"_FillValue": 0}
+    )
 
 
 def _land_cover(rows: npt.NDArray[Any], cols: npt.NDArray[Any]) -> Cells:
-    (down, low), (right, far) = (np.unique(along.reshape(-1) // FINEST, return_inverse=True) for along in (rows, cols))
-    total = sum(weight * _field(down, right, scale) for weight, scale in zip((0.5, 1, 1, 1), (4, 16, 64, 256)))
+    (down, low), (right, far) = (
+        np.unique(along.reshape(-1) // FINEST, return_inverse=True) for along in (rows, cols)
+    )
+    total = sum(
+        weight * _field(down, right, scale)
+        for weight, scale in zip((0.5, 1, 1, 1), (4, 16, 64, 256))
+    )
     blocks = (np.asarray(total) / 3.5 * CLASSES * 1.6 % CLASSES + 1).astype(np.uint8)
     blocks[_field(down, right, 32) < 0.05] = 0
     return blocks[low][:, far]
@@ -75,7 +103,11 @@ def noise(path: Path, side: int) -> None:
     with _writing(path, side) as dataset:
         for top in range(0, side, STRIP):
             rows = min(STRIP, side - top)
-            dataset.write(random.integers(1, 200, (rows, side), dtype=np.uint8), 1, window=Window(0, top, side, rows))
+            dataset.write(
+                random.integers(1, 200, (rows, side), dtype=np.uint8),
+                1,
+                window=Window(0, top, side, rows),
+            )
 
 
 def comb(side: int) -> Cells:
@@ -109,7 +141,9 @@ def write(path: Path, cells: Cells) -> None:
         dataset.write(cells, 1)
 
 
-def patchy(rows: int, cols: int, kinds: int, side: int, ragged: int, random: np.random.Generator) -> Any:
+def patchy(
+    rows: int, cols: int, kinds: int, side: int, ragged: int, random: np.random.Generator
+) -> Any:
     """Patches of about `side` cells with ragged edges."""
     kind = random.integers(0, kinds, (rows // side + 2, cols // side + 2))
     row = np.arange(rows)[:, None] + random.integers(0, ragged, (rows, cols))
@@ -126,17 +160,40 @@ def land_and_zones(folder: str, side: int) -> tuple[str, str]:
     return geotiff(f"{folder}/lc.tif", land, 0), geotiff(f"{folder}/zones.tif", zones, -1)
 
 
-def geotiff(path: str, cells: Any, nodata: int, transform: tuple[float, ...] = TRANSFORM, crs: str = "EPSG:32632") -> str:
+def geotiff(
+    path: str,
+    cells: Any,
+    nodata: int,
+    transform: tuple[float, ...] = TRANSFORM,
+    crs: str = "EPSG:32632",
+) -> str:
     """The path of a GeoTIFF that is written."""
-    with rasterio.open(path, "w", **profile_of(len(cells), cells.shape[1], transform, crs, cells.dtype.name, nodata)) as dataset:
+    with rasterio.open(
+        path,
+        "w",
+        **profile_of(len(cells), cells.shape[1], transform, crs, cells.dtype.name, nodata),
+    ) as dataset:
         dataset.write(cells, 1)
     return path
 
 
 @contextmanager
 def _writing(path: Path, side: int) -> Iterator[Any]:
-    with rasterio.open(path, "w", driver="GTiff", count=1, dtype="uint8", nodata=0, width=side, height=side, tiled=True, blockxsize=256,
-                       blockysize=256, compress="deflate", transform=rasterio.Affine(25, 0, 0, 0, -25, 25 * side)) as dataset:
+    with rasterio.open(
+        path,
+        "w",
+        driver="GTiff",
+        count=1,
+        dtype="uint8",
+        nodata=0,
+        width=side,
+        height=side,
+        tiled=True,
+        blockxsize=256,
+        blockysize=256,
+        compress="deflate",
+        transform=rasterio.Affine(25, 0, 0, 0, -25, 25 * side),
+    ) as dataset:
         yield dataset
 
 

@@ -20,6 +20,8 @@ def put(name: str, text: str) -> None:
 
 def load() -> str:
     """What is said of the machine next to figures: its processors, and how many processes wanted one meanwhile."""
-    processors = sum(line.startswith("processor") for line in Path("/proc/cpuinfo").read_text().splitlines())
+    processors = sum(
+        line.startswith("processor") for line in Path("/proc/cpuinfo").read_text().splitlines()
+    )
     waiting = float(Path("/proc/loadavg").read_text().split()[1])
     return f"{processors} processors, a load of {waiting:.0f} in the last five minutes"

@@ -30,7 +30,12 @@ from page import load, put
 
 HERE = pathlib.Path(__file__).resolve().parent
 ROOT = HERE.parents[1]
-HEADS = {"rcell": "rcell", "numpy": "rasterio, numpy, scikit-image", "terra": "terra", "grass": "GRASS, maps in GRASS"}
+HEADS = {
+    "rcell": "rcell",
+    "numpy": "rasterio, numpy, scikit-image",
+    "terra": "terra",
+    "grass": "GRASS, maps in GRASS",
+}
 TURNS = 20
 READING, COUNTING = 1.2, 1.5
 """What a table may take of reading and of counting alone."""
@@ -40,7 +45,13 @@ class Contender:
     """A process that does tasks, and the fewest seconds of each."""
 
     def __init__(self, words: list[str], **environment: str) -> None:
-        self._process = subprocess.Popen(words, stdin=subprocess.PIPE, stdout=subprocess.PIPE, text=True, env={**os.environ, **environment})
+        self._process = subprocess.Popen(
+            words,
+            stdin=subprocess.PIPE,
+            stdout=subprocess.PIPE,
+            text=True,
+            env={**os.environ, **environment},
+        )
         self.seconds: dict[str, float] = {}
         self.sums: dict[str, str] = {}
 
@@ -72,17 +83,25 @@ def make_maps(folder: str, side: int) -> None:
 
 def contenders(folder: str) -> dict[str, Contender]:
     """All that are installed, by their names."""
-    found = {"rcell": of_package(folder), "numpy": Contender(["/usr/bin/python3", str(HERE / "ten.py"), "numpy", folder])}
+    found = {
+        "rcell": of_package(folder),
+        "numpy": Contender(["/usr/bin/python3", str(HERE / "ten.py"), "numpy", folder]),
+    }
     if shutil.which("Rscript"):
         found["terra"] = Contender(["Rscript", str(HERE / "ten.R"), folder])
     if shutil.which("grass"):
-        found["grass"] = Contender(["grass", "--tmp-location", "XY", "--exec", "bash", str(HERE / "ten.sh"), folder])
+        found["grass"] = Contender(
+            ["grass", "--tmp-location", "XY", "--exec", "bash", str(HERE / "ten.sh"), folder]
+        )
     return found
 
 
 def of_package(folder: str) -> Contender:
     """The package of this commit."""
-    return Contender(["/usr/bin/python3", str(HERE / "ten.py"), "rcell", folder], PYTHONPATH=str(ROOT / "python" / "src"))
+    return Contender(
+        ["/usr/bin/python3", str(HERE / "ten.py"), "rcell", folder],
+        PYTHONPATH=str(ROOT / "python" / "src"),
+    )
 
 
 def measured(folder: str, rounds: int) -> dict[str, Contender]:
@@ -95,7 +114,9 @@ def measured(folder: str, rounds: int) -> dict[str, Contender]:
     for contender in found.values():
         contender.close()
     for task in ten.NAMES:
-        if task != "align" and found["numpy"].sums[task] != found["rcell"].sums[task]:  # rasterio reads null as 0
+        if (
+            task != "align" and found["numpy"].sums[task] != found["rcell"].sums[task]
+        ):  # rasterio reads null as 0
             raise SystemExit(f"{task}: not the same results")
     return found
 
@@ -114,7 +135,18 @@ def used(words: list[str]) -> float:
 def taken_apart(folder: str) -> tuple[float, float, float]:
     """Seconds of reading a GeoTIFF with rasterio, of counting its cells in C++ (of a text, less the reading of that) and of its table, by turns."""
     yardstick, text = f"{folder}/yardstick", f"{folder}/lc.txt"
-    subprocess.run(["g++", "-std=c++20", "-O3", "-march=native", "-o", yardstick, str(ROOT / "bench" / "yardstick.cpp")], check=True)
+    subprocess.run(
+        [
+            "g++",
+            "-std=c++20",
+            "-O3",
+            "-march=native",
+            "-o",
+            yardstick,
+            str(ROOT / "bench" / "yardstick.cpp"),
+        ],
+        check=True,
+    )
     package = of_package(folder)
     reads, wholes, parts = [], [], []
     for _ in range(TURNS):
@@ -148,7 +180,10 @@ def section(folder: str, settings: argparse.Namespace) -> str:
     def ns(seconds: float) -> str:
         return "" if seconds == float("inf") else f"{seconds / cells * 1e9:.1f}"
 
-    rows = [f"| {task} | {' | '.join(ns(one.seconds[task]) for one in found.values())} |" for task in ten.NAMES]
+    rows = [
+        f"| {task} | {' | '.join(ns(one.seconds[task]) for one in found.values())} |"
+        for task in ten.NAMES
+    ]
     read, count, table = taken_apart(folder)
     return f"""Measured on {load()}.
 
@@ -171,7 +206,9 @@ A call takes {call(folder) * 1e3:.1f} ms whatever its map.
 
 
 def main() -> None:
-    words = argparse.ArgumentParser(description=__doc__, formatter_class=argparse.RawDescriptionHelpFormatter)
+    words = argparse.ArgumentParser(
+        description=__doc__, formatter_class=argparse.RawDescriptionHelpFormatter
+    )
     words.add_argument("--side", type=int, default=2000)
     words.add_argument("--rounds", type=int, default=3)
     words.add_argument("--show", action="store_true")

@@ -26,7 +26,18 @@ SHIFT = (300, 200)
 RULES = "11 12 = 1\n21 thru 24 = 2\n31 = 3\n41 thru 43 = 4\n* = 5\n"
 NINE = ", ".join(f"lc[{row},{col}]" for row in (-1, 0, 1) for col in (-1, 0, 1))
 TABLE = "r.stats -c input=lc"
-NAMES = ["table", "cross table", "masked table", "map in and out", "expression", "patches", "sizes of patches", "reclass", "majority of nine", "align"]
+NAMES = [
+    "table",
+    "cross table",
+    "masked table",
+    "map in and out",
+    "expression",
+    "patches",
+    "sizes of patches",
+    "reclass",
+    "majority of nine",
+    "align",
+]
 Tasks = dict[str, Callable[[], Any]]
 
 
@@ -51,9 +62,13 @@ def by_rcell(lc: str, zones: str, other: str) -> Tasks:
         "cross table": lambda: rcell.table("r.stats -c input=lc,zones", lc=lc, zones=zones),
         "masked table": lambda: rcell.table(TABLE, lc=masked),
         "map in and out": lambda: rcell.grid("", "lc", lc=plain).array,
-        "expression": lambda: rcell.grid("r.mapcalc x = if(lc > 40 && lc < 50, zones, 0)", "x", lc=lc, zones=zones).array,
+        "expression": lambda: rcell.grid(
+            "r.mapcalc x = if(lc > 40 && lc < 50, zones, 0)", "x", lc=lc, zones=zones
+        ).array,
         "patches": lambda: rcell.grid("r.clump input=lc output=x", "x", lc=lc).array,
-        "sizes of patches": lambda: rcell.table("r.clump input=lc output=x\nr.stats -c -n input=x", lc=lc),
+        "sizes of patches": lambda: rcell.table(
+            "r.clump input=lc output=x\nr.stats -c -n input=x", lc=lc
+        ),
         "reclass": lambda: rcell.grid(f"r.reclass input=lc output=x\n{RULES}end", "x", lc=lc).array,
         "majority of nine": lambda: rcell.grid(f"r.mapcalc x = nmode({NINE})", "x", lc=lc).array,
         "align": lambda: rcell.align(lc, to=other).array,
@@ -112,21 +127,29 @@ def majority(lc: Any) -> Any:
 
 def window(path: str) -> Any:
     with rasterio.open(path) as dataset:
-        return dataset.read(1, window=Window(SHIFT[1], SHIFT[0], dataset.width - SHIFT[1], dataset.height - SHIFT[0]))
+        return dataset.read(
+            1,
+            window=Window(SHIFT[1], SHIFT[0], dataset.width - SHIFT[1], dataset.height - SHIFT[0]),
+        )
 
 
 def sum_of(task: str, result: Any) -> int:
     """A sum of the counts of a table, or of the cells of a map."""
     if hasattr(result, "columns"):
         result = result["cells"].to_numpy()
-    filled = np.asarray(result.filled(NULL) if hasattr(result, "filled") else result).astype(np.int64)
+    filled = np.asarray(result.filled(NULL) if hasattr(result, "filled") else result).astype(
+        np.int64
+    )
     if task == "patches":  # of which scikit-image gives null the number 0
         filled[filled == NULL] = 0
     return zlib.crc32((np.sort(filled) if filled.ndim == 1 else filled).tobytes())
 
 
 def used() -> float:
-    return sum(part.ru_utime + part.ru_stime for part in map(resource.getrusage, (resource.RUSAGE_SELF, resource.RUSAGE_CHILDREN)))
+    return sum(
+        part.ru_utime + part.ru_stime
+        for part in map(resource.getrusage, (resource.RUSAGE_SELF, resource.RUSAGE_CHILDREN))
+    )
 
 
 def main() -> None:

@@ -60,12 +60,18 @@ class Watch(threading.Thread):
         looks = 0
         while not self._done.wait(0.004):
             if self._parent and looks % 64 == 0:
-                self.each.update((child, 0) for child in _below(self._parent) if child not in self.each and _is_worker(child))
+                self.each.update(
+                    (child, 0)
+                    for child in _below(self._parent)
+                    if child not in self.each and _is_worker(child)
+                )
             looks += 1
             for process, greatest in self.each.items():
                 own = _resident(process)
                 self.alone = max(self.alone, own)
-                self.each[process] = max(greatest, own + sum(_resident(child) for child in _children(process)))
+                self.each[process] = max(
+                    greatest, own + sum(_resident(child) for child in _children(process))
+                )
 
 
 def _resident(process: int) -> int:
@@ -78,7 +84,11 @@ def _resident(process: int) -> int:
 def _below(process: int) -> list[int]:
     try:
         threads = os.listdir(f"/proc/{process}/task")
-        return [int(child) for thread in threads for child in Path(f"/proc/{process}/task/{thread}/children").read_text().split()]
+        return [
+            int(child)
+            for thread in threads
+            for child in Path(f"/proc/{process}/task/{thread}/children").read_text().split()
+        ]
     except OSError:
         return []
 
@@ -86,7 +96,11 @@ def _below(process: int) -> list[int]:
 def _children(process: int) -> list[int]:
     try:
         # A child that has not yet become another program still shares its parent's memory.
-        return [child for child in _below(process) if os.readlink(f"/proc/{child}/exe") != os.readlink(f"/proc/{process}/exe")]
+        return [
+            child
+            for child in _below(process)
+            if os.readlink(f"/proc/{child}/exe") != os.readlink(f"/proc/{process}/exe")
+        ]
     except OSError:
         return []
 
@@ -101,7 +115,9 @@ def _is_worker(process: int) -> bool:
 
 def processor() -> float:
     """Seconds of the processors that this process and its children have taken."""
-    own, below = resource.getrusage(resource.RUSAGE_SELF), resource.getrusage(resource.RUSAGE_CHILDREN)
+    own, below = resource.getrusage(resource.RUSAGE_SELF), resource.getrusage(
+        resource.RUSAGE_CHILDREN
+    )
     return own.ru_utime + own.ru_stime + below.ru_utime + below.ru_stime
 
 
@@ -112,7 +128,10 @@ def _of_workers(client: Any) -> dict[str, float]:
     def seconds() -> float:
         from resource import RUSAGE_CHILDREN, RUSAGE_SELF, getrusage
 
-        return sum(part.ru_utime + part.ru_stime for part in (getrusage(RUSAGE_SELF), getrusage(RUSAGE_CHILDREN)))
+        return sum(
+            part.ru_utime + part.ru_stime
+            for part in (getrusage(RUSAGE_SELF), getrusage(RUSAGE_CHILDREN))
+        )
 
     found: dict[str, float] = client.run(seconds, on_error="ignore")
     return found
@@ -129,4 +148,6 @@ def measured(mosaic: Mosaic, work: Callable[[], Any]) -> tuple[Any, Figures]:
         answer = work()
     clock = time.monotonic() - start
     seconds = sum(entry - before.get(worker, 0) for worker, entry in _of_workers(client).items())
-    return answer, Figures(clock, seconds + time.process_time() - own, watch.alone, watch.both, watch.each)
+    return answer, Figures(
+        clock, seconds + time.process_time() - own, watch.alone, watch.both, watch.each
+    )

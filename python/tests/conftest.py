@@ -18,10 +18,23 @@ def raster(tmp_path: pathlib.Path) -> Callable[..., str]:
     rasterio = pytest.importorskip("rasterio")
     affine = pytest.importorskip("affine")
 
-    def write(array: Any, name: str = "map.tif", transform: Any = TRANSFORM, edit: Any = None, **profile: Any) -> str:
+    def write(
+        array: Any,
+        name: str = "map.tif",
+        transform: Any = TRANSFORM,
+        edit: Any = None,
+        **profile: Any,
+    ) -> str:
         layers = array if array.ndim == 3 else array[None]
         path = str(tmp_path / name)
-        words = {"driver": "GTiff", "height": layers.shape[1], "width": layers.shape[2], "count": layers.shape[0], "dtype": layers.dtype, "crs": "EPSG:32632"}
+        words = {
+            "driver": "GTiff",
+            "height": layers.shape[1],
+            "width": layers.shape[2],
+            "count": layers.shape[0],
+            "dtype": layers.dtype,
+            "crs": "EPSG:32632",
+        }
         if transform is not None:
             words["transform"] = affine.Affine(*transform)
         with rasterio.open(path, "w", **{**words, **profile}) as dataset:

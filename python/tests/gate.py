@@ -64,7 +64,9 @@ def main() -> int:
     counts = by_pytest(sys.argv[1:]) if sys.argv[1:] else by_unittest()
     for told in counts.skipped:
         print(f"skipped  python: {told}")
-    print(f"{counts.passed} passed, {counts.failed} failed, {len(counts.skipped)} skipped", flush=True)
+    print(
+        f"{counts.passed} passed, {counts.failed} failed, {len(counts.skipped)} skipped", flush=True
+    )
     return 1 if counts.failed else 0
 
 

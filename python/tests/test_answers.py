@@ -34,7 +34,13 @@ def land(**words: Any) -> rcell.Map:
 def test_a_frame_has_the_columns_asked_for() -> None:
     frame = rcell.table("r.stats -c -l input=lc", lc=land(), area="ha", percent=True)
     assert list(frame.columns) == ["lc", "lc_label", "cells", "area_ha", "percent"]
-    assert [str(kind) for kind in frame.dtypes] == ["Int64", "string", "int64", "float64", "float64"]
+    assert [str(kind) for kind in frame.dtypes] == [
+        "Int64",
+        "string",
+        "int64",
+        "float64",
+        "float64",
+    ]
     assert frame["lc"].isna().tolist() == [False, False, False, True]
     assert frame["lc_label"].tolist()[:3] == list(NAMES.values())
     assert frame["area_ha"].tolist() == [5 * 0.0625, 4 * 0.0625, 2 * 0.0625, 0.0625]
@@ -43,10 +49,20 @@ def test_a_frame_has_the_columns_asked_for() -> None:
 
 
 def test_units_of_area() -> None:
-    assert rcell.table("r.stats -cn input=lc", lc=land(), area="m2")["area_m2"].tolist() == [3125, 2500, 1250]
-    assert rcell.table("r.stats -cn input=lc", lc=land(), area="km2")["area_km2"].tolist() == [0.003125, 0.0025, 0.00125]
+    assert rcell.table("r.stats -cn input=lc", lc=land(), area="m2")["area_m2"].tolist() == [
+        3125,
+        2500,
+        1250,
+    ]
+    assert rcell.table("r.stats -cn input=lc", lc=land(), area="km2")["area_km2"].tolist() == [
+        0.003125,
+        0.0025,
+        0.00125,
+    ]
     feet = rcell.Map(LAND, (10, 0, 0, 0, -10, 30), "EPSG:2263")
-    assert rcell.table("r.stats -c input=lc", lc=feet, area="m2")["area_m2"][0] == pytest.approx((10 * 1200 / 3937) ** 2)
+    assert rcell.table("r.stats -c input=lc", lc=feet, area="m2")["area_m2"][0] == pytest.approx(
+        (10 * 1200 / 3937) ** 2
+    )
     for crs in ("EPSG:4326", rasterio.CRS.from_epsg(4326), rasterio.CRS.from_epsg(4326).to_wkt()):
         with pytest.raises(rcell.Refused, match="rcell.composition and rcell.cross weigh the rows"):
             rcell.table("r.stats -c input=lc", lc=rcell.Map(LAND, crs=crs), area="ha")
@@ -56,10 +72,23 @@ def test_a_matrix() -> None:
     zone = rcell.Map([[7, 7, 8, 8], [7, 7, 8, 8], [0, 7, 8, 8]], TRANSFORM, "EPSG:32632", nodata=0)
     frame = rcell.table("r.stats -c -l input=zone,lc", zone=zone, lc=land(), pivot=True)
     assert (frame.index.name, frame.columns.name) == ("zone", "lc")
-    assert frame.index.tolist() == [7, 8, "null"] and frame.columns.tolist() == [*NAMES.values(), "null"]
+    assert frame.index.tolist() == [7, 8, "null"] and frame.columns.tolist() == [
+        *NAMES.values(),
+        "null",
+    ]
     assert frame.to_numpy().tolist() == [[3, 1, 1, 0], [2, 3, 0, 1], [0, 0, 1, 0]]
-    assert rcell.table("r.stats -cn input=zone,lc", zone=zone, lc=land(), pivot=True, area="ha").loc[8, 2] == 0.1875
-    assert rcell.table("r.stats -cn input=zone,lc", zone=zone, lc=land(), pivot=True, area="ha", percent=True).loc[7, 1] == 30
+    assert (
+        rcell.table("r.stats -cn input=zone,lc", zone=zone, lc=land(), pivot=True, area="ha").loc[
+            8, 2
+        ]
+        == 0.1875
+    )
+    assert (
+        rcell.table(
+            "r.stats -cn input=zone,lc", zone=zone, lc=land(), pivot=True, area="ha", percent=True
+        ).loc[7, 1]
+        == 30
+    )
 
 
 def test_labels_of_rules_and_of_maps() -> None:
@@ -71,11 +100,21 @@ def test_labels_of_rules_and_of_maps() -> None:
 
 def test_tables_are_shown() -> None:
     table = rcell.run("r.stats -cl input=lc", lc=land()).tables[0]
-    assert "broad leaved, wood" in table._repr_html_() and len(table) == 4 and list(table) == table.rows
-    assert str(table).splitlines()[:2] == ["lc            lc_label  cells", " 1  broad leaved, wood      5"]
+    assert (
+        "broad leaved, wood" in table._repr_html_()
+        and len(table) == 4
+        and list(table) == table.rows
+    )
+    assert str(table).splitlines()[:2] == [
+        "lc            lc_label  cells",
+        " 1  broad leaved, wood      5",
+    ]
     many = rcell.run("r.stats -c input=lc", lc=np.arange(64).reshape(8, 8)).tables[0]
     assert str(many).endswith("(64 rows)")
-    assert str(rcell.run("r.stats -cn input=lc", lc=rcell.Map([[0]], nodata=0)).tables[0]) == "lc  cells"
+    assert (
+        str(rcell.run("r.stats -cn input=lc", lc=rcell.Map([[0]], nodata=0)).tables[0])
+        == "lc  cells"
+    )
 
 
 def test_without_xarray_and_matplotlib() -> None:
@@ -87,9 +126,18 @@ def test_without_xarray_and_matplotlib() -> None:
         "for call in (lambda: rcell.tiles, rcell.grid('', 'lc', lc=lc).xarray, rcell.grid('', 'lc', lc=lc).plot):\n"
         "    try: call()\n    except rcell.MissingLibrary as e: print(e.library)\n"
     )
-    ran = subprocess.run([sys.executable, "-c", code], capture_output=True, text=True, env={**os.environ, "PYTHONPATH": ":".join(sys.path)})
+    ran = subprocess.run(
+        [sys.executable, "-c", code],
+        capture_output=True,
+        text=True,
+        env={**os.environ, "PYTHONPATH": ":".join(sys.path)},
+    )
     assert ran.stdout.splitlines() == [
-        "False", "<p><b>lc</b>: 1 rows, 2 columns, 2 categories</p>", "distributed", "xarray", "matplotlib",
+        "False",
+        "<p><b>lc</b>: 1 rows, 2 columns, 2 categories</p>",
+        "distributed",
+        "xarray",
+        "matplotlib",
     ], ran.stderr
 
 
@@ -105,28 +153,52 @@ def test_a_geotiff_has_all_that_the_map_has(tmp_path: pathlib.Path) -> None:
         assert dataset.read(1, masked=True).tolist() == grid.array.tolist()
     assert _labels.read_labels(path, 1) == NAMES
     again = rcell.grid("", "lc", lc=path)
-    assert (again.array.tolist(), again.labels, again.transform) == (grid.array.tolist(), NAMES, TRANSFORM)
+    assert (again.array.tolist(), again.labels, again.transform) == (
+        grid.array.tolist(),
+        NAMES,
+        TRANSFORM,
+    )
     assert sorted(os.listdir(tmp_path)) == ["lc.tif", "lc.tif.aux.xml"]
     rcell.grid("r.mapcalc x = lc", "x", lc=land()).write(path)
     assert os.listdir(tmp_path) == ["lc.tif"], "the labels of the old file are gone"
 
 
-@pytest.mark.parametrize(("values", "dtype", "nodata"), [([0, 254], "uint8", 255), ([0, 255], "int16", -32768), ([-1, 5], "int16", -32768), ([0, 40_000], "int32", -(2**31))])
-def test_the_smallest_type(tmp_path: pathlib.Path, values: list[int], dtype: str, nodata: int) -> None:
-    path = rcell.grid("", "x", x=np.ma.MaskedArray([*values, 1], mask=[0, 0, 1]).reshape(1, 3)).write(tmp_path / "x.tif")
+@pytest.mark.parametrize(
+    ("values", "dtype", "nodata"),
+    [
+        ([0, 254], "uint8", 255),
+        ([0, 255], "int16", -32768),
+        ([-1, 5], "int16", -32768),
+        ([0, 40_000], "int32", -(2**31)),
+    ],
+)
+def test_the_smallest_type(
+    tmp_path: pathlib.Path, values: list[int], dtype: str, nodata: int
+) -> None:
+    path = rcell.grid(
+        "", "x", x=np.ma.MaskedArray([*values, 1], mask=[0, 0, 1]).reshape(1, 3)
+    ).write(tmp_path / "x.tif")
     with rasterio.open(path) as dataset:
-        assert (dataset.dtypes[0], dataset.nodata, dataset.read(1).tolist()) == (dtype, nodata, [[*values, nodata]])
+        assert (dataset.dtypes[0], dataset.nodata, dataset.read(1).tolist()) == (
+            dtype,
+            nodata,
+            [[*values, nodata]],
+        )
 
 
 def test_a_large_geotiff_is_tiled(tmp_path: pathlib.Path) -> None:
-    path = rcell.grid("", "x", x=rcell.Map(np.zeros((300, 400), int), nodata=0)).write(tmp_path / "x.tiff")
+    path = rcell.grid("", "x", x=rcell.Map(np.zeros((300, 400), int), nodata=0)).write(
+        tmp_path / "x.tiff"
+    )
     with rasterio.open(path) as dataset:
         assert dataset.profile["tiled"] and dataset.read_masks(1).max() == 0
 
 
 @pytest.mark.parametrize("with_gdal", [True, False])
 @pytest.mark.parametrize("labels", [NAMES, {-5: "below", 100_000: "far", 3: "ä & <b>"}])
-def test_labels_with_and_without_gdal(raster: Write, monkeypatch: pytest.MonkeyPatch, labels: dict[int, str], with_gdal: bool) -> None:
+def test_labels_with_and_without_gdal(
+    raster: Write, monkeypatch: pytest.MonkeyPatch, labels: dict[int, str], with_gdal: bool
+) -> None:
     if not with_gdal:
         monkeypatch.setattr(_labels, "has", lambda library: False)
     path = raster(LAND)
@@ -151,7 +223,9 @@ def test_no_half_written_geotiff(tmp_path: pathlib.Path, monkeypatch: pytest.Mon
     with pytest.raises(rcell.Refused, match="written as .tif, .tiff or .txt"):
         grid.write(tmp_path / "lc.jpg")
     (tmp_path / "old.tif").write_text("old")
-    monkeypatch.setattr(os, "fsync", lambda *_: (_ for _ in ()).throw(OSError(28, "No space left on device")))
+    monkeypatch.setattr(
+        os, "fsync", lambda *_: (_ for _ in ()).throw(OSError(28, "No space left on device"))
+    )
     with pytest.raises(rcell.WriteFailed, match="No space left"):
         grid.write(tmp_path / "old.tif")
     assert os.listdir(tmp_path) == ["old.tif"] and (tmp_path / "old.tif").read_text() == "old"
@@ -163,13 +237,22 @@ def test_a_full_disk(tmp_path: pathlib.Path) -> None:
         "g = rcell.grid('', 'x', x=np.random.default_rng(1).integers(0, 250, (300, 300)))\nresource.setrlimit(resource.RLIMIT_FSIZE, (1000, 1000))\n"
         "try: g.write(sys.argv[1])\nexcept rcell.WriteFailed as e: print(e)"
     )
-    ran = subprocess.run([sys.executable, "-c", code, str(tmp_path / "x.tif")], capture_output=True, text=True, env={**os.environ, "PYTHONPATH": ":".join(sys.path)})
+    ran = subprocess.run(
+        [sys.executable, "-c", code, str(tmp_path / "x.tif")],
+        capture_output=True,
+        text=True,
+        env={**os.environ, "PYTHONPATH": ":".join(sys.path)},
+    )
     assert ran.stdout.endswith("x.tif cannot be written: File too large\n"), ran.stderr
     assert os.listdir(tmp_path) == []
 
 
-def test_an_interrupted_write_leaves_nothing(tmp_path: pathlib.Path, monkeypatch: pytest.MonkeyPatch) -> None:
-    monkeypatch.setattr("rcell._geotiff.write_labels", lambda *_: (_ for _ in ()).throw(KeyboardInterrupt()))
+def test_an_interrupted_write_leaves_nothing(
+    tmp_path: pathlib.Path, monkeypatch: pytest.MonkeyPatch
+) -> None:
+    monkeypatch.setattr(
+        "rcell._geotiff.write_labels", lambda *_: (_ for _ in ()).throw(KeyboardInterrupt())
+    )
     with pytest.raises(KeyboardInterrupt):
         rcell.grid("", "lc", lc=land()).write(tmp_path / "lc.tif")
     assert os.listdir(tmp_path) == []
@@ -198,11 +281,16 @@ def test_pictures() -> None:
     grid = rcell.grid("", "lc", lc=land())
     pixels = image.imread(io.BytesIO(grid.picture()))
     assert pixels.shape[2] == 4 and pixels[0, -1, 3] == 0 and pixels[0, 0, 3] == 1
-    assert 'src="data:image/png;base64,' in grid._repr_html_() and "3 categories" in grid._repr_html_()
+    assert (
+        'src="data:image/png;base64,' in grid._repr_html_() and "3 categories" in grid._repr_html_()
+    )
     assert "64 categories" in rcell.grid("", "x", x=np.arange(64).reshape(8, 8))._repr_html_()
     large = rcell.grid("", "x", x=np.ones((700, 900), int))
     assert image.imread(io.BytesIO(large._picture(320))).shape[:2] == (234, 300)
-    assert repr(grid) == "<Grid lc: north 5500000, south 5499925, east 500100, west 500000, 3 rows, 4 columns>"
+    assert (
+        repr(grid)
+        == "<Grid lc: north 5500000, south 5499925, east 500100, west 500000, 3 rows, 4 columns>"
+    )
 
 
 # xarray
@@ -212,14 +300,20 @@ def test_data_arrays_go_both_ways() -> None:
     pytest.importorskip("xarray")
     grid = rcell.grid("", "lc", lc=land())
     array = grid.xarray()
-    assert (array.dims, array.x.values.tolist(), array.y.values.tolist()) == (("y", "x"), [500012.5, 500037.5, 500062.5, 500087.5], [5499987.5, 5499962.5, 5499937.5])
+    assert (array.dims, array.x.values.tolist(), array.y.values.tolist()) == (
+        ("y", "x"),
+        [500012.5, 500037.5, 500062.5, 500087.5],
+        [5499987.5, 5499962.5, 5499937.5],
+    )
     again = rcell.grid("", "lc", lc=array)
     assert (again.array.tolist(), again.transform) == (grid.array.tolist(), TRANSFORM)
     assert rcell.table("r.stats -c input=lc", lc=array, area="ha")["area_ha"][0] == 0.3125
     assert dict(again.labels) == {1: "broad_leaved,_wood", 2: "größer", 3: "c"}
     assert rcell.grid("", "lc", lc=array[1:, :2]).transform == (25, 0, 500_000, 0, -25, 5_499_975)
     assert rcell.grid("", "lc", lc=array.sortby("y")).array.tolist() == grid.array.tolist()
-    assert rcell.grid("", "lc", lc=array.expand_dims(band=[1])).array.tolist() == grid.array.tolist()
+    assert (
+        rcell.grid("", "lc", lc=array.expand_dims(band=[1])).array.tolist() == grid.array.tolist()
+    )
 
 
 def test_data_arrays_that_are_no_maps() -> None:
@@ -227,8 +321,14 @@ def test_data_arrays_that_are_no_maps() -> None:
     cells = np.ones((2, 3))
     for array, told in (
         (xarray.DataArray(np.ones((2, 2, 2))), "a DataArray of 3 dimensions"),
-        (xarray.DataArray(cells, {"y": [2, 1], "x": [1, 2, 4]}, ("y", "x")), "its coordinate x is not evenly spaced"),
-        (xarray.DataArray(cells, {"y": [2, 1], "x": [3, 2, 1]}, ("y", "x")), "its columns go from east to west: sort them, as .sortby('x')"),
+        (
+            xarray.DataArray(cells, {"y": [2, 1], "x": [1, 2, 4]}, ("y", "x")),
+            "its coordinate x is not evenly spaced",
+        ),
+        (
+            xarray.DataArray(cells, {"y": [2, 1], "x": [3, 2, 1]}, ("y", "x")),
+            "its columns go from east to west: sort them, as .sortby('x')",
+        ),
         (xarray.DataArray(cells[:1], {"y": [2], "x": [1, 2, 3]}, ("y", "x")), "one cell along y"),
         (xarray.DataArray(cells * 0.5), "the cell at row 1, column 1 is 0.5"),
     ):
@@ -250,12 +350,37 @@ def test_lazy_arrays_are_computed_in_blocks() -> None:
 # Scripts of any kind
 
 
-LINES = st.sampled_from([
-    "r.stats -c input=lc", "r.stats -cn input=lc,k", "r.stats -1 input=lc", "r.stats -1n input=k", "r.stats input=lc,lc after=1,*", "r.stats -Nc input=k,lc separator=tab null_value=NA",
-    "r.out.ascii input=lc", "r.out.ascii input=k null_value=-9", "r.clump input=lc output=k", "r.clump -d input=lc output=j", "r.mapcalc k = lc * 2", "r.mapcalc x = lc[0,1]", "# r.stats",
-    "", "r.reclass input=lc output=m\n1 = 5 five\nend", "r.reclass input=lc output=m\n1 = 5", "end", "r.stats -cl input=m", "r.stats -c input=lc separator=ab", "r.stats  -c\tinput=lc \r", "r.stats -cc input=lc",
-    "r.stats input=lc null_value=end", "r.out.ascii input=m null_value=a:b", "r.stats -c1 input=lc", "r.stats input=", "r.stats -c input=lc after=", "x",
-])
+LINES = st.sampled_from(
+    [
+        "r.stats -c input=lc",
+        "r.stats -cn input=lc,k",
+        "r.stats -1 input=lc",
+        "r.stats -1n input=k",
+        "r.stats input=lc,lc after=1,*",
+        "r.stats -Nc input=k,lc separator=tab null_value=NA",
+        "r.out.ascii input=lc",
+        "r.out.ascii input=k null_value=-9",
+        "r.clump input=lc output=k",
+        "r.clump -d input=lc output=j",
+        "r.mapcalc k = lc * 2",
+        "r.mapcalc x = lc[0,1]",
+        "# r.stats",
+        "",
+        "r.reclass input=lc output=m\n1 = 5 five\nend",
+        "r.reclass input=lc output=m\n1 = 5",
+        "end",
+        "r.stats -cl input=m",
+        "r.stats -c input=lc separator=ab",
+        "r.stats  -c\tinput=lc \r",
+        "r.stats -cc input=lc",
+        "r.stats input=lc null_value=end",
+        "r.out.ascii input=m null_value=a:b",
+        "r.stats -c1 input=lc",
+        "r.stats input=",
+        "r.stats -c input=lc after=",
+        "x",
+    ]
+)
 
 
 @settings(max_examples=120, deadline=None)
@@ -269,7 +394,10 @@ def test_any_script_is_answered_or_refused_as_by_the_program_itself(lines: list[
     if status:
         with pytest.raises(rcell.Refused) as caught:
             rcell.run(script, lc=given_map)
-        assert (f"rcell: {caught.value.source}:{caught.value.line}: {caught.value.text}\n", caught.value.status) == (message, status)
+        assert (
+            f"rcell: {caught.value.source}:{caught.value.line}: {caught.value.text}\n",
+            caught.value.status,
+        ) == (message, status)
         return
     found = 0
     for answer in rcell.run(script, lc=given_map):

@@ -48,7 +48,11 @@ def test_dimensions_are_known_by_their_names() -> None:
     assert cells(upward.transpose("x", "y")) == cells(array)
     renamed = array.rename(y="lat", x="lon")
     assert cells(renamed.transpose("lon", "lat")) == cells(array)
-    for key, row, column in [("axis", "Y", "X"), ("standard_name", "grid_latitude", "grid_longitude"), ("units", "degrees_north", "degrees_east")]:
+    for key, row, column in [
+        ("axis", "Y", "X"),
+        ("standard_name", "grid_latitude", "grid_longitude"),
+        ("units", "degrees_north", "degrees_east"),
+    ]:
         told = array.rename(y="rows", x="cols")
         told.rows.attrs[key], told.cols.attrs[key] = row, column
         assert cells(told.transpose("cols", "rows")) == cells(array)
@@ -59,14 +63,22 @@ def test_dimensions_of_one_element_keep_their_place() -> None:
     assert cells(xarray.DataArray([[[1], [2], [3]]], dims=("y", "x", "band"))) == [[1, 2, 3]]
     assert cells(xarray.DataArray([[[1, 2, 3]]], dims=("band", "y", "x"))) == [[1, 2, 3]]
     assert cells(xarray.DataArray([[1, 2, 3]])) == [[1, 2, 3]]
-    assert "two dimensions of one axis" in str(refusal(xarray.DataArray([[1, 2]], dims=("x", "lon"))))
+    assert "two dimensions of one axis" in str(
+        refusal(xarray.DataArray([[1, 2]], dims=("x", "lon")))
+    )
 
 
 def test_nodata_of_a_data_array() -> None:
     values = np.array([[1.0, 2.0, np.nan]])
-    assert cells(data_array(values=values, attrs={"_FillValue": np.nan, "nodata": 2})) == [[1, None, None]]
-    assert "several nodata values: 1, 2" in str(refusal(data_array(values=values, attrs={"_FillValue": 1, "nodata": 2})))
-    assert "a nodata value that is no number: 'x'" in str(refusal(data_array(values=values, attrs={"_FillValue": "x"})))
+    assert cells(data_array(values=values, attrs={"_FillValue": np.nan, "nodata": 2})) == [
+        [1, None, None]
+    ]
+    assert "several nodata values: 1, 2" in str(
+        refusal(data_array(values=values, attrs={"_FillValue": 1, "nodata": 2}))
+    )
+    assert "a nodata value that is no number: 'x'" in str(
+        refusal(data_array(values=values, attrs={"_FillValue": "x"}))
+    )
 
 
 def test_nodata_of_what_was_scaled_is_no_longer_nodata() -> None:
@@ -79,19 +91,36 @@ def test_nodata_of_what_was_scaled_is_no_longer_nodata() -> None:
     assert cells(decoded) == [[None, 2, None]]
 
 
-@pytest.mark.parametrize("told, found", [("float64", "int32"), ("uint16", "int16"), ("int8", "uint8"), ("int32", "uint32"), ("int32", "float32"), ("uint8", "int64")])
+@pytest.mark.parametrize(
+    "told, found",
+    [
+        ("float64", "int32"),
+        ("uint16", "int16"),
+        ("int8", "uint8"),
+        ("int32", "uint32"),
+        ("int32", "float32"),
+        ("uint8", "int64"),
+    ],
+)
 def test_cells_of_another_type_than_dask_was_told_are_refused(told: str, found: str) -> None:
     dask = pytest.importorskip("dask.array")
-    given = dask.zeros((4, 3), chunks=(2, 3), dtype="uint8").map_blocks(lambda part: part.astype(found), dtype=told)
+    given = dask.zeros((4, 3), chunks=(2, 3), dtype="uint8").map_blocks(
+        lambda part: part.astype(found), dtype=told
+    )
     text = f"m: its cells are of the type {found}, but Dask expected {told}: state it, as in map_blocks(.., dtype='{found}')"
     assert str(refusal(data_array(values=given, attrs={"_FillValue": 0}))) == text
-    turned = dask.zeros((2, 3), chunks=(2, 3), dtype="uint8").map_blocks(lambda part: part.reshape(3, 2), dtype="uint8")
+    turned = dask.zeros((2, 3), chunks=(2, 3), dtype="uint8").map_blocks(
+        lambda part: part.reshape(3, 2), dtype="uint8"
+    )
     assert "a part of 2 x 3 cells has the shape (3, 2)" in str(refusal(data_array(values=turned)))
 
 
 def test_a_scaled_data_array_is_refused() -> None:
     told = str(refusal(data_array(attrs={"scale_factor": 0.5})))
-    assert told == "m: its values are scaled: each cell times 0.5, plus 0; write them out as whole numbers first"
+    assert (
+        told
+        == "m: its values are scaled: each cell times 0.5, plus 0; write them out as whole numbers first"
+    )
     assert "plus 3" in str(refusal(data_array(attrs={"add_offset": 3})))
     decoded = data_array()
     decoded.encoding["scale_factor"] = 0.5
@@ -102,7 +131,9 @@ def test_arrays_of_other_kinds() -> None:
     xarray = pytest.importorskip("xarray")
     dask = pytest.importorskip("dask.array")
     assert cells(dask.from_array(LAND, chunks=2)) == LAND.tolist()
-    assert "several variables: give it alone, or one of them, as dataset['lc']" in str(refusal(xarray.Dataset({"lc": data_array()})))
+    assert "several variables: give it alone, or one of them, as dataset['lc']" in str(
+        refusal(xarray.Dataset({"lc": data_array()}))
+    )
 
 
 def test_types_and_nodata_at_their_ends() -> None:
@@ -110,7 +141,9 @@ def test_types_and_nodata_at_their_ends() -> None:
     assert cells(rcell.Map(np.array([[1, 2**64 - 1]], ">u8"), nodata=2**64 - 1)) == [[1, None]]
     beyond: Any = np.float64(2.0**63)
     assert cells(rcell.Map(np.array([[1, 2]], np.int64), nodata=beyond)) == [[1, 2]]
-    assert "row 1, column 2 is inf" in str(refusal(rcell.Map(np.array([[1, np.inf]], np.float32), nodata=1e300)))
+    assert "row 1, column 2 is inf" in str(
+        refusal(rcell.Map(np.array([[1, np.inf]], np.float32), nodata=1e300))
+    )
 
 
 @pytest.mark.parametrize("dtype", ["int8", "uint8", "int16", "int32", "int64", "uint64", "float32"])
@@ -125,18 +158,36 @@ def test_any_byte_of_a_mask_but_0_is_true(dtype: str) -> None:
 def test_a_nodata_beyond_all_numbers_is_no_cell() -> None:
     values: list[Any] = [10**400, -(10**400), np.longdouble("1e400")]
     for nodata in values:
-        for array in (np.array([[1, 2]]), np.array([[1, 2]], np.uint8), np.array([[1.0, 2.0]], np.float32)):
+        for array in (
+            np.array([[1, 2]]),
+            np.array([[1, 2]], np.uint8),
+            np.array([[1.0, 2.0]], np.float32),
+        ):
             assert cells(rcell.Map(array, nodata=nodata)) == [[1, 2]]
-        assert "row 1, column 2 is inf" in str(refusal(rcell.Map(np.array([[1, np.inf]]), nodata=nodata)))
+        assert "row 1, column 2 is inf" in str(
+            refusal(rcell.Map(np.array([[1, np.inf]]), nodata=nodata))
+        )
 
 
-@pytest.mark.parametrize("labels, told", [
-    ({"1": "wood"}, "a label of '1': labels are of whole numbers from -2147483647 to 2147483647, as {1: 'wood'}"),
-    ({None: "n"}, "a label of None: "), ({1.0: "f"}, "a label of 1.0: "), ({2**31: "x"}, "a label of 2147483648: "), ({-(2**31): "x"}, "a label of -2147483648: "),
-    ({1: None}, "the label of 1 is None, which is no text"), ({1: b"wood"}, "the label of 1 is b'wood', which is no text"),
-    ({1: "\ud800"}, "the label of 1 has a character that no file can hold: '\\ud800'"), ({1: "\udcff"}, "that no file can hold: '\\udcff'"),
-    ({1: "a\0b"}, "that no file can hold: '\\x00'"), (["wood"], "labels are a dict, as {1: 'wood'}, and not a list"),
-])
+@pytest.mark.parametrize(
+    "labels, told",
+    [
+        (
+            {"1": "wood"},
+            "a label of '1': labels are of whole numbers from -2147483647 to 2147483647, as {1: 'wood'}",
+        ),
+        ({None: "n"}, "a label of None: "),
+        ({1.0: "f"}, "a label of 1.0: "),
+        ({2**31: "x"}, "a label of 2147483648: "),
+        ({-(2**31): "x"}, "a label of -2147483648: "),
+        ({1: None}, "the label of 1 is None, which is no text"),
+        ({1: b"wood"}, "the label of 1 is b'wood', which is no text"),
+        ({1: "\ud800"}, "the label of 1 has a character that no file can hold: '\\ud800'"),
+        ({1: "\udcff"}, "that no file can hold: '\\udcff'"),
+        ({1: "a\0b"}, "that no file can hold: '\\x00'"),
+        (["wood"], "labels are a dict, as {1: 'wood'}, and not a list"),
+    ],
+)
 def test_labels_are_texts_of_categories(labels: Any, told: str) -> None:
     assert told in str(refusal(rcell.Map(LAND, labels=labels)))
 
@@ -145,20 +196,41 @@ def test_labels_that_no_file_can_hold_are_not_written(tmp_path: pathlib.Path) ->
     made = rcell.grid("r.reclass input=m output=k\n* = 1 \udcff\nend", "k", m=LAND)
     with pytest.raises(rcell.BadMap) as refused:
         made.write(tmp_path / "k.tif")
-    assert str(refused.value) == "k: the label of 1 has a character that no file can hold: '\\udcff'" and not list(tmp_path.iterdir())
+    assert str(
+        refused.value
+    ) == "k: the label of 1 has a character that no file can hold: '\\udcff'" and not list(
+        tmp_path.iterdir()
+    )
     labels: Any = {np.int64(1): np.str_("\u00fc"), -5: "", 2**31 - 1: "x"}
     kept = rcell.grid("", "m", m=rcell.Map(LAND, labels=labels))
-    assert rcell.grid("", "m", m=kept.write(tmp_path / "m.tif")).labels == {1: "\u00fc", 2**31 - 1: "x"}
+    assert rcell.grid("", "m", m=kept.write(tmp_path / "m.tif")).labels == {
+        1: "\u00fc",
+        2**31 - 1: "x",
+    }
 
 
-def test_labels_of_what_is_no_category_are_left_out(tmp_path: pathlib.Path, raster: Write, monkeypatch: pytest.MonkeyPatch) -> None:
-    flags = data_array(attrs={"flag_values": [1.0, 1.5, np.nan, 2.0**31, -3.0], "flag_meanings": "a b c d e"})
+def test_labels_of_what_is_no_category_are_left_out(
+    tmp_path: pathlib.Path, raster: Write, monkeypatch: pytest.MonkeyPatch
+) -> None:
+    flags = data_array(
+        attrs={"flag_values": [1.0, 1.5, np.nan, 2.0**31, -3.0], "flag_meanings": "a b c d e"}
+    )
     assert rcell.grid("", "m", m=flags).labels == {1: "a", -3: "e"}
     path = raster(LAND)
-    rows = "".join(f"<Row><F>{value}</F><F>{value}</F></Row>" for value in ("1", "nan", "1e400", "x", "3000000000", "1.5"))
-    fields = "".join(f"<FieldDefn><Name>{name}</Name><Usage>{usage}</Usage></FieldDefn>" for name, usage in (("Value", 5), ("Class", "2")))
-    table = f"<GDALRasterAttributeTable>{fields}{rows}<Row><F>2</F></Row></GDALRasterAttributeTable>"
-    pathlib.Path(f"{path}.aux.xml").write_text(f"<PAMDataset><PAMRasterBand band='1'>{table}</PAMRasterBand></PAMDataset>")
+    rows = "".join(
+        f"<Row><F>{value}</F><F>{value}</F></Row>"
+        for value in ("1", "nan", "1e400", "x", "3000000000", "1.5")
+    )
+    fields = "".join(
+        f"<FieldDefn><Name>{name}</Name><Usage>{usage}</Usage></FieldDefn>"
+        for name, usage in (("Value", 5), ("Class", "2"))
+    )
+    table = (
+        f"<GDALRasterAttributeTable>{fields}{rows}<Row><F>2</F></Row></GDALRasterAttributeTable>"
+    )
+    pathlib.Path(f"{path}.aux.xml").write_text(
+        f"<PAMDataset><PAMRasterBand band='1'>{table}</PAMRasterBand></PAMDataset>"
+    )
     monkeypatch.setattr("rcell._labels.has", lambda name: name != "osgeo")
     assert rcell.grid("", "m", m=path).labels == {1: "1"}
 
@@ -178,7 +250,12 @@ def test_chunks_of_unknown_size_are_refused() -> None:
 
 def test_cells_of_64_bits_are_exact(tmp_path: pathlib.Path) -> None:
     gdal = pytest.importorskip("osgeo.gdal")
-    for code, dtype, nodata in ((12, np.uint64, 2**64 - 1), (13, np.int64, -9999), (13, np.int64, 2**53), (13, np.int64, None)):
+    for code, dtype, nodata in (
+        (12, np.uint64, 2**64 - 1),
+        (13, np.int64, -9999),
+        (13, np.int64, 2**53),
+        (13, np.int64, None),
+    ):
         path = str(tmp_path / "wide.tif")
         dataset = gdal.GetDriverByName("GTiff").Create(path, 3, 1, 1, code)
         band = dataset.GetRasterBand(1)
@@ -245,7 +322,9 @@ def test_thousands_of_bands_are_refused_at_once(tmp_path: pathlib.Path) -> None:
 
 def test_edges_of_a_grid_are_exact(tmp_path: pathlib.Path) -> None:
     path, copy = tmp_path / "m.txt", tmp_path / "copy.txt"
-    path.write_text("north: 9999999999.12345678\nsouth: 9999999998.12345678\neast: 1\nwest: 0\nrows: 1\ncols: 1\n7\n")
+    path.write_text(
+        "north: 9999999999.12345678\nsouth: 9999999998.12345678\neast: 1\nwest: 0\nrows: 1\ncols: 1\n7\n"
+    )
     rcell.grid("", "m", m=path).write(copy)
     assert copy.read_text().startswith("north: 9999999999.12345678\nsouth: 9999999998.12345678\n")
     assert rcell.run("r.stats input=a,b", a=path, b=copy).tables[0].rows == [(7, 7)]
@@ -266,16 +345,22 @@ def test_classes_are_whole_numbers() -> None:
 
 @pytest.mark.parametrize("blank", ["\u3000", "\u2028", "\u0085", "\v", "\f", "\x1c", "\u00a0"])
 def test_labels_keep_the_blanks_of_unicode(blank: str) -> None:
-    table = rcell.run(f"r.reclass input=m output=k\n1 thru 9 = 1 {blank}wide\nend\nr.stats -l input=k", m=LAND).tables[0]
+    table = rcell.run(
+        f"r.reclass input=m output=k\n1 thru 9 = 1 {blank}wide\nend\nr.stats -l input=k", m=LAND
+    ).tables[0]
     assert table.rows[0] == (1, f"{blank}wide")
-    assert rcell.run(f"r.reclass input=m output=k\n{'1' * 5} = 1 {'0' * 9}\nend\nr.stats -l input=k", m=LAND).tables[0].rows == [(None, None)]
+    assert rcell.run(
+        f"r.reclass input=m output=k\n{'1' * 5} = 1 {'0' * 9}\nend\nr.stats -l input=k", m=LAND
+    ).tables[0].rows == [(None, None)]
 
 
 # Coordinate reference systems
 
 UTM, GAUSS = "EPSG:25832", "EPSG:31467"
-OTHER = ("its coordinate reference system is EPSG:31467 (DHDN / 3-degree Gauss-Kruger zone 3), and that of `a` is EPSG:25832 "
-         "(ETRS89 / UTM zone 32N): reproject one of them first, as with gdalwarp -t_srs EPSG:25832")
+OTHER = (
+    "its coordinate reference system is EPSG:31467 (DHDN / 3-degree Gauss-Kruger zone 3), and that of `a` is EPSG:25832 "
+    "(ETRS89 / UTM zone 32N): reproject one of them first, as with gdalwarp -t_srs EPSG:25832"
+)
 NONE = 'it has no coordinate reference system, and `a` has EPSG:25832 (ETRS89 / UTM zone 32N): state it with crs="EPSG:25832"'
 
 
@@ -293,7 +378,9 @@ def test_maps_of_two_reference_systems_are_refused(raster: Write) -> None:
         crossed(maps[0], shifted)
     with pytest.raises(rcell.OtherCrs, match="and crs= is EPSG:31467"):
         crossed(maps[0], maps[0], crs=GAUSS)
-    assert crossed(maps[0], maps[0]) == crossed(maps[0], rcell.Map(LAND, TRANSFORM, rasterio.crs.CRS.from_epsg(25832)))
+    assert crossed(maps[0], maps[0]) == crossed(
+        maps[0], rcell.Map(LAND, TRANSFORM, rasterio.crs.CRS.from_epsg(25832))
+    )
 
 
 def test_a_map_without_a_reference_system_is_refused_next_to_one(raster: Write) -> None:
@@ -301,23 +388,34 @@ def test_a_map_without_a_reference_system_is_refused_next_to_one(raster: Write) 
     for maps, name in (((given, array), "b"), ((array, given), "a")):
         with pytest.raises(rcell.OtherCrs) as refused:
             crossed(*maps)
-        assert (refused.value.source, refused.value.text) == (name, NONE if name == "b" else NONE.replace("`a`", "`b`"))
+        assert (refused.value.source, refused.value.text) == (
+            name,
+            NONE if name == "b" else NONE.replace("`a`", "`b`"),
+        )
     assert crossed(given, array, crs=UTM) == crossed(array, array) == crossed(given, given)
     assert rcell.run("r.out.ascii input=m", m=array, crs=UTM).grids["m"].crs == UTM
     with pytest.raises(rcell.Refused, match="crs= is no coordinate reference system: 'nonsense'"):
         crossed(array, array, crs="nonsense")
 
 
-def test_a_reference_system_that_is_not_understood_is_refused(monkeypatch: pytest.MonkeyPatch) -> None:
-    assert "its coordinate reference system is not understood: 'nonsense'" in str(refusal(rcell.Map([[1]], crs="nonsense")))
+def test_a_reference_system_that_is_not_understood_is_refused(
+    monkeypatch: pytest.MonkeyPatch,
+) -> None:
+    assert "its coordinate reference system is not understood: 'nonsense'" in str(
+        refusal(rcell.Map([[1]], crs="nonsense"))
+    )
     compound = rcell.Map([[1]], (1, 0, 10, 0, -1, 50), "EPSG:9707")
-    assert rcell.composition(compound, area="km2")["area_km2"][0] == pytest.approx(8056.245, abs=0.001)
+    assert rcell.composition(compound, area="km2")["area_km2"][0] == pytest.approx(
+        8056.245, abs=0.001
+    )
     with pytest.raises(rcell.Refused, match="in degrees the area of a cell differs"):
         rcell.table(SCRIPT, m=compound, area="ha")
     modules: dict[str, Any] = sys.modules
     for name in ("rasterio", "rasterio.crs", "rasterio.errors"):
         monkeypatch.setitem(modules, name, None)
-    with pytest.raises(rcell.MissingLibrary, match="to understand the coordinate reference system 'EPSG:4326'"):
+    with pytest.raises(
+        rcell.MissingLibrary, match="to understand the coordinate reference system 'EPSG:4326'"
+    ):
         rcell.table(SCRIPT, m=rcell.Map([[1, 1]], (1, 0, 10, 0, -1, 50), "EPSG:4326"), area="ha")
 
 
@@ -329,7 +427,9 @@ def test_areas_are_the_nearest_floats() -> None:
 # Errors that say what to do
 
 
-@pytest.mark.parametrize("call", [rcell.run, rcell.table, lambda script, **maps: rcell.grid(script, "m", **maps)])
+@pytest.mark.parametrize(
+    "call", [rcell.run, rcell.table, lambda script, **maps: rcell.grid(script, "m", **maps)]
+)
 def test_a_lone_surrogate_in_a_script_is_refused(call: Any) -> None:
     with pytest.raises(rcell.Refused) as refused:
         call("# \u00fc\udcff\nr.stats -c  # \u00fc\ud800", m=LAND)
@@ -350,7 +450,10 @@ def test_a_long_line_is_shown_in_part() -> None:
 
 
 def test_the_program_judges_the_script_before_a_map_is_missed() -> None:
-    for script, column in (('r.mapcalc "x = lc * 2"', 11), ('r.mapcalc expression="x = lc * 2"', None)):
+    for script, column in (
+        ('r.mapcalc "x = lc * 2"', 11),
+        ('r.mapcalc expression="x = lc * 2"', None),
+    ):
         with pytest.raises(rcell.Refused) as refused:
             rcell.grid(script, "x", lc=LAND)
         assert (refused.value.source, refused.value.line) == ("script", 1)
@@ -383,7 +486,13 @@ def test_a_refusal_says_what_to_write(script: str, column: int | None, advice: s
 
 def test_all_errors_are_of_one_tree() -> None:
     tiles = pytest.importorskip("rcell.tiles")
-    for error in (tiles.ClusterFailed, tiles.TooManyCells, tiles.WorkerLost, tiles.TooLittleMemory, rcell.OtherCrs):
+    for error in (
+        tiles.ClusterFailed,
+        tiles.TooManyCells,
+        tiles.WorkerLost,
+        tiles.TooLittleMemory,
+        rcell.OtherCrs,
+    ):
         assert issubclass(error, rcell.RcellError)
     assert "x86-64-v2" in str(rcell.Killed(4))
 
@@ -396,11 +505,20 @@ def test_a_pivot_tells_classes_of_one_label_apart() -> None:
 
 
 def test_modules_without_their_libraries(monkeypatch: pytest.MonkeyPatch) -> None:
-    code = ("import sys; sys.modules['scipy'] = sys.modules['psutil'] = None; from rcell import *; import rcell, numpy\n"
-            "try: rcell.tiles\nexcept rcell.MissingLibrary as error: print(error.library)\n")
-    ran = subprocess.run([sys.executable, "-c", code], capture_output=True, text=True, env=environment(), check=False)
+    code = (
+        "import sys; sys.modules['scipy'] = sys.modules['psutil'] = None; from rcell import *; import rcell, numpy\n"
+        "try: rcell.tiles\nexcept rcell.MissingLibrary as error: print(error.library)\n"
+    )
+    ran = subprocess.run(
+        [sys.executable, "-c", code], capture_output=True, text=True, env=environment(), check=False
+    )
     assert (ran.stdout.split(), ran.stderr) == (["psutil"], "")
 
 
 def environment(**words: str) -> dict[str, str]:
-    return {**os.environ, "PYTHONPATH": str(pathlib.Path(rcell.__file__).parents[1]), "RCELL": rcell.program(), **words}
+    return {
+        **os.environ,
+        "PYTHONPATH": str(pathlib.Path(rcell.__file__).parents[1]),
+        "RCELL": rcell.program(),
+        **words,
+    }

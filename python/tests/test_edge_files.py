@@ -39,7 +39,15 @@ def room(tmp_path: pathlib.Path) -> pathlib.Path:
 
 
 def shell(room: pathlib.Path, command: str, **words: str) -> subprocess.CompletedProcess[str]:
-    return subprocess.run(["bash", "-c", command], cwd=room, capture_output=True, text=True, env=environment(**words), timeout=SECONDS, check=False)
+    return subprocess.run(
+        ["bash", "-c", command],
+        cwd=room,
+        capture_output=True,
+        text=True,
+        env=environment(**words),
+        timeout=SECONDS,
+        check=False,
+    )
 
 
 def hidden(room: pathlib.Path) -> list[str]:
@@ -56,15 +64,30 @@ def test_what_is_no_file_is_written_and_never_replaced(room: pathlib.Path) -> No
             assert shell(room, f"{command}null.tif").returncode == 0
             assert stat.S_ISCHR((room / "null.tif").stat().st_mode)
             (room / "null.tif").unlink()
-        shell(room, "rm -f fifo.tif link.tif real got; mkfifo fifo.tif; ln -s real link.tif; ln -sf /proc/self/fd/1 stdout.tif")
-        assert shell(room, f"cat fifo.tif > got & {command}fifo.tif; status=$?; wait; exit $status").returncode == 0
-        assert stat.S_ISFIFO((room / "fifo.tif").stat().st_mode) and (room / "got").read_bytes().startswith(begins)
+        shell(
+            room,
+            "rm -f fifo.tif link.tif real got; mkfifo fifo.tif; ln -s real link.tif; ln -sf /proc/self/fd/1 stdout.tif",
+        )
+        assert (
+            shell(
+                room, f"cat fifo.tif > got & {command}fifo.tif; status=$?; wait; exit $status"
+            ).returncode
+            == 0
+        )
+        assert stat.S_ISFIFO((room / "fifo.tif").stat().st_mode) and (
+            room / "got"
+        ).read_bytes().startswith(begins)
         assert shell(room, f"{command}link.tif").returncode == 0
         assert (room / "link.tif").is_symlink() and (room / "real").read_bytes().startswith(begins)
         assert shell(room, f"echo old > log; {command}stdout.tif >> log").returncode == 0
-        assert (room / "stdout.tif").is_symlink() and (room / "log").read_bytes().startswith(b"old\n" + begins)
+        assert (room / "stdout.tif").is_symlink() and (room / "log").read_bytes().startswith(
+            b"old\n" + begins
+        )
         full = shell(room, f"ln -sf /dev/full full.tif; {command}full.tif")
-        assert (full.returncode, full.stderr) == (4, "rcell-gis: full.tif cannot be written: No space left on device\n")
+        assert (full.returncode, full.stderr) == (
+            4,
+            "rcell-gis: full.tif cannot be written: No space left on device\n",
+        )
     assert hidden(room) == []
 
 
@@ -77,7 +100,9 @@ def test_a_file_that_is_replaced_keeps_its_mode(raster: Write, tmp_path: pathlib
         assert stat.S_IMODE(path.stat().st_mode) == 0o600 and path.stat().st_size > 0
 
 
-def test_a_map_over_one_with_a_mask_is_read_without_it(raster: Write, tmp_path: pathlib.Path) -> None:
+def test_a_map_over_one_with_a_mask_is_read_without_it(
+    raster: Write, tmp_path: pathlib.Path
+) -> None:
     path = raster(LAND)
     grid = rcell.grid("r.mapcalc x = m + 1", "x", m=path)
     with rasterio.Env(GDAL_TIFF_INTERNAL_MASK=False), rasterio.open(path, "r+") as dataset:
@@ -89,7 +114,9 @@ def test_a_map_over_one_with_a_mask_is_read_without_it(raster: Write, tmp_path: 
     assert cells(path) == (LAND + 1).tolist() and os.listdir(tmp_path) == ["map.tif"]
 
 
-def test_an_old_file_and_its_mask_survive_a_failure(raster: Write, tmp_path: pathlib.Path, monkeypatch: pytest.MonkeyPatch) -> None:
+def test_an_old_file_and_its_mask_survive_a_failure(
+    raster: Write, tmp_path: pathlib.Path, monkeypatch: pytest.MonkeyPatch
+) -> None:
     path = raster(LAND)
     pathlib.Path(path + ".msk").write_text("mask")
     before = pathlib.Path(path).read_bytes()
@@ -99,19 +126,34 @@ def test_an_old_file_and_its_mask_survive_a_failure(raster: Write, tmp_path: pat
         raise OSError(28, "No space left on device")
 
     monkeypatch.setattr(os, "replace", fail)
-    with pytest.raises(rcell.WriteFailed, match="map.tif cannot be written: No space left on device"):
+    with pytest.raises(
+        rcell.WriteFailed, match="map.tif cannot be written: No space left on device"
+    ):
         grid.write(path)
-    assert pathlib.Path(path).read_bytes() == before and sorted(os.listdir(tmp_path)) == ["map.tif", "map.tif.msk"]
+    assert pathlib.Path(path).read_bytes() == before and sorted(os.listdir(tmp_path)) == [
+        "map.tif",
+        "map.tif.msk",
+    ]
 
 
 def test_an_input_is_no_output(room: pathlib.Path) -> None:
     (room / "script.txt").write_text("r.stats -c input=m\n")
-    for command in (f"{TABLE} --out in.txt", f"{sys.executable} -m rcell run script.txt m=in.txt --out m=script.txt", f"{TIF}in.txt"):
+    for command in (
+        f"{TABLE} --out in.txt",
+        f"{sys.executable} -m rcell run script.txt m=in.txt --out m=script.txt",
+        f"{TIF}in.txt",
+    ):
         ran = shell(room, f"ln -sf in.txt link; {command}")
-        assert (ran.returncode, ran.stderr.endswith("the output file is the input file: choose another name\n")) == (2, True), ran.stderr
+        assert (
+            ran.returncode,
+            ran.stderr.endswith("the output file is the input file: choose another name\n"),
+        ) == (2, True), ran.stderr
     assert (room / "in.txt").read_text() == GRID
     ran = shell(room, f"{TIF}x.tif --out n=./x.tif")
-    assert (ran.returncode, ran.stderr) == (2, "rcell-gis: arguments: ./x.tif: two maps go to one file\n")
+    assert (ran.returncode, ran.stderr) == (
+        2,
+        "rcell-gis: arguments: ./x.tif: two maps go to one file\n",
+    )
 
 
 def test_paths_that_are_not_utf8(room: pathlib.Path, raster: Write) -> None:
@@ -124,7 +166,9 @@ def test_paths_that_are_not_utf8(room: pathlib.Path, raster: Write) -> None:
     labels = os.fsencode(odd + ".tif.aux.xml")
     assert b"wood" in pathlib.Path(os.fsdecode(labels)).read_bytes()
     for given in (odd + ".tif", "/vsigzip/" + odd):
-        with pytest.raises(rcell.ReadFailed, match="rasterio takes no path that is not UTF-8: rename the file"):
+        with pytest.raises(
+            rcell.ReadFailed, match="rasterio takes no path that is not UTF-8: rename the file"
+        ):
             rcell.run("r.stats input=m", m=given)
     with pytest.raises(rcell.ReadFailed, match="no path has a surrogate"):
         rcell.run("r.stats input=m", m="\ud800.txt")
@@ -161,9 +205,16 @@ def test_closed_streams(room: pathlib.Path, closed: str) -> None:
 
 
 def test_closed_and_full_standard_output(room: pathlib.Path) -> None:
-    for redirection, reason in ((">&-", "is closed"), (">&- <&-", "is closed"), ("> /dev/full", "No space left on device")):
+    for redirection, reason in (
+        (">&-", "is closed"),
+        (">&- <&-", "is closed"),
+        ("> /dev/full", "No space left on device"),
+    ):
         ran = shell(room, f"{TABLE} {redirection}")
-        assert (ran.returncode, ran.stderr) == (4, f"rcell-gis: standard output cannot be written: {reason}\n")
+        assert (ran.returncode, ran.stderr) == (
+            4,
+            f"rcell-gis: standard output cannot be written: {reason}\n",
+        )
     assert shell(room, f"{TABLE} | true; exit ${{PIPESTATUS[0]}}").returncode in (0, 4)
 
 
@@ -178,9 +229,21 @@ def test_a_library_with_closed_streams(room: pathlib.Path) -> None:
 def test_signals_leave_nothing(room: pathlib.Path, name: str) -> None:
     os.mkfifo(room / "fifo")
     # Under nohup, a test inherits signals that are ignored.
-    command = ["env", "--default-signal", sys.executable, "-m", "rcell", "composition", "fifo", "--out", "out"]
+    command = [
+        "env",
+        "--default-signal",
+        sys.executable,
+        "-m",
+        "rcell",
+        "composition",
+        "fifo",
+        "--out",
+        "out",
+    ]
     (room / "out").write_text("old")
-    with subprocess.Popen(command, cwd=room, env=environment(RCELL_TEST=str(room)), stderr=subprocess.PIPE, text=True) as program:
+    with subprocess.Popen(
+        command, cwd=room, env=environment(RCELL_TEST=str(room)), stderr=subprocess.PIPE, text=True
+    ) as program:
         with open(room / "fifo", "w") as fifo:
             fifo.write(GRID[:-4])
             fifo.flush()
@@ -248,10 +311,15 @@ def test_programs_are_not_found_through_relative_folders(room: pathlib.Path) -> 
     for path in (".:/nowhere", ":/nowhere", "/nowhere:"):
         assert shell(room, f"PATH={path} {sys.executable} -c {shlex.quote(code)}").stdout == "[]\n"
     ran = shell(room, TABLE, RCELL="rcell")
-    assert ran.stderr == f"rcell-gis: {stranger} is not a program rcell of a version that this package knows\n"
+    assert (
+        ran.stderr
+        == f"rcell-gis: {stranger} is not a program rcell of a version that this package knows\n"
+    )
 
 
-def test_a_program_that_does_not_end_is_told(room: pathlib.Path, monkeypatch: pytest.MonkeyPatch) -> None:
+def test_a_program_that_does_not_end_is_told(
+    room: pathlib.Path, monkeypatch: pytest.MonkeyPatch
+) -> None:
     stranger = room / "sleeper"
     stranger.write_text("#!/bin/sh\nexec sleep 60\n")
     stranger.chmod(0o755)
@@ -261,9 +329,13 @@ def test_a_program_that_does_not_end_is_told(room: pathlib.Path, monkeypatch: py
 
 
 def test_too_many_open_files_are_told() -> None:
-    code = ("import resource, rcell\nrcell.program()\nresource.setrlimit(resource.RLIMIT_NOFILE, (12, 12))\nheld = [open('/dev/null') for _ in range(7)]\n"
-            "try: rcell.run('r.stats -c input=m', m=[[1]])\nexcept rcell.MissingProgram as error: print(error)\n")
-    ran = subprocess.run([sys.executable, "-c", code], capture_output=True, text=True, env=environment(), check=False)
+    code = (
+        "import resource, rcell\nrcell.program()\nresource.setrlimit(resource.RLIMIT_NOFILE, (12, 12))\nheld = [open('/dev/null') for _ in range(7)]\n"
+        "try: rcell.run('r.stats -c input=m', m=[[1]])\nexcept rcell.MissingProgram as error: print(error)\n"
+    )
+    ran = subprocess.run(
+        [sys.executable, "-c", code], capture_output=True, text=True, env=environment(), check=False
+    )
     assert ran.stdout.endswith("cannot be executed: Too many open files\n"), ran.stderr
 
 
@@ -271,8 +343,22 @@ def test_a_command_states_a_reference_system(raster: Write) -> None:
     path = raster(LAND, crs="EPSG:25832")
     plain = path.replace("map.tif", "plain.txt")
     rcell.grid("", "m", m=(LAND, TRANSFORM)).write(plain)
-    words = [sys.executable, "-m", "rcell", "run", "r.stats -c input=a,b", f"a={path}", f"b={plain}"]
+    words = [
+        sys.executable,
+        "-m",
+        "rcell",
+        "run",
+        "r.stats -c input=a,b",
+        f"a={path}",
+        f"b={plain}",
+    ]
     ran = subprocess.run(words, capture_output=True, text=True, env=environment(), check=False)
     assert (ran.returncode, 'state it with crs="EPSG:25832"' in ran.stderr) == (1, True)
-    ran = subprocess.run([*words, "--crs", "EPSG:25832"], capture_output=True, text=True, env=environment(), check=False)
+    ran = subprocess.run(
+        [*words, "--crs", "EPSG:25832"],
+        capture_output=True,
+        text=True,
+        env=environment(),
+        check=False,
+    )
     assert (ran.returncode, ran.stdout.splitlines()[0]) == (0, "a,b,cells")

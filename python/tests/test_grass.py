@@ -28,13 +28,21 @@ def grass(tmp_path_factory: pytest.TempPathFactory) -> Any:
         paths = {name: room / f"{name}-{crs[5:]}.txt" for name in maps}
         for name, path in paths.items():
             rcell.grid("", name, {name: maps[name]}).write(path)
-        imports = "\n".join(f"r.in.ascii input={path} output={name} type=CELL" for name, path in paths.items())
+        imports = "\n".join(
+            f"r.in.ascii input={path} output={name} type=CELL" for name, path in paths.items()
+        )
         script = room / "script"
-        script.write_text(f"set -e\nexport GRASS_OVERWRITE=1\n{imports}\ng.region raster={next(iter(maps))}\n{lines}\n")
+        script.write_text(
+            f"set -e\nexport GRASS_OVERWRITE=1\n{imports}\ng.region raster={next(iter(maps))}\n{lines}\n"
+        )
         where = room / f"location-{crs[5:]}"
         if not where.exists():
             subprocess.run(["grass", "-e", "-c", crs, str(where)], check=True, capture_output=True)
-        ran = subprocess.run(["grass", str(where / "PERMANENT"), "--exec", "sh", str(script)], capture_output=True, text=True)
+        ran = subprocess.run(
+            ["grass", str(where / "PERMANENT"), "--exec", "sh", str(script)],
+            capture_output=True,
+            text=True,
+        )
         assert ran.returncode == 0, ran.stderr
         return ran.stdout
 
@@ -43,7 +51,9 @@ def grass(tmp_path_factory: pytest.TempPathFactory) -> Any:
 
 def made(seed: int, transform: tuple[float, ...], crs: str, classes: int = 5) -> rcell.Map:
     random = np.random.default_rng(seed)
-    cells = np.repeat(np.repeat(random.integers(0, classes + 1, (SIZE[0] // 2, SIZE[1] // 2)), 2, 0), 2, 1)
+    cells = np.repeat(
+        np.repeat(random.integers(0, classes + 1, (SIZE[0] // 2, SIZE[1] // 2)), 2, 0), 2, 1
+    )
     cells[random.random(SIZE) < 0.2] = random.integers(0, classes + 1)
     return rcell.Map(cells, transform, crs, nodata=0)
 
@@ -53,40 +63,73 @@ def lines_of(text: str, separator: str = "|") -> list[list[float]]:
 
 
 def test_areas_and_cells(grass: Session) -> None:
-    for crs, transform in (("EPSG:32632", (30.0, 0, 500_000.0, 0, -30.0, 5_500_000.0)), ("EPSG:4326", (0.5, 0, 3.0, 0, -0.5, 62.0))):
+    for crs, transform in (
+        ("EPSG:32632", (30.0, 0, 500_000.0, 0, -30.0, 5_500_000.0)),
+        ("EPSG:4326", (0.5, 0, 3.0, 0, -0.5, 62.0)),
+    ):
         land, zone = made(1, transform, crs), made(2, transform, crs, 3)
-        text = grass(crs, "r.stats -n -c -a input=zone,land separator=pipe --quiet", land=land, zone=zone)
+        text = grass(
+            crs, "r.stats -n -c -a input=zone,land separator=pipe --quiet", land=land, zone=zone
+        )
         frame = rcell.composition(land, zone, area="m2")
         expected = lines_of(text)
-        assert frame[["zone", "class", "cells"]].to_numpy(int).tolist() == [[int(row[0]), int(row[1]), int(row[3])] for row in expected]
+        assert frame[["zone", "class", "cells"]].to_numpy(int).tolist() == [
+            [int(row[0]), int(row[1]), int(row[3])] for row in expected
+        ]
         assert frame["area_m2"].tolist() == pytest.approx([row[2] for row in expected], rel=1e-8)
 
 
 def test_statistics_by_zone(grass: Session) -> None:
     transform, crs = (30.0, 0, 500_000.0, 0, -30.0, 5_500_000.0), "EPSG:32632"
     values, zone = made(3, transform, crs, 200), made(4, transform, crs, 4)
-    text = grass(crs, "r.univar -e -t map=values zones=zone percentile=90 --quiet", values=values, zone=zone)
+    text = grass(
+        crs, "r.univar -e -t map=values zones=zone percentile=90 --quiet", values=values, zone=zone
+    )
     head, *rows = [line.split("|") for line in text.strip().splitlines()]
     at = {name: place for place, name in enumerate(head)}
     frame = rcell.zonal(values, zone)
     for row, mine in zip(rows, frame.itertuples()):
-        assert (mine.zone, mine.cells, mine.minimum, mine.maximum, mine.sum) == tuple(float(row[at[name]]) for name in ("zone", "non_null_cells", "min", "max", "sum"))
-        assert (mine.mean, mine.variance) == pytest.approx((float(row[at["mean"]]), float(row[at["variance"]])), rel=1e-9)
+        assert (mine.zone, mine.cells, mine.minimum, mine.maximum, mine.sum) == tuple(
+            float(row[at[name]]) for name in ("zone", "non_null_cells", "min", "max", "sum")
+        )
+        assert (mine.mean, mine.variance) == pytest.approx(
+            (float(row[at["mean"]]), float(row[at["variance"]])), rel=1e-9
+        )
     assert len(rows) == len(frame)
-    text = grass(crs, "r.stats.zonal base=zone cover=values method=average output=means --quiet\nr.univar -t map=means zones=zone --quiet", values=values, zone=zone)
+    text = grass(
+        crs,
+        "r.stats.zonal base=zone cover=values method=average output=means --quiet\nr.univar -t map=means zones=zone --quiet",
+        values=values,
+        zone=zone,
+    )
     means = [float(line.split("|")[at["mean"]]) for line in text.strip().splitlines()[1:]]
-    assert means == pytest.approx(frame["mean"].tolist(), rel=1e-6)  # GRASS writes floats of 32 bits here
+    assert means == pytest.approx(
+        frame["mean"].tolist(), rel=1e-6
+    )  # GRASS writes floats of 32 bits here
 
 
 def test_the_majority_of_nine(grass: Session) -> None:
     """Cells in which two classes are most frequent are left out: GRASS takes another one of them."""
     transform, crs = (30.0, 0, 500_000.0, 0, -30.0, 5_500_000.0), "EPSG:32632"
     land = made(5, transform, crs)
-    text = grass(crs, "r.neighbors input=land selection=land output=mode method=mode size=3 --quiet\nr.out.ascii input=mode null_value=0 --quiet", land=land)
-    theirs = np.array([[int(word) for word in line.split()] for line in text.strip().splitlines()[6:]])
+    text = grass(
+        crs,
+        "r.neighbors input=land selection=land output=mode method=mode size=3 --quiet\nr.out.ascii input=mode null_value=0 --quiet",
+        land=land,
+    )
+    theirs = np.array(
+        [[int(word) for word in line.split()] for line in text.strip().splitlines()[6:]]
+    )
     cells = np.asarray(land.array)
     wide = np.pad(cells, 1)
-    counts = [sum((np.roll(wide, (row, col), (0, 1)) == one)[1:-1, 1:-1].astype(int) for row in (-1, 0, 1) for col in (-1, 0, 1)) for one in range(1, 6)]
+    counts = [
+        sum(
+            (np.roll(wide, (row, col), (0, 1)) == one)[1:-1, 1:-1].astype(int)
+            for row in (-1, 0, 1)
+            for col in (-1, 0, 1)
+        )
+        for one in range(1, 6)
+    ]
     ordered = np.sort(np.array(counts), axis=0)
     is_clear = (cells > 0) & (ordered[-1] > ordered[-2])
     assert is_clear.mean() > 0.5

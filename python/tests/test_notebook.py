@@ -22,16 +22,24 @@ def test_the_study_runs(tmp_path: pathlib.Path, monkeypatch: pytest.MonkeyPatch)
     kernel = tmp_path / "jupyter" / "kernels" / "python3"
     kernel.mkdir(parents=True)
     words = [sys.executable, "-m", "ipykernel_launcher", "-f", "{connection_file}"]
-    (kernel / "kernel.json").write_text(json.dumps({"argv": words, "display_name": "Python 3", "language": "python"}))
+    (kernel / "kernel.json").write_text(
+        json.dumps({"argv": words, "display_name": "Python 3", "language": "python"})
+    )
     monkeypatch.setenv("JUPYTER_PATH", str(tmp_path / "jupyter"))
     notebook = nbformat.read(examples / "study.ipynb", as_version=4)
-    preprocessors.ExecutePreprocessor(timeout=3600, kernel_name="python3").preprocess(notebook, {"metadata": {"path": str(tmp_path)}})
-    outputs = [output for cell in notebook.cells if cell.cell_type == "code" for output in cell.outputs]
+    preprocessors.ExecutePreprocessor(timeout=3600, kernel_name="python3").preprocess(
+        notebook, {"metadata": {"path": str(tmp_path)}}
+    )
+    outputs = [
+        output for cell in notebook.cells if cell.cell_type == "code" for output in cell.outputs
+    ]
     said = "".join(output.get("text", "") for output in outputs)
     assert "the table is the same: True\nthe islands are the same: True\n" in said
     assert "Borneo: 736,512 km² in 3 countries; largest share: Indonesia, 72 %" in said
     pictures = [output for output in outputs if "image/png" in output.get("data", {})]
     assert len(pictures) == 2
-    tables = [output for output in outputs if "<table" in output.get("data", {}).get("text/html", "")]
+    tables = [
+        output for output in outputs if "<table" in output.get("data", {}).get("text/html", "")
+    ]
     assert len(tables) == 3
     assert 'src="data:image/png;base64,' in outputs[0]["data"]["text/html"]

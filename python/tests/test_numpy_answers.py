@@ -28,19 +28,27 @@ def by_files(script: str, **grids: bytes) -> tuple[int, bytes, str]:
             paths.append(f"{name}={folder}/{name}")
             with open(f"{folder}/{name}", "wb") as file:
                 file.write(text)
-        with open(f"{folder}/script", "w", encoding="utf-8", errors="surrogateescape", newline="") as file:
+        with open(
+            f"{folder}/script", "w", encoding="utf-8", errors="surrogateescape", newline=""
+        ) as file:
             file.write(script)
         ran = subprocess.run([rcell.program(), f"{folder}/script", *paths], capture_output=True)
     return ran.returncode, ran.stdout, ran.stderr.decode()
 
 
-def random_map(random: np.random.Generator, rows: int, cols: int, categories: int, null: float) -> Any:
-    cells = random.integers(1, categories + 1, (rows, cols)).astype(random.choice(["uint8", "int16", "int32", "int64", "float64"]))
+def random_map(
+    random: np.random.Generator, rows: int, cols: int, categories: int, null: float
+) -> Any:
+    cells = random.integers(1, categories + 1, (rows, cols)).astype(
+        random.choice(["uint8", "int16", "int32", "int64", "float64"])
+    )
     return np.ma.MaskedArray(cells, mask=random.random((rows, cols)) < null)
 
 
 def text_of(array: Any) -> bytes:
-    return Grid("x", array.astype(np.int32), region := rcell.Region.of_cells(*array.shape), region.transform).text()
+    return Grid(
+        "x", array.astype(np.int32), region := rcell.Region.of_cells(*array.shape), region.transform
+    ).text()
 
 
 LAND = np.array([[1, 1, 2, 0], [1, 2, 2, 2], [3, 3, 1, 1]], np.uint8)
@@ -51,8 +59,19 @@ class Runs(unittest.TestCase):
         random = np.random.default_rng(3)
         for _ in range(25):
             rows, cols = random.integers(1, 12, 2).tolist()
-            a, b = (random_map(random, rows, cols, int(random.choice([2, 9, 12, 120])), float(random.choice([0, 0.2, 1]))) for _ in "ab")
-            counted: collections.Counter[Any] = collections.Counter(zip(a.reshape(-1).tolist(), b.reshape(-1).tolist()))
+            a, b = (
+                random_map(
+                    random,
+                    rows,
+                    cols,
+                    int(random.choice([2, 9, 12, 120])),
+                    float(random.choice([0, 0.2, 1])),
+                )
+                for _ in "ab"
+            )
+            counted: collections.Counter[Any] = collections.Counter(
+                zip(a.reshape(-1).tolist(), b.reshape(-1).tolist())
+            )
             answer = rcell.run("r.stats -c input=a,b", a=a, b=b).tables[0]
             self.assertEqual({(x, y): n for x, y, n in answer.rows}, dict(counted))
 
@@ -70,55 +89,106 @@ class Runs(unittest.TestCase):
             for answer in rcell.run(script, a=a, b=b):
                 if isinstance(answer, rcell.Grid):
                     lines = answer.array.tolist()
-                    found.append(answer.region.header() + "null: x\n" + "".join(" ".join("x" if c is None else str(c) for c in row) + "\n" for row in lines))
+                    found.append(
+                        answer.region.header()
+                        + "null: x\n"
+                        + "".join(
+                            " ".join("x" if c is None else str(c) for c in row) + "\n"
+                            for row in lines
+                        )
+                    )
                 else:
-                    found.append("".join(" ".join("*" if v is None else str(v) for v in row) + "\n" for row in answer.rows))
+                    found.append(
+                        "".join(
+                            " ".join("*" if v is None else str(v) for v in row) + "\n"
+                            for row in answer.rows
+                        )
+                    )
             self.assertEqual("".join(found), output.decode())
 
     def test_a_table_without_lines_between_others(self) -> None:
-        result = rcell.run("r.stats -cn input=lc after=3\nr.stats -c input=lc\nr.stats -cn input=lc after=3", lc=rcell.Map(LAND, nodata=0))
-        self.assertEqual([table.rows for table in result.tables], [[], [(1, 5), (2, 4), (3, 2), (None, 1)], []])
+        result = rcell.run(
+            "r.stats -cn input=lc after=3\nr.stats -c input=lc\nr.stats -cn input=lc after=3",
+            lc=rcell.Map(LAND, nodata=0),
+        )
+        self.assertEqual(
+            [table.rows for table in result.tables], [[], [(1, 5), (2, 4), (3, 2), (None, 1)], []]
+        )
 
     def test_a_script_that_writes_nothing(self) -> None:
         result = rcell.run("", lc=LAND)
-        self.assertEqual((len(result), result.tables, result.grids, repr(result)), (0, [], {}, "<Result: no output>"))
+        self.assertEqual(
+            (len(result), result.tables, result.grids, repr(result)),
+            (0, [], {}, "<Result: no output>"),
+        )
 
     def test_an_output_of_each_kind(self) -> None:
-        result = rcell.run("r.out.ascii input=lc null_value=-1\nr.stats -1 input=lc\nr.stats -1n input=lc\nr.stats input=lc", lc=rcell.Map(LAND, nodata=0))
-        self.assertEqual([type(output).__name__ for output in result], ["Grid", "StatsTable", "StatsTable", "StatsTable"])
+        result = rcell.run(
+            "r.out.ascii input=lc null_value=-1\nr.stats -1 input=lc\nr.stats -1n input=lc\nr.stats input=lc",
+            lc=rcell.Map(LAND, nodata=0),
+        )
+        self.assertEqual(
+            [type(output).__name__ for output in result],
+            ["Grid", "StatsTable", "StatsTable", "StatsTable"],
+        )
         self.assertEqual([len(table) for table in result.tables], [12, 11, 4])
         self.assertEqual(result[0:2], list(result)[:2])
-        self.assertEqual(repr(result), "<Result: r.out.ascii of lc, r.stats of lc, r.stats of lc, r.stats of lc>")
+        self.assertEqual(
+            repr(result), "<Result: r.out.ascii of lc, r.stats of lc, r.stats of lc, r.stats of lc>"
+        )
 
     def test_grids_by_name(self) -> None:
         script = "r.stats -c input=lc\nr.mapcalc twice = lc * 2\nr.stats -c input=twice"
-        self.assertEqual(rcell.grid(script, "twice", lc=LAND).array.tolist(), (LAND.astype(int) * 2).tolist())
+        self.assertEqual(
+            rcell.grid(script, "twice", lc=LAND).array.tolist(), (LAND.astype(int) * 2).tolist()
+        )
         self.assertEqual(rcell.grid("", "lc", lc=LAND).array.tolist(), LAND.tolist())
         with self.assertRaises(rcell.Refused) as caught:
             rcell.grid(script, "thrice", lc=LAND)
         self.assertEqual(str(caught.exception), "arguments: no map thrice: there are lc, twice")
 
     def test_names_that_are_no_keywords(self) -> None:
-        self.assertEqual(rcell.run("r.stats -c input=area,script", {"area": LAND}, script=LAND).tables[0].rows[0], (0, 0, 1))
+        self.assertEqual(
+            rcell.run("r.stats -c input=area,script", {"area": LAND}, script=LAND)
+            .tables[0]
+            .rows[0],
+            (0, 0, 1),
+        )
         with self.assertRaises(rcell.Refused):
             rcell.run("", {"lc": LAND}, lc=LAND)
         with self.assertRaises(rcell.Refused):
             rcell.run("")
 
     def test_grids_go_in_again(self) -> None:
-        areas = rcell.grid("r.clump input=lc output=areas", "areas", lc=rcell.Map(LAND, (25, 0, 500, 0, -25, 1000), nodata=0))
+        areas = rcell.grid(
+            "r.clump input=lc output=areas",
+            "areas",
+            lc=rcell.Map(LAND, (25, 0, 500, 0, -25, 1000), nodata=0),
+        )
         again = rcell.grid("", "areas", areas=areas)
-        self.assertEqual((again.array.tolist(), again.transform), (areas.array.tolist(), (25, 0, 500, 0, -25, 1000)))
+        self.assertEqual(
+            (again.array.tolist(), again.transform),
+            (areas.array.tolist(), (25, 0, 500, 0, -25, 1000)),
+        )
 
     def test_large_maps_come_in_pieces(self) -> None:
         cells = np.arange(900 * 1_100, dtype=np.int32).reshape(900, 1_100) * 1_540 - 900_000_000
-        result = rcell.run("r.stats -c input=lc after=600000000\nr.out.ascii input=lc\nr.stats -c input=lc after=640000000\nr.out.ascii input=lc", lc=cells)
+        result = rcell.run(
+            "r.stats -c input=lc after=600000000\nr.out.ascii input=lc\nr.stats -c input=lc after=640000000\nr.out.ascii input=lc",
+            lc=cells,
+        )
         self.assertTrue((result[1].array == cells).all() and (result[3].array == cells).all())  # type: ignore[union-attr]
-        self.assertEqual([len(table) for table in result.tables], [int((cells > 6e8).sum()), int((cells > 6.4e8).sum())])
+        self.assertEqual(
+            [len(table) for table in result.tables],
+            [int((cells > 6e8).sum()), int((cells > 6.4e8).sum())],
+        )
 
     def test_an_empty_table_behind_a_map_of_long_numbers(self) -> None:
         cells = np.full((3, 4), 1_234_567_890)
-        result = rcell.run("r.out.ascii input=lc\nr.stats -c input=lc after=2000000000\nr.stats -c input=lc\nr.out.ascii input=lc", lc=cells)
+        result = rcell.run(
+            "r.out.ascii input=lc\nr.stats -c input=lc after=2000000000\nr.stats -c input=lc\nr.out.ascii input=lc",
+            lc=cells,
+        )
         self.assertEqual([table.rows for table in result.tables], [[], [(1_234_567_890, 12)]])
         self.assertEqual(result[0].array.tolist(), result[3].array.tolist())  # type: ignore[union-attr]
 
@@ -134,7 +204,9 @@ class Runs(unittest.TestCase):
 
 def rows_of(answer: Any) -> list[tuple[Any, ...]]:
     """The rows of a DataFrame or a Table, a column for each name."""
-    return list(answer.itertuples(index=False, name=None) if hasattr(answer, "itertuples") else answer.rows)
+    return list(
+        answer.itertuples(index=False, name=None) if hasattr(answer, "itertuples") else answer.rows
+    )
 
 
 class Patches(unittest.TestCase):
@@ -142,10 +214,35 @@ class Patches(unittest.TestCase):
         for connectivity in (4, 8):
             land = rcell.Map(LAND, nodata=0, labels={1: "wood"})
             found = rcell.patches(land, connectivity)
-            numbers = rcell.grid(f"r.clump {'-d' if connectivity == 8 else ''} input=lc output=k", "k", lc=land).array.filled(0)
-            rows = [(k, int(LAND[numbers == k][0]), {1: "wood"}.get(int(LAND[numbers == k][0]), ""), int((numbers == k).sum())) for k in range(1, numbers.max() + 1)]
+            numbers = rcell.grid(
+                f"r.clump {'-d' if connectivity == 8 else ''} input=lc output=k", "k", lc=land
+            ).array.filled(0)
+            rows = [
+                (
+                    k,
+                    int(LAND[numbers == k][0]),
+                    {1: "wood"}.get(int(LAND[numbers == k][0]), ""),
+                    int((numbers == k).sum()),
+                )
+                for k in range(1, numbers.max() + 1)
+            ]
             self.assertEqual([row[:4] for row in rows_of(found)], rows)
-            self.assertEqual(tuple(found.columns), ("patch", "class", "label", "cells", "area_ha", "perimeter_m", "core_ha", "west", "south", "east", "north"))
+            self.assertEqual(
+                tuple(found.columns),
+                (
+                    "patch",
+                    "class",
+                    "label",
+                    "cells",
+                    "area_ha",
+                    "perimeter_m",
+                    "core_ha",
+                    "west",
+                    "south",
+                    "east",
+                    "north",
+                ),
+            )
 
     def test_random_maps(self) -> None:
         random = np.random.default_rng(5)
@@ -155,7 +252,10 @@ class Patches(unittest.TestCase):
             least = int(random.integers(1, 5))
             whole, kept = rows_of(rcell.patches(a)), rows_of(rcell.patches(a, least=least))
             self.assertEqual(kept, [row for row in whole if row[2] >= least])
-            self.assertEqual(rows_of(rcell.patches(a, classes=[1, 3])), [row for row in whole if row[1] in (1, 3)])
+            self.assertEqual(
+                rows_of(rcell.patches(a, classes=[1, 3])),
+                [row for row in whole if row[1] in (1, 3)],
+            )
             numbers = rcell.grid("r.clump input=a output=k", "k", a=a).array.filled(0)
             for row in whole:
                 self.assertEqual(row[3:], (row[2] / 1e4, *measured(numbers == row[0])))
@@ -168,51 +268,105 @@ class Patches(unittest.TestCase):
 def measured(inside: Any) -> tuple[float, ...]:
     """The perimeter, the core of one step and the extent of some cells of side 1."""
     wide = np.pad(inside, 1)
-    sides = [wide[1:-1, 1:-1] & ~np.roll(wide, step, axis)[1:-1, 1:-1] for axis in (0, 1) for step in (-1, 1)]
+    sides = [
+        wide[1:-1, 1:-1] & ~np.roll(wide, step, axis)[1:-1, 1:-1]
+        for axis in (0, 1)
+        for step in (-1, 1)
+    ]
     core = wide[1:-1, 1:-1] & ~np.logical_or.reduce(sides)
     rows, cols = np.nonzero(inside)
     height = inside.shape[0]
-    return float(sum(side.sum() for side in sides)), core.sum() / 1e4, float(cols.min()), height - rows.max() - 1.0, cols.max() + 1.0, float(height - rows.min())
+    return (
+        float(sum(side.sum() for side in sides)),
+        core.sum() / 1e4,
+        float(cols.min()),
+        height - rows.max() - 1.0,
+        cols.max() + 1.0,
+        float(height - rows.min()),
+    )
 
 
 class Refusals(unittest.TestCase):
     def test_each_has_the_words_of_the_program_and_the_line_of_the_script(self) -> None:
         text = text_of(np.ma.MaskedArray(LAND))
         for script in (
-            "r.stats -q input=lc", "r.stats -c input=nope", "\n# x\nr.mapcalc x = lc +\nr.stats -c input=lc", "r.stats -c input=lc\nr.reclass input=lc output=x\n1 = 1",
-            "r.stats -c input=lc\nr.stats -c input=lc\nr.mapcalc x = lc ^ 2", "r.reclass input=lc output=x\n1 = 2\nr.stats input=x", "r.out.ascii input=lc null_value=a:b",
-            "r.stats -c input=lc separator=xx", "r.stats input=lc,", "r.clump input=lc output=lc", "x", "r.stats -c input=lc after=1,2", "r.stats -1c input=lc",
-            "r.stats -c input=lc input=lc", "r.stats - input=lc", "r.mapcalc x = lc + é", "r.stats -c input=lc\r\nr.stat\r", "r.stats -c input=lc # c", "r.mapcalc lc = 1",
+            "r.stats -q input=lc",
+            "r.stats -c input=nope",
+            "\n# x\nr.mapcalc x = lc +\nr.stats -c input=lc",
+            "r.stats -c input=lc\nr.reclass input=lc output=x\n1 = 1",
+            "r.stats -c input=lc\nr.stats -c input=lc\nr.mapcalc x = lc ^ 2",
+            "r.reclass input=lc output=x\n1 = 2\nr.stats input=x",
+            "r.out.ascii input=lc null_value=a:b",
+            "r.stats -c input=lc separator=xx",
+            "r.stats input=lc,",
+            "r.clump input=lc output=lc",
+            "x",
+            "r.stats -c input=lc after=1,2",
+            "r.stats -1c input=lc",
+            "r.stats -c input=lc input=lc",
+            "r.stats - input=lc",
+            "r.mapcalc x = lc + é",
+            "r.stats -c input=lc\r\nr.stat\r",
+            "r.stats -c input=lc # c",
+            "r.mapcalc lc = 1",
         ):
             with self.subTest(script=script):
                 status, _, message = by_files(script, lc=text)
                 with self.assertRaises(rcell.Refused) as caught:
                     rcell.run(script, lc=LAND)
                 refusal = caught.exception
-                self.assertEqual(f"rcell: {refusal.source}:{refusal.line}: {refusal.text}\n", message)
+                self.assertEqual(
+                    f"rcell: {refusal.source}:{refusal.line}: {refusal.text}\n", message
+                )
                 self.assertEqual(refusal.status, status)
                 if refusal.line:
-                    self.assertEqual(refusal.content, script.split("\n")[refusal.line - 1].rstrip("\r"))
+                    self.assertEqual(
+                        refusal.content, script.split("\n")[refusal.line - 1].rstrip("\r")
+                    )
 
     def test_the_mark_stands_under_the_column(self) -> None:
         with self.assertRaises(rcell.Refused) as caught:
             rcell.run("r.mapcalc\tx = lc + 1.5", lc=LAND)
-        self.assertEqual(str(caught.exception).splitlines()[1:3], ["  r.mapcalc\tx = lc + 1.5", "           \t         ^"])
+        self.assertEqual(
+            str(caught.exception).splitlines()[1:3],
+            ["  r.mapcalc\tx = lc + 1.5", "           \t         ^"],
+        )
 
     def test_maps(self) -> None:
         for given, told in (
-            (np.zeros((2, 2, 2), int), "an array of 3 dimensions (2 x 2 x 2), and a map has two; of a raster's bands give one, as read(1)"),
+            (
+                np.zeros((2, 2, 2), int),
+                "an array of 3 dimensions (2 x 2 x 2), and a map has two; of a raster's bands give one, as read(1)",
+            ),
             (np.zeros((0, 2), int), "an array without cells (0 x 2)"),
-            (np.array([[1, 2.5]]), "not a map of whole numbers: the cell at row 1, column 2 is 2.5"),
-            (np.array([[1], [np.inf]]), "not a map of whole numbers: the cell at row 2, column 1 is inf, beyond 2147483647 either way"),
-            (np.array([[3 * 10**9]]), "not a map of whole numbers: the cell at row 1, column 1 is 3000000000, beyond 2147483647 either way"),
-            (np.array([[2**64 - 1]], np.uint64), "not a map of whole numbers: the cell at row 1, column 1 is 18446744073709551615, beyond 2147483647 either way"),
-            (np.array([[-(2**31)]], np.int32), "not a map of whole numbers: the cell at row 1, column 1 is -2147483648, beyond 2147483647 either way"),
+            (
+                np.array([[1, 2.5]]),
+                "not a map of whole numbers: the cell at row 1, column 2 is 2.5",
+            ),
+            (
+                np.array([[1], [np.inf]]),
+                "not a map of whole numbers: the cell at row 2, column 1 is inf, beyond 2147483647 either way",
+            ),
+            (
+                np.array([[3 * 10**9]]),
+                "not a map of whole numbers: the cell at row 1, column 1 is 3000000000, beyond 2147483647 either way",
+            ),
+            (
+                np.array([[2**64 - 1]], np.uint64),
+                "not a map of whole numbers: the cell at row 1, column 1 is 18446744073709551615, beyond 2147483647 either way",
+            ),
+            (
+                np.array([[-(2**31)]], np.int32),
+                "not a map of whole numbers: the cell at row 1, column 1 is -2147483648, beyond 2147483647 either way",
+            ),
             (np.array([["a"]]), "not a map of whole numbers: its cells are of the type <U1"),
             (np.array([[1j]]), "not a map of whole numbers: its cells are of the type complex128"),
             (3, "neither a path nor an array nor a raster, but a int"),
             ((LAND, rcell.Region.of_cells(4, 4)), "an array of 3 x 4 cells, and a region of 4 x 4"),
-            ((LAND, (1, 0.5, 0, 0, -1, 0)), "a rotated transform (1.0, 0.5, 0.0, 0.0, -1.0, 0.0): warp the map to rows from west to east first"),
+            (
+                (LAND, (1, 0.5, 0, 0, -1, 0)),
+                "a rotated transform (1.0, 0.5, 0.0, 0.0, -1.0, 0.0): warp the map to rows from west to east first",
+            ),
         ):
             with self.subTest(told=told), self.assertRaises(rcell.BadMap) as caught:
                 rcell.run("r.stats -c input=lc", lc=given)
@@ -220,18 +374,34 @@ class Refusals(unittest.TestCase):
 
     def test_other_regions(self) -> None:
         with self.assertRaises(rcell.OtherRegion) as caught:
-            rcell.run("", a=(LAND, (25, 0, 500, 0, -25, 1000)), b=(LAND, (25, 0, 500.5, 0, -25, 1000)))
-        self.assertEqual(str(caught.exception).splitlines(), [
-            "b: not of the region of `a`, and nothing is resampled: east is 600.5, not 600 (0.5 more); west is 500.5, not 500 (0.5 more)",
-            "  a: north 1000, south 925, east 600, west 500, 3 rows, 4 columns",
-            "  b: north 1000, south 925, east 600.5, west 500.5, 3 rows, 4 columns",
-            '  try: b=rcell.align(b, to=a, resample="nearest")',
-        ])
-        taken = rcell.run("r.stats -c input=a,b", a=(LAND, (1, 0, 1 / 3, 0, -1, 3)), b=(LAND, (1, 0, 0.33333333, 0, -1, 3)))
+            rcell.run(
+                "", a=(LAND, (25, 0, 500, 0, -25, 1000)), b=(LAND, (25, 0, 500.5, 0, -25, 1000))
+            )
+        self.assertEqual(
+            str(caught.exception).splitlines(),
+            [
+                "b: not of the region of `a`, and nothing is resampled: east is 600.5, not 600 (0.5 more); west is 500.5, not 500 (0.5 more)",
+                "  a: north 1000, south 925, east 600, west 500, 3 rows, 4 columns",
+                "  b: north 1000, south 925, east 600.5, west 500.5, 3 rows, 4 columns",
+                '  try: b=rcell.align(b, to=a, resample="nearest")',
+            ],
+        )
+        taken = rcell.run(
+            "r.stats -c input=a,b",
+            a=(LAND, (1, 0, 1 / 3, 0, -1, 3)),
+            b=(LAND, (1, 0, 0.33333333, 0, -1, 3)),
+        )
         self.assertEqual(len(taken), 1)
 
     def test_what_is_taken(self) -> None:
-        for given in (LAND > 1, LAND.astype(float), LAND.astype(np.uint64), LAND[::-1, ::2], np.asfortranarray(LAND), LAND.tolist()):
+        for given in (
+            LAND > 1,
+            LAND.astype(float),
+            LAND.astype(np.uint64),
+            LAND[::-1, ::2],
+            np.asfortranarray(LAND),
+            LAND.tolist(),
+        ):
             rcell.run("r.stats -c input=lc", lc=given)
         self.assertEqual(rcell.run("r.stats -c input=lc", lc=np.array([[1, np.nan]]))[0].rows, [(1, 1), (None, 1)])  # type: ignore[union-attr]
         self.assertEqual(rcell.run("r.stats -c input=lc", lc=rcell.Map([[1, -(2**31)]], nodata=-(2**31)))[0].rows, [(1, 1), (None, 1)])  # type: ignore[union-attr]
@@ -239,7 +409,9 @@ class Refusals(unittest.TestCase):
             rcell.run("", lc=np.array([[2**24 + 2]], np.float32))
 
     def test_rows_from_south_to_north_are_turned(self) -> None:
-        self.assertEqual(rcell.grid("", "lc", lc=(LAND, (1, 0, 0, 0, 1, 0))).array.tolist(), LAND[::-1].tolist())
+        self.assertEqual(
+            rcell.grid("", "lc", lc=(LAND, (1, 0, 0, 0, 1, 0))).array.tolist(), LAND[::-1].tolist()
+        )
 
     def test_tables_and_areas(self) -> None:
         lc = rcell.Map(LAND, crs="EPSG:4326")
@@ -247,14 +419,34 @@ class Refusals(unittest.TestCase):
             with self.assertRaises(rcell.MissingLibrary):
                 rcell.table("r.stats -c input=lc", lc=lc, area="ha")
             lc = rcell.Map(LAND)
-        degrees = [(("r.stats -c input=lc", {"area": "ha"}), "area= needs a map in metres or feet: in degrees")] * has("rasterio")
+        degrees = [
+            (
+                ("r.stats -c input=lc", {"area": "ha"}),
+                "area= needs a map in metres or feet: in degrees",
+            )
+        ] * has("rasterio")
         for words, told in (
             *degrees,
-            (("r.stats -c input=lc", {"area": "acre"}), "area= is one of m2, ha, km2, and not 'acre'"),
-            (("r.stats input=lc", {"percent": True}), "percent= needs a table with cells: r.stats -c"),
-            (("r.stats -c input=lc", {"pivot": True}), "pivot= needs a table of two maps, and this one has 1"),
-            (("r.out.ascii input=lc", {}), "one table is asked for, and the script has r.out.ascii in line 1: rcell.run returns all outputs"),
-            (("# nothing", {}), "one table is asked for, and the script has no r.stats: rcell.run returns all outputs"),
+            (
+                ("r.stats -c input=lc", {"area": "acre"}),
+                "area= is one of m2, ha, km2, and not 'acre'",
+            ),
+            (
+                ("r.stats input=lc", {"percent": True}),
+                "percent= needs a table with cells: r.stats -c",
+            ),
+            (
+                ("r.stats -c input=lc", {"pivot": True}),
+                "pivot= needs a table of two maps, and this one has 1",
+            ),
+            (
+                ("r.out.ascii input=lc", {}),
+                "one table is asked for, and the script has r.out.ascii in line 1: rcell.run returns all outputs",
+            ),
+            (
+                ("# nothing", {}),
+                "one table is asked for, and the script has no r.stats: rcell.run returns all outputs",
+            ),
         ):
             with self.subTest(told=told), self.assertRaises(rcell.Refused) as caught:
                 rcell.table(words[0], lc=lc, **words[1])  # type: ignore[arg-type]
@@ -264,14 +456,25 @@ class Refusals(unittest.TestCase):
 class Scripts(unittest.TestCase):
     def test_labels_are_those_of_the_program(self) -> None:
         for rules in (
-            "1 2 = 1 built up\n3 = NULL gone\n* = 9 rest", "1 = 1 a\n2 = 1 b\n3 = 1", "* = * kept\n1 = 5 x # y", "  1 = 1  two  blanks \r\n# c\n\n2 = +2 plus\n3 thru 1 = -3 minus", "1 = 1 a = b",
+            "1 2 = 1 built up\n3 = NULL gone\n* = 9 rest",
+            "1 = 1 a\n2 = 1 b\n3 = 1",
+            "* = * kept\n1 = 5 x # y",
+            "  1 = 1  two  blanks \r\n# c\n\n2 = +2 plus\n3 thru 1 = -3 minus",
+            "1 = 1 a = b",
         ):
             script = f"r.reclass input=lc output=k\n{rules}\nend\nr.stats -ln input=k separator=tab"
             status, output, message = by_files(script, lc=text_of(np.ma.MaskedArray(LAND)))
             self.assertEqual((status, message), (0, ""))
-            told = {int(line.split("\t")[0]): line.split("\t")[1] for line in output.decode().splitlines()}
+            told = {
+                int(line.split("\t")[0]): line.split("\t")[1]
+                for line in output.decode().splitlines()
+            }
             labels = planned(script, ["lc"])[0].labels
-            self.assertEqual({category: label for category, label in told.items() if label}, {c: labels[c] for c in told if c in labels}, rules)
+            self.assertEqual(
+                {category: label for category, label in told.items() if label},
+                {c: labels[c] for c in told if c in labels},
+                rules,
+            )
 
     def test_labels_of_any_rules(self) -> None:
         random = np.random.default_rng(5)
@@ -280,23 +483,49 @@ class Scripts(unittest.TestCase):
             rules = []
             for at in range(int(random.integers(1, 8))):
                 first, last, output = random.integers(-50, 51, 3).tolist()
-                left = str(random.choice([f"{first}", f"{first} thru {last}", f"{first} {last}", "*"]))
-                rules.append(f"{left} = {random.choice([output, 1, 2])}{random.choice(['', f' label {at}'])}")
+                left = str(
+                    random.choice([f"{first}", f"{first} thru {last}", f"{first} {last}", "*"])
+                )
+                rules.append(
+                    f"{left} = {random.choice([output, 1, 2])}{random.choice(['', f' label {at}'])}"
+                )
             script = "\n".join(["r.reclass input=lc output=k", *rules, "end"])
             given = pipe.Map("lc", ("1", "0", "121", "0"), 1, 121, "i32", [pipe.Block(cells.data)])
             [table] = pipe.run(find_pipe(), [given], f"{script}\nr.stats -l -n input=k".encode())
             assert isinstance(table, pipe.TableFrame) and table.labels is not None
-            told = {category: label.decode() for category, label in zip(table.cells.tolist(), table.labels) if label}
+            told = {
+                category: label.decode()
+                for category, label in zip(table.cells.tolist(), table.labels)
+                if label
+            }
             labels = planned(script, ["lc"])[0].labels
-            self.assertEqual({category: labels[category] for category in table.cells.tolist() if category in labels}, told, script)
+            self.assertEqual(
+                {
+                    category: labels[category]
+                    for category in table.cells.tolist()
+                    if category in labels
+                },
+                told,
+                script,
+            )
 
     def test_texts_of_the_printed_table_change_no_value(self) -> None:
-        script = "\n".join(f"r.stats -c input=lc,lc null_value={text}" for text in ("end", "1", "-9", "*")) + "\nr.stats -l input=lc,lc separator=e null_value=d"
-        script += "\nr.stats -1nl input=lc,lc separator=1 null_value=1\nr.out.ascii input=lc null_value=2"
+        script = (
+            "\n".join(
+                f"r.stats -c input=lc,lc null_value={text}" for text in ("end", "1", "-9", "*")
+            )
+            + "\nr.stats -l input=lc,lc separator=e null_value=d"
+        )
+        script += (
+            "\nr.stats -1nl input=lc,lc separator=1 null_value=1\nr.out.ascii input=lc null_value=2"
+        )
         result = rcell.run(script, lc=rcell.Map(LAND, nodata=0, labels={1: "end"}))
         tables = result.tables
         self.assertEqual([table.rows[-1] for table in tables[:4]], [(None, None, 1)] * 4)
-        self.assertEqual([tables[4].rows[0], tables[5].rows[0], len(tables[5])], [(1, "end", 1, "end"), (1, "end", 1, "end"), 11])
+        self.assertEqual(
+            [tables[4].rows[0], tables[5].rows[0], len(tables[5])],
+            [(1, "end", 1, "end"), (1, "end", 1, "end"), 11],
+        )
         self.assertEqual(result.grids["lc"].array.tolist()[0], [1, 1, 2, None])
 
     def test_the_longest_script(self) -> None:
@@ -306,20 +535,32 @@ class Scripts(unittest.TestCase):
         self.assertEqual(len(rcell.run(script, lc=LAND)), 3)
         with self.assertRaises(rcell.Refused) as caught:
             rcell.run(script + "#", lc=LAND)
-        self.assertEqual((str(caught.exception), caught.exception.line), ("script: script too long", 0))
+        self.assertEqual(
+            (str(caught.exception), caught.exception.line), ("script: script too long", 0)
+        )
 
     def test_rules_without_an_end(self) -> None:
         for lines in ("", "r.stats -1 input=lc\n"):
             with self.assertRaises(rcell.Refused) as caught:
                 rcell.grid(f"{lines}r.reclass input=lc output=k\n1 = 1", "k", lc=LAND)
-            self.assertEqual((caught.exception.text, caught.exception.line), ("missing end", 2 if lines else 1))
+            self.assertEqual(
+                (caught.exception.text, caught.exception.line), ("missing end", 2 if lines else 1)
+            )
 
 
 def done(*fields: Any) -> str:
     """A response without a table, for printf: status, source, map, line, column and text."""
     *numbers, told = fields
     text = str(told)
-    return "RCELLA1\\nDONE" + "".join(f"\\{byte:03o}" for number in (*numbers, len(text)) for byte in number.to_bytes(8, "little")) + text
+    return (
+        "RCELLA1\\nDONE"
+        + "".join(
+            f"\\{byte:03o}"
+            for number in (*numbers, len(text))
+            for byte in number.to_bytes(8, "little")
+        )
+        + text
+    )
 
 
 class Programs(unittest.TestCase):
@@ -351,7 +592,15 @@ class Programs(unittest.TestCase):
         return execute(script, {"lc": rcell.Map(given).source("lc")}, program=path)
 
     def test_what_is_slow_to_import_waits_for_its_use(self) -> None:
-        names = ("pandas", "rasterio", "xarray", "dask", "importlib.metadata", "numpy.typing", "difflib")
+        names = (
+            "pandas",
+            "rasterio",
+            "xarray",
+            "dask",
+            "importlib.metadata",
+            "numpy.typing",
+            "difflib",
+        )
         code = f"import sys, rcell; print([name for name in {names} if name in sys.modules], rcell.__version__ != '')"
         ran = subprocess.run([sys.executable, "-c", code], capture_output=True, text=True)
         self.assertEqual((ran.stdout, ran.stderr), ("[] True\n", ""))
@@ -372,16 +621,37 @@ class Programs(unittest.TestCase):
         code = "import os, rcell._program as p\np.sysconfig.get_path = lambda *_: '/nowhere'\np.sys.executable = '/nowhere/python'\n"
         tried = "for find in (p.find_program, p.find_pipe):\n    try: find()\n    except p.MissingProgram as e: print(e)\n    p.find_program = lambda: '/nowhere/rcell'"
         environment = {"PATH": "/nowhere", "PYTHONPATH": os.pathsep.join(sys.path)}
-        ran = subprocess.run([sys.executable, "-c", code + tried], env=environment, capture_output=True, text=True)
-        self.assertEqual(ran.stdout.splitlines(), [
-            "the program rcell was not found: neither in the environment variable RCELL, nor next to this Python, nor on the path",
-            "the program rcell-pipe was not found: neither in the environment variable RCELL_PIPE, nor next to rcell, nor on the path",
-        ], ran.stderr)
+        ran = subprocess.run(
+            [sys.executable, "-c", code + tried], env=environment, capture_output=True, text=True
+        )
+        self.assertEqual(
+            ran.stdout.splitlines(),
+            [
+                "the program rcell was not found: neither in the environment variable RCELL, nor next to this Python, nor on the path",
+                "the program rcell-pipe was not found: neither in the environment variable RCELL_PIPE, nor next to rcell, nor on the path",
+            ],
+            ran.stderr,
+        )
 
     def test_wrong(self) -> None:
         head = "printf 'north: 1\\nsouth: 0\\neast: 3\\nwest: 0\\nrows: 1\\ncols: 3\\n'"
-        rows = ("", "echo '7 *'", "printf '7 * 12'", "echo '7 * 12 1'", "echo '7 * 13'", "yes '7 * 12'", "echo '7 * 12'; exit 1")
-        for body in ("exit 0", "echo 7 1 1", "exit 3", "yes", "yes x | head -c 3000000 >&2; exit 1", *(f"{head}\n{row}" for row in rows)):
+        rows = (
+            "",
+            "echo '7 *'",
+            "printf '7 * 12'",
+            "echo '7 * 12 1'",
+            "echo '7 * 13'",
+            "yes '7 * 12'",
+            "echo '7 * 12'; exit 1",
+        )
+        for body in (
+            "exit 0",
+            "echo 7 1 1",
+            "exit 3",
+            "yes",
+            "yes x | head -c 3000000 >&2; exit 1",
+            *(f"{head}\n{row}" for row in rows),
+        ):
             with self.subTest(body=body), self.assertRaises(rcell.WrongProgram):
                 rcell.program(self.program(body))
             if "yes '" not in body and body != "yes":
@@ -389,28 +659,46 @@ class Programs(unittest.TestCase):
                     find_pipe(self.program(body))
 
     def test_killed(self) -> None:
-        for signal, told in ((9, "SIGKILL): too little memory"), (15, "SIGTERM): someone ended it")):
+        for signal, told in (
+            (9, "SIGKILL): too little memory"),
+            (15, "SIGTERM): someone ended it"),
+        ):
             with self.assertRaises(rcell.Killed) as caught:
                 self.run_with(f"kill -{signal} $$")
             self.assertIn(told, str(caught.exception))
 
     def test_killed_in_the_middle(self) -> None:
         with self.assertRaises(rcell.Killed):
-            self.run_with("head -c 100000 > /dev/null; kill -9 $$", given=np.ones((2_000, 2_000), np.uint8))
+            self.run_with(
+                "head -c 100000 > /dev/null; kill -9 $$", given=np.ones((2_000, 2_000), np.uint8)
+            )
 
     def test_out_of_memory(self) -> None:
         for line, content in ((1, "r.stats -c input=lc"), (0, None)):
             with self.assertRaises(rcell.OutOfMemory) as caught:
                 self.run_with(f"printf '{done(3, 0, 0, line, 0, 'no memory')}'; exit 3")
-            self.assertEqual((caught.exception.status, caught.exception.line, caught.exception.content), (3, line, content))
+            self.assertEqual(
+                (caught.exception.status, caught.exception.line, caught.exception.content),
+                (3, line, content),
+            )
 
     def test_rejected_while_it_is_read(self) -> None:
         with self.assertRaises(rcell.Refused) as caught:
-            self.run_with(f"printf '{done(1, 1, 0, 7, 0, 'cell out of range')}'; exit 1", given=np.ones((2_000, 2_000), np.uint8))
+            self.run_with(
+                f"printf '{done(1, 1, 0, 7, 0, 'cell out of range')}'; exit 1",
+                given=np.ones((2_000, 2_000), np.uint8),
+            )
         self.assertEqual(str(caught.exception), "lc, line 7: cell out of range")
 
     def test_an_answer_that_is_not_understood(self) -> None:
-        bodies = ["cat > /dev/null; echo 1 2 3", "echo x; exit 7", "echo", "exit 0", f"printf '{done(1, 2, 0, 1, 0, 'bad')}'", f"printf '{done(0, 0, 0, 0, 0, '')}x'"]
+        bodies = [
+            "cat > /dev/null; echo 1 2 3",
+            "echo x; exit 7",
+            "echo",
+            "exit 0",
+            f"printf '{done(1, 2, 0, 1, 0, 'bad')}'",
+            f"printf '{done(0, 0, 0, 0, 0, '')}x'",
+        ]
         for body in bodies:
             with self.subTest(body=body), self.assertRaises(rcell.WrongProgram):
                 self.run_with(body, "r.stats -c input=lc\nr.out.ascii input=lc")
@@ -441,12 +729,22 @@ class Texts(unittest.TestCase):
         text = b"rows: 1\ncols: 3\nnorth: 10.50\nsouth: -.25\neast: 4.\nwest: +0\nnull: -9\nmultiplier: 3\n-9 9 -2\n"
         path = self.file(text)
         grid = rcell.grid("r.clump input=g output=k", "g", g=path)
-        self.assertEqual((grid.array.tolist(), grid.region), ([[None, 27, -6]], rcell.Region(10.5, -0.25, 4, 0, 1, 3)))
+        self.assertEqual(
+            (grid.array.tolist(), grid.region),
+            ([[None, 27, -6]], rcell.Region(10.5, -0.25, 4, 0, 1, 3)),
+        )
         self.assertEqual(rows_of(rcell.patches(path))[0][:3], (1, 27, 1))
 
     def test_with_an_array_beside_it(self) -> None:
-        grid = rcell.Grid("lc", np.ma.MaskedArray(LAND.astype(np.int32)), region := rcell.Region(3, 0, 4, 0, 3, 4), region.transform)
-        self.assertEqual(len(rcell.run("r.stats -c input=a,b", a=self.file(grid.text()), b=LAND).tables[0]), 4)
+        grid = rcell.Grid(
+            "lc",
+            np.ma.MaskedArray(LAND.astype(np.int32)),
+            region := rcell.Region(3, 0, 4, 0, 3, 4),
+            region.transform,
+        )
+        self.assertEqual(
+            len(rcell.run("r.stats -c input=a,b", a=self.file(grid.text()), b=LAND).tables[0]), 4
+        )
         with self.assertRaises(rcell.OtherRegion):
             rcell.run("", a=self.file(grid.text()), b=LAND[:2])
 
@@ -455,18 +753,29 @@ class Texts(unittest.TestCase):
         reader, writer = os.pipe()
 
         def write() -> None:
-            for start, end in ((0, 10), *((at, at + 50_000) for at in range(10, len(text), 50_000))):
+            for start, end in (
+                (0, 10),
+                *((at, at + 50_000) for at in range(10, len(text), 50_000)),
+            ):
                 os.write(writer, text[start:end])
             os.close(writer)
 
         thread = threading.Thread(target=write)
         thread.start()
-        self.assertEqual(rcell.grid("", "g", g=f"/dev/fd/{reader}").array.tolist(), np.arange(90_000).reshape(300, 300).tolist())
+        self.assertEqual(
+            rcell.grid("", "g", g=f"/dev/fd/{reader}").array.tolist(),
+            np.arange(90_000).reshape(300, 300).tolist(),
+        )
         thread.join()
         os.close(reader)
 
     def test_bad_headers_are_refused_by_the_program(self) -> None:
-        for text, told in ((b"north: 3\nsouth: x\n1 2", "bad number"), (b"north: 3\nNORTH: 3\n1", "bad header line"), (b"north: 1\n", "missing key"), (b"rows: 70000\ncols: 1\nnorth: 1\nsouth: 0\neast: 1\nwest: 0\n1", "bad region")):
+        for text, told in (
+            (b"north: 3\nsouth: x\n1 2", "bad number"),
+            (b"north: 3\nNORTH: 3\n1", "bad header line"),
+            (b"north: 1\n", "missing key"),
+            (b"rows: 70000\ncols: 1\nnorth: 1\nsouth: 0\neast: 1\nwest: 0\n1", "bad region"),
+        ):
             with self.subTest(text=text), self.assertRaises(rcell.Refused) as caught:
                 rcell.run("", g=self.file(text))
             self.assertIn(told, caught.exception.text)
@@ -474,13 +783,22 @@ class Texts(unittest.TestCase):
 
     def test_cells_are_refused_with_their_line(self) -> None:
         with self.assertRaises(rcell.Refused) as caught:
-            rcell.run("r.stats -c input=g", g=self.file(text_of(np.ma.MaskedArray(LAND)).replace(b"3", b"x", 1).replace(b"x", b"3", 1) + b"y"))
+            rcell.run(
+                "r.stats -c input=g",
+                g=self.file(
+                    text_of(np.ma.MaskedArray(LAND)).replace(b"3", b"x", 1).replace(b"x", b"3", 1)
+                    + b"y"
+                ),
+            )
         self.assertEqual((caught.exception.source, caught.exception.line > 7), ("g", True))
 
     def test_no_such_file(self) -> None:
         with self.assertRaises(rcell.ReadFailed) as caught:
             rcell.run("", g="/nowhere/g")
-        self.assertEqual((str(caught.exception), caught.exception.status), ("g: cannot open: /nowhere/g: No such file or directory", 4))
+        self.assertEqual(
+            (str(caught.exception), caught.exception.status),
+            ("g: cannot open: /nowhere/g: No such file or directory", 4),
+        )
 
     def test_a_pipe_that_is_no_grid(self) -> None:
         with self.assertRaises(rcell.BadMap):
@@ -488,7 +806,12 @@ class Texts(unittest.TestCase):
 
 
 class Files(unittest.TestCase):
-    grid = rcell.Grid("lc", np.ma.MaskedArray(LAND.astype(np.int32)), rcell.Region(3, 0, 4, 0, 3, 4), (1, 0, 0, 0, -1, 3))
+    grid = rcell.Grid(
+        "lc",
+        np.ma.MaskedArray(LAND.astype(np.int32)),
+        rcell.Region(3, 0, 4, 0, 3, 4),
+        (1, 0, 0, 0, -1, 3),
+    )
 
     def test_written_and_read(self) -> None:
         with tempfile.TemporaryDirectory() as folder:
@@ -515,7 +838,12 @@ class Files(unittest.TestCase):
         )
         with tempfile.TemporaryDirectory() as folder:
             environment = {**os.environ, "PYTHONPATH": os.pathsep.join(sys.path)}
-            ran = subprocess.run([sys.executable, "-c", code, f"{folder}/x.txt"], capture_output=True, text=True, env=environment)
+            ran = subprocess.run(
+                [sys.executable, "-c", code, f"{folder}/x.txt"],
+                capture_output=True,
+                text=True,
+                env=environment,
+            )
             self.assertEqual((ran.stdout, os.listdir(folder)), ("full", []), ran.stderr)
 
 

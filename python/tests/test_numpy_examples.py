@@ -30,17 +30,32 @@ def examples() -> list[doctest.DocTest]:
     found: list[doctest.DocTest] = []
     for module in pkgutil.iter_modules(rcell.__path__):
         if not module.ispkg and (module.name != "xarray" or has("xarray") and has("distributed")):
-            found += doctest.DocTestFinder(exclude_empty=True).find(importlib.import_module(f"rcell.{module.name}"), extraglobs={"np": np})
+            found += doctest.DocTestFinder(exclude_empty=True).find(
+                importlib.import_module(f"rcell.{module.name}"), extraglobs={"np": np}
+            )
     for name in rcell.__all__:
         named = getattr(rcell, name, None) if name != "tiles" else None
         if inspect.isclass(named) and named.__module__ == "rcell":
-            found += doctest.DocTestFinder(exclude_empty=True).find(named, f"rcell.{name}", module=False, globs={"np": np})
-    return [test for test in found + doctest.DocTestFinder().find(rcell, "rcell", extraglobs={"np": np}) if test.examples]
+            found += doctest.DocTestFinder(exclude_empty=True).find(
+                named, f"rcell.{name}", module=False, globs={"np": np}
+            )
+    return [
+        test
+        for test in found + doctest.DocTestFinder().find(rcell, "rcell", extraglobs={"np": np})
+        if test.examples
+    ]
 
 
 def missing(test: doctest.DocTest) -> str:
     source = "".join(example.source for example in test.examples)
-    return next((library for library, words in NEEDS.items() if any(word in source for word in words) and not has(library)), "")
+    return next(
+        (
+            library
+            for library, words in NEEDS.items()
+            if any(word in source for word in words) and not has(library)
+        ),
+        "",
+    )
 
 
 class Examples(unittest.TestCase):
@@ -59,14 +74,30 @@ class Examples(unittest.TestCase):
                     count += 1
         self.assertGreater(count, 50)
         if left_out:
-            print(f"python: {left_out} examples need libraries that are not installed, and were left out")
+            print(
+                f"python: {left_out} examples need libraries that are not installed, and were left out"
+            )
 
     def test_each_public_name_has_a_docstring_with_an_example(self) -> None:
         for name in set(rcell.__all__) - {"__version__", "tiles"}:
             public = getattr(rcell, name)
-            members = [(f"{name}.{key}", member) for key, member in vars(public).items() if not key.startswith("_")] if inspect.isclass(public) else []
+            members = (
+                [
+                    (f"{name}.{key}", member)
+                    for key, member in vars(public).items()
+                    if not key.startswith("_")
+                ]
+                if inspect.isclass(public)
+                else []
+            )
             for of, member in [(name, public), *members]:
-                inner: Any = member.__func__ if isinstance(member, classmethod) else member.func if hasattr(member, "func") else member
+                inner: Any = (
+                    member.__func__
+                    if isinstance(member, classmethod)
+                    else member.func
+                    if hasattr(member, "func")
+                    else member
+                )
                 if callable(inner) or isinstance(inner, property) or hasattr(member, "func"):
                     self.assertIn(">>>", inspect.getdoc(inner) or "", of)
 

@@ -25,7 +25,15 @@ MAGIC = b"RCELLA1\n"
 
 
 def a_map(**words: Any) -> pipe.Map:
-    given: dict[str, Any] = {"name": "lc", "edges": EDGES, "rows": 2, "cols": 3, "type": "u8", "blocks": [pipe.Block(LAND)], **words}
+    given: dict[str, Any] = {
+        "name": "lc",
+        "edges": EDGES,
+        "rows": 2,
+        "cols": 3,
+        "type": "u8",
+        "blocks": [pipe.Block(LAND)],
+        **words,
+    }
     return pipe.Map(**given)
 
 
@@ -34,15 +42,57 @@ def text(given: bytes) -> bytes:
 
 
 DONE = b"DONE" + struct.pack("<5Q", 0, 0, 0, 0, 0) + text(b"")
-TABLE = b"TABL" + struct.pack("<3Q", 4, 2, 1) + b"\1\1;" + text(b"NA") + text(b"lc") + struct.pack("<2Q2i", 5, 2**40, -7, pipe.NULL) + text(b"wood") + text(b"no data")
-GRID = b"GRID" + struct.pack("<Q", 5) + b"".join(map(text, (b"*", b"k", b"2", b"0", b"3.5", b"-0.5"))) + struct.pack("<2Q", 1, 2) + b"\6" + struct.pack("<2i", 300, pipe.NULL)
-CELLS = b"CELL" + struct.pack("<3Q", 6, 2, 1) + b"\0\0 " + text(b"*") + text(b"lc") + struct.pack("<2i", 1, pipe.NULL)
+TABLE = (
+    b"TABL"
+    + struct.pack("<3Q", 4, 2, 1)
+    + b"\1\1;"
+    + text(b"NA")
+    + text(b"lc")
+    + struct.pack("<2Q2i", 5, 2**40, -7, pipe.NULL)
+    + text(b"wood")
+    + text(b"no data")
+)
+GRID = (
+    b"GRID"
+    + struct.pack("<Q", 5)
+    + b"".join(map(text, (b"*", b"k", b"2", b"0", b"3.5", b"-0.5")))
+    + struct.pack("<2Q", 1, 2)
+    + b"\6"
+    + struct.pack("<2i", 300, pipe.NULL)
+)
+CELLS = (
+    b"CELL"
+    + struct.pack("<3Q", 6, 2, 1)
+    + b"\0\0 "
+    + text(b"*")
+    + text(b"lc")
+    + struct.pack("<2i", 1, pipe.NULL)
+)
 PLAN = (
-    b"PLAN" + struct.pack("<Q", 7) + b"\1\x08" + text(b"k") + struct.pack("<Q", 1) + text(b"lc") + struct.pack("<4Q", 1, 2, 3, 4)
-    + struct.pack("<Q", 2) + text(b"lc") + struct.pack("<4QB", 5, 6, 7, 8, 0) + text(b"ws") + struct.pack("<4QB", 0, 0, 0, 0, 1)
-    + b"\x15" + struct.pack("<Q", 2) + text(b"k") + text(b"lc") + struct.pack("<Q2i", 2, 9, pipe.NULL)
+    b"PLAN"
+    + struct.pack("<Q", 7)
+    + b"\1\x08"
+    + text(b"k")
+    + struct.pack("<Q", 1)
+    + text(b"lc")
+    + struct.pack("<4Q", 1, 2, 3, 4)
+    + struct.pack("<Q", 2)
+    + text(b"lc")
+    + struct.pack("<4QB", 5, 6, 7, 8, 0)
+    + text(b"ws")
+    + struct.pack("<4QB", 0, 0, 0, 0, 1)
+    + b"\x15"
+    + struct.pack("<Q", 2)
+    + text(b"k")
+    + text(b"lc")
+    + struct.pack("<Q2i", 2, 9, pipe.NULL)
     + struct.pack("<Q2QB2QB", 2, 5, 9, 2, 12, 300, 4)
-    + struct.pack("<Qi", 3, 2) + text(b"first") + struct.pack("<i", -7) + text(b"wood") + struct.pack("<i", 2) + text(b"last")
+    + struct.pack("<Qi", 3, 2)
+    + text(b"first")
+    + struct.pack("<i", -7)
+    + text(b"wood")
+    + struct.pack("<i", 2)
+    + text(b"last")
 )
 
 
@@ -82,28 +132,71 @@ class Asked(unittest.TestCase):
 
 class Requests(Asked):
     def test_each_field(self) -> None:
-        found = self.asked(a_map(nodata=255, labels={1: "wood", -2: "ä"}), script=b"r.stats input=lc\n")
-        head = b"RCELLQ1\n\1\0\0\0" + b"\2lc" + b"\0012" + b"\0010" + b"\0033.5" + b"\3-.5" + struct.pack("<IIBBqI", 2, 3, 1, 1, 255, 2)
+        found = self.asked(
+            a_map(nodata=255, labels={1: "wood", -2: "ä"}), script=b"r.stats input=lc\n"
+        )
+        head = (
+            b"RCELLQ1\n\1\0\0\0"
+            + b"\2lc"
+            + b"\0012"
+            + b"\0010"
+            + b"\0033.5"
+            + b"\3-.5"
+            + struct.pack("<IIBBqI", 2, 3, 1, 1, 255, 2)
+        )
         labels = struct.pack("<iH", 1, 4) + b"wood" + struct.pack("<iH", -2, 2) + "ä".encode()
         self.assertEqual(found, head + labels + LAND + b"\x11\0\0\0r.stats input=lc\n")
 
     def test_rows_and_masks(self) -> None:
         cells, mask = array("h", [1, -1, 300, 4, 5, 6]), bytes([0, 1, 0, 1, 1, 0])
-        for blocks in ([pipe.Block(memoryview(cells), mask)], [pipe.Block(memoryview(cells)[:3], mask[:3]), pipe.Block(memoryview(cells)[3:], bytearray(mask[3:]))]):
+        for blocks in (
+            [pipe.Block(memoryview(cells), mask)],
+            [
+                pipe.Block(memoryview(cells)[:3], mask[:3]),
+                pipe.Block(memoryview(cells)[3:], bytearray(mask[3:])),
+            ],
+        ):
             found = self.asked(a_map(type="i16", blocks=blocks, is_masked=True))
-            rows = struct.pack("<3h", 1, -1, 300) + mask[:3] + struct.pack("<3h", 4, 5, 6) + mask[3:]
-            self.assertTrue(found.endswith(struct.pack("<IIBBqI", 2, 3, 4, 2, 0, 0) + rows + bytes(4)), found)
+            rows = (
+                struct.pack("<3h", 1, -1, 300) + mask[:3] + struct.pack("<3h", 4, 5, 6) + mask[3:]
+            )
+            self.assertTrue(
+                found.endswith(struct.pack("<IIBBqI", 2, 3, 4, 2, 0, 0) + rows + bytes(4)), found
+            )
 
     def test_arrays_of_every_type(self) -> None:
-        for name, dtype in (("u8", "u1"), ("i8", "i1"), ("u16", "u2"), ("i16", "i2"), ("u32", "u4"), ("i32", "i4"), ("i64", "i8")):
+        for name, dtype in (
+            ("u8", "u1"),
+            ("i8", "i1"),
+            ("u16", "u2"),
+            ("i16", "i2"),
+            ("u32", "u4"),
+            ("i32", "i4"),
+            ("i64", "i8"),
+        ):
             cells = np.arange(6).astype(dtype).reshape(2, 3)
-            self.assertTrue(self.asked(a_map(type=name, blocks=[pipe.Block(cells.data)])).endswith(cells.tobytes() + bytes(4)))
-            frames = pipe.run(find_pipe(), [a_map(type=name, blocks=[pipe.Block(cells.data)])], b"r.out.ascii input=lc\n")
+            self.assertTrue(
+                self.asked(a_map(type=name, blocks=[pipe.Block(cells.data)])).endswith(
+                    cells.tobytes() + bytes(4)
+                )
+            )
+            frames = pipe.run(
+                find_pipe(),
+                [a_map(type=name, blocks=[pipe.Block(cells.data)])],
+                b"r.out.ascii input=lc\n",
+            )
             self.assertEqual(np.asarray(frames[0].cells).tolist(), list(range(6)))
 
     def test_other_numbers_of_rows(self) -> None:
-        for blocks in ([], [pipe.Block(LAND[:3])], [pipe.Block(LAND + LAND[:3])], [pipe.Block(LAND[:4]), pipe.Block(LAND[4:])]):
-            with self.subTest(blocks=blocks), self.assertRaisesRegex(ValueError, "rows of the map lc, which has 2"):
+        for blocks in (
+            [],
+            [pipe.Block(LAND[:3])],
+            [pipe.Block(LAND + LAND[:3])],
+            [pipe.Block(LAND[:4]), pipe.Block(LAND[4:])],
+        ):
+            with self.subTest(blocks=blocks), self.assertRaisesRegex(
+                ValueError, "rows of the map lc, which has 2"
+            ):
                 self.asked(a_map(blocks=blocks))
         with self.assertRaisesRegex(ValueError, "a mask of 0 bytes"):
             self.asked(a_map(is_masked=True))
@@ -111,29 +204,66 @@ class Requests(Asked):
 
 class Answers(Asked):
     def test_each_frame(self) -> None:
-        table, grid, cells = pipe.run(self.answering(MAGIC + TABLE + GRID + CELLS + DONE), [a_map()], b"")
-        assert isinstance(table, pipe.TableFrame) and isinstance(grid, pipe.GridFrame) and isinstance(cells, pipe.TableFrame)
-        self.assertEqual((table.line, table.names, table.separator, table.null_text, table.entries), (4, ("lc",), b";", b"NA", 2))
+        table, grid, cells = pipe.run(
+            self.answering(MAGIC + TABLE + GRID + CELLS + DONE), [a_map()], b""
+        )
+        assert (
+            isinstance(table, pipe.TableFrame)
+            and isinstance(grid, pipe.GridFrame)
+            and isinstance(cells, pipe.TableFrame)
+        )
+        self.assertEqual(
+            (table.line, table.names, table.separator, table.null_text, table.entries),
+            (4, ("lc",), b";", b"NA", 2),
+        )
         assert table.counts is not None
-        self.assertEqual((table.counts.tolist(), table.cells.tolist(), table.labels), ([5, 2**40], [-7, pipe.NULL], [b"wood", b"no data"]))
+        self.assertEqual(
+            (table.counts.tolist(), table.cells.tolist(), table.labels),
+            ([5, 2**40], [-7, pipe.NULL], [b"wood", b"no data"]),
+        )
         self.assertEqual(table.null_text, b"NA")
-        self.assertEqual((grid.line, grid.name, grid.null_text, grid.rows, grid.cols, grid.type, grid.null), (5, "k", b"*", 1, 2, "i32", pipe.NULL))
-        self.assertEqual((grid.cells.tolist(), array("i", grid.cells).tolist()), ([300, pipe.NULL], [300, pipe.NULL]))
+        self.assertEqual(
+            (grid.line, grid.name, grid.null_text, grid.rows, grid.cols, grid.type, grid.null),
+            (5, "k", b"*", 1, 2, "i32", pipe.NULL),
+        )
+        self.assertEqual(
+            (grid.cells.tolist(), array("i", grid.cells).tolist()),
+            ([300, pipe.NULL], [300, pipe.NULL]),
+        )
         self.assertEqual(grid.edges, ("2", "0", "3.5", "-0.5"))
-        self.assertEqual((cells.line, cells.names, cells.counts, cells.cells.tolist(), cells.null_text), (6, ("lc",), None, [1, pipe.NULL], b"*"))
+        self.assertEqual(
+            (cells.line, cells.names, cells.counts, cells.cells.tolist(), cells.null_text),
+            (6, ("lc",), None, [1, pipe.NULL], b"*"),
+        )
 
     def test_a_statement(self) -> None:
         [found] = pipe.plan(self.answering(MAGIC + PLAN + DONE), ["lc", "ws"], b"x")
         self.assertEqual((found.line, found.command, found.made), (7, "r.mapcalc", "k"))
-        self.assertEqual((found.reads, found.needs), ({"lc": (1, 2, 3, 4)}, {"lc": (5, 6, 7, 8), "ws": None}))
-        self.assertEqual((found.options, found.inputs, found.after, found.text), ("c1N", ("k", "lc"), (9, pipe.NULL), ""))
-        self.assertEqual((found.calls, found.labels), ((pipe.Call("col", 4, 9), pipe.Call("ncols", 11, 300)), {-7: "wood", 2: "last"}))
+        self.assertEqual(
+            (found.reads, found.needs), ({"lc": (1, 2, 3, 4)}, {"lc": (5, 6, 7, 8), "ws": None})
+        )
+        self.assertEqual(
+            (found.options, found.inputs, found.after, found.text),
+            ("c1N", ("k", "lc"), (9, pipe.NULL), ""),
+        )
+        self.assertEqual(
+            (found.calls, found.labels),
+            ((pipe.Call("col", 4, 9), pipe.Call("ncols", 11, 300)), {-7: "wood", 2: "last"}),
+        )
         with open(f"{self.folder}/request", "rb") as file:
-            self.assertEqual(file.read(), b"RCELLP1\n" + struct.pack("<I", 2) + b"\2lc\2ws" + struct.pack("<I", 1) + b"x")
+            self.assertEqual(
+                file.read(),
+                b"RCELLP1\n" + struct.pack("<I", 2) + b"\2lc\2ws" + struct.pack("<I", 1) + b"x",
+            )
 
     def test_what_is_cut_or_goes_on_is_no_answer(self) -> None:
         answer = MAGIC + TABLE + GRID + CELLS + PLAN + DONE
-        for given in [*(answer[:end] for end in range(0, len(answer), 7)), answer + b"\0", b"RCELLA2\n" + DONE, MAGIC + b"TEXT" + DONE]:
+        for given in [
+            *(answer[:end] for end in range(0, len(answer), 7)),
+            answer + b"\0",
+            b"RCELLA2\n" + DONE,
+            MAGIC + b"TEXT" + DONE,
+        ]:
             with self.subTest(given=given), self.assertRaises(pipe.NoAnswer):
                 pipe.run(self.answering(given), [a_map()], b"")
         with self.assertRaisesRegex(pipe.NoAnswer, "ended in status 4 and said: nothing"):
@@ -141,13 +271,24 @@ class Answers(Asked):
 
     def test_a_program_that_stops_reading(self) -> None:
         end = b"DONE" + struct.pack("<5Q", 1, 1, 1, 9, 0) + text(b"cell out of range")
-        large = a_map(rows=3_000, cols=3_000, blocks=iter([pipe.Block(bytes(9_000_000))] + [pipe.Block(b"x")] * 3))
+        large = a_map(
+            rows=3_000,
+            cols=3_000,
+            blocks=iter([pipe.Block(bytes(9_000_000))] + [pipe.Block(b"x")] * 3),
+        )
         with open(f"{self.folder}/answer", "wb") as file:
             file.write(MAGIC + end)
         with self.assertRaises(pipe.Rejected) as caught:
-            pipe.run(self.program(f"head -c 100000 > /dev/null; cat {self.folder}/answer; exit 1"), [large], b"")
+            pipe.run(
+                self.program(f"head -c 100000 > /dev/null; cat {self.folder}/answer; exit 1"),
+                [large],
+                b"",
+            )
         found = caught.exception
-        self.assertEqual((found.status, found.source, found.map, found.line, found.column, found.text), (1, "request", 1, 9, 0, "cell out of range"))
+        self.assertEqual(
+            (found.status, found.source, found.map, found.line, found.column, found.text),
+            (1, "request", 1, 9, 0, "cell out of range"),
+        )
 
     def test_endings(self) -> None:
         with self.assertRaises(pipe.Killed) as caught:
@@ -155,7 +296,9 @@ class Answers(Asked):
         self.assertEqual(caught.exception.args, (15,))
         with self.assertRaises(TimeoutError):
             pipe.run(self.program("exec sleep 60"), [a_map()], b"", seconds=0.3)
-        with self.assertRaisesRegex(pipe.NotStarted, "No such file or directory: '/nowhere/rcell-pipe'"):
+        with self.assertRaisesRegex(
+            pipe.NotStarted, "No such file or directory: '/nowhere/rcell-pipe'"
+        ):
             pipe.run("/nowhere/rcell-pipe", [a_map()], b"")
 
     def test_who_waits_may_end_it(self) -> None:
@@ -196,12 +339,34 @@ class Texts(Asked):
     def test_rows_are_those_of_a_grid(self) -> None:
         chance = np.random.default_rng(2)
         for rows, cols in ((1, 1), (3, 5), (20, 20_000)):
-            for kind, dtype, null, low, high in (("u8", "u1", 255, 0, 256), ("i32", "i4", pipe.NULL, -3, 12), ("i32", "i4", -9, -(2**31) + 1, 2**31)):
-                cells = np.where(chance.random((rows, cols)) < 0.1, null, chance.integers(low, high, (rows, cols))).astype(dtype)
-                land = pipe.Map("land", (f"{rows}.5", "0.50", f"{cols}", "-0"), rows, cols, kind, [pipe.Block(cells.data)], null)
+            for kind, dtype, null, low, high in (
+                ("u8", "u1", 255, 0, 256),
+                ("i32", "i4", pipe.NULL, -3, 12),
+                ("i32", "i4", -9, -(2**31) + 1, 2**31),
+            ):
+                cells = np.where(
+                    chance.random((rows, cols)) < 0.1,
+                    null,
+                    chance.integers(low, high, (rows, cols)),
+                ).astype(dtype)
+                land = pipe.Map(
+                    "land",
+                    (f"{rows}.5", "0.50", f"{cols}", "-0"),
+                    rows,
+                    cols,
+                    kind,
+                    [pipe.Block(cells.data)],
+                    null,
+                )
                 wanted = f"north: {rows}.5\nsouth: 0.5\neast: {cols}\nwest: 0\nrows: {rows}\ncols: {cols}\n"
-                wanted += "".join(" ".join("*" if cell == null else str(cell) for cell in row) + "\n" for row in cells.tolist())
-                self.assertEqual(b"".join(pipe.text(find_pipe(), [land], b"r.out.ascii input=land")), wanted.encode())
+                wanted += "".join(
+                    " ".join("*" if cell == null else str(cell) for cell in row) + "\n"
+                    for row in cells.tolist()
+                )
+                self.assertEqual(
+                    b"".join(pipe.text(find_pipe(), [land], b"r.out.ascii input=land")),
+                    wanted.encode(),
+                )
 
     def test_text_is_all_that_comes(self) -> None:
         for given in (b"", b"RCELLA1\nDON", MAGIC + DONE + b"7\n", b"7\n" * 300_000 + MAGIC + DONE):
@@ -209,7 +374,11 @@ class Texts(Asked):
 
     def test_rejections(self) -> None:
         rejection = MAGIC + b"DONE" + struct.pack("<5Q", 1, 2, 0, 3, 0) + text(b"unknown map")
-        for given, status, wanted in ((rejection, 1, (1, "script", 3, "unknown map")), (rejection, 3, (3, "", 0, "no memory")), (b"7\n", 3, (3, "", 0, "no memory"))):
+        for given, status, wanted in (
+            (rejection, 1, (1, "script", 3, "unknown map")),
+            (rejection, 3, (3, "", 0, "no memory")),
+            (b"7\n", 3, (3, "", 0, "no memory")),
+        ):
             with self.assertRaises(pipe.Rejected) as caught:
                 list(pipe.text(self.answering(given, f"exit {status}"), [a_map()], b""))
             found = caught.exception
@@ -224,9 +393,20 @@ class Runs(unittest.TestCase):
         chance = random.Random(5)
         for _ in range(20):
             cells = [chance.choice([1, 2, -30, 400, 2**31 - 1, pipe.NULL]) for _ in range(12)]
-            maps = [a_map(name=name, rows=3, cols=4, type="i32", nodata=pipe.NULL, blocks=[pipe.Block(memoryview(array("i", part)))])
-                    for name, part in (("a", cells), ("b", cells[::-1]))]
-            flags, more = chance.choice(["c", "cl", "l", "cn", "cN", "n", "1", "1l", "1n", "1N"]), chance.choice(["", " separator=comma null_value=NA", " separator=tab", " after=1,*"])
+            maps = [
+                a_map(
+                    name=name,
+                    rows=3,
+                    cols=4,
+                    type="i32",
+                    nodata=pipe.NULL,
+                    blocks=[pipe.Block(memoryview(array("i", part)))],
+                )
+                for name, part in (("a", cells), ("b", cells[::-1]))
+            ]
+            flags, more = chance.choice(
+                ["c", "cl", "l", "cn", "cN", "n", "1", "1l", "1n", "1N"]
+            ), chance.choice(["", " separator=comma null_value=NA", " separator=tab", " after=1,*"])
             more = "" if "1" in flags and "after" in more else more
             script = f"r.reclass input=a output=k\n1 = 1 wood\n* = *\nend\nr.stats -{flags} input=k,b{more}\n".encode()
             with tempfile.TemporaryDirectory() as folder:
@@ -234,11 +414,15 @@ class Runs(unittest.TestCase):
                 for name, part in (("a", cells), ("b", cells[::-1])):
                     rows = " ".join("*" if cell == pipe.NULL else str(cell) for cell in part)
                     with open(f"{folder}/{name}", "w") as file:
-                        file.write(f"north: 2\nsouth: 0\neast: 3.5\nwest: -.5\nrows: 3\ncols: 4\n{rows}\n")
+                        file.write(
+                            f"north: 2\nsouth: 0\neast: 3.5\nwest: -.5\nrows: 3\ncols: 4\n{rows}\n"
+                        )
                     words.append(f"{name}={folder}/{name}")
                 with open(f"{folder}/script", "wb") as script_file:
                     script_file.write(script)
-                wanted = subprocess.run([rcell.program(), f"{folder}/script", *words], capture_output=True, check=True).stdout
+                wanted = subprocess.run(
+                    [rcell.program(), f"{folder}/script", *words], capture_output=True, check=True
+                ).stdout
             self.assertEqual(b"".join(pipe.text(find_pipe(), maps, script)), wanted)
 
     def test_plans(self) -> None:
@@ -247,19 +431,47 @@ class Runs(unittest.TestCase):
             "r.clump output=k -d input=c\n r.mapcalc y = d[1,0] + k\nr.stats -1N\tinput=b,a,b -l \r"
         )
         found = pipe.plan(find_pipe(), ["a", "b", "c"], script.encode())
-        self.assertEqual([(one.line, one.command, one.made, one.inputs, one.options, [*one.calls]) for one in found], [
-            (1, "r.mapcalc", "x", (), "", [("row", 14, 19)]), (2, "r.stats", "", ("a", "b"), "cn", []), (4, "r.reclass", "d", ("a",), "", []),
-            (8, "r.clump", "k", ("c",), "", []), (9, "r.mapcalc", "y", (), "", []), (10, "r.stats", "", ("b", "a", "b"), "l1N", [])])
+        self.assertEqual(
+            [
+                (one.line, one.command, one.made, one.inputs, one.options, [*one.calls])
+                for one in found
+            ],
+            [
+                (1, "r.mapcalc", "x", (), "", [("row", 14, 19)]),
+                (2, "r.stats", "", ("a", "b"), "cn", []),
+                (4, "r.reclass", "d", ("a",), "", []),
+                (8, "r.clump", "k", ("c",), "", []),
+                (9, "r.mapcalc", "y", (), "", []),
+                (10, "r.stats", "", ("b", "a", "b"), "l1N", []),
+            ],
+        )
         self.assertEqual([one.labels for one in found], [{}, {}, {1: "grove"}, {}, {}, {}])
-        self.assertEqual((found[1].after, found[2].text, found[5].text), (
-            (1, pipe.NULL), "r.reclass input=a output=d\n1 = 1 wood\n2 = 1 grove\nend", "r.stats -1N\tinput=b,a,b -l \r"))
-        self.assertEqual((found[4].reads, found[4].needs), ({"d": (0, 1, 0, 0), "k": (0, 0, 0, 0)}, {"a": (0, 1, 0, 0), "c": None}))
+        self.assertEqual(
+            (found[1].after, found[2].text, found[5].text),
+            (
+                (1, pipe.NULL),
+                "r.reclass input=a output=d\n1 = 1 wood\n2 = 1 grove\nend",
+                "r.stats -1N\tinput=b,a,b -l \r",
+            ),
+        )
+        self.assertEqual(
+            (found[4].reads, found[4].needs),
+            ({"d": (0, 1, 0, 0), "k": (0, 0, 0, 0)}, {"a": (0, 1, 0, 0), "c": None}),
+        )
 
     def test_rejections(self) -> None:
-        numbers = a_map(name="n", type="i64", blocks=[pipe.Block(memoryview(array("q", [1, 2, 3, 4, 2**31, 6])))])
+        numbers = a_map(
+            name="n",
+            type="i64",
+            blocks=[pipe.Block(memoryview(array("q", [1, 2, 3, 4, 2**31, 6])))],
+        )
         for maps, script, told in (
             ([a_map(), numbers], b"", (1, "request", 1, 2, 0, "cell out of range")),
-            ([a_map()], b"\nr.mapcalc x = lc * 0.5", (1, "script", 0, 2, 20, "number not whole at column 20")),
+            (
+                [a_map()],
+                b"\nr.mapcalc x = lc * 0.5",
+                (1, "script", 0, 2, 20, "number not whole at column 20"),
+            ),
             ([a_map()], b"r.stats -c", (1, "script", 0, 1, 0, "missing option")),
             ([a_map(), a_map()], b"", (1, "request", 1, 0, 0, "name used twice")),
         ):
@@ -268,7 +480,9 @@ class Runs(unittest.TestCase):
             self.assertEqual(caught.exception.args, told)
         with self.assertRaises(pipe.Rejected) as caught:
             pipe.plan(find_pipe(), ["lc"], b"\nr.mapcalc x = lc * 0.5")
-        self.assertEqual(caught.exception.args, (1, "script", 0, 2, 20, "number not whole at column 20"))
+        self.assertEqual(
+            caught.exception.args, (1, "script", 0, 2, 20, "number not whole at column 20")
+        )
 
 
 if __name__ == "__main__":

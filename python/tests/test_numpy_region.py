@@ -16,13 +16,20 @@ class RegionsOfTheProgram(unittest.TestCase):
         self.assertEqual(hash(third), hash(Region(1, 0, 8.33333333, 0, 1, 1)))
         self.assertNotEqual(third, Region(1, 0, 8.33333340, 0, 1, 1))
         self.assertNotEqual(third, "a region")
-        self.assertEqual(third.differences(Region(1, 0, 8.3333334, 0, 2, 1)), [
-            "east is 8.3333334, not 8.33333333 (0.00000007 more)", "rows is 2, not 1 (1 more)",
-        ])
+        self.assertEqual(
+            third.differences(Region(1, 0, 8.3333334, 0, 2, 1)),
+            [
+                "east is 8.3333334, not 8.33333333 (0.00000007 more)",
+                "rows is 2, not 1 (1 more)",
+            ],
+        )
 
     def test_the_globe_by_twentieths_of_a_minute(self) -> None:
         globe = Region.from_transform((1 / 120, 0, -180, 0, -1 / 120, 90), 21_600, 43_200)
-        self.assertEqual(globe.header(), "north: 90\nsouth: -90\neast: 180\nwest: -180\nrows: 21600\ncols: 43200\n")
+        self.assertEqual(
+            globe.header(),
+            "north: 90\nsouth: -90\neast: 180\nwest: -180\nrows: 21600\ncols: 43200\n",
+        )
 
     def test_no_minus_before_a_zero(self) -> None:
         self.assertIn("south: 0\n", Region(1, -1e-12, 1, 0, 1, 1).header())
@@ -49,7 +56,11 @@ class RegionsOfTheProgram(unittest.TestCase):
             self.assertIn(told, str(caught.exception))
 
     def test_what_no_transform_may_be(self) -> None:
-        for transform, told in (((1, 0.1, 0, 0, -1, 0), "rotated"), ((1, 0, 0, 0, 1, 0), "from north to south"), ((-1, 0, 0, 0, -1, 0), "west to east")):
+        for transform, told in (
+            ((1, 0.1, 0, 0, -1, 0), "rotated"),
+            ((1, 0, 0, 0, 1, 0), "from north to south"),
+            ((-1, 0, 0, 0, -1, 0), "west to east"),
+        ):
             with self.subTest(transform=transform), self.assertRaises(BadMap) as caught:
                 Region.from_transform(transform, 2, 2)
             self.assertIn(told, str(caught.exception))

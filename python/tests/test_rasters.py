@@ -33,9 +33,15 @@ def test_nodata_is_null(raster: Write) -> None:
     assert cells(raster(LAND)) == LAND.tolist()
     assert cells(raster(LAND.astype("int32") - 1, nodata=-1))[0] == [0, 0, 1, None]
     assert cells(raster(LAND.astype("float32"), nodata=0))[0] == [1, 1, 2, None]
-    assert cells(raster(np.where(LAND == 0, np.nan, LAND).astype("float64"), nodata=float("nan")))[0] == [1, 1, 2, None]
-    assert cells(raster(np.where(LAND == 0, 4294967295, LAND).astype("uint32"), nodata=4294967295))[0] == [1, 1, 2, None]
-    assert cells(raster(np.where(LAND == 0, -(2**31), LAND).astype("int32"), nodata=-(2**31)))[0] == [1, 1, 2, None]
+    assert cells(raster(np.where(LAND == 0, np.nan, LAND).astype("float64"), nodata=float("nan")))[
+        0
+    ] == [1, 1, 2, None]
+    assert cells(raster(np.where(LAND == 0, 4294967295, LAND).astype("uint32"), nodata=4294967295))[
+        0
+    ] == [1, 1, 2, None]
+    assert cells(raster(np.where(LAND == 0, -(2**31), LAND).astype("int32"), nodata=-(2**31)))[
+        0
+    ] == [1, 1, 2, None]
 
 
 def test_masks_are_null(raster: Write) -> None:
@@ -80,11 +86,31 @@ def test_without_georeference(raster: Write) -> None:
     [
         (np.stack([LAND, LAND]), {}, "has 2 bands: give one, as rasterio.band(dataset, 1)"),
         (LAND, {"transform": (25, 1, 0, 0, -25, 0)}, "a rotated transform"),
-        (LAND, {"transform": (25, 0, 9.99999999e9, 0, -25, 0), "crs": None}, "an edge of more than ten digits: east is 1e+10"),
-        (LAND, {"transform": (1e-9, 0, 0, 0, -1e-9, 0)}, "north is not above south once they are rounded"),
-        (LAND + np.float32(0.5), {}, "not a map of whole numbers: the cell at row 1, column 1 is 1.5"),
-        (np.array([[0, 3 * 10**9]], "uint32"), {}, "the cell at row 1, column 2 is 3000000000, beyond 2147483647 either way"),
-        (np.array([[0, -(2**31)]], "int32"), {}, "the cell at row 1, column 2 is -2147483648, beyond 2147483647 either way"),
+        (
+            LAND,
+            {"transform": (25, 0, 9.99999999e9, 0, -25, 0), "crs": None},
+            "an edge of more than ten digits: east is 1e+10",
+        ),
+        (
+            LAND,
+            {"transform": (1e-9, 0, 0, 0, -1e-9, 0)},
+            "north is not above south once they are rounded",
+        ),
+        (
+            LAND + np.float32(0.5),
+            {},
+            "not a map of whole numbers: the cell at row 1, column 1 is 1.5",
+        ),
+        (
+            np.array([[0, 3 * 10**9]], "uint32"),
+            {},
+            "the cell at row 1, column 2 is 3000000000, beyond 2147483647 either way",
+        ),
+        (
+            np.array([[0, -(2**31)]], "int32"),
+            {},
+            "the cell at row 1, column 2 is -2147483648, beyond 2147483647 either way",
+        ),
         (LAND.astype("complex64"), {}, "its cells are of the type complex64"),
     ],
 )
@@ -101,14 +127,22 @@ def test_scaled_values_and_control_points_are_refused(raster: Write) -> None:
 
     with pytest.raises(rcell.BadMap, match="scaled: each cell times 0.1, plus 5"):
         rcell.run("", lc=raster(LAND, edit=scaled))
-    points = [rasterio.control.GroundControlPoint(row, col, col * 2.0, row * 3.0) for row, col in ((0, 0), (0, 4), (3, 0))]
+    points = [
+        rasterio.control.GroundControlPoint(row, col, col * 2.0, row * 3.0)
+        for row, col in ((0, 0), (0, 4), (3, 0))
+    ]
     with pytest.raises(rcell.BadMap, match="ground control points"):
         rcell.run("", lc=raster(LAND, transform=None, gcps=points))
 
 
 def test_maps_that_do_not_fit(raster: Write) -> None:
-    first, second = raster(LAND, "a.tif"), raster(LAND, "b.tif", transform=(25, 0, 500_012.5, 0, -25, 5_500_000))
-    with pytest.raises(rcell.OtherRegion, match=r"east is 500112.5, not 500100 \(12.5 more\); west is 500012.5, not 500000 \(12.5 more\)"):
+    first, second = raster(LAND, "a.tif"), raster(
+        LAND, "b.tif", transform=(25, 0, 500_012.5, 0, -25, 5_500_000)
+    )
+    with pytest.raises(
+        rcell.OtherRegion,
+        match=r"east is 500112.5, not 500100 \(12.5 more\); west is 500012.5, not 500000 \(12.5 more\)",
+    ):
         rcell.run("", a=first, b=second)
 
 
@@ -169,10 +203,15 @@ def test_a_guess_that_is_wrong_changes_no_number(raster: Write) -> None:
         array = np.ones((1_500, 1_100), dtype)
         array[700:720, 3:5], array[701, 4] = wide, 7
         array[:, 9] = 0
-        path = raster(array, tiled=True, blockxsize=128, blockysize=128, compress="deflate", nodata=0)
+        path = raster(
+            array, tiled=True, blockxsize=128, blockysize=128, compress="deflate", nodata=0
+        )
         values, counts = np.unique(array, return_counts=True)
         rows: dict[Any, Any] = dict(rcell.run("r.stats -c input=lc", lc=path).tables[0].rows)  # type: ignore[arg-type]
-        assert rows == {None if value == 0 else value: count for value, count in zip(values.tolist(), counts.tolist())}
+        assert rows == {
+            None if value == 0 else value: count
+            for value, count in zip(values.tolist(), counts.tolist())
+        }
 
 
 def test_windows(raster: Write) -> None:
@@ -186,14 +225,23 @@ def test_windows(raster: Write) -> None:
 @settings(max_examples=40, deadline=None)
 @given(
     array=arrays.arrays(
-        st.sampled_from(["uint8", "int16", "uint16", "int32", "float32"]), arrays.array_shapes(min_dims=2, max_dims=2, max_side=12), elements={"min_value": 0, "max_value": 200}
+        st.sampled_from(["uint8", "int16", "uint16", "int32", "float32"]),
+        arrays.array_shapes(min_dims=2, max_dims=2, max_side=12),
+        elements={"min_value": 0, "max_value": 200},
     ),
     nodata=st.one_of(st.none(), st.integers(0, 200)),
 )
 def test_any_raster_is_counted_as_numpy_does(array: Any, nodata: int | None) -> None:
     array = np.rint(array).astype(array.dtype)
     with rasterio.io.MemoryFile() as memory:
-        profile = {"driver": "GTiff", "height": array.shape[0], "width": array.shape[1], "count": 1, "dtype": array.dtype, "nodata": nodata}
+        profile = {
+            "driver": "GTiff",
+            "height": array.shape[0],
+            "width": array.shape[1],
+            "count": 1,
+            "dtype": array.dtype,
+            "nodata": nodata,
+        }
         with memory.open(**profile, transform=rasterio.Affine(*TRANSFORM)) as dataset:
             dataset.write(array, 1)
         with memory.open() as dataset:
@@ -207,5 +255,13 @@ def test_without_rasterio(raster: Write) -> None:
         "import sys\nsys.modules['rasterio'] = None\nimport rcell\n"
         f"try: rcell.run('', lc={raster(LAND)!r})\nexcept rcell.MissingLibrary as e: print(e)"
     )
-    ran = subprocess.run([sys.executable, "-c", code], capture_output=True, text=True, env={"PYTHONPATH": ":".join(sys.path)})
-    assert ran.stdout == "to read a raster the library rasterio is needed: pip install 'rcell[gis]', or Debian's package python3-rasterio\n", ran.stderr
+    ran = subprocess.run(
+        [sys.executable, "-c", code],
+        capture_output=True,
+        text=True,
+        env={"PYTHONPATH": ":".join(sys.path)},
+    )
+    assert (
+        ran.stdout
+        == "to read a raster the library rasterio is needed: pip install 'rcell[gis]', or Debian's package python3-rasterio\n"
+    ), ran.stderr

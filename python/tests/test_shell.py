@@ -37,33 +37,72 @@ def test_composition(raster: Write, capfdbinary: Any, tmp_path: pathlib.Path) ->
     _labels.write_labels(path, NAMES)
     assert main(["composition", path]) == 0
     assert said(capfdbinary)[0].splitlines() == [
-        "class,label,cells,area_ha,percent", '1,"broad leaved, wood",5,0.3125,45.45454545454545', "2,größer,4,0.25,36.36363636363637", "3,c,2,0.125,18.181818181818183",
+        "class,label,cells,area_ha,percent",
+        '1,"broad leaved, wood",5,0.3125,45.45454545454545',
+        "2,größer,4,0.25,36.36363636363637",
+        "3,c,2,0.125,18.181818181818183",
     ]
-    assert main(["composition", path, "--area", "none", "--null", "--out", str(tmp_path / "t.json")]) == 0
-    assert json.loads((tmp_path / "t.json").read_text())[-1] == {"class": None, "label": "", "cells": 1, "percent": None}
+    assert (
+        main(["composition", path, "--area", "none", "--null", "--out", str(tmp_path / "t.json")])
+        == 0
+    )
+    assert json.loads((tmp_path / "t.json").read_text())[-1] == {
+        "class": None,
+        "label": "",
+        "cells": 1,
+        "percent": None,
+    }
     assert main(["composition", path, "--format", "markdown", "--zones", path]) == 0
-    assert said(capfdbinary)[0].startswith("| zone | zone_label | class | label | cells | area_ha | percent |\n|---:|---|---:|---|---:|---:|---:|\n")
+    assert said(capfdbinary)[0].startswith(
+        "| zone | zone_label | class | label | cells | area_ha | percent |\n|---:|---|---:|---|---:|---:|---:|\n"
+    )
     (tmp_path / "legend.csv").write_text("value,label\n1,wood\n3,town\n")
-    assert main(["composition", path, "--labels", str(tmp_path / "legend.csv"), "--out", str(tmp_path / "t.csv")]) == 0
+    assert (
+        main(
+            [
+                "composition",
+                path,
+                "--labels",
+                str(tmp_path / "legend.csv"),
+                "--out",
+                str(tmp_path / "t.csv"),
+            ]
+        )
+        == 0
+    )
     assert said(capfdbinary) == ("", "rcell-gis: warning: labels: no label for 2 of map\n")
-    assert (tmp_path / "t.csv").read_text().splitlines()[1:3] == ["1,wood,5,0.3125,45.45454545454545", "2,,4,0.25,36.36363636363637"]
+    assert (tmp_path / "t.csv").read_text().splitlines()[1:3] == [
+        "1,wood,5,0.3125,45.45454545454545",
+        "2,,4,0.25,36.36363636363637",
+    ]
 
 
 def test_every_argument_has_a_help_text() -> None:
     def without(parser: argparse.ArgumentParser) -> list[Any]:
-        parsers = [action for action in parser._actions if isinstance(action, argparse._SubParsersAction)]
-        found = [action.dest for action in parser._actions if action not in parsers and not action.help]
-        return found + [each for action in parsers for sub in action.choices.values() for each in without(sub)]
+        parsers = [
+            action for action in parser._actions if isinstance(action, argparse._SubParsersAction)
+        ]
+        found = [
+            action.dest for action in parser._actions if action not in parsers and not action.help
+        ]
+        return found + [
+            each for action in parsers for sub in action.choices.values() for each in without(sub)
+        ]
 
     assert without(_shell._words()) == []
 
 
 def test_an_empty_table_says_so(raster: Write, capfdbinary: Any) -> None:
     assert main(["composition", raster(np.zeros_like(LAND), nodata=0)]) == 0
-    assert said(capfdbinary) == ("class,cells,area_ha,percent\n", "rcell-gis: note: the table is empty: all cells are null or left out\n")
+    assert said(capfdbinary) == (
+        "class,cells,area_ha,percent\n",
+        "rcell-gis: note: the table is empty: all cells are null or left out\n",
+    )
     with pytest.raises(SystemExit):
         main(["patches", raster(LAND, nodata=0), "--classes", "31;32"])
-    assert "give whole numbers with commas between them, as 31,32, not 31;32" in said(capfdbinary)[1]
+    assert (
+        "give whole numbers with commas between them, as 31,32, not 31;32" in said(capfdbinary)[1]
+    )
 
 
 def test_the_shell_has_the_numbers_of_python(raster: Write, capfdbinary: Any) -> None:
@@ -71,39 +110,77 @@ def test_the_shell_has_the_numbers_of_python(raster: Write, capfdbinary: Any) ->
     for words, expected in (
         (["cross", f"a={a}", f"b={b}", "--area", "m2"], rcell.cross(a=a, b=b, area="m2")),
         (["change", a, b], rcell.change(a, b).table),
-        (["change", a, b, "--table", "summary", "--years", "2000,2010"], rcell.change(a, b, years=[2000, 2010]).summary),
-        (["change", a, b, a, "--table", "matrix", "--years", "1,2,3"], rcell.change([a, b, a], years=[1, 2, 3]).matrix.reset_index()),
-        (["patches", a, "--connectivity", "8", "--zones", b, "--classes", "1,2", "--least", "2"], rcell.patches(a, 8, zones=b, classes=[1, 2], least=2)),
+        (
+            ["change", a, b, "--table", "summary", "--years", "2000,2010"],
+            rcell.change(a, b, years=[2000, 2010]).summary,
+        ),
+        (
+            ["change", a, b, a, "--table", "matrix", "--years", "1,2,3"],
+            rcell.change([a, b, a], years=[1, 2, 3]).matrix.reset_index(),
+        ),
+        (
+            ["patches", a, "--connectivity", "8", "--zones", b, "--classes", "1,2", "--least", "2"],
+            rcell.patches(a, 8, zones=b, classes=[1, 2], least=2),
+        ),
         (["zonal", a, b, "--quantiles", "0.25,0.5"], rcell.zonal(a, b, [0.25, 0.5])),
     ):
         assert main(words) == 0
         out, err = said(capfdbinary)
         assert err == "" and out.splitlines()[0] == ",".join(map(str, expected.columns))
         found = pandas.read_csv(io.StringIO(out)).to_numpy(float)
-        assert np.array_equal(found, expected.astype("Float64").to_numpy(float, na_value=np.nan), equal_nan=True)
+        assert np.array_equal(
+            found, expected.astype("Float64").to_numpy(float, na_value=np.nan), equal_nan=True
+        )
 
 
 def test_maps(raster: Write, capfdbinary: Any, tmp_path: pathlib.Path) -> None:
     path = raster(LAND, nodata=0)
     assert main(["majority", path, str(tmp_path / "m.tif"), "--size", "3"]) == 0
-    assert rcell.grid("", "m", m=tmp_path / "m.tif").array.tolist() == rcell.majority(path).array.tolist()
+    assert (
+        rcell.grid("", "m", m=tmp_path / "m.tif").array.tolist()
+        == rcell.majority(path).array.tolist()
+    )
     frame = raster(LAND, "frame.tif", (25.0, 0, 500_025.0, 0, -25.0, 5_500_000.0))
     assert main(["align", path, str(tmp_path / "moved.tif"), "--to", frame]) == 0
-    assert said(capfdbinary) == ("shift_rows,shift_columns,cells_used,cells_repeated,cells_lost\n0,1,8,0,3\n", "")
+    assert said(capfdbinary) == (
+        "shift_rows,shift_columns,cells_used,cells_repeated,cells_lost\n0,1,8,0,3\n",
+        "",
+    )
     assert len(rcell.cross(a=tmp_path / "moved.tif", b=frame)) == 5
 
 
 def test_scripts(raster: Write, capfdbinary: Any, tmp_path: pathlib.Path) -> None:
     path = raster(LAND, nodata=0)
-    (tmp_path / "script").write_text("r.clump input=lc output=k\nr.stats -cn input=lc\nr.out.ascii input=k\nr.stats -n input=k,lc\n")
-    assert main(["run", str(tmp_path / "script"), f"lc={path}", "--out", f"k={tmp_path}/k.tif", "--out", f"lc={tmp_path}/lc.txt"]) == 0
+    (tmp_path / "script").write_text(
+        "r.clump input=lc output=k\nr.stats -cn input=lc\nr.out.ascii input=k\nr.stats -n input=k,lc\n"
+    )
+    assert (
+        main(
+            [
+                "run",
+                str(tmp_path / "script"),
+                f"lc={path}",
+                "--out",
+                f"k={tmp_path}/k.tif",
+                "--out",
+                f"lc={tmp_path}/lc.txt",
+            ]
+        )
+        == 0
+    )
     assert said(capfdbinary) == ("lc,cells\n1,5\n2,4\n3,2\n\nk,lc\n1,1\n2,2\n3,3\n4,1\n", "")
     with rasterio.open(tmp_path / "k.tif") as dataset:
         assert dataset.read(1).tolist()[2] == [3, 3, 4, 4]
     pytest.importorskip("matplotlib")
-    assert main(["run", "r.clump input=lc output=k", f"lc={path}", "--out", f"k={tmp_path}/k.png"]) == 0
+    assert (
+        main(["run", "r.clump input=lc output=k", f"lc={path}", "--out", f"k={tmp_path}/k.png"])
+        == 0
+    )
     assert (tmp_path / "k.png").read_bytes()[:4] == b"\x89PNG"
-    assert main(["run", "r.clump input=lc output=k", f"lc={path}", "--out", f"k={tmp_path}/k.xyz"]) == 2
+    assert (
+        main(["run", "r.clump input=lc output=k", f"lc={path}", "--out", f"k={tmp_path}/k.xyz"])
+        == 2
+    )
     assert sorted(os.listdir(tmp_path)) == ["k.png", "k.tif", "lc.txt", "map.tif", "script"]
 
 
@@ -112,9 +189,20 @@ def test_maps_are_written_all_or_none(tmp_path: Any, capsys: Any) -> None:
     rcell.grid("", "lc", lc=np.array([[1, 2], [2, 2]])).write(path)
     kept = tmp_path / "k.txt"
     kept.write_text("old")
-    words = ["run", "r.clump input=lc output=k", f"lc={path}", "--out", f"k={kept}", "--out", "lc=/nowhere/lc.tif"]
+    words = [
+        "run",
+        "r.clump input=lc output=k",
+        f"lc={path}",
+        "--out",
+        f"k={kept}",
+        "--out",
+        "lc=/nowhere/lc.tif",
+    ]
     assert main(words) == 4
-    assert capsys.readouterr().err == "rcell-gis: /nowhere/lc.tif cannot be written: No such file or directory\n"
+    assert (
+        capsys.readouterr().err
+        == "rcell-gis: /nowhere/lc.tif cannot be written: No such file or directory\n"
+    )
     assert kept.read_text() == "old" and sorted(os.listdir(tmp_path)) == ["k.txt", "lc.tif"]
     assert main([*words[:-1], f"lc={tmp_path}/lc.txt"]) == 0
     assert kept.read_text().endswith("1 2\n2 2\n")
@@ -123,22 +211,60 @@ def test_maps_are_written_all_or_none(tmp_path: Any, capsys: Any) -> None:
 @pytest.mark.parametrize(
     ("words", "status", "told"),
     [
-        (["run", "r.stats -q input=lc", "lc=MAP"], 1, "script, line 1: bad option; `r.stats -q input=lc`; try: r.stats input=lc"),
-        (["run", "r.stats -c input=lc", "lc=/nowhere"], 4, "lc: cannot open: /nowhere: No such file or directory"),
+        (
+            ["run", "r.stats -q input=lc", "lc=MAP"],
+            1,
+            "script, line 1: bad option; `r.stats -q input=lc`; try: r.stats input=lc",
+        ),
+        (
+            ["run", "r.stats -c input=lc", "lc=/nowhere"],
+            4,
+            "lc: cannot open: /nowhere: No such file or directory",
+        ),
         (["run", "r.stats -c input=lc", "lc"], 2, "arguments: lc: write NAME=PATH"),
         (["cross", "lc=MAP", "lc=MAP"], 2, "arguments: lc=MAP: the name lc is given twice"),
-        (["run", "/nowhere/script", "lc=MAP"], 4, "script: cannot open /nowhere/script: No such file or directory"),
-        (["run", "r.clump input=lc output=k", "lc=MAP", "--out", "j=j.tif"], 2, "arguments: no map j: there are lc, k"),
-        (["run", "r.clump input=lc output=k", "lc=MAP", "--out", "k=/nowhere/k.tif"], 4, "/nowhere/k.tif cannot be written: No such file or directory"),
-        (["majority", "MAP", "MAP"], 2, "arguments: MAP: the output file is the input file: choose another name"),
+        (
+            ["run", "/nowhere/script", "lc=MAP"],
+            4,
+            "script: cannot open /nowhere/script: No such file or directory",
+        ),
+        (
+            ["run", "r.clump input=lc output=k", "lc=MAP", "--out", "j=j.tif"],
+            2,
+            "arguments: no map j: there are lc, k",
+        ),
+        (
+            ["run", "r.clump input=lc output=k", "lc=MAP", "--out", "k=/nowhere/k.tif"],
+            4,
+            "/nowhere/k.tif cannot be written: No such file or directory",
+        ),
+        (
+            ["majority", "MAP", "MAP"],
+            2,
+            "arguments: MAP: the output file is the input file: choose another name",
+        ),
         (["majority", "MAP", "m.tif", "--size", "4"], 2, "arguments: size= is odd, 3 to 15, not 4"),
-        (["zonal", "MAP", "MAP", "--quantiles", "a"], 2, "arguments: --quantiles are numbers from 0 to 1, not a"),
+        (
+            ["zonal", "MAP", "MAP", "--quantiles", "a"],
+            2,
+            "arguments: --quantiles are numbers from 0 to 1, not a",
+        ),
         (["change", "MAP"], 2, "arguments: change= is between two maps, or a list of maps"),
-        (["composition", "MAP", "--labels", "/nowhere.csv"], 4, "labels: cannot open: /nowhere.csv: No such file or directory"),
-        (["composition", "MAP", "--out", "/nowhere/t.csv"], 4, "/nowhere/t.csv cannot be written: No such file or directory"),
+        (
+            ["composition", "MAP", "--labels", "/nowhere.csv"],
+            4,
+            "labels: cannot open: /nowhere.csv: No such file or directory",
+        ),
+        (
+            ["composition", "MAP", "--out", "/nowhere/t.csv"],
+            4,
+            "/nowhere/t.csv cannot be written: No such file or directory",
+        ),
     ],
 )
-def test_what_is_refused_is_one_line(raster: Write, capsys: Any, words: list[str], status: int, told: str) -> None:
+def test_what_is_refused_is_one_line(
+    raster: Write, capsys: Any, words: list[str], status: int, told: str
+) -> None:
     path = raster(LAND)
     assert main([word.replace("MAP", path) for word in words]) == status
     out, err = capsys.readouterr()
@@ -146,7 +272,9 @@ def test_what_is_refused_is_one_line(raster: Write, capsys: Any, words: list[str
 
 
 def test_another_region_ends_with_the_command_to_paste(raster: Write, capsys: Any) -> None:
-    a, b = raster(LAND, "a.tif"), raster(LAND, "b c.tif", (25.0, 0, 500_050.0, 0, -25.0, 5_500_000.0))
+    a, b = raster(LAND, "a.tif"), raster(
+        LAND, "b c.tif", (25.0, 0, 500_050.0, 0, -25.0, 5_500_000.0)
+    )
     assert main(["composition", a, "--zones", b]) == 1
     aligned = b.replace(".tif", "-aligned.tif")
     assert capsys.readouterr().err.endswith(f"; try: rcell-gis align '{b}' '{aligned}' --to {a}\n")
@@ -160,30 +288,57 @@ def test_the_command_line_as_a_process(raster: Write) -> None:
     environment = {**os.environ, "PYTHONPATH": ":".join(sys.path)}
 
     def call(*words: str, **more: Any) -> Any:
-        return subprocess.run([sys.executable, "-m", "rcell", *words], capture_output=True, text=True, env=environment, **more)
+        return subprocess.run(
+            [sys.executable, "-m", "rcell", *words],
+            capture_output=True,
+            text=True,
+            env=environment,
+            **more,
+        )
 
-    assert call("run", "-", f"lc={path}", input="r.stats -cn input=lc\n").stdout == "lc,cells\n1,5\n2,4\n3,2\n"
+    assert (
+        call("run", "-", f"lc={path}", input="r.stats -cn input=lc\n").stdout
+        == "lc,cells\n1,5\n2,4\n3,2\n"
+    )
     assert call("--help").returncode == 0 and call("--version").stdout.startswith("rcell-gis ")
-    refused: list[list[str]] = [[], ["nothing"], ["composition"], ["patches", path, "--connectivity", "6"]]
+    refused: list[list[str]] = [
+        [],
+        ["nothing"],
+        ["composition"],
+        ["patches", path, "--connectivity", "6"],
+    ]
     for words in refused:
         ran = call(*words)
         assert (ran.returncode, ran.stdout, ran.stderr.count("\n")) == (2, "", 1)
     environment["RCELL"] = "/nowhere/rcell"
     missing = call("composition", path)
-    assert (missing.returncode, missing.stderr) == (2, "rcell-gis: the program /nowhere/rcell is not there, or may not be executed\n")
+    assert (missing.returncode, missing.stderr) == (
+        2,
+        "rcell-gis: the program /nowhere/rcell is not there, or may not be executed\n",
+    )
 
 
 def test_a_closed_output(raster: Write) -> None:
     environment = {**os.environ, "PYTHONPATH": ":".join(sys.path)}
     reader, writer = os.pipe()
     os.close(reader)
-    ran = subprocess.run([sys.executable, "-m", "rcell", "composition", raster(LAND)], stdout=writer, stderr=subprocess.PIPE, env=environment)
+    ran = subprocess.run(
+        [sys.executable, "-m", "rcell", "composition", raster(LAND)],
+        stdout=writer,
+        stderr=subprocess.PIPE,
+        env=environment,
+    )
     os.close(writer)
-    assert (ran.returncode, ran.stderr) == (4, b"rcell-gis: standard output cannot be written: Broken pipe\n")
+    assert (ran.returncode, ran.stderr) == (
+        4,
+        b"rcell-gis: standard output cannot be written: Broken pipe\n",
+    )
 
 
 def test_csv_reads_back(raster: Write, capfdbinary: Any) -> None:
-    path = raster(np.arange(1, 13, dtype=np.uint8).reshape(3, 4), transform=(1 / 3, 0, 0, 0, -1 / 7, 9))
+    path = raster(
+        np.arange(1, 13, dtype=np.uint8).reshape(3, 4), transform=(1 / 3, 0, 0, 0, -1 / 7, 9)
+    )
     assert main(["composition", path]) == 0
     lines = list(csv.DictReader(io.StringIO(said(capfdbinary)[0])))
     assert [float(line["area_ha"]) for line in lines] == rcell.composition(path)["area_ha"].tolist()

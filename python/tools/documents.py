@@ -46,7 +46,9 @@ def by_session(text: str, names: dict[str, Any]) -> str:
         session += [f">>> {first}\n", *(f"... {line}".rstrip() + "\n" for line in more)]
         printed = printed_by(example.source, names)
         checker = doctest.OutputChecker()
-        session.append(example.want if checker.check_output(example.want, printed, FLAGS) else printed)
+        session.append(
+            example.want if checker.check_output(example.want, printed, FLAGS) else printed
+        )
     return "".join(session)
 
 
@@ -73,7 +75,14 @@ def by_shell(text: str, folder: str) -> str:
             commands[-1] += "\n" + line[2:]
     shown = []
     for command in commands:
-        ran = subprocess.run(["sh", "-c", f"exec 2>&1\n{command}"], cwd=folder, stdout=subprocess.PIPE, stdin=subprocess.DEVNULL, timeout=SECONDS, text=True)
+        ran = subprocess.run(
+            ["sh", "-c", f"exec 2>&1\n{command}"],
+            cwd=folder,
+            stdout=subprocess.PIPE,
+            stdin=subprocess.DEVNULL,
+            timeout=SECONDS,
+            text=True,
+        )
         shown.append("$ " + command.replace("\n", "\n> ") + "\n" + ran.stdout)
     return "".join(shown)
 
@@ -97,12 +106,16 @@ def run_document(path: str, write: bool) -> tuple[int, list[str]]:
                 line = document.count("\n", 0, found.start()) + 1
                 passed += answer == text
                 if answer != text:
-                    differs = difflib.unified_diff(text.splitlines(), answer.splitlines(), "shown", "printed", lineterm="", n=1)
+                    differs = difflib.unified_diff(
+                        text.splitlines(), answer.splitlines(), "shown", "printed", lineterm="", n=1
+                    )
                     faults.append(f"{os.path.basename(path)}:{line}: " + "\n    ".join(differs))
             else:
                 answer = text
                 if language not in SHOWN:
-                    faults.append(f"{os.path.basename(path)}: a block of an unknown kind: {language!r}")
+                    faults.append(
+                        f"{os.path.basename(path)}: a block of an unknown kind: {language!r}"
+                    )
             right, at = right + document[at : found.start(3)] + answer, found.end(3)
         os.chdir(before)
     if write:
@@ -111,7 +124,9 @@ def run_document(path: str, write: bool) -> tuple[int, list[str]]:
 
 
 def main() -> int:
-    words = argparse.ArgumentParser(description=__doc__, formatter_class=argparse.RawDescriptionHelpFormatter)
+    words = argparse.ArgumentParser(
+        description=__doc__, formatter_class=argparse.RawDescriptionHelpFormatter
+    )
     words.add_argument("--write", action="store_true")
     words.add_argument("documents", nargs="*", default=DOCUMENTS)
     settings = words.parse_args()

@@ -19,13 +19,21 @@ SIDES = "r.reclass input=side output=hemisphere\n1 = 1 north\n0 = 2 south\nend"
 
 
 def main(grid: str, labels: str) -> None:
-    rules = re.findall(r"^\d+ = (\d+) (.*)$", pathlib.Path(labels).read_text(encoding="utf-8"), re.MULTILINE)
+    rules = re.findall(
+        r"^\d+ = (\d+) (.*)$", pathlib.Path(labels).read_text(encoding="utf-8"), re.MULTILINE
+    )
     countries = rcell.grid("", "country", country=grid)
     equator = round(countries.region.north / countries.region.cell[0])
-    both = {"country": rcell.Map(countries.array, countries.region, CRS, labels={int(code): name for code, name in rules})}
+    both = {
+        "country": rcell.Map(
+            countries.array, countries.region, CRS, labels={int(code): name for code, name in rules}
+        )
+    }
     FOLDER.mkdir(exist_ok=True)
     rcell.grid("", "country", both).write(FOLDER / "country.tif")
-    rcell.grid(f"r.mapcalc side = row() <= {equator}\n{SIDES}", "hemisphere", both).write(FOLDER / "hemisphere.tif")
+    rcell.grid(f"r.mapcalc side = row() <= {equator}\n{SIDES}", "hemisphere", both).write(
+        FOLDER / "hemisphere.tif"
+    )
 
 
 if __name__ == "__main__":

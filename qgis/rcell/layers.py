@@ -34,11 +34,20 @@ def raster_of(layer: QgsRasterLayer, name: str, band: int | None = None) -> Rast
         GDAL does not open the layer, or it is not a map of categories.
     """
     if layer.providerType() != "gdal":
-        reason = f"its provider is {layer.providerType()}, and only rasters that GDAL opens are read"
+        reason = (
+            f"its provider is {layer.providerType()}, and only rasters that GDAL opens are read"
+        )
         raise BadMap(name, f"{reason}: export it as a GeoTIFF first")
     shown = band or 1
-    return Raster.open(name, layer.source(), band, labels_of(layer, shown), null_ranges_of(layer, shown),
-                       _uses_nodata(layer.dataProvider(), shown), wkt_of(layer.crs()))
+    return Raster.open(
+        name,
+        layer.source(),
+        band,
+        labels_of(layer, shown),
+        null_ranges_of(layer, shown),
+        _uses_nodata(layer.dataProvider(), shown),
+        wkt_of(layer.crs()),
+    )
 
 
 def wkt_of(crs: QgsCoordinateReferenceSystem) -> str:
@@ -66,9 +75,16 @@ def _is_number(text: str, value: float) -> bool:
 def _classes_of(renderer: Any, band: int) -> list[tuple[float, str]]:
     if isinstance(renderer, QgsPalettedRasterRenderer) and renderer.band() == band:
         return [(entry.value, entry.label) for entry in renderer.classes()]
-    if isinstance(renderer, QgsSingleBandPseudoColorRenderer) and renderer.band() == band and renderer.shader() is not None:
+    if (
+        isinstance(renderer, QgsSingleBandPseudoColorRenderer)
+        and renderer.band() == band
+        and renderer.shader() is not None
+    ):
         function = renderer.shader().rasterShaderFunction()
-        if isinstance(function, QgsColorRampShader) and function.colorRampType() == QgsColorRampShader.Exact:
+        if (
+            isinstance(function, QgsColorRampShader)
+            and function.colorRampType() == QgsColorRampShader.Exact
+        ):
             return [(item.value, item.label) for item in function.colorRampItemList()]
     return []
 
@@ -121,7 +137,10 @@ def names_of(layers: Sequence[QgsRasterLayer], given: str) -> list[str]:
     for at, name in enumerate(names):
         if not _NAME.fullmatch(name):
             better = _made_names([name])[0]
-            raise Refused(f"'{name}' is not a name for a map: 1 to 64 letters, digits, _ and ., a letter or _ first; write {better}", status=2)
+            raise Refused(
+                f"'{name}' is not a name for a map: 1 to 64 letters, digits, _ and ., a letter or _ first; write {better}",
+                status=2,
+            )
         if name in names[:at]:
             raise Refused(f"the name `{name}` is given twice", status=2)
     return names

@@ -37,7 +37,9 @@ class RcellProvider(QgsProcessingProvider):
         """Add the setting under Settings, Options, Processing, Providers."""
         ProcessingConfig.settingIcons["rcell"] = self.icon()
         title = "Program rcell-pipe (empty: the plugin's own)"
-        ProcessingConfig.addSetting(Setting("rcell", "RCELL_PROGRAM", title, "", valuetype=Setting.FILE))
+        ProcessingConfig.addSetting(
+            Setting("rcell", "RCELL_PROGRAM", title, "", valuetype=Setting.FILE)
+        )
         ProcessingConfig.readSettings()
         self.refreshAlgorithms()
         return True

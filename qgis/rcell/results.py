@@ -52,7 +52,12 @@ def put_raster(path: str, grid: Grid, like: Raster, check: Check) -> None:
     write_raster(path, driver, grid.cells, grid.null, like, grid.labels, check)
 
 
-def put_legend(path: str, classes: Sequence[tuple[int, str]], colours: Mapping[int, Any], context: QgsProcessingContext) -> bool:
+def put_legend(
+    path: str,
+    classes: Sequence[tuple[int, str]],
+    colours: Mapping[int, Any],
+    context: QgsProcessingContext,
+) -> bool:
     """Give a raster a legend: a .qml file next to it, and the style of its layer. Return False if it has too many classes."""
     style = os.path.splitext(path)[0] + ".qml"
     if not os.path.isfile(path):
@@ -65,7 +70,8 @@ def put_legend(path: str, classes: Sequence[tuple[int, str]], colours: Mapping[i
     options = QgsRasterLayer.LayerOptions(loadDefaultStyle=False)
     layer = QgsRasterLayer(path, "legend", "gdal", options)
     entries = [
-        QgsPalettedRasterRenderer.Class(value, colours.get(value) or _colour(place), label) for place, (value, label) in enumerate(classes)
+        QgsPalettedRasterRenderer.Class(value, colours.get(value) or _colour(place), label)
+        for place, (value, label) in enumerate(classes)
     ]
     layer.setRenderer(QgsPalettedRasterRenderer(layer.dataProvider(), 1, entries))
     with partly(style) as part:
@@ -96,7 +102,9 @@ _styles: list[_Style] = []
 
 def _colour(place: int) -> QColor:
     """Return the colour of a place in the legend: always the same one, and different from its neighbours'."""
-    red, green, blue = colorsys.hsv_to_rgb((0.33 + place * _GOLDEN) % 1.0, 0.45 + 0.15 * (place % 3), 0.92 - 0.16 * (place // 3 % 3))
+    red, green, blue = colorsys.hsv_to_rgb(
+        (0.33 + place * _GOLDEN) % 1.0, 0.45 + 0.15 * (place % 3), 0.92 - 0.16 * (place // 3 % 3)
+    )
     return QColor(round(red * 255), round(green * 255), round(blue * 255))
 
 
@@ -110,7 +118,10 @@ def counted(label: str, cells: int, like: Raster) -> str:
 def counted_classes(grid: Grid, like: Raster) -> list[tuple[int, str]]:
     """Return the classes of a map for its legend, each with its label, cells and area."""
     counts = grid.counts().items()
-    return [(category, counted(grid.labels.get(category, str(category)), cells, like)) for category, cells in counts]
+    return [
+        (category, counted(grid.labels.get(category, str(category)), cells, like))
+        for category, cells in counts
+    ]
 
 
 # Tables
@@ -119,7 +130,11 @@ def counted_classes(grid: Grid, like: Raster) -> list[tuple[int, str]]:
 def types_of_fields(version: int, core: Any = QtCore) -> dict[str, Any]:
     """Return the types of fields: QMetaType from QGIS 3.38 on, since Qt 6 has no other, and QVariant before."""
     types = core.QMetaType.Type if version >= _VERSION_OF_META_TYPES else core.QVariant
-    return {"whole": types.LongLong, "real": types.Double, "text": types.QString if version >= _VERSION_OF_META_TYPES else types.String}
+    return {
+        "whole": types.LongLong,
+        "real": types.Double,
+        "text": types.QString if version >= _VERSION_OF_META_TYPES else types.String,
+    }
 
 
 def fields_of(table: Table | Answer) -> QgsFields:

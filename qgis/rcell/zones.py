@@ -41,7 +41,10 @@ def zones_of(layer: Any, field: str, raster: Raster, watch: Watch) -> Raster:
     crs = wkt_of(layer.crs())
     if crs and raster.crs and not are_same(crs, raster.crs):
         other = f"that of `{raster.name}` is {shown(raster.crs)}"
-        raise OtherCrs(name, f"its coordinate reference system is {shown(crs)}, and {other}: reproject one of them first, as with Reproject layer")
+        raise OtherCrs(
+            name,
+            f"its coordinate reference system is {shown(crs)}, and {other}: reproject one of them first, as with Reproject layer",
+        )
     geometries, ids, labels = _polygons(layer, field)
     found = _drawn(name, geometries, raster, watch)
     cells = np.where(found < 0, NULL, np.array([*ids, NULL], np.int64)[found]).astype(np.int32)
@@ -59,16 +62,31 @@ def _polygons(layer: QgsVectorLayer, field: str) -> tuple[list[bytes], list[int]
     names = [each.name() for each in layer.fields()]
     if field and field not in names:
         raise BadMap(layer.name(), f"no field {field}: there are {', '.join(names)}")
-    features = [feature for feature in layer.getFeatures() if feature.hasGeometry() and not (field and feature[field] in (None, NO_VALUE))]
+    features = [
+        feature
+        for feature in layer.getFeatures()
+        if feature.hasGeometry() and not (field and feature[field] in (None, NO_VALUE))
+    ]
     geometries = [bytes(feature.geometry().asWkb()) for feature in features]
-    values = [feature[field] for feature in features] if field else list(range(1, len(features) + 1))
-    if all(isinstance(value, (int, float)) and value == int(value) and abs(value) <= MAX_CATEGORY for value in values):
+    values = (
+        [feature[field] for feature in features] if field else list(range(1, len(features) + 1))
+    )
+    if all(
+        isinstance(value, (int, float)) and value == int(value) and abs(value) <= MAX_CATEGORY
+        for value in values
+    ):
         return geometries, [int(value) for value in values], {}
     known = {text: number for number, text in enumerate(dict.fromkeys(map(str, values)), 1)}
-    return geometries, [known[str(value)] for value in values], {number: text for text, number in known.items()}
+    return (
+        geometries,
+        [known[str(value)] for value in values],
+        {number: text for text, number in known.items()},
+    )
 
 
-def _drawn(name: str, geometries: Sequence[bytes], raster: Raster, watch: Watch) -> NDArray[np.int32]:
+def _drawn(
+    name: str, geometries: Sequence[bytes], raster: Raster, watch: Watch
+) -> NDArray[np.int32]:
     """Return for each cell the index of the polygon that contains its centre: the last of several, or -1."""
     order = list(range(len(geometries)))
     found = _burnt(geometries, order, raster)
@@ -78,12 +96,16 @@ def _drawn(name: str, geometries: Sequence[bytes], raster: Raster, watch: Watch)
     twice = np.argwhere(found != other)
     if len(twice):
         row, col = (twice[0] + 1).tolist()
-        watch.warn(f"{name}: {len(twice)} cells are in more than one polygon, the first at row {row}, column {col}: the later polygon has them")
+        watch.warn(
+            f"{name}: {len(twice)} cells are in more than one polygon, the first at row {row}, column {col}: the later polygon has them"
+        )
     without = sorted(set(order) - set(np.unique(found).tolist()) - set(np.unique(other).tolist()))
     if without:
         rest = f" and {len(without) - _SHOWN} more" if len(without) > _SHOWN else ""
         shown_ones = ", ".join(str(place + 1) for place in without[:_SHOWN])
-        watch.warn(f"{name}: {len(without)} of {len(order)} polygons contain no centre of a cell: {shown_ones}{rest}")
+        watch.warn(
+            f"{name}: {len(without)} of {len(order)} polygons contain no centre of a cell: {shown_ones}{rest}"
+        )
     return found
 
 
@@ -96,7 +118,9 @@ def _burnt(geometries: Sequence[bytes], order: Sequence[int], raster: Raster) ->
         feature.SetGeometry(ogr.CreateGeometryFromWkb(geometries[place]))
         feature.SetField("place", place)
         layer.CreateFeature(feature)
-    target = gdal.GetDriverByName("MEM").Create("", raster.region.cols, raster.region.rows, 1, gdal.GDT_Int32)
+    target = gdal.GetDriverByName("MEM").Create(
+        "", raster.region.cols, raster.region.rows, 1, gdal.GDT_Int32
+    )
     target.SetGeoTransform(raster.geotransform)
     target.GetRasterBand(1).Fill(-1)
     with quiet():
@@ -105,13 +129,21 @@ def _burnt(geometries: Sequence[bytes], order: Sequence[int], raster: Raster) ->
     return found
 
 
-def _raster_of(name: str, cells: NDArray[np.int32], raster: Raster, crs: str, labels: dict[int, str]) -> Raster:
+def _raster_of(
+    name: str, cells: NDArray[np.int32], raster: Raster, crs: str, labels: dict[int, str]
+) -> Raster:
     """Return cells as a raster in memory, on the grid of another raster."""
     path = f"/vsimem/rcell_zones_{next(_numbers)}.tif"
     options = ["COMPRESS=LZW", "TILED=NO"]
-    file = gdal.GetDriverByName("GTiff").Create(path, raster.region.cols, raster.region.rows, 1, gdal.GDT_Int32, options)
+    file = gdal.GetDriverByName("GTiff").Create(
+        path, raster.region.cols, raster.region.rows, 1, gdal.GDT_Int32, options
+    )
     file.SetGeoTransform(raster.geotransform)
     file.GetRasterBand(1).SetNoDataValue(NULL)
     file.GetRasterBand(1).WriteArray(cells)
     file = None
-    return replace(Raster.open(name, path, labels=labels or None, crs=crs or raster.crs), region=raster.region, geotransform=raster.geotransform)
+    return replace(
+        Raster.open(name, path, labels=labels or None, crs=crs or raster.crs),
+        region=raster.region,
+        geotransform=raster.geotransform,
+    )

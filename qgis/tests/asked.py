@@ -10,8 +10,12 @@ from rcell.core.program import Watch
 from rcell.core.rasters import Raster
 
 
-def table(program: str, rasters: Sequence[Raster], nulls: bool, watch: Watch | None = None) -> answers.Table:
+def table(
+    program: str, rasters: Sequence[Raster], nulls: bool, watch: Watch | None = None
+) -> answers.Table:
     """How many cells each combination of categories has; columns of labels if a map has labels."""
     maps = {f"map_{place}": raster for place, raster in enumerate(rasters, 1)}
-    found = answers.run(program, f"r.stats -c{'' if nulls else 'n'} input={','.join(maps)}", maps, watch=watch).tables[0]
+    found = answers.run(
+        program, f"r.stats -c{'' if nulls else 'n'} input={','.join(maps)}", maps, watch=watch
+    ).tables[0]
     return replace(found, labels=tuple(raster.labels or None for raster in rasters))

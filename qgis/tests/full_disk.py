@@ -9,11 +9,11 @@ import sys
 
 sys.path[:0] = [str(pathlib.Path(__file__).resolve().parent.parent)]
 
-import numpy as np  # noqa: E402  (the path above has to be set first)
-from rcell.core import files  # noqa: E402
-from rcell.core.answers import Table  # noqa: E402
-from rcell.core.errors import RcellError  # noqa: E402
-from rcell.core.rasters import Raster  # noqa: E402
+import numpy as np
+from rcell.core import files
+from rcell.core.answers import Table
+from rcell.core.errors import RcellError
+from rcell.core.rasters import Raster
 
 
 def main() -> None:

@@ -13,7 +13,9 @@ def main() -> int:
     sys.path[:0] = [str(HERE.parent), str(HERE)]
     names = sorted(path.stem for pattern in sys.argv[1:] for path in HERE.glob(pattern))
     suite = unittest.TestLoader().loadTestsFromNames(names)
-    result = unittest.TextTestRunner(stream=sys.stdout, verbosity=int("-v" in sys.argv) * 2).run(suite)
+    result = unittest.TextTestRunner(stream=sys.stdout, verbosity=int("-v" in sys.argv) * 2).run(
+        suite
+    )
     for test, why in result.skipped:
         print(f"skipped  qgis: {test}: {why}")
     failed = len(result.failures) + len(result.errors) + len(result.unexpectedSuccesses)

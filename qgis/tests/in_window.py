@@ -12,12 +12,20 @@ import time
 import traceback
 from typing import Any
 
-from qgis.core import QgsApplication, QgsProcessingContext, QgsProcessingOutputLayerDefinition, QgsProject, QgsRasterLayer
+from qgis.core import (
+    QgsApplication,
+    QgsProcessingContext,
+    QgsProcessingOutputLayerDefinition,
+    QgsProject,
+    QgsRasterLayer,
+)
 from qgis.PyQt.QtCore import QTimer
 from qgis.PyQt.QtWidgets import QApplication, QTextEdit
 from qgis.utils import iface
 
-ZIP, ROOM, TOLD = (os.environ[name] for name in ("RCELL_QGIS_ZIP", "RCELL_QGIS_ROOM", "RCELL_QGIS_TOLD"))
+ZIP, ROOM, TOLD = (
+    os.environ[name] for name in ("RCELL_QGIS_ZIP", "RCELL_QGIS_ROOM", "RCELL_QGIS_TOLD")
+)
 
 
 def installed() -> dict[str, Any]:
@@ -27,15 +35,26 @@ def installed() -> dict[str, Any]:
 
     pyplugin_installer.instance().installFromZipFile(ZIP)
     program = os.path.join(home_plugin_path, "rcell/bin/rcell-pipe")
-    algorithms = sorted(it.id() for it in QgsApplication.processingRegistry().algorithms() if it.id().startswith("rcell:"))
-    return {"is_active": "rcell" in active_plugins, "algorithms": algorithms, "program": program, "mode": os.stat(program).st_mode & 0o777}
+    algorithms = sorted(
+        it.id()
+        for it in QgsApplication.processingRegistry().algorithms()
+        if it.id().startswith("rcell:")
+    )
+    return {
+        "is_active": "rcell" in active_plugins,
+        "algorithms": algorithms,
+        "program": program,
+        "mode": os.stat(program).st_mode & 0o777,
+    }
 
 
 def dialog_of(name: str, parameters: dict[str, Any]) -> Any:
     """The dialog of an algorithm, filled in."""
     from processing.gui.AlgorithmDialog import AlgorithmDialog
 
-    dialog = AlgorithmDialog(QgsApplication.processingRegistry().createAlgorithmById(name), False, iface.mainWindow())
+    dialog = AlgorithmDialog(
+        QgsApplication.processingRegistry().createAlgorithmById(name), False, iface.mainWindow()
+    )
     dialog.setParameters(parameters)
     dialog.show()
     return dialog
@@ -54,13 +73,19 @@ def run_in_dialog() -> dict[str, Any]:
     """Presses Run in the dialog, and looks at the layer that QGIS loads."""
     cover = QgsRasterLayer(os.path.join(ROOM, "cover.tif"), "cover")
     QgsProject.instance().addMapLayer(cover)
-    dialog = dialog_of("rcell:reclass", {"INPUT": cover.id(), "RULES": "1 2 = 1 green\n3 = 2 built up"})
+    dialog = dialog_of(
+        "rcell:reclass", {"INPUT": cover.id(), "RULES": "1 2 = 1 green\n3 = 2 built up"}
+    )
     dialog.runButton().click()
     loaded = lambda: QgsProject.instance().mapLayersByName("Reclassified map")  # noqa: E731
     wait_for(loaded)
     wait_for(lambda: loaded() and loaded()[0].renderer().type() == "paletted", 5)
     layer = loaded()[0] if loaded() else None
-    legend = [entry.label for entry in layer.renderer().classes()] if layer and layer.renderer().type() == "paletted" else []
+    legend = (
+        [entry.label for entry in layer.renderer().classes()]
+        if layer and layer.renderer().type() == "paletted"
+        else []
+    )
     dialog.close()
     return {"legend": legend}
 
@@ -68,13 +93,18 @@ def run_in_dialog() -> dict[str, Any]:
 def marked_in_log() -> dict[str, Any]:
     """A line of a script that is rejected: what the log of the dialog shows."""
     cover = QgsProject.instance().mapLayersByName("cover")[0]
-    dialog = dialog_of("rcell:script", {"INPUT": [cover.id()], "NAMES": "lc", "SCRIPT": "r.mapcalc x = lc + 1.5"})
+    dialog = dialog_of(
+        "rcell:script", {"INPUT": [cover.id()], "NAMES": "lc", "SCRIPT": "r.mapcalc x = lc + 1.5"}
+    )
     dialog.runButton().click()
     log = dialog.findChild(QTextEdit, "txtLog")
     wait_for(lambda: "Execution failed" in log.toPlainText())
     shown = log.toHtml()
     dialog.close()
-    return {"log": log.toPlainText(), "has_letters_of_one_width": "Courier" in shown or "monospace" in shown}
+    return {
+        "log": log.toPlainText(),
+        "has_letters_of_one_width": "Courier" in shown or "monospace" in shown,
+    }
 
 
 def refused_in_dialog() -> dict[str, Any]:
@@ -83,7 +113,9 @@ def refused_in_dialog() -> dict[str, Any]:
     QgsProject.instance().addMapLayer(shifted)
     cover = QgsProject.instance().mapLayersByName("cover")[0]
     algorithm = QgsApplication.processingRegistry().createAlgorithmById("rcell:cross")
-    ok, text = algorithm.checkParameterValues({"INPUT": [cover.id(), shifted.id()], "OUTPUT": "TEMPORARY_OUTPUT"}, _context())
+    ok, text = algorithm.checkParameterValues(
+        {"INPUT": [cover.id(), shifted.id()], "OUTPUT": "TEMPORARY_OUTPUT"}, _context()
+    )
     return {"refused": text if not ok else ""}
 
 
@@ -97,7 +129,12 @@ def cancelled_in_dialog() -> dict[str, Any]:
     """Cancels while a large map is worked on in a thread of its own, as the dialog does."""
     large = os.path.join(ROOM, "large.tif")
     target = os.path.join(ROOM, "never.tif")
-    parameters = {"INPUT": large, "CONNECTIVITY": "8", "MAP": QgsProcessingOutputLayerDefinition(target, None), "OUTPUT": "TEMPORARY_OUTPUT"}
+    parameters = {
+        "INPUT": large,
+        "CONNECTIVITY": "8",
+        "MAP": QgsProcessingOutputLayerDefinition(target, None),
+        "OUTPUT": "TEMPORARY_OUTPUT",
+    }
     from qgis.core import QgsProcessingAlgRunnerTask, QgsProcessingFeedback
 
     # The task keeps no hold of what it is given.
@@ -110,13 +147,23 @@ def cancelled_in_dialog() -> dict[str, Any]:
     QgsApplication.taskManager().addTask(task)
     wait_for(lambda: ended)
     left = [name for name in os.listdir(ROOM) if name.startswith((".never", "never"))]
-    return {"was_done": ended[0][0] if ended else None, "seconds": ended[0][1] - at[0] if ended and at else None, "left": left}
+    return {
+        "was_done": ended[0][0] if ended else None,
+        "seconds": ended[0][1] - at[0] if ended and at else None,
+        "left": left,
+    }
 
 
 def main() -> None:
     told: dict[str, Any] = {}
     try:
-        for step in (installed, run_in_dialog, marked_in_log, refused_in_dialog, cancelled_in_dialog):
+        for step in (
+            installed,
+            run_in_dialog,
+            marked_in_log,
+            refused_in_dialog,
+            cancelled_in_dialog,
+        ):
             told["step"] = step.__name__
             tell(told)
             told.update(step())

@@ -13,8 +13,18 @@ METRES = (500000.0, 20.0, 0.0, 5400000.0, 0.0, -20.0)
 DEGREES = (8.0, 0.5, 0.0, 48.0, 0.0, -0.5)
 
 
-def write(path: str, cells: Any, dtype: int = gdal.GDT_Int32, *, transform: Any = METRES, epsg: int = 32632, nodata: float | None = None,
-          names: list[str] | None = None, driver: str = "GTiff", bands: int = 1) -> str:
+def write(
+    path: str,
+    cells: Any,
+    dtype: int = gdal.GDT_Int32,
+    *,
+    transform: Any = METRES,
+    epsg: int = 32632,
+    nodata: float | None = None,
+    names: list[str] | None = None,
+    driver: str = "GTiff",
+    bands: int = 1,
+) -> str:
     """Writes cells as a raster, and returns its path."""
     array = np.atleast_2d(np.asarray(cells))
     memory = gdal.GetDriverByName("MEM").Create("", array.shape[1], array.shape[0], bands, dtype)
@@ -78,7 +88,12 @@ def areas(cells: NDArray[Any], diagonal: bool) -> NDArray[np.int32]:
         while rest:
             at = rest.pop()
             for row, col in _around(at, diagonal):
-                if 0 <= row < rows and 0 <= col < cols and not numbers[row, col] and cells[row, col] == cells[start]:
+                if (
+                    0 <= row < rows
+                    and 0 <= col < cols
+                    and not numbers[row, col]
+                    and cells[row, col] == cells[start]
+                ):
                     numbers[row, col] = count
                     rest.append((row, col))
     return numbers
@@ -98,7 +113,9 @@ def commonest(cells: NDArray[Any], size: int) -> NDArray[np.int32]:
     made = np.zeros((rows, cols), np.int32)
     for row in range(rows):
         for col in range(cols):
-            square = cells[max(0, row - reach) : row + reach + 1, max(0, col - reach) : col + reach + 1]
+            square = cells[
+                max(0, row - reach) : row + reach + 1, max(0, col - reach) : col + reach + 1
+            ]
             values, times = np.unique(square[square != 0], return_counts=True)
             made[row, col] = values[times.argmax()] if values.size else 0
     return made

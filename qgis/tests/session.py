@@ -7,9 +7,16 @@ import sys
 from typing import Any
 
 os.environ.setdefault("QT_QPA_PLATFORM", "offscreen")
-sys.path[:0] = [os.path.dirname(os.path.dirname(os.path.abspath(__file__))), "/usr/share/qgis/python/plugins"]
+sys.path[:0] = [
+    os.path.dirname(os.path.dirname(os.path.abspath(__file__))),
+    "/usr/share/qgis/python/plugins",
+]
 
-from qgis.core import QgsApplication, QgsProcessingFeedback, QgsSettings  # noqa: E402  (the path above has to be set first)
+from qgis.core import (
+    QgsApplication,
+    QgsProcessingFeedback,
+    QgsSettings,
+)
 
 _kept: list[Any] = []
 
@@ -60,7 +67,9 @@ class Log(QgsProcessingFeedback):
         self.told.append(f"error: {text}")
 
 
-def run(algorithm: Any, log: QgsProcessingFeedback | None = None, **parameters: Any) -> dict[str, Any]:
+def run(
+    algorithm: Any, log: QgsProcessingFeedback | None = None, **parameters: Any
+) -> dict[str, Any]:
     """Runs an algorithm, by its name or a model, and returns its results."""
     import processing
 
@@ -72,12 +81,21 @@ def districts() -> Any:
     """Two polygons over the left part of the maps that are made, with a name and a number."""
     from qgis.core import QgsFeature, QgsGeometry, QgsVectorLayer
 
-    layer = QgsVectorLayer("Polygon?crs=EPSG:32632&field=name:string&field=number:integer", "districts", "memory")
-    for name, number, box in (("Nord", 20, (500000, 5399965, 500055, 5400000)), ("S\u00fcd", 10, (500000, 5399920, 500055, 5399965))):
+    layer = QgsVectorLayer(
+        "Polygon?crs=EPSG:32632&field=name:string&field=number:integer", "districts", "memory"
+    )
+    for name, number, box in (
+        ("Nord", 20, (500000, 5399965, 500055, 5400000)),
+        ("S\u00fcd", 10, (500000, 5399920, 500055, 5399965)),
+    ):
         feature = QgsFeature(layer.fields())
         feature.setAttributes([name, number])
         west, south, east, north = box
-        feature.setGeometry(QgsGeometry.fromWkt(f"POLYGON(({west} {south}, {east} {south}, {east} {north}, {west} {north}, {west} {south}))"))
+        feature.setGeometry(
+            QgsGeometry.fromWkt(
+                f"POLYGON(({west} {south}, {east} {south}, {east} {north}, {west} {north}, {west} {south}))"
+            )
+        )
         layer.dataProvider().addFeature(feature)
     return layer
 
@@ -88,4 +106,7 @@ def rows(layer: Any) -> tuple[list[str], list[list[Any]]]:
 
     table = QgsVectorLayer(layer, "table", "ogr") if isinstance(layer, str) else layer
     titles = [field.name() for field in table.fields()]
-    return titles, [[None if value == NULL else value for value in feature.attributes()] for feature in table.getFeatures()]
+    return titles, [
+        [None if value == NULL else value for value in feature.attributes()]
+        for feature in table.getFeatures()
+    ]

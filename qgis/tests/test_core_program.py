@@ -30,7 +30,9 @@ class ProgramTest(unittest.TestCase):
         folder = tempfile.TemporaryDirectory(prefix="Programm \u00fc ")
         self.addCleanup(folder.cleanup)
         self.room = folder.name
-        self.raster = Raster.open("lc", made.write(os.path.join(self.room, "lc.tif"), made.noise(1, 50, 50)))
+        self.raster = Raster.open(
+            "lc", made.write(os.path.join(self.room, "lc.tif"), made.noise(1, 50, 50))
+        )
 
     def script(self, text: str, mode: int = 0o755) -> str:
         path = os.path.join(self.room, f"program {len(os.listdir(self.room))}")
@@ -44,10 +46,18 @@ class ProgramTest(unittest.TestCase):
         with open(copy, "w", encoding="utf-8") as file:
             file.write(f'#!/bin/sh\nexec "{ANSWERING}" "$@"\n')
         os.chmod(copy, 0o755)
-        for variables in ({"RCELL_PIPE": copy}, {"RCELL_PIPE": "", "RCELL": os.path.join(self.room, "rcell")}):
+        for variables in (
+            {"RCELL_PIPE": copy},
+            {"RCELL_PIPE": "", "RCELL": os.path.join(self.room, "rcell")},
+        ):
             with mock.patch.dict(os.environ, variables):
                 self.assertEqual(program.find_program(ANSWERING), ANSWERING)
-                self.assertEqual(os.path.basename(program.find_program(os.path.join(os.path.dirname(ANSWERING), "rcell"))), "rcell-pipe")
+                self.assertEqual(
+                    os.path.basename(
+                        program.find_program(os.path.join(os.path.dirname(ANSWERING), "rcell"))
+                    ),
+                    "rcell-pipe",
+                )
                 self.assertEqual(program.find_program(), copy)
         with mock.patch.dict(os.environ, {**UNSET, "PATH": f"{self.room}:{os.environ['PATH']}"}):
             self.assertEqual(program.find_program(), copy)
@@ -64,23 +74,42 @@ class ProgramTest(unittest.TestCase):
         self.assertEqual(os.stat(bundled).st_mode & 0o777, 0o755)
 
     def test_there_is_none(self) -> None:
-        with mock.patch.dict(os.environ, {**UNSET, "PATH": self.room}), mock.patch.object(program, "BUNDLED", "/nowhere"):
-            with self.assertRaisesRegex(MissingProgram, "the program rcell-pipe was not found: install the plugin from its zip, which contains it; or set"):
+        with mock.patch.dict(os.environ, {**UNSET, "PATH": self.room}), mock.patch.object(
+            program, "BUNDLED", "/nowhere"
+        ):
+            with self.assertRaisesRegex(
+                MissingProgram,
+                "the program rcell-pipe was not found: install the plugin from its zip, which contains it; or set",
+            ):
                 program.find_program()
-        with self.assertRaisesRegex(MissingProgram, "the program /nowhere/rcell-pipe is not there, or may not be executed: correct the path"):
+        with self.assertRaisesRegex(
+            MissingProgram,
+            "the program /nowhere/rcell-pipe is not there, or may not be executed: correct the path",
+        ):
             program.find_program("/nowhere/rcell")
         with self.assertRaisesRegex(MissingProgram, "may not be executed"):
             program.find_program(self.script("exit 0", 0o644))
 
     def test_another_program(self) -> None:
-        for text in ("exit 0", "echo RCELLA1; cat /dev/zero | head -c 1000", "echo 12 2 1; exit 1", "echo nonsense >&2; exit 7", "kill -9 $$"):
-            with self.subTest(text=text), self.assertRaisesRegex(WrongProgram, "is not a program rcell-pipe of a version that this plugin knows"):
+        for text in (
+            "exit 0",
+            "echo RCELLA1; cat /dev/zero | head -c 1000",
+            "echo 12 2 1; exit 1",
+            "echo nonsense >&2; exit 7",
+            "kill -9 $$",
+        ):
+            with self.subTest(text=text), self.assertRaisesRegex(
+                WrongProgram, "is not a program rcell-pipe of a version that this plugin knows"
+            ):
                 program.find_program(self.script(text))
 
     def test_killed(self) -> None:
         with self.assertRaises(Killed) as caught:
             asked.table(self.script("kill -9 $$"), [self.raster], False)
-        self.assertEqual(str(caught.exception), "the program was killed by signal 9 (SIGKILL): too little memory, or someone ended it")
+        self.assertEqual(
+            str(caught.exception),
+            "the program was killed by signal 9 (SIGKILL): too little memory, or someone ended it",
+        )
 
     def test_a_status_that_is_not_understood(self) -> None:
         with self.assertRaisesRegex(WrongProgram, "ended in status 7 and said: Unsinn"):
@@ -96,7 +125,9 @@ class ProgramTest(unittest.TestCase):
         timer.start()
         self.addCleanup(timer.cancel)
         with self.assertRaises(Cancelled):
-            asked.table(path, [raster or self.raster], False, program.Watch(is_cancelled=cancel.is_set))
+            asked.table(
+                path, [raster or self.raster], False, program.Watch(is_cancelled=cancel.is_set)
+            )
         return time.monotonic() - at[0]
 
     def test_a_cancel_ends_the_program_within_half_a_second(self) -> None:
@@ -106,7 +137,9 @@ class ProgramTest(unittest.TestCase):
             with self.subTest(text=text):
                 self.assertLess(self.cancelled(self.script(text), 0.3), 0.5)
         # And one that reads nothing of a map that is larger than a pipe.
-        large = Raster.open("lc", made.write(os.path.join(self.room, "large.tif"), made.noise(2, 1500, 1500)))
+        large = Raster.open(
+            "lc", made.write(os.path.join(self.room, "large.tif"), made.noise(2, 1500, 1500))
+        )
         self.assertLess(self.cancelled(self.script("exec sleep 60"), 0.3, large), 0.5)
         self.assertEqual(children(), before)
 
@@ -132,9 +165,11 @@ class ProgramTest(unittest.TestCase):
         copy = shutil.copy(ANSWERING, self.room)
         path = made.write(os.path.join(self.room, "large.tif"), made.noise(2, 1500, 1500))
         here = os.path.dirname(os.path.abspath(__file__))
-        code = (f"import signal, sys; sys.path[:0] = [{os.path.dirname(here)!r}]; signal.signal(signal.SIGINT, signal.default_int_handler)\n"
-                f"from rcell.core.landscape import patches; from rcell.core.rasters import Raster\n"
-                f"while True: patches({copy!r}, Raster.open('lc', {path!r}), 4, 'ha')")
+        code = (
+            f"import signal, sys; sys.path[:0] = [{os.path.dirname(here)!r}]; signal.signal(signal.SIGINT, signal.default_int_handler)\n"
+            f"from rcell.core.landscape import patches; from rcell.core.rasters import Raster\n"
+            f"while True: patches({copy!r}, Raster.open('lc', {path!r}), 4, 'ha')"
+        )
         for number in (signal.SIGTERM, signal.SIGKILL, signal.SIGINT):
             waiting = subprocess.Popen([sys.executable, "-c", code], stderr=subprocess.DEVNULL)
             self.wait_for(lambda: bool(running(copy)), 60)

@@ -64,110 +64,254 @@ class InSession(unittest.TestCase):
 
     def labelled(self, classes: list[tuple[int, str]]) -> QgsRasterLayer:
         layer = QgsRasterLayer(self.cover, "cover", "gdal")
-        entries = [QgsPalettedRasterRenderer.Class(value, QColor(10 * value, 20, 30), label) for value, label in classes]
+        entries = [
+            QgsPalettedRasterRenderer.Class(value, QColor(10 * value, 20, 30), label)
+            for value, label in classes
+        ]
         layer.setRenderer(QgsPalettedRasterRenderer(layer.dataProvider(), 1, entries))
         return layer
 
 
 class TableTest(InSession):
     def test_class_by_zone(self) -> None:
-        titles, rows = session.rows(self.run_("cross", INPUT=[self.cover, self.zones], OUTPUT="TEMPORARY_OUTPUT")["OUTPUT"])
+        titles, rows = session.rows(
+            self.run_("cross", INPUT=[self.cover, self.zones], OUTPUT="TEMPORARY_OUTPUT")["OUTPUT"]
+        )
         self.assertEqual(titles, ["cover", "cover_label", "zones", "cells", "area_ha", "percent"])
-        self.assertEqual([row[:5] for row in rows[:2]], [[1, "wood, wet", 7, 5, 0.2], [1, "wood, wet", 8, 2, 0.08]])
+        self.assertEqual(
+            [row[:5] for row in rows[:2]],
+            [[1, "wood, wet", 7, 5, 0.2], [1, "wood, wet", 8, 2, 0.08]],
+        )
         self.assertEqual(len(rows), 6)
         self.assertIn("\n  r.stats -cn input=map_1,map_2", self.log.told[0])
 
     def test_two_layers_of_one_name(self) -> None:
         first, second = QgsRasterLayer(self.zones, "p02"), QgsRasterLayer(self.cover, "P02")
-        titles, rows = session.rows(self.run_("cross", INPUT=[first, second], AREA="none", OUTPUT="TEMPORARY_OUTPUT")["OUTPUT"])
-        self.assertEqual((titles, rows[0]), (["p02", "P02_2", "P02_label", "cells", "percent"], [7, 1, "wood, wet", 5, 500 / 17]))
+        titles, rows = session.rows(
+            self.run_("cross", INPUT=[first, second], AREA="none", OUTPUT="TEMPORARY_OUTPUT")[
+                "OUTPUT"
+            ]
+        )
+        self.assertEqual(
+            (titles, rows[0]),
+            (["p02", "P02_2", "P02_label", "cells", "percent"], [7, 1, "wood, wet", 5, 500 / 17]),
+        )
 
     def test_files_of_tables_have_numbers_as_numbers(self) -> None:
         for ending in ("gpkg", "csv"):
-            path = self.run_("cross", INPUT=[self.cover], NULL=True, OUTPUT=self.path(f"t.{ending}"))["OUTPUT"]
+            path = self.run_(
+                "cross", INPUT=[self.cover], NULL=True, OUTPUT=self.path(f"t.{ending}")
+            )["OUTPUT"]
             layer = QgsVectorLayer(path, "t", "ogr")
             kinds = {field.name(): field.typeName() for field in layer.fields()}
-            self.assertEqual((kinds["cover"], kinds["cells"], kinds["cover_label"]), ("Integer64", "Integer64", "String"))
+            self.assertEqual(
+                (kinds["cover"], kinds["cells"], kinds["cover_label"]),
+                ("Integer64", "Integer64", "String"),
+            )
             self.assertEqual(session.rows(layer)[1][-1][-3:], [1, 0.04, None])
         self.assertEqual(made.left_in(self.room), [])
 
     def test_labels_are_those_that_the_user_sees(self) -> None:
         layer = self.labelled([(1, "1"), (2, "meadow"), (3, "town (12 cells, 4.8 ha)")])
-        titles, rows = session.rows(self.run_("cross", INPUT=[layer], OUTPUT="TEMPORARY_OUTPUT")["OUTPUT"])
+        titles, rows = session.rows(
+            self.run_("cross", INPUT=[layer], OUTPUT="TEMPORARY_OUTPUT")["OUTPUT"]
+        )
         self.assertEqual([row[1] for row in rows], [None, "meadow", "town"])
         plain = self.labelled([(1, "1"), (2, "2"), (3, "3")])
-        self.assertEqual(session.rows(self.run_("cross", INPUT=[plain], OUTPUT="TEMPORARY_OUTPUT")["OUTPUT"])[1][0][1], "wood, wet")
+        self.assertEqual(
+            session.rows(self.run_("cross", INPUT=[plain], OUTPUT="TEMPORARY_OUTPUT")["OUTPUT"])[1][
+                0
+            ][1],
+            "wood, wet",
+        )
 
     def test_nulls_are_those_that_the_user_has_declared(self) -> None:
         layer = QgsRasterLayer(self.zones, "zones")
         layer.dataProvider().setUserNoDataValue(1, [QgsRasterRange(8, 8)])
         layer.dataProvider().setUseSourceNoDataValue(1, False)
-        rows = session.rows(self.run_("cross", INPUT=[layer], NULL=True, OUTPUT="TEMPORARY_OUTPUT")["OUTPUT"])[1]
+        rows = session.rows(
+            self.run_("cross", INPUT=[layer], NULL=True, OUTPUT="TEMPORARY_OUTPUT")["OUTPUT"]
+        )[1]
         self.assertEqual([row[:2] for row in rows], [[0, 2], [7, 7], [None, 11]])
 
     def test_floats_beyond_their_exactness_are_warned_of(self) -> None:
         path = made.write(self.path("far.tif"), [[2**24 + 2, 1]], gdal.GDT_Float32)
         self.run_("cross", INPUT=[path], OUTPUT="TEMPORARY_OUTPUT")
-        self.assertIn("warning: far: floats of 32 bits are not exact beyond 16777216, and the map has larger values", self.log.told)
+        self.assertIn(
+            "warning: far: floats of 32 bits are not exact beyond 16777216, and the map has larger values",
+            self.log.told,
+        )
 
 
 class RefusalsTest(InSession):
     """What the dialog rejects before the run; the same words come from qgis_process."""
 
     def test_maps(self) -> None:
-        shifted = made.write(self.path("shifted.tif"), COVER, transform=(500010, 20, 0, 5400000, 0, -20))
-        message = self.refused("Unable to execute algorithm\nshifted: not of the region of `cover`, and nothing is resampled: east is 500110",
-                               "cross", INPUT=[self.cover, shifted], OUTPUT=self.path("t.gpkg"))
-        self.assertIn("\n  shifted: north 5400000, south 5399920, east 500110, west 500010, 4 rows, 5 columns", message)
+        shifted = made.write(
+            self.path("shifted.tif"), COVER, transform=(500010, 20, 0, 5400000, 0, -20)
+        )
+        message = self.refused(
+            "Unable to execute algorithm\nshifted: not of the region of `cover`, and nothing is resampled: east is 500110",
+            "cross",
+            INPUT=[self.cover, shifted],
+            OUTPUT=self.path("t.gpkg"),
+        )
+        self.assertIn(
+            "\n  shifted: north 5400000, south 5399920, east 500110, west 500010, 4 rows, 5 columns",
+            message,
+        )
         bands = made.write(self.path("bands.tif"), COVER, bands=3)
-        self.refused("Unable to execute algorithm\nbands: has 3 bands", "cross", INPUT=[bands], OUTPUT=self.path("t.gpkg"))
+        self.refused(
+            "Unable to execute algorithm\nbands: has 3 bands",
+            "cross",
+            INPUT=[bands],
+            OUTPUT=self.path("t.gpkg"),
+        )
         turned = made.write(self.path("turned.tif"), COVER, transform=(0, 20, 3, 0, 3, -20))
-        self.refused("Unable to execute algorithm\nturned: a rotated transform", "patches", INPUT=turned, MAP=self.path("a.tif"), OUTPUT=self.path("t.gpkg"))
+        self.refused(
+            "Unable to execute algorithm\nturned: a rotated transform",
+            "patches",
+            INPUT=turned,
+            MAP=self.path("a.tif"),
+            OUTPUT=self.path("t.gpkg"),
+        )
         halves = made.write(self.path("halves.tif"), COVER / 2, gdal.GDT_Float32)
-        self.refused("Unable to execute algorithm\nhalves: not a map of whole numbers: the cell at row 1, column 1 is 0.5", "majority", INPUT=halves,
-                     OUTPUT=self.path("m.tif"))
+        self.refused(
+            "Unable to execute algorithm\nhalves: not a map of whole numbers: the cell at row 1, column 1 is 0.5",
+            "majority",
+            INPUT=halves,
+            OUTPUT=self.path("m.tif"),
+        )
         degrees = made.write(self.path("degrees.tif"), COVER, transform=made.DEGREES, epsg=4326)
-        self.refused("area= needs a map in metres or feet", "script", INPUT=[degrees], NAMES="lc", SCRIPT="r.stats -c input=lc", AREA="ha", TABLE=self.path("t.gpkg"))
-        self.refused("nowhere: cannot open: ", "cross", INPUT=[self.path("nowhere.tif")], OUTPUT=self.path("t.gpkg"))
+        self.refused(
+            "area= needs a map in metres or feet",
+            "script",
+            INPUT=[degrees],
+            NAMES="lc",
+            SCRIPT="r.stats -c input=lc",
+            AREA="ha",
+            TABLE=self.path("t.gpkg"),
+        )
+        self.refused(
+            "nowhere: cannot open: ",
+            "cross",
+            INPUT=[self.path("nowhere.tif")],
+            OUTPUT=self.path("t.gpkg"),
+        )
         self.assertFalse(os.path.exists(self.path("t.gpkg")))
 
     def test_a_fault_far_down_is_found_by_the_run(self) -> None:
         cells = np.ones((3000, 300))
         cells[2900, 17] = 0.5
         path = made.write(self.path("late.tif"), cells, gdal.GDT_Float32)
-        message = self.refused("late: not a map of whole numbers: the cell at row 2901, column 18 is 0.5", "cross", INPUT=[path], OUTPUT=self.path("t.gpkg"))
+        message = self.refused(
+            "late: not a map of whole numbers: the cell at row 2901, column 18 is 0.5",
+            "cross",
+            INPUT=[path],
+            OUTPUT=self.path("t.gpkg"),
+        )
         self.assertNotIn("Unable to execute", message)
         self.assertFalse(os.path.exists(self.path("t.gpkg")))
 
     def test_words(self) -> None:
         self.refused("arguments: no raster is given", "cross", INPUT=[], OUTPUT="TEMPORARY_OUTPUT")
-        self.refused("arguments: 17 rasters, and a table has at most 16", "cross", INPUT=[self.cover] * 17, OUTPUT="TEMPORARY_OUTPUT")
-        self.refused("cover: has 1 band, and no band 5", "majority", INPUT=self.cover, BAND=5, OUTPUT=self.path("m.tif"))
-        self.refused("no format has this ending", "majority", INPUT=self.cover, OUTPUT=self.path("m.xyz9"))
-        self.refused("arguments: classes are whole numbers with commas between them, as 31,32, and not `1;2`", "patches", INPUT=self.cover, CLASSES="1;2",
-                     OUTPUT="TEMPORARY_OUTPUT")
+        self.refused(
+            "arguments: 17 rasters, and a table has at most 16",
+            "cross",
+            INPUT=[self.cover] * 17,
+            OUTPUT="TEMPORARY_OUTPUT",
+        )
+        self.refused(
+            "cover: has 1 band, and no band 5",
+            "majority",
+            INPUT=self.cover,
+            BAND=5,
+            OUTPUT=self.path("m.tif"),
+        )
+        self.refused(
+            "no format has this ending", "majority", INPUT=self.cover, OUTPUT=self.path("m.xyz9")
+        )
+        self.refused(
+            "arguments: classes are whole numbers with commas between them, as 31,32, and not `1;2`",
+            "patches",
+            INPUT=self.cover,
+            CLASSES="1;2",
+            OUTPUT="TEMPORARY_OUTPUT",
+        )
         common = {"INPUT": [self.cover], "SCRIPT": "r.stats -c input=lc\nr.stats input=lc"}
         self.refused("2 names for 1 rasters", "script", **common, NAMES="a,b")
         self.refused("'1a' is not a name for a map", "script", **common, NAMES="1a")
-        self.refused("one table is asked for, and the script has r.stats in line 1, r.stats in line 2", "script", **common, NAMES="lc", TABLE="TEMPORARY_OUTPUT")
-        self.refused("the script makes no map: name the output map", "script", **common, NAMES="lc", OUTPUT=self.path("x.tif"))
-        self.refused("the map x is requested, but no file for it is given", "script", **common, NAMES="lc", MAP="x")
+        self.refused(
+            "one table is asked for, and the script has r.stats in line 1, r.stats in line 2",
+            "script",
+            **common,
+            NAMES="lc",
+            TABLE="TEMPORARY_OUTPUT",
+        )
+        self.refused(
+            "the script makes no map: name the output map",
+            "script",
+            **common,
+            NAMES="lc",
+            OUTPUT=self.path("x.tif"),
+        )
+        self.refused(
+            "the map x is requested, but no file for it is given",
+            "script",
+            **common,
+            NAMES="lc",
+            MAP="x",
+        )
 
     def test_reference_systems(self) -> None:
         far = session.districts()
         feature = next(far.getFeatures())
-        far.dataProvider().changeGeometryValues({feature.id(): QgsGeometry.fromWkt("POLYGON((500001 5399999, 500002 5399999, 500002 5399998, 500001 5399999))")})
+        far.dataProvider().changeGeometryValues(
+            {
+                feature.id(): QgsGeometry.fromWkt(
+                    "POLYGON((500001 5399999, 500002 5399999, 500002 5399998, 500001 5399999))"
+                )
+            }
+        )
         self.run_("composition", INPUT=self.cover, ZONES=far, OUTPUT="TEMPORARY_OUTPUT")
-        self.assertIn("warning: districts: 1 of 2 polygons contain no centre of a cell: 1", self.log.told)
+        self.assertIn(
+            "warning: districts: 1 of 2 polygons contain no centre of a cell: 1", self.log.told
+        )
         gauss = made.write(self.path("gauss.tif"), COVER, epsg=31467)
         bare = made.write(self.path("bare.tif"), COVER, epsg=0)
-        self.refused("gauss: its coordinate reference system is EPSG:31467", "cross", INPUT=[self.cover, gauss], OUTPUT=self.path("t.gpkg"))
-        self.refused("bare: it has no coordinate reference system, and `cover` has EPSG:32632", "cross", INPUT=[bare, self.cover],
-                     OUTPUT=self.path("t.gpkg"))
+        self.refused(
+            "gauss: its coordinate reference system is EPSG:31467",
+            "cross",
+            INPUT=[self.cover, gauss],
+            OUTPUT=self.path("t.gpkg"),
+        )
+        self.refused(
+            "bare: it has no coordinate reference system, and `cover` has EPSG:32632",
+            "cross",
+            INPUT=[bare, self.cover],
+            OUTPUT=self.path("t.gpkg"),
+        )
         common = {"NAMES": "a,b", "SCRIPT": "r.stats -c input=a,b", "TABLE": self.path("t.gpkg")}
-        self.refused("b: its coordinate reference system is EPSG:31467", "script", INPUT=[self.cover, gauss], **common)
-        self.refused("b: its coordinate reference system is EPSG:32632", "script", INPUT=[bare, self.cover], CRS="EPSG:31467", **common)
-        self.refused("CRS is no coordinate reference system: 'nonsense'", "cross", INPUT=[bare], CRS="nonsense", OUTPUT=self.path("t.gpkg"))
+        self.refused(
+            "b: its coordinate reference system is EPSG:31467",
+            "script",
+            INPUT=[self.cover, gauss],
+            **common,
+        )
+        self.refused(
+            "b: its coordinate reference system is EPSG:32632",
+            "script",
+            INPUT=[bare, self.cover],
+            CRS="EPSG:31467",
+            **common,
+        )
+        self.refused(
+            "CRS is no coordinate reference system: 'nonsense'",
+            "cross",
+            INPUT=[bare],
+            CRS="nonsense",
+            OUTPUT=self.path("t.gpkg"),
+        )
         self.run_("cross", INPUT=[bare, self.cover], CRS="EPSG:32632", OUTPUT=self.path("t.gpkg"))
         self.run_("script", INPUT=[bare, self.cover], CRS="EPSG:32632", **common)
         layer = QgsRasterLayer(bare, "bare")
@@ -175,24 +319,66 @@ class RefusalsTest(InSession):
         self.run_("cross", INPUT=[layer, self.cover], OUTPUT=self.path("t.gpkg"))
 
     def test_quotes_are_reported_by_the_program(self) -> None:
-        for wanted in ({"OUTPUT": self.path("x.tif")}, {"OUTPUT": self.path("x.tif"), "MAP": "x"}, {"TABLE": "TEMPORARY_OUTPUT"}):
-            message = self.refused("script, line 1: bad byte at column 11", "script", INPUT=[self.cover], NAMES="lc",
-                                   SCRIPT='r.mapcalc "x = lc * 2"', **wanted)
-            self.assertTrue(message.endswith('\n  r.mapcalc "x = lc * 2"\n            ^\n  try: r.mapcalc x = lc * 2'), message)
+        for wanted in (
+            {"OUTPUT": self.path("x.tif")},
+            {"OUTPUT": self.path("x.tif"), "MAP": "x"},
+            {"TABLE": "TEMPORARY_OUTPUT"},
+        ):
+            message = self.refused(
+                "script, line 1: bad byte at column 11",
+                "script",
+                INPUT=[self.cover],
+                NAMES="lc",
+                SCRIPT='r.mapcalc "x = lc * 2"',
+                **wanted,
+            )
+            self.assertTrue(
+                message.endswith(
+                    '\n  r.mapcalc "x = lc * 2"\n            ^\n  try: r.mapcalc x = lc * 2'
+                ),
+                message,
+            )
 
     def test_a_line_of_a_script_is_shown_with_a_mark(self) -> None:
-        message = self.refused("script, line 2", "script", INPUT=[self.cover], NAMES="lc", SCRIPT="# a note\nr.mapcalc x = lc + 1.5")
-        self.assertTrue(message.startswith("script, line 2: number not whole at column 20\n  r.mapcalc x = lc + 1.5\n                     ^\n  try: "), message)
+        message = self.refused(
+            "script, line 2",
+            "script",
+            INPUT=[self.cover],
+            NAMES="lc",
+            SCRIPT="# a note\nr.mapcalc x = lc + 1.5",
+        )
+        self.assertTrue(
+            message.startswith(
+                "script, line 2: number not whole at column 20\n  r.mapcalc x = lc + 1.5\n                     ^\n  try: "
+            ),
+            message,
+        )
 
     def test_a_folder_that_is_missing_is_told_before_the_run(self) -> None:
-        self.refused("cannot be written: there is no folder", "cross", INPUT=[self.cover], OUTPUT=self.path("nowhere/t.gpkg"))
-        self.refused("cannot be written: there is no folder", "majority", INPUT=self.cover, OUTPUT=self.path("nowhere/m.tif"))
+        self.refused(
+            "cannot be written: there is no folder",
+            "cross",
+            INPUT=[self.cover],
+            OUTPUT=self.path("nowhere/t.gpkg"),
+        )
+        self.refused(
+            "cannot be written: there is no folder",
+            "majority",
+            INPUT=self.cover,
+            OUTPUT=self.path("nowhere/m.tif"),
+        )
         self.assertEqual([line for line in self.log.told if line.startswith("command")], [])
 
     def test_an_empty_table_is_warned_of(self) -> None:
-        found = self.run_("composition", INPUT=made.write(self.path("void.tif"), np.zeros((2, 3)), nodata=0), OUTPUT="TEMPORARY_OUTPUT")
+        found = self.run_(
+            "composition",
+            INPUT=made.write(self.path("void.tif"), np.zeros((2, 3)), nodata=0),
+            OUTPUT="TEMPORARY_OUTPUT",
+        )
         self.assertEqual(session.rows(found["OUTPUT"])[1], [])
-        self.assertIn("warning: The table is empty: all cells are without data or left out.", self.log.told)
+        self.assertIn(
+            "warning: The table is empty: all cells are without data or left out.", self.log.told
+        )
 
     def test_a_program_that_is_missing(self) -> None:
         QgsSettings().setValue("Processing/Configuration/RCELL_PROGRAM", "/nowhere/rcell")
@@ -201,10 +387,20 @@ class RefusalsTest(InSession):
 
             ProcessingConfig.readSettings()
             algorithm = QgsApplication.processingRegistry().algorithmById("rcell:majority")
-            self.assertEqual(algorithm.canExecute(), 
-                             (False, "the program /nowhere/rcell-pipe is not there, or may not be executed: correct the path under Settings > Options > "
-                                     "Processing > Providers > rcell, or leave it empty to use the plugin's own"))
-            self.refused("the program /nowhere/rcell-pipe is not there", "majority", INPUT=self.cover, OUTPUT=self.path("m.tif"))
+            self.assertEqual(
+                algorithm.canExecute(),
+                (
+                    False,
+                    "the program /nowhere/rcell-pipe is not there, or may not be executed: correct the path under Settings > Options > "
+                    "Processing > Providers > rcell, or leave it empty to use the plugin's own",
+                ),
+            )
+            self.refused(
+                "the program /nowhere/rcell-pipe is not there",
+                "majority",
+                INPUT=self.cover,
+                OUTPUT=self.path("m.tif"),
+            )
         finally:
             QgsSettings().setValue("Processing/Configuration/RCELL_PROGRAM", "")
             ProcessingConfig.readSettings()
@@ -217,25 +413,59 @@ class MapsTest(InSession):
         return [(int(entry.value), entry.label) for entry in layer.renderer().classes()]
 
     def test_patches(self) -> None:
-        found = self.run_("patches", INPUT=self.cover, CONNECTIVITY="8", LEAST=3, MAP=self.path("patches.tif"), OUTPUT="TEMPORARY_OUTPUT")
+        found = self.run_(
+            "patches",
+            INPUT=self.cover,
+            CONNECTIVITY="8",
+            LEAST=3,
+            MAP=self.path("patches.tif"),
+            OUTPUT="TEMPORARY_OUTPUT",
+        )
         titles, rows = session.rows(found["OUTPUT"])
-        self.assertEqual((titles[:5], rows[0][:5]), (["patch", "class", "label", "cells", "area_ha"], [1, 1, "wood, wet", 3, 0.12]))
+        self.assertEqual(
+            (titles[:5], rows[0][:5]),
+            (["patch", "class", "label", "cells", "area_ha"], [1, 1, "wood, wet", 3, 0.12]),
+        )
         self.assertEqual(titles[5:], ["perimeter_m", "core_ha", "west", "south", "east", "north"])
-        self.assertEqual((found["PATCHES"], self.legend(found["MAP"])[1]), (4, (2, "2: Wiese \u00fc (7 cells, 0.28 ha)")))
-        self.assertEqual(set(self.run_("patches", INPUT=self.cover, OUTPUT="TEMPORARY_OUTPUT")), {"PATCHES", "OUTPUT"})
+        self.assertEqual(
+            (found["PATCHES"], self.legend(found["MAP"])[1]),
+            (4, (2, "2: Wiese \u00fc (7 cells, 0.28 ha)")),
+        )
+        self.assertEqual(
+            set(self.run_("patches", INPUT=self.cover, OUTPUT="TEMPORARY_OUTPUT")),
+            {"PATCHES", "OUTPUT"},
+        )
         dataset = gdal.Open(found["MAP"])
-        self.assertEqual((dataset.GetRasterBand(1).GetNoDataValue(), dataset.GetSpatialRef().GetAuthorityCode(None)), (0, "32632"))
+        self.assertEqual(
+            (
+                dataset.GetRasterBand(1).GetNoDataValue(),
+                dataset.GetSpatialRef().GetAuthorityCode(None),
+            ),
+            (0, "32632"),
+        )
         self.assertEqual(dataset.GetGeoTransform(), made.METRES)
 
     def test_reclass(self) -> None:
-        found = self.run_("reclass", INPUT=self.cover, RULES="1 2 = 1 green, all of it\n3 = 9", OUTPUT=self.path("r.tif"))
-        self.assertEqual(self.legend(found["OUTPUT"]), [(1, "green, all of it (14 cells, 0.56 ha)"), (9, "9 (5 cells, 0.2 ha)")])
+        found = self.run_(
+            "reclass",
+            INPUT=self.cover,
+            RULES="1 2 = 1 green, all of it\n3 = 9",
+            OUTPUT=self.path("r.tif"),
+        )
+        self.assertEqual(
+            self.legend(found["OUTPUT"]),
+            [(1, "green, all of it (14 cells, 0.56 ha)"), (9, "9 (5 cells, 0.2 ha)")],
+        )
         dataset = gdal.Open(found["OUTPUT"])
         band = dataset.GetRasterBand(1)
         band.GetNoDataValue()
         self.assertEqual(band.GetRasterCategoryNames()[1], "green, all of it")
         # What it leaves passes to the next algorithm: the label, and not the count of the legend.
-        rows = session.rows(self.run_("cross", INPUT=[QgsRasterLayer(found["OUTPUT"], "r")], OUTPUT="TEMPORARY_OUTPUT")["OUTPUT"])[1]
+        rows = session.rows(
+            self.run_(
+                "cross", INPUT=[QgsRasterLayer(found["OUTPUT"], "r")], OUTPUT="TEMPORARY_OUTPUT"
+            )["OUTPUT"]
+        )[1]
         self.assertEqual(rows[0][:3], [1, "green, all of it", 14])
 
     def test_majority_keeps_labels_and_colours(self) -> None:
@@ -243,9 +473,15 @@ class MapsTest(InSession):
         found = self.run_("majority", INPUT=layer, OUTPUT=self.path("m.tif"))
         result = QgsRasterLayer(found["OUTPUT"], "map")
         entries = result.renderer().classes()
-        self.assertEqual([(entry.label, entry.color.red()) for entry in entries], [("wet wood", 10), ("meadow", 20), ("town", 30)])
+        self.assertEqual(
+            [(entry.label, entry.color.red()) for entry in entries],
+            [("wet wood", 10), ("meadow", 20), ("town", 30)],
+        )
         commonest = made.commonest(COVER, 3)
-        self.assertEqual(gdal.Open(found["OUTPUT"]).ReadAsArray().tolist(), np.where(COVER == 0, -(2**31), commonest).tolist())
+        self.assertEqual(
+            gdal.Open(found["OUTPUT"]).ReadAsArray().tolist(),
+            np.where(COVER == 0, -(2**31), commonest).tolist(),
+        )
         filled = self.run_("majority", INPUT=layer, FILL=True, OUTPUT=self.path("f.tif"))
         self.assertEqual(gdal.Open(filled["OUTPUT"]).ReadAsArray().tolist(), commonest.tolist())
 
@@ -258,68 +494,199 @@ class MapsTest(InSession):
         context.setProject(project)
         target = QgsProcessingOutputLayerDefinition(self.path("loaded.tif"), project)
         algorithm = QgsApplication.processingRegistry().createAlgorithmById("rcell:reclass")
-        ok, found = execute(algorithm, {"INPUT": self.cover, "RULES": "1 thru 3 = 1 all", "OUTPUT": target}, context, self.log)
+        ok, found = execute(
+            algorithm,
+            {"INPUT": self.cover, "RULES": "1 thru 3 = 1 all", "OUTPUT": target},
+            context,
+            self.log,
+        )
         self.assertTrue(ok, self.log.told)
         details = context.layerToLoadOnCompletionDetails(found["OUTPUT"])
-        layer = QgsRasterLayer(found["OUTPUT"], "loaded", "gdal", QgsRasterLayer.LayerOptions(loadDefaultStyle=False))
+        layer = QgsRasterLayer(
+            found["OUTPUT"], "loaded", "gdal", QgsRasterLayer.LayerOptions(loadDefaultStyle=False)
+        )
         details.postProcessor().postProcessLayer(layer, context, self.log)
-        self.assertEqual([entry.label for entry in layer.renderer().classes()], ["all (19 cells, 0.76 ha)"])
+        self.assertEqual(
+            [entry.label for entry in layer.renderer().classes()], ["all (19 cells, 0.76 ha)"]
+        )
 
     def test_zones_may_be_polygons(self) -> None:
-        found = self.run_("composition", INPUT=self.cover, ZONES=session.districts(), ZONE_FIELD="name", OUTPUT="TEMPORARY_OUTPUT")
+        found = self.run_(
+            "composition",
+            INPUT=self.cover,
+            ZONES=session.districts(),
+            ZONE_FIELD="name",
+            OUTPUT="TEMPORARY_OUTPUT",
+        )
         titles, rows = session.rows(found["OUTPUT"])
-        self.assertEqual(titles, ["zone", "zone_label", "class", "label", "cells", "area_ha", "percent"])
-        self.assertEqual([row[:5] for row in rows], [[1, "Nord", 1, "wood, wet", 3], [1, "Nord", 2, "Wiese \u00fc", 3], [2, "S\u00fcd", 1, "wood, wet", 3],
-                                                     [2, "S\u00fcd", 3, "built up", 3]])
-        numbers = session.rows(self.run_("zonal", INPUT=self.cover, ZONES=session.districts(), ZONE_FIELD="number", OUTPUT="TEMPORARY_OUTPUT")["OUTPUT"])[1]
+        self.assertEqual(
+            titles, ["zone", "zone_label", "class", "label", "cells", "area_ha", "percent"]
+        )
+        self.assertEqual(
+            [row[:5] for row in rows],
+            [
+                [1, "Nord", 1, "wood, wet", 3],
+                [1, "Nord", 2, "Wiese \u00fc", 3],
+                [2, "S\u00fcd", 1, "wood, wet", 3],
+                [2, "S\u00fcd", 3, "built up", 3],
+            ],
+        )
+        numbers = session.rows(
+            self.run_(
+                "zonal",
+                INPUT=self.cover,
+                ZONES=session.districts(),
+                ZONE_FIELD="number",
+                OUTPUT="TEMPORARY_OUTPUT",
+            )["OUTPUT"]
+        )[1]
         self.assertEqual([row[0] for row in numbers], [10, 20])
-        self.refused("no field x: there are name, number", "composition", INPUT=self.cover, ZONES=session.districts(), ZONE_FIELD="x", OUTPUT=self.path("t.gpkg"))
+        self.refused(
+            "no field x: there are name, number",
+            "composition",
+            INPUT=self.cover,
+            ZONES=session.districts(),
+            ZONE_FIELD="x",
+            OUTPUT=self.path("t.gpkg"),
+        )
         far = session.districts()
         feature = next(far.getFeatures())
-        far.dataProvider().changeGeometryValues({feature.id(): QgsGeometry.fromWkt("POLYGON((500001 5399999, 500002 5399999, 500002 5399998, 500001 5399999))")})
+        far.dataProvider().changeGeometryValues(
+            {
+                feature.id(): QgsGeometry.fromWkt(
+                    "POLYGON((500001 5399999, 500002 5399999, 500002 5399998, 500001 5399999))"
+                )
+            }
+        )
         self.run_("composition", INPUT=self.cover, ZONES=far, OUTPUT="TEMPORARY_OUTPUT")
-        self.assertIn("warning: districts: 1 of 2 polygons contain no centre of a cell: 1", self.log.told)
+        self.assertIn(
+            "warning: districts: 1 of 2 polygons contain no centre of a cell: 1", self.log.told
+        )
         gauss = made.write(self.path("gauss.tif"), COVER, epsg=31467)
-        self.refused("districts: its coordinate reference system is EPSG:32632", "composition", INPUT=gauss, ZONES=session.districts(), OUTPUT=self.path("t.gpkg"))
-        self.assertEqual([name for name in gdal.ReadDir("/vsimem/") or [] if name.startswith("rcell_zones")], [])
+        self.refused(
+            "districts: its coordinate reference system is EPSG:32632",
+            "composition",
+            INPUT=gauss,
+            ZONES=session.districts(),
+            OUTPUT=self.path("t.gpkg"),
+        )
+        self.assertEqual(
+            [name for name in gdal.ReadDir("/vsimem/") or [] if name.startswith("rcell_zones")], []
+        )
 
     def test_labels_of_a_file(self) -> None:
         with open(self.path("legend.csv"), "w", encoding="utf-8") as file:
             file.write("value,label\n7,North\n")
-        rows = session.rows(self.run_("composition", INPUT=self.zones, LABELS=self.path("legend.csv"), OUTPUT="TEMPORARY_OUTPUT")["OUTPUT"])[1]
+        rows = session.rows(
+            self.run_(
+                "composition",
+                INPUT=self.zones,
+                LABELS=self.path("legend.csv"),
+                OUTPUT="TEMPORARY_OUTPUT",
+            )["OUTPUT"]
+        )[1]
         self.assertEqual([row[:2] for row in rows], [[7, "North"], [8, None]])
         self.assertIn("warning: labels: no label for 8 of zones", self.log.told)
 
     def test_change_and_its_parts(self) -> None:
-        found = self.run_("change", INPUT=[self.cover, self.zones], AREA="m2", OUTPUT="TEMPORARY_OUTPUT", MATRIX="TEMPORARY_OUTPUT", SUMMARY="TEMPORARY_OUTPUT")
+        found = self.run_(
+            "change",
+            INPUT=[self.cover, self.zones],
+            AREA="m2",
+            OUTPUT="TEMPORARY_OUTPUT",
+            MATRIX="TEMPORARY_OUTPUT",
+            SUMMARY="TEMPORARY_OUTPUT",
+        )
         titles, rows = session.rows(found["MATRIX"])
         self.assertEqual((titles, rows[0]), (["from", "7", "8"], ["wood, wet", 2000, 800]))
         self.assertEqual(session.rows(found["SUMMARY"])[0][:3], ["class", "label", "before_m2"])
-        self.assertEqual(set(self.run_("change", INPUT=[self.cover, self.zones], OUTPUT="TEMPORARY_OUTPUT")), {"OUTPUT"})
+        self.assertEqual(
+            set(self.run_("change", INPUT=[self.cover, self.zones], OUTPUT="TEMPORARY_OUTPUT")),
+            {"OUTPUT"},
+        )
 
     def test_align_keeps_labels_and_reports(self) -> None:
-        moved = made.write(self.path("moved.tif"), COVER, gdal.GDT_Byte, nodata=0, names=NAMES, transform=(500020, 20, 0, 5400000, 0, -20))
+        moved = made.write(
+            self.path("moved.tif"),
+            COVER,
+            gdal.GDT_Byte,
+            nodata=0,
+            names=NAMES,
+            transform=(500020, 20, 0, 5400000, 0, -20),
+        )
         found = self.run_("align", INPUT=moved, TO=self.zones, OUTPUT=self.path("a.tif"))
-        self.assertEqual([found[name] for name in ("SHIFT_ROWS", "SHIFT_COLUMNS", "CELLS_USED", "CELLS_REPEATED", "CELLS_LOST")], [0, -1, 15, 0, 4])
-        self.assertEqual(gdal.Open(found["OUTPUT"]).ReadAsArray()[0].tolist(), [-(2**31), 1, 1, 2, -(2**31)])
+        self.assertEqual(
+            [
+                found[name]
+                for name in (
+                    "SHIFT_ROWS",
+                    "SHIFT_COLUMNS",
+                    "CELLS_USED",
+                    "CELLS_REPEATED",
+                    "CELLS_LOST",
+                )
+            ],
+            [0, -1, 15, 0, 4],
+        )
+        self.assertEqual(
+            gdal.Open(found["OUTPUT"]).ReadAsArray()[0].tolist(), [-(2**31), 1, 1, 2, -(2**31)]
+        )
         self.assertEqual(self.legend(found["OUTPUT"])[0], (1, "wood, wet"))
-        self.refused("shifted by 0 rows and -0.5 columns", "align", OUTPUT=self.path("b.tif"), TO=self.zones,
-                     INPUT=made.write(self.path("half.tif"), COVER, transform=(500010, 20, 0, 5400000, 0, -20)))
+        self.refused(
+            "shifted by 0 rows and -0.5 columns",
+            "align",
+            OUTPUT=self.path("b.tif"),
+            TO=self.zones,
+            INPUT=made.write(
+                self.path("half.tif"), COVER, transform=(500010, 20, 0, 5400000, 0, -20)
+            ),
+        )
 
     def test_a_model_of_two_algorithms(self) -> None:
         from qgis.core import QgsProcessingModelAlgorithm
 
         model = QgsProcessingModelAlgorithm()
-        self.assertTrue(model.fromFile(os.path.join(os.path.dirname(results.__file__), "examples/patches_of_grouped_classes.model3")))
+        self.assertTrue(
+            model.fromFile(
+                os.path.join(
+                    os.path.dirname(results.__file__), "examples/patches_of_grouped_classes.model3"
+                )
+            )
+        )
         # QGIS leaves statistics next to a raster that it opens.
-        shutil.copytree(os.path.join(os.path.dirname(results.__file__), "../../examples/rasters"), self.path("islands"))
+        shutil.copytree(
+            os.path.join(os.path.dirname(results.__file__), "../../examples/rasters"),
+            self.path("islands"),
+        )
         path = self.path("islands/country.tif")
-        session.run(model, cover=path, **{"patches:Map of patches": self.path("model.tif"), "patches:Table of patches": self.path("model.gpkg")})
+        session.run(
+            model,
+            cover=path,
+            **{
+                "patches:Map of patches": self.path("model.tif"),
+                "patches:Table of patches": self.path("model.gpkg"),
+            },
+        )
         rules = "1 = 1 Indonesia\n2 thru 6 = 2 its neighbours"
         grouped = self.run_("reclass", INPUT=path, RULES=rules, OUTPUT=self.path("r.tif"))["OUTPUT"]
-        found = self.run_("patches", INPUT=grouped, CONNECTIVITY="8", LEAST=100, MAP=self.path("a.tif"), OUTPUT="TEMPORARY_OUTPUT")
-        self.assertTrue((gdal.Open(found["MAP"]).ReadAsArray() == gdal.Open(self.path("model.tif")).ReadAsArray()).all())
-        self.assertEqual([row[1:] for row in session.rows(self.path("model.gpkg"))[1]], session.rows(found["OUTPUT"])[1])
+        found = self.run_(
+            "patches",
+            INPUT=grouped,
+            CONNECTIVITY="8",
+            LEAST=100,
+            MAP=self.path("a.tif"),
+            OUTPUT="TEMPORARY_OUTPUT",
+        )
+        self.assertTrue(
+            (
+                gdal.Open(found["MAP"]).ReadAsArray()
+                == gdal.Open(self.path("model.tif")).ReadAsArray()
+            ).all()
+        )
+        self.assertEqual(
+            [row[1:] for row in session.rows(self.path("model.gpkg"))[1]],
+            session.rows(found["OUTPUT"])[1],
+        )
 
     def test_texts_can_be_translated_and_helped(self) -> None:
         class German(QTranslator):
@@ -332,11 +699,22 @@ class MapsTest(InSession):
         translator = German()
         QgsApplication.installTranslator(translator)
         try:
-            for algorithm in (each.create() for each in QgsApplication.processingRegistry().providerById("rcell").algorithms()):
-                texts = [algorithm.displayName(), algorithm.shortDescription(), *(each.description() for each in algorithm.parameterDefinitions())]
-                self.assertEqual([text for text in texts if not text.startswith("de: ")], [], algorithm.id())
+            for algorithm in (
+                each.create()
+                for each in QgsApplication.processingRegistry().providerById("rcell").algorithms()
+            ):
+                texts = [
+                    algorithm.displayName(),
+                    algorithm.shortDescription(),
+                    *(each.description() for each in algorithm.parameterDefinitions()),
+                ]
+                self.assertEqual(
+                    [text for text in texts if not text.startswith("de: ")], [], algorithm.id()
+                )
                 self.assertEqual(algorithm.shortHelpString().count("de: "), len(algorithm.HELP))
-                self.assertTrue(os.path.isfile(QUrl(algorithm.helpUrl()).toLocalFile()), algorithm.id())
+                self.assertTrue(
+                    os.path.isfile(QUrl(algorithm.helpUrl()).toLocalFile()), algorithm.id()
+                )
         finally:
             QgsApplication.removeTranslator(translator)
 
@@ -350,11 +728,25 @@ class MapsTest(InSession):
 
     def test_a_script_and_all_that_it_writes(self) -> None:
         script = "r.mapcalc big = lc * 1000000000\nr.stats -c -l input=lc,zone\nr.out.ascii input=big\nr.stats input=zone"
-        found = self.run_("script", INPUT=[self.cover, self.zones], NAMES="lc, zone", SCRIPT=script, OUTPUT=self.path("x.tif"), FOLDER=self.path("all"))
-        self.assertEqual(sorted(name for name in os.listdir(found["FOLDER"]) if not name.endswith(".xml")),
-                         ["big.qml", "big.tif", "table_2.csv", "table_2.csvt", "table_4.csv", "table_4.csvt"])
-        self.assertEqual(gdal.Open(found["OUTPUT"]).ReadAsArray()[0].tolist(), [10**9, 10**9, 2 * 10**9, -(2**31), -(2**31)])
-        self.assertTrue(any("r.stats in line 4:\nzone\n   7" in line for line in self.log.told), self.log.told)
+        found = self.run_(
+            "script",
+            INPUT=[self.cover, self.zones],
+            NAMES="lc, zone",
+            SCRIPT=script,
+            OUTPUT=self.path("x.tif"),
+            FOLDER=self.path("all"),
+        )
+        self.assertEqual(
+            sorted(name for name in os.listdir(found["FOLDER"]) if not name.endswith(".xml")),
+            ["big.qml", "big.tif", "table_2.csv", "table_2.csvt", "table_4.csv", "table_4.csvt"],
+        )
+        self.assertEqual(
+            gdal.Open(found["OUTPUT"]).ReadAsArray()[0].tolist(),
+            [10**9, 10**9, 2 * 10**9, -(2**31), -(2**31)],
+        )
+        self.assertTrue(
+            any("r.stats in line 4:\nzone\n   7" in line for line in self.log.told), self.log.told
+        )
 
     def test_an_input_is_never_the_output(self) -> None:
         before = pathlib.Path(self.zones).read_bytes()
@@ -363,7 +755,13 @@ class MapsTest(InSession):
         os.mkdir(self.path("all"))
         inside = made.write(self.path("all/big.tif"), COVER)
         with self.assertRaisesRegex(QgsProcessingException, "the output file is the input file"):
-            self.run_("script", INPUT=[inside], NAMES="big", SCRIPT="r.out.ascii input=big", FOLDER=self.path("all"))
+            self.run_(
+                "script",
+                INPUT=[inside],
+                NAMES="big",
+                SCRIPT="r.out.ascii input=big",
+                FOLDER=self.path("all"),
+            )
         self.assertEqual(pathlib.Path(self.zones).read_bytes(), before)
 
     def test_other_tables_are_left_to_qgis(self) -> None:
@@ -372,19 +770,29 @@ class MapsTest(InSession):
 
     def test_names_are_made_of_those_of_layers(self) -> None:
         layer = QgsRasterLayer(self.cover, "Gel\u00e4nde 2020 (neu)")
-        found = self.run_("script", INPUT=[layer], SCRIPT="r.stats -c input=Gel_nde_2020__neu_", TABLE="TEMPORARY_OUTPUT")
+        found = self.run_(
+            "script",
+            INPUT=[layer],
+            SCRIPT="r.stats -c input=Gel_nde_2020__neu_",
+            TABLE="TEMPORARY_OUTPUT",
+        )
         self.assertEqual(session.rows(found["TABLE"])[0], ["Gel_nde_2020__neu_", "cells"])
 
     def test_a_run_that_is_cancelled_leaves_no_file(self) -> None:
         path = self.path("sleeping")
         with open(path, "w", encoding="utf-8") as file:
-            file.write(f'#!/bin/sh\ntest -e "$0.known" && exec sleep 60\ntouch "$0.known"\nexec "{find_program()}" "$@"\n')
+            file.write(
+                f'#!/bin/sh\ntest -e "$0.known" && exec sleep 60\ntouch "$0.known"\nexec "{find_program()}" "$@"\n'
+            )
         os.chmod(path, stat.S_IRWXU)
         from processing.core.ProcessingConfig import ProcessingConfig
 
         ProcessingConfig.setSettingValue("RCELL_PROGRAM", path)
         try:
-            self.assertEqual(QgsApplication.processingRegistry().algorithmById("rcell:majority").canExecute()[0], True)
+            self.assertEqual(
+                QgsApplication.processingRegistry().algorithmById("rcell:majority").canExecute()[0],
+                True,
+            )
             started = time.monotonic()
             threading.Timer(0.5, self.log.cancel).start()
             self.refused("cancelled", "majority", INPUT=self.cover, OUTPUT=self.path("m.tif"))

@@ -25,7 +25,9 @@ def sessions() -> list[tuple[str, str]]:
     return found
 
 
-@unittest.skipUnless(shutil.which("qgis_process.bin"), "there is no qgis_process.bin (Debian's qgis)")
+@unittest.skipUnless(
+    shutil.which("qgis_process.bin"), "there is no qgis_process.bin (Debian's qgis)"
+)
 class DocumentTest(unittest.TestCase):
     def test_commands(self) -> None:
         with tempfile.TemporaryDirectory() as room:
@@ -34,10 +36,21 @@ class DocumentTest(unittest.TestCase):
             with zipfile.ZipFile(os.environ["RCELL_QGIS_ZIP"]) as archive:
                 archive.extractall(plugins)
             shutil.copytree(REPOSITORY / "examples/rasters", f"{room}/rasters")
-            kept = {name: value for name, value in os.environ.items() if name not in ("RCELL", "RCELL_PIPE", "PYTHONPATH")}
+            kept = {
+                name: value
+                for name, value in os.environ.items()
+                if name not in ("RCELL", "RCELL_PIPE", "PYTHONPATH")
+            }
             environment = {**kept, "HOME": room, "XDG_RUNTIME_DIR": room, "LC_ALL": "C.UTF-8"}
             for command, shown in sessions():
-                ran = subprocess.run(["sh", "-c", command], cwd=f"{room}/rasters", env=environment, capture_output=True, encoding="utf-8", check=False)
+                ran = subprocess.run(
+                    ["sh", "-c", command],
+                    cwd=f"{room}/rasters",
+                    env=environment,
+                    capture_output=True,
+                    encoding="utf-8",
+                    check=False,
+                )
                 self.assertEqual(ran.returncode, 0, f"{command}\n{ran.stdout}{ran.stderr}")
                 if shown or not command.startswith("qgis_process"):
                     self.assertEqual(ran.stdout, shown, command)

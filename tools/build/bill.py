@@ -21,7 +21,10 @@ ISLANDS = "examples/islands, examples/rasters and docs/qgis-result.png"
 ISLANDS_LICENCE = "LGPL-3.0-or-later"
 HOLDER = "2026 the Nibzoqel authors"
 KIT = "Rattle kit"
-LIBRARIES = {"libc6-dev": "/usr/lib/x86_64-linux-gnu/libc.a", "libgcc-12-dev": "/usr/lib/gcc/x86_64-linux-gnu/12/libgcc.a"}
+LIBRARIES = {
+    "libc6-dev": "/usr/lib/x86_64-linux-gnu/libc.a",
+    "libgcc-12-dev": "/usr/lib/gcc/x86_64-linux-gnu/12/libgcc.a",
+}
 
 
 def identifier(*words):
@@ -41,35 +44,104 @@ def sum_of_crate(crate):
 
 def package(name, version, licence, sha256, says="", holder="NOASSERTION", group="library"):
     found = {
-        "SPDXID": identifier(group, name), "name": name, "versionInfo": version, "downloadLocation": "NOASSERTION", "filesAnalyzed": False,
-        "licenseConcluded": licence, "licenseDeclared": licence, "copyrightText": holder, "comment": says,
+        "SPDXID": identifier(group, name),
+        "name": name,
+        "versionInfo": version,
+        "downloadLocation": "NOASSERTION",
+        "filesAnalyzed": False,
+        "licenseConcluded": licence,
+        "licenseDeclared": licence,
+        "copyrightText": holder,
+        "comment": says,
     }
-    return {**found, "checksums": [{"algorithm": "SHA256", "checksumValue": sha256}]} if sha256 else found
+    return (
+        {**found, "checksums": [{"algorithm": "SHA256", "checksumValue": sha256}]}
+        if sha256
+        else found
+    )
 
 
 def packages(version):
     """The parts of the programs, the first of which is rcell itself."""
     crates = build.crates_of(build.PROGRAMS)
-    yield package("rcell", version, linked.OWN, "", "rcell, rcell-join, rcell-pipe, their helpers, documents and examples", HOLDER, "product")
+    yield package(
+        "rcell",
+        version,
+        linked.OWN,
+        "",
+        "rcell, rcell-join, rcell-pipe, their helpers, documents and examples",
+        HOLDER,
+        "product",
+    )
     for it in crates:
-        yield package(it.name, version, linked.OWN, sum_of_crate(it), "A crate; the sum is of the lines 'SHA-256  PATH' of its sources.", HOLDER, "crate")
+        yield package(
+            it.name,
+            version,
+            linked.OWN,
+            sum_of_crate(it),
+            "A crate; the sum is of the lines 'SHA-256  PATH' of its sources.",
+            HOLDER,
+            "crate",
+        )
     for name, licence in linked.libraries().items():
         ported = linked.port_of(name)
-        says = f"Library of the {KIT}" + (f", after the Rust crate of version {ported}" if ported else "") + "; the sum is of its file format."
-        yield package(name, build.kit_version(), licence, sum_of(f"{build.kit()}/rlibs/{name}.rlib/format"), says)
+        says = (
+            f"Library of the {KIT}"
+            + (f", after the Rust crate of version {ported}" if ported else "")
+            + "; the sum is of its file format."
+        )
+        yield package(
+            name,
+            build.kit_version(),
+            licence,
+            sum_of(f"{build.kit()}/rlibs/{name}.rlib/format"),
+            says,
+        )
     for name in ("libos_c.a", "liblibc_c.a"):
-        yield package(name, build.kit_version(), linked.NO_LICENCE, sum_of(f"{build.kit()}/c/{name}"), f"Archive of the {KIT}.")
+        yield package(
+            name,
+            build.kit_version(),
+            linked.NO_LICENCE,
+            sum_of(f"{build.kit()}/c/{name}"),
+            f"Archive of the {KIT}.",
+        )
     for name, (licence, what) in linked.OF_DEBIAN.items():
-        yield package(name, linked.version_of(name), licence, sum_of(LIBRARIES[name]), f"{what}, of Debian; the sum is of {os.path.basename(LIBRARIES[name])}.")
-    yield package("islands", version, ISLANDS_LICENCE, "", f"The maps in {ISLANDS}, made from GSHHG 2.3.7 and DCW 2.1.1.",
-                  "Paul Wessel and Walter H. F. Smith", "data")
+        yield package(
+            name,
+            linked.version_of(name),
+            licence,
+            sum_of(LIBRARIES[name]),
+            f"{what}, of Debian; the sum is of {os.path.basename(LIBRARIES[name])}.",
+        )
+    yield package(
+        "islands",
+        version,
+        ISLANDS_LICENCE,
+        "",
+        f"The maps in {ISLANDS}, made from GSHHG 2.3.7 and DCW 2.1.1.",
+        "Paul Wessel and Walter H. F. Smith",
+        "data",
+    )
 
 
 def files(folder):
-    for path in sorted(it for it in folder.iterdir() if it.is_file() and it.name != "SHA256SUMS" and not it.name.endswith(".spdx.json")):
-        sums = [{"algorithm": kind.upper(), "checksumValue": sum_of(path, kind)} for kind in ("sha1", "sha256")]
-        yield {"SPDXID": identifier("file", path.name), "fileName": f"./{path.name}", "checksums": sums, "licenseConcluded": linked.OWN,
-               "licenseInfoInFiles": [linked.NO_LICENCE], "copyrightText": HOLDER}
+    for path in sorted(
+        it
+        for it in folder.iterdir()
+        if it.is_file() and it.name != "SHA256SUMS" and not it.name.endswith(".spdx.json")
+    ):
+        sums = [
+            {"algorithm": kind.upper(), "checksumValue": sum_of(path, kind)}
+            for kind in ("sha1", "sha256")
+        ]
+        yield {
+            "SPDXID": identifier("file", path.name),
+            "fileName": f"./{path.name}",
+            "checksums": sums,
+            "licenseConcluded": linked.OWN,
+            "licenseInfoInFiles": [linked.NO_LICENCE],
+            "copyrightText": HOLDER,
+        }
 
 
 def relation(one, kind, other):
@@ -78,16 +150,28 @@ def relation(one, kind, other):
 
 def bill(folder):
     version = (ROOT / "VERSION").read_text(encoding="utf-8").strip()
-    commit = subprocess.run(["git", "log", "-1", "--format=%H %ct"], cwd=ROOT, check=True, capture_output=True, text=True).stdout.split()
+    commit = subprocess.run(
+        ["git", "log", "-1", "--format=%H %ct"],
+        cwd=ROOT,
+        check=True,
+        capture_output=True,
+        text=True,
+    ).stdout.split()
     parts, made = list(packages(version)), list(files(folder))
     rcell = parts[0]["SPDXID"]
     kinds = {"crate": "GENERATED_FROM", "library": "STATIC_LINK", "data": "CONTAINS"}
     return {
-        "spdxVersion": "SPDX-2.3", "dataLicense": "CC0-1.0", "SPDXID": "SPDXRef-DOCUMENT", "name": f"rcell-{version}",
+        "spdxVersion": "SPDX-2.3",
+        "dataLicense": "CC0-1.0",
+        "SPDXID": "SPDXRef-DOCUMENT",
+        "name": f"rcell-{version}",
         "documentNamespace": f"https://spdx.org/spdxdocs/rcell-{version}-{commit[0]}",
-        "creationInfo": {"created": time.strftime("%Y-%m-%dT%H:%M:%SZ", time.gmtime(int(commit[1]))),
-                         "creators": ["Organization: the Nibzoqel authors", "Tool: tools/build/bill.py"]},
-        "packages": parts, "files": made,
+        "creationInfo": {
+            "created": time.strftime("%Y-%m-%dT%H:%M:%SZ", time.gmtime(int(commit[1]))),
+            "creators": ["Organization: the Nibzoqel authors", "Tool: tools/build/bill.py"],
+        },
+        "packages": parts,
+        "files": made,
         "relationships": [relation("SPDXRef-DOCUMENT", "DESCRIBES", rcell)]
         + [relation(rcell, kinds[it["SPDXID"].split("-")[1]], it["SPDXID"]) for it in parts[1:]]
         + [relation(it["SPDXID"], "GENERATED_FROM", rcell) for it in made],

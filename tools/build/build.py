@@ -40,7 +40,11 @@ class Crate:
     """A crate of a repository: its line of crates.txt, the crates right below it, and the kit's libraries that it uses."""
 
     def __init__(self, name, uses, crates, root=ROOT):
-        self.name, self.folder, self.line = name, f"{root}/crates/{name}", f"{name}: {' '.join(uses)}\n"
+        self.name, self.folder, self.line = (
+            name,
+            f"{root}/crates/{name}",
+            f"{name}: {' '.join(uses)}\n",
+        )
         self.rlib = f"{self.folder}/out/rlib/{name}.rlib"
         self.below = [crates[it] for it in uses if it in crates]
         self.of_kit = ["std", *[it for it in uses if it not in crates]]
@@ -51,14 +55,23 @@ class Crate:
 
     @functools.cached_property
     def files(self):
-        found = [f"{at}/{name}" for part in PROVED for at, _, names in os.walk(f"{self.folder}/{part}") for name in names]
-        return {os.path.relpath(it, self.folder): pathlib.Path(it).read_bytes() for it in sorted(found)}
+        found = [
+            f"{at}/{name}"
+            for part in PROVED
+            for at, _, names in os.walk(f"{self.folder}/{part}")
+            for name in names
+        ]
+        return {
+            os.path.relpath(it, self.folder): pathlib.Path(it).read_bytes() for it in sorted(found)
+        }
 
     @functools.cached_property
     def work(self):
         """How much there is to prove, in lines of source."""
         lines = {path: text.count(b"\n") for path, text in self.files.items()}
-        return LINES_OF_A_START + sum(it if path.endswith(".rt") else LINES_OF_A_PROOF * it for path, it in lines.items())
+        return LINES_OF_A_START + sum(
+            it if path.endswith(".rt") else LINES_OF_A_PROOF * it for path, it in lines.items()
+        )
 
     @functools.cached_property
     def stamp(self):
@@ -81,12 +94,29 @@ class Crate:
 
     def command(self, verb, jobs=1):
         """The command that proves the crate (`check`), or also compiles it (`build`), over the libraries below it that `rt` left."""
-        words = [f"{kit()}/bin/rattle", verb, "--crate-name", self.name, f"src/{'main' if self.name in PROGRAMS else 'lib'}.rt"]
-        words += [word for it in self.of_kit for word in ("--extern", f"{it}={kit()}/rlibs/{it}.rlib")]
+        words = [
+            f"{kit()}/bin/rattle",
+            verb,
+            "--crate-name",
+            self.name,
+            f"src/{'main' if self.name in PROGRAMS else 'lib'}.rt",
+        ]
+        words += [
+            word for it in self.of_kit for word in ("--extern", f"{it}={kit()}/rlibs/{it}.rlib")
+        ]
         words += [word for it in self.below for word in ("--extern", f"{it.name}={it.rlib}")]
         words += ["-L", f"dependency={kit()}/rlibs"]
-        words += [word for it in self.all_below.values() for word in ("-L", f"dependency={os.path.dirname(it.rlib)}")]
-        words += ["--antt-project", f"{kit()}/rattle/logic/antt-project.json", "--logic-built", f"{kit()}/logic_built"]
+        words += [
+            word
+            for it in self.all_below.values()
+            for word in ("-L", f"dependency={os.path.dirname(it.rlib)}")
+        ]
+        words += [
+            "--antt-project",
+            f"{kit()}/rattle/logic/antt-project.json",
+            "--logic-built",
+            f"{kit()}/logic_built",
+        ]
         return [*words, "--links", f"{self.name}=", "--jobs", str(jobs)]
 
 
@@ -123,7 +153,9 @@ def cut(crates):
     """A folder that has these crates alone: what is proved of them, and what their programs are run on."""
     with tempfile.TemporaryDirectory(prefix="rcell-build-") as folder:
         shutil.copy(f"{ROOT}/HANDLES", folder)
-        pathlib.Path(folder, "crates.txt").write_text("".join(it.line for it in crates), encoding="utf-8")
+        pathlib.Path(folder, "crates.txt").write_text(
+            "".join(it.line for it in crates), encoding="utf-8"
+        )
         for it in crates:
             for part in (*PROVED, *RUN_ON):
                 if os.path.isdir(f"{it.folder}/{part}"):
@@ -177,7 +209,9 @@ def minutes(seconds):
 
 def failure(lines):
     """What rt says of the first crate that is not proved."""
-    at = next((number for number, line in enumerate(lines) if " NOT PROVED" in line), len(lines) - 1)
+    at = next(
+        (number for number, line in enumerate(lines) if " NOT PROVED" in line), len(lines) - 1
+    )
     begin = max((number for number in range(at) if lines[number].startswith("== ")), default=0)
     return "".join(lines[max(begin, at + 1 - LINES_OF_A_LOG) : at + 1])
 
@@ -186,15 +220,28 @@ def prove(folder, crates, jobs, log):
     """Runs `rt ci` over the crates of a folder with news of it, and returns its status."""
     environment = {**os.environ, **({"RT_JOBS": str(jobs)} if jobs else {})}
     with News(crates) as news, open(log, "w", encoding="utf-8") as file:
-        with subprocess.Popen(["rt", "ci"], cwd=folder, env=environment, stdin=subprocess.DEVNULL, stdout=subprocess.PIPE,
-                              stderr=subprocess.STDOUT, text=True, errors="replace") as ran:
+        with subprocess.Popen(
+            ["rt", "ci"],
+            cwd=folder,
+            env=environment,
+            stdin=subprocess.DEVNULL,
+            stdout=subprocess.PIPE,
+            stderr=subprocess.STDOUT,
+            text=True,
+            errors="replace",
+        ) as ran:
             lines = []
             for line in ran.stdout:
                 lines.append(line.replace(folder, "."))
                 file.write(lines[-1])
                 news.take(line)
     if ran.returncode:
-        print(f"NOT proved; the whole log is {os.path.relpath(log, ROOT)}", failure(lines), "".join(lines[-3:]), sep="\n")
+        print(
+            f"NOT proved; the whole log is {os.path.relpath(log, ROOT)}",
+            failure(lines),
+            "".join(lines[-3:]),
+            sep="\n",
+        )
         print("If this names no error, memory or disk may have run out: try make JOBS=1.")
     return ran.returncode
 
@@ -231,13 +278,28 @@ def build(programs, jobs):
 
 
 def main():
-    words = argparse.ArgumentParser(description=__doc__, formatter_class=argparse.RawDescriptionHelpFormatter)
-    words.add_argument("--jobs", type=int, default=0, help="how many crates are proved at a time; else one a processor, as memory allows")
+    words = argparse.ArgumentParser(
+        description=__doc__, formatter_class=argparse.RawDescriptionHelpFormatter
+    )
+    words.add_argument(
+        "--jobs",
+        type=int,
+        default=0,
+        help="how many crates are proved at a time; else one a processor, as memory allows",
+    )
     words.add_argument("--list", choices=[*PROGRAMS.values(), "all"])
     words.add_argument("programs", nargs="*", choices=[*PROGRAMS.values(), []], metavar="PROGRAM")
     given = words.parse_args()
     if given.list:
-        print(*(it.name for it in crates_of(crate for crate, name in PROGRAMS.items() if given.list in (name, "all"))), sep="\n")
+        print(
+            *(
+                it.name
+                for it in crates_of(
+                    crate for crate, name in PROGRAMS.items() if given.list in (name, "all")
+                )
+            ),
+            sep="\n",
+        )
         return 0
     if not given.programs:
         words.error("no program is named")

@@ -31,11 +31,18 @@ KIND_OF_INTERPRETER = 3  # PT_INTERP of an ELF file
 PROGRAMS = ("rcell", "rcell-join", "rcell-pipe")
 PAGES = "share/man/man1"
 # The packages of Debian that a release is made with, each by a file of it.
-PACKAGES = {"libc6-dev": "/usr/lib/x86_64-linux-gnu/libc.a", "libgcc-12-dev": "/usr/lib/gcc/x86_64-linux-gnu/12/libgcc.a",
-            "python3-hatchling": "/usr/lib/python3/dist-packages/hatchling", "r-base-core": "/usr/bin/R"}
+PACKAGES = {
+    "libc6-dev": "/usr/lib/x86_64-linux-gnu/libc.a",
+    "libgcc-12-dev": "/usr/lib/gcc/x86_64-linux-gnu/12/libgcc.a",
+    "python3-hatchling": "/usr/lib/python3/dist-packages/hatchling",
+    "r-base-core": "/usr/bin/R",
+}
 # Two bands of a map, and the table of the full map.
 HEADER = "north: {}\nsouth: {}\neast: 3\nwest: 0\nrows: {}\ncols: 3\n"
-BANDS = {"upper": HEADER.format(3, 1, 2) + "5 5 *\n-1 5 7\n", "lower": HEADER.format(1, 0, 1) + "7 * 9\n"}
+BANDS = {
+    "upper": HEADER.format(3, 1, 2) + "5 5 *\n-1 5 7\n",
+    "lower": HEADER.format(1, 0, 1) + "7 * 9\n",
+}
 TABLE_OF_THE_WHOLE = "-1 1\n5 3\n7 2\n9 1\n* 2\n"
 
 
@@ -55,23 +62,71 @@ class Count:
 
     def add_run(self, what, words):
         """Runs a check that ends in its counts."""
-        ran = subprocess.run(words, cwd=ROOT, stdout=subprocess.PIPE, stderr=subprocess.PIPE, text=True, errors="replace")
+        ran = subprocess.run(
+            words,
+            cwd=ROOT,
+            stdout=subprocess.PIPE,
+            stderr=subprocess.PIPE,
+            text=True,
+            errors="replace",
+        )
         lines = ran.stdout.splitlines(keepends=True)
         passed, failed, skipped = check.counts_of(lines, ran.returncode, has_counts=True)
-        self.passed, self.failed, self.skipped = self.passed + passed, self.failed + failed, self.skipped + skipped
-        print("".join(lines if failed else [line for line in lines if line.startswith(check.SKIPPED)]), end="")
-        print((ran.stderr if failed else "") + f"{what}: {passed} passed, {failed} failed, {skipped} skipped", flush=True)
+        self.passed, self.failed, self.skipped = (
+            self.passed + passed,
+            self.failed + failed,
+            self.skipped + skipped,
+        )
+        print(
+            "".join(
+                lines if failed else [line for line in lines if line.startswith(check.SKIPPED)]
+            ),
+            end="",
+        )
+        print(
+            (ran.stderr if failed else "")
+            + f"{what}: {passed} passed, {failed} failed, {skipped} skipped",
+            flush=True,
+        )
 
 
 def check_static(count):
     """The static programs give what the documents show, and print what the plain models do on runs made at random."""
     static, joiner, pipe = (f"{ROOT}/bin/{name}-static" for name in PROGRAMS)
-    for what, words in (("the documents by the static programs",
-                         ["tools/documents/documents.py", "--program", static, "--joiner", joiner, "--pipe", pipe, *documents.DOCUMENTS]),
-                        ("the static program beside the model", ["tools/model/compare.py", "--runs", RUNS, "--seed", "2", "--program", static]),
-                        ("the static joiner beside a plain one", ["tools/join", "--runs", RUNS, "--program", joiner]),
-                        ("the static rcell-pipe beside rcell", ["tools/model/test_pipe.py", "--runs", RUNS, "--program", pipe, "--rcell", static])):
-        ran = subprocess.run([sys.executable, *words], cwd=ROOT, stdout=subprocess.PIPE, stderr=subprocess.STDOUT, text=True)
+    for what, words in (
+        (
+            "the documents by the static programs",
+            [
+                "tools/documents/documents.py",
+                "--program",
+                static,
+                "--joiner",
+                joiner,
+                "--pipe",
+                pipe,
+                *documents.DOCUMENTS,
+            ],
+        ),
+        (
+            "the static program beside the model",
+            ["tools/model/compare.py", "--runs", RUNS, "--seed", "2", "--program", static],
+        ),
+        (
+            "the static joiner beside a plain one",
+            ["tools/join", "--runs", RUNS, "--program", joiner],
+        ),
+        (
+            "the static rcell-pipe beside rcell",
+            ["tools/model/test_pipe.py", "--runs", RUNS, "--program", pipe, "--rcell", static],
+        ),
+    ):
+        ran = subprocess.run(
+            [sys.executable, *words],
+            cwd=ROOT,
+            stdout=subprocess.PIPE,
+            stderr=subprocess.STDOUT,
+            text=True,
+        )
         count.add(what, ran.stdout if ran.returncode else "")
 
 
@@ -79,7 +134,9 @@ def interpreters(path):
     """How many loaders of dynamic libraries a program of 64 bits asks for: none, if it is static."""
     with open(path, "rb") as file:
         program = file.read()
-    begin, size, count = struct.unpack_from("<Q", program, 32)[0], *struct.unpack_from("<HH", program, 54)
+    begin, size, count = struct.unpack_from("<Q", program, 32)[0], *struct.unpack_from(
+        "<HH", program, 54
+    )
     kinds = [struct.unpack_from("<I", program, begin + size * number)[0] for number in range(count)]
     return kinds.count(KIND_OF_INTERPRETER)
 
@@ -88,23 +145,34 @@ def check_needs(count, folder, names):
     """The programs need no library, and the package no other."""
     for name in PROGRAMS:
         found = interpreters(f"{ROOT}/bin/{name}-static")
-        count.add(f"the static {name} needs no library", f"it names {found} loaders" if found else "")
+        count.add(
+            f"the static {name} needs no library", f"it names {found} loaders" if found else ""
+        )
     package = next(name for name in names if name.endswith(".deb"))
-    depends = subprocess.run(["dpkg-deb", "-f", f"{folder}/{package}", "Depends"], capture_output=True, text=True)
+    depends = subprocess.run(
+        ["dpkg-deb", "-f", f"{folder}/{package}", "Depends"], capture_output=True, text=True
+    )
     said = (depends.stdout + depends.stderr).strip()
-    count.add("the package depends on python3 alone, for the helpers", "" if said == "python3" else said)
+    count.add(
+        "the package depends on python3 alone, for the helpers", "" if said == "python3" else said
+    )
 
 
 def said_of(*words):
     """What is wrong with a command, or ''."""
-    ran = subprocess.run(words, cwd=ROOT, stdout=subprocess.PIPE, stderr=subprocess.STDOUT, text=True)
+    ran = subprocess.run(
+        words, cwd=ROOT, stdout=subprocess.PIPE, stderr=subprocess.STDOUT, text=True
+    )
     return ran.stdout.strip() or f"status {ran.returncode}" if ran.returncode else ""
 
 
 def fault_of_joining(programs, room):
     """What is wrong where rcell of this folder counts two bands of a map and its rcell-join joins the tables, or ''."""
+
     def run(name, *words):
-        return subprocess.run([f"{programs}/{name}", *words], cwd=here, capture_output=True, text=True)
+        return subprocess.run(
+            [f"{programs}/{name}", *words], cwd=here, capture_output=True, text=True
+        )
 
     with tempfile.TemporaryDirectory(prefix="bands-", dir=room) as here:
         for name, text in {**BANDS, "counts": "r.stats -c input=land\n"}.items():
@@ -121,7 +189,9 @@ def fault_of_joining(programs, room):
 def fault_of_pipe(programs):
     """What is wrong with rcell-pipe of this folder on the request of its crate, or ''."""
     crate = pathlib.Path(ROOT, "crates/rcell_pipe")
-    ran = subprocess.run([f"{programs}/rcell-pipe"], input=(crate / "stdin").read_bytes(), capture_output=True)
+    ran = subprocess.run(
+        [f"{programs}/rcell-pipe"], input=(crate / "stdin").read_bytes(), capture_output=True
+    )
     is_right = (ran.returncode, ran.stdout, ran.stderr) == (0, (crate / "stdout").read_bytes(), b"")
     return "" if is_right else f"status {ran.returncode}, {ran.stdout!r}, {ran.stderr!r}"
 
@@ -132,10 +202,23 @@ def fault_of_page(prefix, name):
     if found is None:
         return f"{name}.1 is missing"
     with open(f"{ROOT}/VERSION", encoding="utf-8") as file:
-        wanted = [f"{name.upper()}(1)", f"rcell {file.read().strip()}", "SYNOPSIS", "EXIT STATUS", "SEE ALSO"]
+        wanted = [
+            f"{name.upper()}(1)",
+            f"rcell {file.read().strip()}",
+            "SYNOPSIS",
+            "EXIT STATUS",
+            "SEE ALSO",
+        ]
     environment = {**os.environ, "LC_ALL": "C.UTF-8", "MANWIDTH": "80"}
-    shown = subprocess.run(["man", "-l", found], capture_output=True, text=True, env=environment).stdout
-    return "; ".join([*documents.warnings_of_man(found), *(f"{name}.1 shows no {word}" for word in wanted if word not in shown)])
+    shown = subprocess.run(
+        ["man", "-l", found], capture_output=True, text=True, env=environment
+    ).stdout
+    return "; ".join(
+        [
+            *documents.warnings_of_man(found),
+            *(f"{name}.1 shows no {word}" for word in wanted if word not in shown),
+        ]
+    )
 
 
 def check_pages(count, what, prefix):
@@ -147,13 +230,19 @@ def check_pages(count, what, prefix):
 
 def check_unpacked(count, room, folder, names):
     """From the tarball and from the package: the quick start, then the manual pages, rcell-join, rcell-pipe and the helpers."""
-    for kind, ending, programs in (("tarball", "linux-x86_64.tar.gz", "rcell-*/bin"), ("package", ".deb", "unpacked/usr/bin")):
+    for kind, ending, programs in (
+        ("tarball", "linux-x86_64.tar.gz", "rcell-*/bin"),
+        ("package", ".deb", "unpacked/usr/bin"),
+    ):
         file = next((f"{folder}/{name}" for name in names if name.endswith(ending)), None)
         if file is None:
             count.add(f"the {kind}", "there is none")
             continue
         here = f"{room}/{kind}"
-        count.add_run(f"quick start of the {kind}", [sys.executable, "tools/documents/quick_start.py", file, "--room", here])
+        count.add_run(
+            f"quick start of the {kind}",
+            [sys.executable, "tools/documents/quick_start.py", file, "--room", here],
+        )
         found = next(iter(glob.glob(f"{here}/{programs}")), f"{here}/{programs}")
         check_pages(count, f"the manual pages of the {kind}", os.path.dirname(found))
         count.add(f"rcell-join of the {kind}", fault_of_joining(found, room))
@@ -164,7 +253,12 @@ def check_unpacked(count, room, folder, names):
 def check_install(count, room):
     """`make install` takes what is built, without the kit, also where a source is newer; `make uninstall` removes all of it."""
     copy, prefix = f"{room}/copy", f"{room}/prefix"
-    shutil.copytree(ROOT, copy, symlinks=True, ignore=shutil.ignore_patterns(".git", "out", "dist", "cases", "__pycache__"))
+    shutil.copytree(
+        ROOT,
+        copy,
+        symlinks=True,
+        ignore=shutil.ignore_patterns(".git", "out", "dist", "cases", "__pycache__"),
+    )
     os.utime(f"{copy}/crates.txt")
     environment = {"PATH": PATH_WITHOUT_KIT, "HOME": room}
 
@@ -175,23 +269,42 @@ def check_install(count, room):
         count.skip("make is not installed, for make install", "make")
         return
     ran = run("make", "-s", "install", f"PREFIX={prefix}")
-    count.add("make install without rt, with a source that is newer", ran.stderr.strip() if ran.returncode else "")
-    wanted = [*(f"bin/{name}" for name in PROGRAMS), *(f"{PAGES}/{name}.1" for name in PROGRAMS),
-              "share/doc/rcell/examples/islands/archipelago.txt", "share/doc/rcell/docs/tutorial.md"]
-    count.add("what make install puts", " ".join(name for name in wanted if not os.path.exists(f"{prefix}/{name}")))
+    count.add(
+        "make install without rt, with a source that is newer",
+        ran.stderr.strip() if ran.returncode else "",
+    )
+    wanted = [
+        *(f"bin/{name}" for name in PROGRAMS),
+        *(f"{PAGES}/{name}.1" for name in PROGRAMS),
+        "share/doc/rcell/examples/islands/archipelago.txt",
+        "share/doc/rcell/docs/tutorial.md",
+    ]
+    count.add(
+        "what make install puts",
+        " ".join(name for name in wanted if not os.path.exists(f"{prefix}/{name}")),
+    )
     check_pages(count, "the installed manual pages", prefix)
     count.add("the installed rcell-join", fault_of_joining(f"{prefix}/bin", room))
     count.add("the installed rcell-pipe", fault_of_pipe(f"{prefix}/bin"))
     land = f"{prefix}/share/doc/rcell/examples/land-cover"
     ran = run(f"{prefix}/bin/rcell", f"{land}/script", f"landuse={land}/landuse.txt")
     with open(f"{ROOT}/examples/land-cover/stdout", encoding="ascii") as file:
-        count.add("the installed program", "" if ran.stdout == file.read() else f"it printed {ran.stdout!r}, {ran.stderr!r}")
-    others = {f"{prefix}/share/rcell/theirs", f"{prefix}/share/doc/rcell/examples/theirs", f"{prefix}/bin/theirs"}
+        count.add(
+            "the installed program",
+            "" if ran.stdout == file.read() else f"it printed {ran.stdout!r}, {ran.stderr!r}",
+        )
+    others = {
+        f"{prefix}/share/rcell/theirs",
+        f"{prefix}/share/doc/rcell/examples/theirs",
+        f"{prefix}/bin/theirs",
+    }
     for name in others:
         open(name, "w", encoding="ascii").close()
     run("make", "-s", "uninstall", f"PREFIX={prefix}")
     left = {f"{at}/{name}" for at, _, names in os.walk(prefix) for name in names}
-    count.add("make uninstall removes what was installed, and nothing else", " ".join(left ^ others))
+    count.add(
+        "make uninstall removes what was installed, and nothing else", " ".join(left ^ others)
+    )
 
 
 def check_version(count):
@@ -202,7 +315,10 @@ def check_version(count):
             texts[name] = file.read()
     version = texts["VERSION"].strip()
     newest = re.search(r"^## (\S+)", texts["CHANGELOG.md"], re.MULTILINE)
-    count.add("CHANGELOG.md begins with VERSION", "" if newest and newest[1] == version else f"{newest and newest[1]}, and not {version}")
+    count.add(
+        "CHANGELOG.md begins with VERSION",
+        "" if newest and newest[1] == version else f"{newest and newest[1]}, and not {version}",
+    )
     others = set(re.findall(r"rcell[-_](\d+\.\d+\.\d+)", texts["README.md"])) - {version}
     count.add("README.md names VERSION and no other", " ".join(others))
 

@@ -24,7 +24,9 @@ from dataclasses import dataclass, field
 import build
 
 HEAD = re.compile(r"^( *)(?:pub(?:\([\w:]+\))? )?(?:const )?fn (\w+)", re.MULTILINE)
-IMPL = re.compile(r"^impl(?:<.*?>)? (?:(?:\w+::)*(\w+)(?:<.*>)? for )?&?(?:'\w+ )?(\w+)", re.MULTILINE)
+IMPL = re.compile(
+    r"^impl(?:<.*?>)? (?:(?:\w+::)*(\w+)(?:<.*>)? for )?&?(?:'\w+ )?(\w+)", re.MULTILINE
+)
 VERDICT = re.compile(r"^(?:fn|impl|enum|struct|trait) \w+::(\S+): (.*)$", re.MULTILINE)
 PROVED = re.compile(r"proved\b|no proof: it calls .*, which is not proved$")
 IN_GATE = pathlib.Path(build.ROOT, "tools/edits.txt")
@@ -47,7 +49,11 @@ class Edit:
 def function_at(text, at):
     """The function that has this place of a file, a method as TYPE::NAME or TYPETRAIT::NAME, or '' if the place is outside all."""
     heads = list(HEAD.finditer(text, 0, at))
-    end = re.compile(rf"^{heads[-1][1]}}}", re.MULTILINE).search(text, heads[-1].end()) if heads else None
+    end = (
+        re.compile(rf"^{heads[-1][1]}}}", re.MULTILINE).search(text, heads[-1].end())
+        if heads
+        else None
+    )
     if not end or end.start() < at:
         return ""
     owners = list(IMPL.finditer(text, 0, heads[-1].start())) if heads[-1][1] else []
@@ -67,7 +73,9 @@ def edit_of(path):
         elif key == "new":
             text = (path.parent.parent / name).read_text(encoding="utf-8")
             edit.pairs.append((name, old, value))
-            edit.functions.add((name, function_at(text, text.find(old)) if text.count(old) == 1 else ""))
+            edit.functions.add(
+                (name, function_at(text, text.find(old)) if text.count(old) == 1 else "")
+            )
     return edit
 
 
@@ -76,7 +84,11 @@ def groups_of(edits, one_by_one):
     groups = []
     for edit in edits:
         is_alone = one_by_one or any(name == "" for _, name in edit.functions)
-        fits = (it for it in groups if not it[0].is_alone and not any(edit.functions & other.functions for other in it[1:]))
+        fits = (
+            it
+            for it in groups
+            if not it[0].is_alone and not any(edit.functions & other.functions for other in it[1:])
+        )
         group = None if is_alone else next(fits, None)
         if group is None:
             groups.append([Group(is_alone)])
@@ -98,7 +110,11 @@ def changed_copy(crate, edits, room):
     for part in build.PROVED:
         if os.path.isdir(f"{crate.folder}/{part}"):
             shutil.copytree(f"{crate.folder}/{part}", f"{room}/{part}")
-    texts = {name: pathlib.Path(room, name).read_text(encoding="utf-8") for edit in edits for name, _, _ in edit.pairs}
+    texts = {
+        name: pathlib.Path(room, name).read_text(encoding="utf-8")
+        for edit in edits
+        for name, _, _ in edit.pairs
+    }
     pairs = [pair for edit in edits for pair in edit.pairs]
     if len(edits) > 1:
         pairs.sort(key=lambda pair: texts[pair[0]].find(pair[1]), reverse=True)
@@ -113,8 +129,16 @@ def verdicts(crate, edits, kept):
     """Check the crate with these edits; return the verdict on each function, and the output."""
     with tempfile.TemporaryDirectory(prefix="rcell-edits-") as room:
         changed_copy(crate, edits, room)
-        ran = subprocess.run([*crate.command("check"), "--incremental", kept], cwd=room, stdin=subprocess.DEVNULL, stdout=subprocess.PIPE,
-                             stderr=subprocess.STDOUT, text=True, errors="replace", check=False)
+        ran = subprocess.run(
+            [*crate.command("check"), "--incremental", kept],
+            cwd=room,
+            stdin=subprocess.DEVNULL,
+            stdout=subprocess.PIPE,
+            stderr=subprocess.STDOUT,
+            text=True,
+            errors="replace",
+            check=False,
+        )
     return VERDICT.findall(ran.stdout), ran.stdout
 
 
@@ -123,7 +147,10 @@ def is_of(path, name, function):
     parts = [it.split("+")[0] for it in path.split("::")]
     owner, _, function = function.rpartition("::")
     if owner:
-        return any(before.startswith(owner) and after == function for before, after in zip(parts, parts[1:]))
+        return any(
+            before.startswith(owner) and after == function
+            for before, after in zip(parts, parts[1:])
+        )
     module = [] if name == "src/lib.rt" else list(pathlib.Path(name).with_suffix("").parts[1:])
     if parts[: len(module)] != module or function not in parts[len(module) :]:
         return False
@@ -132,8 +159,12 @@ def is_of(path, name, function):
 
 def is_refused(edit, found):
     """Whether a function that the edit changes, or a closure in it, is not proved for a reason of its own."""
-    return any(not PROVED.match(said) for name, function in edit.functions for path, said in found
-               if not function or is_of(path, name, function))
+    return any(
+        not PROVED.match(said)
+        for name, function in edit.functions
+        for path, said in found
+        if not function or is_of(path, name, function)
+    )
 
 
 class Kept:
@@ -141,7 +172,9 @@ class Kept:
 
     def __init__(self, crate):
         self.folder = pathlib.Path(os.path.dirname(build.kit()), "rcell-kept-edits")
-        self.sum = hashlib.sha256(f"{crate.stamp} {pathlib.Path(__file__).read_text(encoding='utf-8')}".encode())
+        self.sum = hashlib.sha256(
+            f"{crate.stamp} {pathlib.Path(__file__).read_text(encoding='utf-8')}".encode()
+        )
 
     def place(self, edit):
         found = self.sum.copy()
@@ -173,7 +206,10 @@ def try_groups(crate, edits, one_by_one, kept):
                 groups += [[it] for it in lost]
             elif lost:
                 missed += lost
-                print(f"{lost[0].name}: {'NOT REFUSED' if found else 'BAD EDIT: ' + said[-600:]}", flush=True)
+                print(
+                    f"{lost[0].name}: {'NOT REFUSED' if found else 'BAD EDIT: ' + said[-600:]}",
+                    flush=True,
+                )
     return missed, checks
 
 
@@ -182,7 +218,10 @@ def try_crate(crate, one_by_one):
     edits, kept = [edit_of(it) for it in edits_in(crate.name)], Kept(crate)
     left = [it for it in edits if not kept.has(it)]
     missed, checks = try_groups(crate, left, one_by_one, kept) if left else ([], 0)
-    print(f"{crate.name}: {len(left) - len(missed)} of {len(left)} edits refused in {checks} checks; {len(edits) - len(left)} kept", flush=True)
+    print(
+        f"{crate.name}: {len(left) - len(missed)} of {len(left)} edits refused in {checks} checks; {len(edits) - len(left)} kept",
+        flush=True,
+    )
     return len(edits) - len(missed), len(missed), len(edits) - len(left)
 
 
@@ -191,12 +230,20 @@ def edits_in(crate):
 
 
 def crates_in_gate():
-    return [line.split("#")[0].strip() for line in IN_GATE.read_text(encoding="utf-8").splitlines() if line.split("#")[0].strip()]
+    return [
+        line.split("#")[0].strip()
+        for line in IN_GATE.read_text(encoding="utf-8").splitlines()
+        if line.split("#")[0].strip()
+    ]
 
 
 def checks_at_a_time():
     """One a processor, as memory allows."""
-    available = re.search(r"^MemAvailable: *(\d+) kB", pathlib.Path("/proc/meminfo").read_text(encoding="ascii"), re.MULTILINE)
+    available = re.search(
+        r"^MemAvailable: *(\d+) kB",
+        pathlib.Path("/proc/meminfo").read_text(encoding="ascii"),
+        re.MULTILINE,
+    )
     return max(1, min(len(os.sched_getaffinity(0)), int(available[1]) * 1024 // BYTES_OF_A_CHECK))
 
 
@@ -206,7 +253,12 @@ def try_over(root, names, one_by_one):
     for crate in tried:
         crate.folder = f"{build.ROOT}/crates/{crate.name}"
     with ThreadPoolExecutor(checks_at_a_time()) as pool:
-        return list(pool.map(lambda crate: try_crate(crate, one_by_one), sorted(tried, key=lambda crate: -crate.work)))
+        return list(
+            pool.map(
+                lambda crate: try_crate(crate, one_by_one),
+                sorted(tried, key=lambda crate: -crate.work),
+            )
+        )
 
 
 def try_all(names, one_by_one):
@@ -222,15 +274,21 @@ def try_all(names, one_by_one):
 
 
 def main():
-    words = argparse.ArgumentParser(description=__doc__, formatter_class=argparse.RawDescriptionHelpFormatter)
+    words = argparse.ArgumentParser(
+        description=__doc__, formatter_class=argparse.RawDescriptionHelpFormatter
+    )
     words.add_argument("--one-by-one", action="store_true")
-    words.add_argument("--all", action="store_true", help="all crates that have edits outside must-fail/")
+    words.add_argument(
+        "--all", action="store_true", help="all crates that have edits outside must-fail/"
+    )
     words.add_argument("crates", nargs="*", metavar="CRATE")
     given = words.parse_args()
     every = sorted(it.parent.name for it in pathlib.Path(build.ROOT, "crates").glob("*/edits"))
     counts = try_all(every if given.all else given.crates or crates_in_gate(), given.one_by_one)
     passed, failed, kept = (sum(it[at] for it in counts) for at in range(3))
-    print(f"ran: {passed + failed - kept} of {passed + failed} edits; the others are kept from earlier runs on this machine")
+    print(
+        f"ran: {passed + failed - kept} of {passed + failed} edits; the others are kept from earlier runs on this machine"
+    )
     print(f"{passed} passed, {failed} failed")
     return 1 if failed else 0
 

@@ -25,13 +25,23 @@ LINKED_TEXTS = {"LGPL-2.1.txt": "LGPL-2.1", "GPL-3.txt": "GPL-3"}
 ISLANDS_TEXTS = {"LGPL-3.txt": "LGPL-3", "GPL-3.txt": "GPL-3"}
 # Libraries of the kit that have a licence text there. Of several licences at choice the first is taken: MIT, not Apache-2.0.
 OF_KIT = {
-    "bstr": "MIT AND Unicode-3.0", "circular_buffer": "BSD-3-Clause", "clap": "MIT", "itoa": "MIT", "memchr": "MIT", "thiserror": "MIT",
-    "ucd_breaks": "Unicode-3.0", "ucd_table": "Unicode-3.0", "unicode_segmentation": "MIT AND Unicode-3.0",
+    "bstr": "MIT AND Unicode-3.0",
+    "circular_buffer": "BSD-3-Clause",
+    "clap": "MIT",
+    "itoa": "MIT",
+    "memchr": "MIT",
+    "thiserror": "MIT",
+    "ucd_breaks": "Unicode-3.0",
+    "ucd_table": "Unicode-3.0",
+    "unicode_segmentation": "MIT AND Unicode-3.0",
 }
 # Packages of Debian: the licence, the file of notices, and what they are.
 OF_DEBIAN = {
     "libc6-dev": ("LGPL-2.1-or-later", "the GNU C Library"),
-    "libgcc-12-dev": ("GPL-3.0-or-later WITH GCC-exception-3.1", "libgcc and the startup code of GCC"),
+    "libgcc-12-dev": (
+        "GPL-3.0-or-later WITH GCC-exception-3.1",
+        "libgcc and the startup code of GCC",
+    ),
 }
 NO_LICENCE = "NOASSERTION"
 
@@ -44,7 +54,9 @@ def libraries():
         name = left.pop()
         texts = notices(name)
         if bool(texts) != (name in OF_KIT):
-            sys.exit(f"rcell: tools/build/linked.py has no licence of {name}, or the kit has no text of it: {texts}")
+            sys.exit(
+                f"rcell: tools/build/linked.py has no licence of {name}, or the kit has no text of it: {texts}"
+            )
         found[name] = OF_KIT.get(name, NO_LICENCE)
         below = pathlib.Path(build.kit(), "rlibs", f"{name}.rlib", "below")
         left |= ({it.name for it in below.iterdir()} if below.is_dir() else set()) - {*found}
@@ -58,13 +70,22 @@ def notices(name):
 
 
 def version_of(package):
-    return subprocess.run(["dpkg-query", "-W", "-f", "${Version}", package], check=True, capture_output=True, text=True).stdout
+    return subprocess.run(
+        ["dpkg-query", "-W", "-f", "${Version}", package],
+        check=True,
+        capture_output=True,
+        text=True,
+    ).stdout
 
 
 def port_of(name):
     """The version of the Rust crate that a library of the kit was ported from, if its README names it."""
     readme = pathlib.Path(build.kit(), "rattle", name, "README.md")
-    found = re.search(r"crate `[\w-]+` (\d+(?:\.\d+)+)", readme.read_text(encoding="utf-8")) if readme.exists() else None
+    found = (
+        re.search(r"crate `[\w-]+` (\d+(?:\.\d+)+)", readme.read_text(encoding="utf-8"))
+        if readme.exists()
+        else None
+    )
     return found[1] if found else None
 
 
@@ -92,13 +113,24 @@ def copy_all(folder, own=True, islands=False):
 
 def summary():
     """The libraries with their licences, as lines of debian/copyright."""
-    lines = [f" {name} (of the Rattle kit): {licence}" if licence != NO_LICENCE else f" {name} (of the Rattle kit): no licence text in the kit"
-             for name, licence in libraries().items()]
-    return "\n".join([*lines, *(f" {what} ({package}): {licence}" for package, (licence, what) in OF_DEBIAN.items())])
+    lines = [
+        f" {name} (of the Rattle kit): {licence}"
+        if licence != NO_LICENCE
+        else f" {name} (of the Rattle kit): no licence text in the kit"
+        for name, licence in libraries().items()
+    ]
+    return "\n".join(
+        [
+            *lines,
+            *(f" {what} ({package}): {licence}" for package, (licence, what) in OF_DEBIAN.items()),
+        ]
+    )
 
 
 def main():
-    words = argparse.ArgumentParser(description=__doc__, formatter_class=argparse.RawDescriptionHelpFormatter)
+    words = argparse.ArgumentParser(
+        description=__doc__, formatter_class=argparse.RawDescriptionHelpFormatter
+    )
     words.add_argument("--without-own", action="store_true")
     words.add_argument("--with-islands", action="store_true")
     words.add_argument("folder", type=pathlib.Path)

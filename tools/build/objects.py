@@ -26,9 +26,24 @@ ELSEWHERE = "NOT proved on this machine"
 
 def linked(made, output):
     """Links an object of a program as the kit does, and returns how that ended."""
-    words = [f"{build.kit()}/bin/rattle-link", "--target", TARGET, "--toolchain", f"{build.kit()}/toolchain", "-o", output]
+    words = [
+        f"{build.kit()}/bin/rattle-link",
+        "--target",
+        TARGET,
+        "--toolchain",
+        f"{build.kit()}/toolchain",
+        "-o",
+        output,
+    ]
     words += [made, f"{build.kit()}/c/libos_c.a", f"{build.kit()}/c/liblibc_c.a"]
-    return subprocess.run(words, cwd=build.ROOT, stdout=subprocess.PIPE, stderr=subprocess.STDOUT, text=True, errors="replace")
+    return subprocess.run(
+        words,
+        cwd=build.ROOT,
+        stdout=subprocess.PIPE,
+        stderr=subprocess.STDOUT,
+        text=True,
+        errors="replace",
+    )
 
 
 def is_right(made, program, room):
@@ -40,13 +55,22 @@ def is_right(made, program, room):
 def compiled(crate, room):
     """Compile the object of a program from the sources of its crate over the libraries below it."""
     crates, made = build.crates_of([crate]), f"{room}/{crate}.o"
-    print(f"bin/{build.PROGRAMS[crate]}.o is missing: compiling {crate} over the libraries below it", flush=True)
+    print(
+        f"bin/{build.PROGRAMS[crate]}.o is missing: compiling {crate} over the libraries below it",
+        flush=True,
+    )
     with build.cut(crates) as folder:
         if build.prove(folder, crates, 0, build.LOG):
             return made
         program = build.crates_of([crate], folder)[-1]
         words = program.command("build", len(os.sched_getaffinity(0)))
-        subprocess.run([*words, "--toolchain", f"{build.kit()}/toolchain", "-o", made], cwd=program.folder, stdin=subprocess.DEVNULL, stdout=subprocess.PIPE, stderr=subprocess.STDOUT)
+        subprocess.run(
+            [*words, "--toolchain", f"{build.kit()}/toolchain", "-o", made],
+            cwd=program.folder,
+            stdin=subprocess.DEVNULL,
+            stdout=subprocess.PIPE,
+            stderr=subprocess.STDOUT,
+        )
     return made
 
 
@@ -69,7 +93,10 @@ def take(crate, archive, room):
     name, at = build.PROGRAMS[crate.name], pathlib.Path(room, "crates", crate.name, "out")
     with tarfile.open(archive) as files:
         members = {os.path.basename(it.name): it for it in files if it.isfile()}
-        made, stamp = (files.extractfile(members[it]).read() if it in members else b"" for it in (f"{name}.o", f"{name}.stamp"))
+        made, stamp = (
+            files.extractfile(members[it]).read() if it in members else b""
+            for it in (f"{name}.o", f"{name}.stamp")
+        )
     if stamp.decode().strip() != crate.stamp:
         print(f"{archive}: {name}.o is of other sources or another kit, so {name} is proved here")
         return False
@@ -80,20 +107,26 @@ def take(crate, archive, room):
         print(ran.stdout, end="")
         return False
     build.take_built(crate.name, room, f"{ELSEWHERE}: linked from {os.path.basename(archive)}")
-    print(f"bin/{name} is {ELSEWHERE}: it is linked from an object of {archive}, which was proved elsewhere, of exactly these sources"
-          f" (stamp {stamp.decode()[:12]}).\nTo prove it here: rm -r bin; make")
+    print(
+        f"bin/{name} is {ELSEWHERE}: it is linked from an object of {archive}, which was proved elsewhere, of exactly these sources"
+        f" (stamp {stamp.decode()[:12]}).\nTo prove it here: rm -r bin; make"
+    )
     return True
 
 
 def main():
-    words = argparse.ArgumentParser(description=__doc__, formatter_class=argparse.RawDescriptionHelpFormatter)
+    words = argparse.ArgumentParser(
+        description=__doc__, formatter_class=argparse.RawDescriptionHelpFormatter
+    )
     words.add_argument("--from", dest="archive", metavar="FILE")
     words.add_argument("--stamps", type=pathlib.Path, metavar="FOLDER")
     words.add_argument("programs", nargs="*", metavar="PROGRAM")
     given = words.parse_args()
     if given.stamps:
         for crate, name in build.PROGRAMS.items():
-            (given.stamps / f"{name}.stamp").write_text(f"{build.crates_of([crate])[-1].stamp}\n", encoding="ascii")
+            (given.stamps / f"{name}.stamp").write_text(
+                f"{build.crates_of([crate])[-1].stamp}\n", encoding="ascii"
+            )
         return 0
     with tempfile.TemporaryDirectory(prefix="rcell-objects-") as room:
         if given.archive:

@@ -20,7 +20,12 @@ import build
 
 MOST_ROWS = 30
 # The columns, and a function's modules that count in each; all others count as the rest.
-COLUMNS = {"states": {"Lts", "View"}, "search": {"Proof", "Goals"}, "answers": {"Answers", "Invariants"}, "rest": set()}
+COLUMNS = {
+    "states": {"Lts", "View"},
+    "search": {"Proof", "Goals"},
+    "answers": {"Answers", "Invariants"},
+    "rest": set(),
+}
 
 
 def modules(kept):
@@ -28,7 +33,11 @@ def modules(kept):
     found = []
     for folder, _, names in os.walk(kept):
         if os.path.basename(folder) != "records":
-            found += [(os.stat(f"{folder}/{it}").st_mtime, it.removesuffix(".oantt")) for it in names if it.endswith(".oantt")]
+            found += [
+                (os.stat(f"{folder}/{it}").st_mtime, it.removesuffix(".oantt"))
+                for it in names
+                if it.endswith(".oantt")
+            ]
     found.sort()
     return [(now - before, name) for (before, _), (now, name) in zip(found, found[1:])]
 
@@ -47,7 +56,11 @@ def times(crate, kept):
         kinds = [at for at, it in enumerate(parts) if column(it)]
         own = parts[: kinds[0]] if kinds else parts
         if library != f"Rattle-{crate.name}-proofs":
-            own = [library.removeprefix(f"Rattle-{crate.name}-"), *own[:1]] if path else ["what other crates see"]
+            own = (
+                [library.removeprefix(f"Rattle-{crate.name}-"), *own[:1]]
+                if path
+                else ["what other crates see"]
+            )
         rows[".".join(own)][column(parts[kinds[0]]) if kinds else "rest"] += seconds
     return rows
 
@@ -61,7 +74,12 @@ def main():
     if not all(os.path.isdir(it.rlib) for it in crate.all_below.values()):
         sys.exit("rcell: run rt check in the crate's folder first: it builds the libraries below")
     with tempfile.TemporaryDirectory() as kept:
-        how = {"cwd": crate.folder, "stdin": subprocess.DEVNULL, "stdout": subprocess.PIPE, "stderr": subprocess.STDOUT}
+        how = {
+            "cwd": crate.folder,
+            "stdin": subprocess.DEVNULL,
+            "stdout": subprocess.PIPE,
+            "stderr": subprocess.STDOUT,
+        }
         run = subprocess.run([*crate.command("check"), "--incremental", kept], text=True, **how)
         if run.returncode:
             sys.exit(run.stdout[-2000:])

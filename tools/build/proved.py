@@ -32,7 +32,9 @@ def read(path, otherwise=""):
 
 
 def said_by(*words):
-    return subprocess.run(words, cwd=ROOT, check=True, capture_output=True, text=True).stdout.strip()
+    return subprocess.run(
+        words, cwd=ROOT, check=True, capture_output=True, text=True
+    ).stdout.strip()
 
 
 def sum_of(name):
@@ -44,18 +46,30 @@ def sum_of(name):
 def sources():
     commit, day = said_by("git", "log", "-1", "--format=%H %cd", "--date=format:%Y-%m-%d").split()
     changed = said_by("git", "status", "--porcelain", "--untracked-files=no")
-    return commit, f"commit {commit}\n            of {day}" + (", WITH CHANGES that are not committed" if changed else "")
+    return commit, f"commit {commit}\n            of {day}" + (
+        ", WITH CHANGES that are not committed" if changed else ""
+    )
 
 
 def gate_record(commit):
     """What the gate left for this commit and these programs, by its keys; None where it left nothing."""
-    record = dict(line.split(": ", 1) for line in read(f"{ROOT}/bin/gate").splitlines() if ": " in line)
-    return record if record.get("commit") == commit and all(record.get(key) == sum_of(name) for name, key in KEYS.items()) else None
+    record = dict(
+        line.split(": ", 1) for line in read(f"{ROOT}/bin/gate").splitlines() if ": " in line
+    )
+    return (
+        record
+        if record.get("commit") == commit
+        and all(record.get(key) == sum_of(name) for name, key in KEYS.items())
+        else None
+    )
 
 
 def counted():
     crates = build.crates_of(build.PROGRAMS)
-    tried = [*glob.glob(f"{ROOT}/crates/*/must-fail/*.edit"), *(it for crate in edits.crates_in_gate() for it in edits.edits_in(crate))]
+    tried = [
+        *glob.glob(f"{ROOT}/crates/*/must-fail/*.edit"),
+        *(it for crate in edits.crates_in_gate() for it in edits.edits_in(crate)),
+    ]
     lines = read(f"{ROOT}/crates.txt").splitlines()
     every = sum(":" in line.split("#")[0] for line in lines)
     return f"""{every} crates, {len(crates)} of which make up the programs;
@@ -71,7 +85,10 @@ def gate_text(record):
 
 def origins():
     """Where the programs were proved, as the build left it."""
-    said = {read(f"{ROOT}/bin/{name}.origin", "it is not known where they were proved").strip() for name in KEYS}
+    said = {
+        read(f"{ROOT}/bin/{name}.origin", "it is not known where they were proved").strip()
+        for name in KEYS
+    }
     return "; ".join(sorted(said))
 
 
@@ -82,9 +99,17 @@ def sums(ending=""):
 
 def page():
     commit, commit_text = sources()
-    versions = ", ".join(f"{name} {said_by('dpkg-query', '-W', '-f', '${Version}', name)}" for name in PACKAGES)
-    section = re.search(rf"^## {SECTION}\n(.*?)^## ", read(f"{ROOT}/README.md"), re.MULTILINE | re.DOTALL)[1].strip()
-    section = re.sub(r"\[([^\]]*)\]\(([^)]*)\)", lambda found: found[2] if found[1] == found[2] else f"{found[1]} ({found[2]})", section)
+    versions = ", ".join(
+        f"{name} {said_by('dpkg-query', '-W', '-f', '${Version}', name)}" for name in PACKAGES
+    )
+    section = re.search(
+        rf"^## {SECTION}\n(.*?)^## ", read(f"{ROOT}/README.md"), re.MULTILINE | re.DOTALL
+    )[1].strip()
+    section = re.sub(
+        r"\[([^\]]*)\]\(([^)]*)\)",
+        lambda found: found[2] if found[1] == found[2] else f"{found[1]} ({found[2]})",
+        section,
+    )
     return f"""rcell {read(f'{ROOT}/VERSION').strip()}: what it was made from, and what is known of it
 
 Sources     {commit_text}

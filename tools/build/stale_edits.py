@@ -34,7 +34,11 @@ def faults_of(path):
 
 
 def main():
-    faults = [fault for path in sorted(glob.glob(f"{ROOT}/crates/*/edits/*.edit")) for fault in faults_of(path)]
+    faults = [
+        fault
+        for path in sorted(glob.glob(f"{ROOT}/crates/*/edits/*.edit"))
+        for fault in faults_of(path)
+    ]
     for fault in faults:
         print(fault)
     return 1 if faults else 0

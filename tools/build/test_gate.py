@@ -18,8 +18,20 @@ COUNTED = [
     ("its own counts", "3 passed, 1 failed\n", 1, True, (3, 1, 0)),
     ("skipped ones", "3 passed, 0 failed, 2 skipped\n", 0, True, (3, 0, 2)),
     ("the last of several", "9 passed, 9 failed\n3 passed, 0 failed\n", 0, True, (3, 0, 0)),
-    ("a late word", "3 passed, 0 failed\nFuture exception was never retrieved\n", 0, True, (3, 0, 0)),
-    ("lines of skipped pieces", "skipped  r: R is not installed\nskipped  r: neither is terra\n3 passed, 0 failed\n", 0, True, (3, 0, 2)),
+    (
+        "a late word",
+        "3 passed, 0 failed\nFuture exception was never retrieved\n",
+        0,
+        True,
+        (3, 0, 0),
+    ),
+    (
+        "lines of skipped pieces",
+        "skipped  r: R is not installed\nskipped  r: neither is terra\n3 passed, 0 failed\n",
+        0,
+        True,
+        (3, 0, 2),
+    ),
     ("no counts", "all is well\n", 0, True, (0, 1, 0)),
     ("a bad status", "3 passed, 0 failed\n", 2, True, (3, 1, 0)),
     ("one check that passes", "12 passed, 3 failed\n", 0, False, (1, 0, 0)),
@@ -62,7 +74,14 @@ impl<'a> Iterator for Range<'a> {
     }
 }
 """
-PLACES = {"MOST": "", "let found": "first", "found as": "first", "self.source": "Reader::next", "self.low": "RangeIterator::least", "impl": ""}
+PLACES = {
+    "MOST": "",
+    "let found": "first",
+    "found as": "first",
+    "self.source": "Reader::next",
+    "self.low": "RangeIterator::least",
+    "impl": "",
+}
 BY_ANOTHER = "no proof: it calls `first`, which is not proved"
 OPEN = "no proof: at `found as u64`, `search` did not prove `result = 3`"
 # The functions that an edit changes, the verdicts of a check, and whether that rejects the edit.
@@ -96,15 +115,28 @@ def faults_of_edits():
         found = edits.function_at(SOURCE, SOURCE.index(text))
         yield "" if found == wanted else f"{text!r} is in {found!r}, and not in {wanted!r}"
     for functions, found, wanted in VERDICTS:
-        yield "" if edits.is_refused(made("edit", *functions), found) == wanted else f"{functions}, {found}: not {wanted}"
-    one, two, other, outside = (made(name, ("src/lib.rt", function)) for name, function in zip("abcd", ("f", "f", "g", "")))
-    yield "" if edits.groups_of([one, two, other, outside], False) == [[one, other], [two], [outside]] else "edits in other groups"
-    yield "" if edits.groups_of([one, other], True) == [[one], [other]] else "edits in company, one by one"
+        yield "" if edits.is_refused(
+            made("edit", *functions), found
+        ) == wanted else f"{functions}, {found}: not {wanted}"
+    one, two, other, outside = (
+        made(name, ("src/lib.rt", function)) for name, function in zip("abcd", ("f", "f", "g", ""))
+    )
+    yield "" if edits.groups_of([one, two, other, outside], False) == [
+        [one, other],
+        [two],
+        [outside],
+    ] else "edits in other groups"
+    yield "" if edits.groups_of([one, other], True) == [
+        [one],
+        [other],
+    ] else "edits in company, one by one"
 
 
 def faults_of_libraries():
     with tempfile.TemporaryDirectory() as room:
-        source, library = pathlib.Path(room, "crates/one/src/lib.rt"), pathlib.Path(room, "crates/one/out/rlib/one.rlib")
+        source, library = pathlib.Path(room, "crates/one/src/lib.rt"), pathlib.Path(
+            room, "crates/one/out/rlib/one.rlib"
+        )
         for folder in (source.parent, library):
             folder.mkdir(parents=True)
         source.write_text(SOURCE, encoding="utf-8")
@@ -125,8 +157,18 @@ def faults_of_counts():
         found = check.counts_of(text.splitlines(keepends=True), status, has_counts)
         yield "" if found == wanted else f"{what}: {found}, and not {wanted}"
     with tempfile.TemporaryDirectory() as room:
-        ran = subprocess.run(["sh", "-c", SCRIPT, "sh", room], cwd=check.ROOT, stdout=subprocess.PIPE, stderr=subprocess.DEVNULL, text=True, check=False)
-    yield "" if (ran.returncode, ran.stdout) == (1, SHOWN) else f"counting.sh: status {ran.returncode}, {ran.stdout}"
+        ran = subprocess.run(
+            ["sh", "-c", SCRIPT, "sh", room],
+            cwd=check.ROOT,
+            stdout=subprocess.PIPE,
+            stderr=subprocess.DEVNULL,
+            text=True,
+            check=False,
+        )
+    yield "" if (ran.returncode, ran.stdout) == (
+        1,
+        SHOWN,
+    ) else f"counting.sh: status {ran.returncode}, {ran.stdout}"
 
 
 def main():

@@ -46,17 +46,32 @@ class Turned:
 
 def turned_of(path):
     """Read a turned definition from its file."""
-    lines = [line.split(": ", 1) for line in path.read_text(encoding="utf-8").splitlines() if line and not line.startswith("#")]
+    lines = [
+        line.split(": ", 1)
+        for line in path.read_text(encoding="utf-8").splitlines()
+        if line and not line.startswith("#")
+    ]
     words = {key: text for key, text in lines if key not in ("old", "new")}
     texts = [text for key, text in lines if key in ("old", "new")]
     crate, module = words["of"].split()
-    return Turned(path.stem, words["law"], crate, module, words["falls"].split(), list(zip(texts[::2], texts[1::2], strict=True)))
+    return Turned(
+        path.stem,
+        words["law"],
+        crate,
+        module,
+        words["falls"].split(),
+        list(zip(texts[::2], texts[1::2], strict=True)),
+    )
 
 
 @functools.cache
 def below():
     """Each crate with the crates that it uses."""
-    lines = [line.split(":") for line in (ROOT / "crates.txt").read_text(encoding="utf-8").splitlines() if ":" in line]
+    lines = [
+        line.split(":")
+        for line in (ROOT / "crates.txt").read_text(encoding="utf-8").splitlines()
+        if ":" in line
+    ]
     return {name: words.split() for name, words in lines}
 
 
@@ -72,7 +87,9 @@ def all_below(crate):
 def text_of(path):
     """A file of definitions or lemmas, each of its imports on one line."""
     text = path.read_text(encoding="utf-8")
-    return SPREAD.sub(lambda it: "{" + ", ".join(line.strip(" ,") for line in it[1].splitlines()) + "}", text)
+    return SPREAD.sub(
+        lambda it: "{" + ", ".join(line.strip(" ,") for line in it[1].splitlines()) + "}", text
+    )
 
 
 def module_path(crate, module):
@@ -82,18 +99,26 @@ def module_path(crate, module):
 @functools.cache
 def imports_of(path, crate):
     """The modules of a crate that a file imports from."""
-    return {module for name, module in IMPORTED.findall(text_of(path)) if name == crate and module_path(crate, module).exists()}
+    return {
+        module
+        for name, module in IMPORTED.findall(text_of(path))
+        if name == crate and module_path(crate, module).exists()
+    }
 
 
 @functools.cache
 def stands_on(crate, module, other):
     """Whether a module is another one, or imports from one that is."""
-    return module == other or any(stands_on(crate, it, other) for it in imports_of(module_path(crate, module), crate))
+    return module == other or any(
+        stands_on(crate, it, other) for it in imports_of(module_path(crate, module), crate)
+    )
 
 
 def antt_files(crate_folder):
     """The files of definitions and of proofs of a crate."""
-    return [path for folder in ("specs", "proofs") for path in (crate_folder / folder).rglob("*.antt")]
+    return [
+        path for folder in ("specs", "proofs") for path in (crate_folder / folder).rglob("*.antt")
+    ]
 
 
 def between(turned):
@@ -139,7 +164,10 @@ def put_into_law(turned, room, pairs):
 
     def own(text):
         for module in modules:
-            text = text.replace(f"Rattle.{turned.crate}.{module}.{{", f"Rattle.{turned.law}.{copied(turned, module)}.{{")
+            text = text.replace(
+                f"Rattle.{turned.crate}.{module}.{{",
+                f"Rattle.{turned.law}.{copied(turned, module)}.{{",
+            )
         return text
 
     folder = room / "crates" / turned.law
@@ -149,14 +177,20 @@ def put_into_law(turned, room, pairs):
         text = own(text_of(module_path(turned.crate, module)))
         for old, new in pairs if module == turned.module else ():
             if text.count(old) != 1:
-                raise SystemExit(f"{turned.name}: stands {text.count(old)} times in {module}: {old}")
+                raise SystemExit(
+                    f"{turned.name}: stands {text.count(old)} times in {module}: {old}"
+                )
             text = text.replace(old, new)
         path = folder / (copied(turned, module).replace(".", "/") + ".antt")
         path.parent.mkdir(parents=True, exist_ok=True)
         path.write_text(text, encoding="utf-8")
         if turned.crate == turned.law:
             continue
-        listing = path.parent / "Lib.antt" if path.parent.parent == folder else path.parent.with_suffix(".antt")
+        listing = (
+            path.parent / "Lib.antt"
+            if path.parent.parent == folder
+            else path.parent.with_suffix(".antt")
+        )
         if path.parent.parent != folder and not listing.exists():
             with open(path.parent.parent / "Lib.antt", "a", encoding="utf-8") as file:
                 file.write(f"pub mod {path.parent.name}\n")
@@ -169,7 +203,9 @@ def proved(turned, room, pairs):
     lay_out(turned, room)
     put_into_law(turned, room, pairs)
     folder = room / "crates" / turned.law
-    done = subprocess.run(["rt", "check", "--allow-holes"], cwd=folder, capture_output=True, text=True, check=False)
+    done = subprocess.run(
+        ["rt", "check", "--allow-holes"], cwd=folder, capture_output=True, text=True, check=False
+    )
     verdicts = VERDICT.findall(done.stdout + done.stderr)
     if not verdicts:
         raise SystemExit(f"{turned.name}: the check gives no verdict\n{done.stdout}{done.stderr}")
@@ -183,15 +219,23 @@ def has_fallen(turned, room, wholes):
         wholes[key] = proved(turned, room, [])
     whole, left = wholes[key], proved(turned, room, turned.pairs)
     wrong = [law for law in turned.falls if law not in whole or law in left]
-    print(f"{turned.name}: {', '.join(sorted(whole - left))} no longer proved of {len(whole)}", flush=True)
+    print(
+        f"{turned.name}: {', '.join(sorted(whole - left))} no longer proved of {len(whole)}",
+        flush=True,
+    )
     if wrong:
-        print(f"{turned.name}: {', '.join(wrong)} should fall, and prove where nothing is turned", flush=True)
+        print(
+            f"{turned.name}: {', '.join(wrong)} should fall, and prove where nothing is turned",
+            flush=True,
+        )
     return not wrong
 
 
 def main():
     names = sys.argv[1:]
-    edits = [turned_of(path) for path in sorted(EDITS.glob("*.edit")) if not names or path.stem in names]
+    edits = [
+        turned_of(path) for path in sorted(EDITS.glob("*.edit")) if not names or path.stem in names
+    ]
     wholes = {}
     with tempfile.TemporaryDirectory(prefix="rcell-turned-") as folder:
         subprocess.run(["git", "init", "-q", folder], check=True)

@@ -25,9 +25,16 @@ NAME = re.compile(r"[A-Za-z]\w*(?:::\w+)*")
 ROW = re.compile(r"^\|(.*)\|$")
 ROW_OF_CRATE = re.compile(r"^\| `(r?cell\w*)` \|", re.MULTILINE)
 # Names of Rust and of the kit, of commands and options, and words of the language of expressions.
-OTHERS = set("""if and or run new row col nrows ncols isnull null eval abs min max mode nmin nmax nmode x g a b f
-Err Ok None Some Drop Copy Clone bstr itoa clap thiserror circular_buffer std lines_of without_terminator rcell""".split())
-NO_LABELS = {"as", "none", "next_gives", "remaining"}  # words of the tables, and clauses of the kit's Iterator
+OTHERS = set(
+    """if and or run new row col nrows ncols isnull null eval abs min max mode nmin nmax nmode x g a b f
+Err Ok None Some Drop Copy Clone bstr itoa clap thiserror circular_buffer std lines_of without_terminator rcell""".split()
+)
+NO_LABELS = {
+    "as",
+    "none",
+    "next_gives",
+    "remaining",
+}  # words of the tables, and clauses of the kit's Iterator
 
 
 def names_in(text):
@@ -41,14 +48,21 @@ def labels_of():
     found = {}
     for it in sources.read_functions(True):
         for name in {it.name, *names_in(it.container)}:
-            found.setdefault(name, set()).update(clause.label for clause in it.clauses if clause.label)
+            found.setdefault(name, set()).update(
+                clause.label for clause in it.clauses if clause.label
+            )
     return found
 
 
 @functools.cache
 def known_names():
     """Every name that a page about proofs may cite."""
-    found = {*OTHERS, *labels_of(), *sources.crate_names(True), *(word for used in sources.crate_edges().values() for word in used)}
+    found = {
+        *OTHERS,
+        *labels_of(),
+        *sources.crate_names(True),
+        *(word for used in sources.crate_edges().values() for word in used),
+    }
     found.update(label for labels in labels_of().values() for label in labels)
     for kind in ("src", "specs", "proofs"):
         for _, path, text in sources.read_files(kind, True):
@@ -62,7 +76,11 @@ def lost_edits(text):
     """The edits that a text cites and that are no files."""
     found = []
     for folder, names in EDITS.findall(text):
-        found += [f"{folder}/{name}" for name in names.split(", ") if not list((sources.CRATES / folder).glob(f"{name}*"))]
+        found += [
+            f"{folder}/{name}"
+            for name in names.split(", ")
+            if not list((sources.CRATES / folder).glob(f"{name}*"))
+        ]
     return found
 
 
@@ -76,7 +94,9 @@ def rows_with_clauses(text):
             continue
         cells = [cell.strip() for cell in re.split(r"(?<!\\)\|", row[1])]
         if at_head:
-            column = next((place for place, cell in enumerate(cells) if "clause" in cell.lower()), None)
+            column = next(
+                (place for place, cell in enumerate(cells) if "clause" in cell.lower()), None
+            )
             at_head, head = False, "".join(CODE.findall(line))
         elif column is not None and len(cells) > column:
             yield number, f"{line} {head}", cells[column]
@@ -93,10 +113,15 @@ def lost_labels(text):
     found, above = [], ""
     for number, row, cell in rows_with_clauses(text):
         above = f"{above} {row}" if row.startswith("| |") else row
-        known = {label for name in names_in(above) for label in labels_of().get(name, ())} | NO_LABELS
+        known = {
+            label for name in names_in(above) for label in labels_of().get(name, ())
+        } | NO_LABELS
         cited = [*labels_cited(cell), *IN_PARENTHESES.findall(row)]
-        found += [f"{number}: no function of the row has a clause {label}" for label in dict.fromkeys(cited)
-                  if re.fullmatch(r"[a-z_]+", label) and label not in known and label not in labels_of()]
+        found += [
+            f"{number}: no function of the row has a clause {label}"
+            for label in dict.fromkeys(cited)
+            if re.fullmatch(r"[a-z_]+", label) and label not in known and label not in labels_of()
+        ]
     return found
 
 
@@ -104,20 +129,33 @@ def lost_names(text):
     """The names in backticks of a page about proofs that the sources do not have."""
     prose = re.sub(r"```.*?^```", "", text, flags=re.MULTILINE | re.DOTALL)
     codes = [code for code in CODE.findall(prose) if re.fullmatch(r"[A-Za-z]\w*(?:::\w+)*", code)]
-    return sorted({f"`{code}` is no name of the sources" for code in codes if not names_in(code) <= known_names()})
+    return sorted(
+        {
+            f"`{code}` is no name of the sources"
+            for code in codes
+            if not names_in(code) <= known_names()
+        }
+    )
 
 
 def lost_crates(text):
     """The crates of the product without one row in the tables of crates, and rows of what is no crate."""
     rows, crates = Counter(ROW_OF_CRATE.findall(text)), set(crate_graph.crates())
-    found = [f"the crate {name} has {rows[name]} rows, not 1" for name in sorted(crates) if rows[name] != 1]
+    found = [
+        f"the crate {name} has {rows[name]} rows, not 1"
+        for name in sorted(crates)
+        if rows[name] != 1
+    ]
     return found + [f"`{name}` is no crate of the product" for name in sorted(set(rows) - crates)]
 
 
 def check():
     """How many documents cite only what exists, and what the others cite besides."""
     passed, faults = 0, []
-    for name in ["README.md", *sorted(f"docs/{path.name}" for path in (ROOT / "docs").glob("*.md"))]:
+    for name in [
+        "README.md",
+        *sorted(f"docs/{path.name}" for path in (ROOT / "docs").glob("*.md")),
+    ]:
         text = (ROOT / name).read_text(encoding="utf-8")
         found = [f"there is no edit {edit}" for edit in lost_edits(text)]
         if name.rpartition("/")[2] in PAGES_ABOUT_PROOFS:

@@ -27,11 +27,43 @@ GRID = "north: 1\nsouth: 0\neast: 2\nwest: 0\nrows: 1\ncols: 2\n1 2\n"
 EMPTY = "empty.table"
 # A value of each key that any command has, and keys of GRASS that none has here.
 VALUES = {"input": "land", "output": "made", "separator": "comma", "null_value": "NA", "after": "1"}
-KEYS_OF_GRASS = ("rules", "title", "minsize", "threshold", "sort", "nsteps", "precision", "width", "region", "expression", "map")
+KEYS_OF_GRASS = (
+    "rules",
+    "title",
+    "minsize",
+    "threshold",
+    "sort",
+    "nsteps",
+    "precision",
+    "width",
+    "region",
+    "expression",
+    "map",
+)
 FLAGS = string.ascii_letters + string.digits
 # Functions that GRASS has and we do not, each with the number of arguments that it takes there.
-FUNCTIONS_OF_GRASS = {"round": 1, "int": 1, "float": 1, "double": 1, "sqrt": 1, "exp": 1, "log": 1, "median": 3, "nmedian": 3,
-                      "xor": 2, "not": 1, "rand": 2, "x": 0, "y": 0, "z": 0, "ewres": 0, "nsres": 0, "area": 0, "graph": 5, "pow": 2}
+FUNCTIONS_OF_GRASS = {
+    "round": 1,
+    "int": 1,
+    "float": 1,
+    "double": 1,
+    "sqrt": 1,
+    "exp": 1,
+    "log": 1,
+    "median": 3,
+    "nmedian": 3,
+    "xor": 2,
+    "not": 1,
+    "rand": 2,
+    "x": 0,
+    "y": 0,
+    "z": 0,
+    "ewres": 0,
+    "nsres": 0,
+    "area": 0,
+    "graph": 5,
+    "pow": 2,
+}
 FONT = re.compile(r"\\f.|^\.[A-Z]+ |\"", re.MULTILINE)
 
 
@@ -61,22 +93,33 @@ def section(command):
     """The part of the document about a command; a document of its own has headings one level higher."""
     if command == JOINER:
         return re.sub(r"^## ", "### ", read(DOCUMENT_OF_JOINER), flags=re.MULTILINE) + "### \n"
-    return re.search(rf"^## {re.escape(command)}\n(.*?)^## ", read(DOCUMENT), re.MULTILINE | re.DOTALL)[1]
+    return re.search(
+        rf"^## {re.escape(command)}\n(.*?)^## ", read(DOCUMENT), re.MULTILINE | re.DOTALL
+    )[1]
 
 
 def synopsis(command):
-    return re.search(r"^### Synopsis\n+```text\n(.*?)```", section(command), re.MULTILINE | re.DOTALL)[1]
+    return re.search(
+        r"^### Synopsis\n+```text\n(.*?)```", section(command), re.MULTILINE | re.DOTALL
+    )[1]
 
 
 def rows(command):
     """The rows of a command's table of flags and options: a name, and what is said of it."""
-    table = re.search(r"^### (?:Flags and options|Options)\n(.*?)^### ", section(command), re.MULTILINE | re.DOTALL)[1]
+    table = re.search(
+        r"^### (?:Flags and options|Options)\n(.*?)^### ",
+        section(command),
+        re.MULTILINE | re.DOTALL,
+    )[1]
     return re.findall(r"^\| `([^`]+)` \| (.*) \|$", table, re.MULTILINE)
 
 
 def in_table(command):
     names = [name.removesuffix("=") for name, _ in rows(command)]
-    return Named([name[1:] for name in names if name.startswith("-")], [name for name in names if not name.startswith("-")])
+    return Named(
+        [name[1:] for name in names if name.startswith("-")],
+        [name for name in names if not name.startswith("-")],
+    )
 
 
 def required(command):
@@ -86,7 +129,9 @@ def required(command):
 def of_page(command):
     """The synopsis of a command in the manual page, without its fonts."""
     plain = FONT.sub("", read(PAGE).replace("\\-", "-"))
-    return next(line for line in plain.split("\n") if re.match(rf"{re.escape(command)} .*=", line)).replace("= ", "=")
+    return next(
+        line for line in plain.split("\n") if re.match(rf"{re.escape(command)} .*=", line)
+    ).replace("= ", "=")
 
 
 def synopses_of_joiner():
@@ -96,29 +141,51 @@ def synopses_of_joiner():
 
 def synopses_of_joiner_page():
     """The same in its manual page, without its fonts."""
-    for part in re.search(r"^\.SH SYNOPSIS\n(.*?)^\.SH ", read(PAGE_OF_JOINER), re.MULTILINE | re.DOTALL)[1].split(".br\n"):
-        command, behind = re.sub(r"\\f.|^\.B ", "", part.replace("\\-", "-"), flags=re.MULTILINE).splitlines()
+    for part in re.search(
+        r"^\.SH SYNOPSIS\n(.*?)^\.SH ", read(PAGE_OF_JOINER), re.MULTILINE | re.DOTALL
+    )[1].split(".br\n"):
+        command, behind = re.sub(
+            r"\\f.|^\.B ", "", part.replace("\\-", "-"), flags=re.MULTILINE
+        ).splitlines()
         font, _, words = behind.partition(" ")
         # .RI sets the pieces that blanks part in turns, and none of these blanks.
-        yield f"{command} " + (re.sub(r'"([^"]*)"|\s', lambda found: found[1] or "", words) if font == ".RI" else words)
+        yield f"{command} " + (
+            re.sub(r'"([^"]*)"|\s', lambda found: found[1] or "", words) if font == ".RI" else words
+        )
 
 
 def messages_of_joiner():
     """The texts that docs/rcell-join.md has in its table of the messages of rcell-join."""
     table = re.search(r"^### Messages\n(.*)", section(JOINER), re.MULTILINE | re.DOTALL)[1]
-    return [text for row in re.findall(r"^\| (`[^|]*`) \|", table, re.MULTILINE) for text in re.findall(r"`([^`]+)`", row)]
+    return [
+        text
+        for row in re.findall(r"^\| (`[^|]*`) \|", table, re.MULTILINE)
+        for text in re.findall(r"`([^`]+)`", row)
+    ]
 
 
 def text_of_joiner_page():
     """The lines under DIAGNOSTICS in the manual page of rcell-join, without their fonts."""
-    return FONT.sub("", re.search(r"^\.SH DIAGNOSTICS\n(.*?)^\.SH ", read(PAGE_OF_JOINER), re.MULTILINE | re.DOTALL)[1])
+    return FONT.sub(
+        "",
+        re.search(
+            r"^\.SH DIAGNOSTICS\n(.*?)^\.SH ", read(PAGE_OF_JOINER), re.MULTILINE | re.DOTALL
+        )[1],
+    )
 
 
 def functions_of_document():
     """The functions of r.mapcalc, each with the number of arguments of an example; two where more may follow."""
     table = re.search(r"^\| Function \|.*?\n\n", section("r.mapcalc"), re.MULTILINE | re.DOTALL)[0]
-    examples = [example for row in table.splitlines() for example in re.findall(r"`(\w+)\(([^)]*)\)`", row.split(" | ")[0])]
-    return {name: len([word for word in words.split(",") if word.strip(".")]) for name, words in examples}
+    examples = [
+        example
+        for row in table.splitlines()
+        for example in re.findall(r"`(\w+)\(([^)]*)\)`", row.split(" | ")[0])
+    ]
+    return {
+        name: len([word for word in words.split(",") if word.strip(".")])
+        for name, words in examples
+    }
 
 
 def functions_of_page():
@@ -139,7 +206,12 @@ class Tried:
         script = f"{line}\n1 = 1\nend\n" if line.startswith("r.reclass ") else f"{line}\n"
         with open(f"{self.folder}/script", "w", encoding="ascii") as file:
             file.write(script)
-        ran = subprocess.run([self.program, "script", "land=land.txt"], cwd=self.folder, capture_output=True, text=True)
+        ran = subprocess.run(
+            [self.program, "script", "land=land.txt"],
+            cwd=self.folder,
+            capture_output=True,
+            text=True,
+        )
         return ran.stderr.strip().removeprefix("rcell: script:") if ran.returncode else ""
 
     def options(self, command, flags, keys):
@@ -168,7 +240,9 @@ def faults_of_keys(tried, command, named, needs):
 
 def faults_of_functions(tried):
     named, listed = functions_of_document(), functions_of_page()
-    yield "" if set(named) == listed else f"{PAGE}: functions {sorted(listed)}, and not {sorted(named)} as {DOCUMENT}"
+    yield "" if set(
+        named
+    ) == listed else f"{PAGE}: functions {sorted(listed)}, and not {sorted(named)} as {DOCUMENT}"
     for name, count in {**FUNCTIONS_OF_GRASS, **named}.items():
         said = tried.refusal(f"r.mapcalc made = {name}({', '.join(['land'] * count)})")
         wanted = "" if name in named else "1: unknown function at column 18"
@@ -186,7 +260,9 @@ class TriedJoiner:
     def refusal(self, command, word):
         is_only_file = command == "border" and not word.startswith("-")
         files = [] if is_only_file else [EMPTY] * (2 if command == "sizes" else 1)
-        ran = subprocess.run([self.joiner, command, word, *files], cwd=self.folder, capture_output=True, text=True)
+        ran = subprocess.run(
+            [self.joiner, command, word, *files], cwd=self.folder, capture_output=True, text=True
+        )
         return ran.stderr.strip().removeprefix(f"{JOINER}: ") if ran.returncode else ""
 
 
@@ -197,10 +273,14 @@ def faults_of_joiner_command(tried, line):
     yield "" if said == usage else f"{DOCUMENT_OF_JOINER}, synopsis: {usage!r}, and the program says {said!r}"
     for flag in FLAGS:
         said = tried.refusal(command, f"-{flag}")
-        yield "" if (said == usage) != (flag in named.flags) else f"{JOINER} {command} -{flag}: {said or 'taken'}"
+        yield "" if (said == usage) != (
+            flag in named.flags
+        ) else f"{JOINER} {command} -{flag}: {said or 'taken'}"
     for key in (*VALUES, *KEYS_OF_GRASS):
         option = f"{key}={VALUES.get(key, '1')}"
-        wanted, said = "" if key in named.keys else f"{option}:0: cannot open", tried.refusal(command, option)
+        wanted, said = "" if key in named.keys else f"{option}:0: cannot open", tried.refusal(
+            command, option
+        )
         yield "" if said == wanted else f"{JOINER} {command} {option}: {said or 'taken'}, and not {wanted or 'taken'}"
 
 
@@ -223,8 +303,10 @@ def faults(program, joiner):
         tried = Tried(os.path.abspath(program), folder)
         for command in COMMANDS:
             named, needs = in_table(command), sorted(required(command))
-            for where, other in ((f"{DOCUMENT}, synopsis", Named.of_synopsis(synopsis(command))),
-                                 (PAGE, Named.of_synopsis(of_page(command)))):
+            for where, other in (
+                (f"{DOCUMENT}, synopsis", Named.of_synopsis(synopsis(command))),
+                (PAGE, Named.of_synopsis(of_page(command))),
+            ):
                 yield "" if other == named else f"{where}: {command} has {other}, but {named} in its table"
             yield from faults_of_flags(tried, command, named, needs)
             yield from faults_of_keys(tried, command, named, needs)
@@ -239,7 +321,9 @@ def check(program, joiner):
 
 
 def main():
-    words = argparse.ArgumentParser(description="Compares the flags and keys of the documents with those of the programs.")
+    words = argparse.ArgumentParser(
+        description="Compares the flags and keys of the documents with those of the programs."
+    )
     words.add_argument("--program", default=f"{ROOT}/bin/rcell")
     words.add_argument("--joiner", default=f"{ROOT}/bin/rcell-join")
     given = words.parse_args()

@@ -13,8 +13,15 @@ import sys
 
 ROOT = os.path.abspath(f"{__file__}/../../..")
 PICTURE = f"{ROOT}/docs/crates.svg"
-ROOMS = {"core": "#dcecf7", "ascii": "#e4f3df", "calc": "#fdf1d3", "cats": "#f9e2e2", "stats": "#ece3f5", "tiles": "#eeeeee",
-         "rcell": "#dff2f0"}
+ROOMS = {
+    "core": "#dcecf7",
+    "ascii": "#e4f3df",
+    "calc": "#fdf1d3",
+    "cats": "#f9e2e2",
+    "stats": "#ece3f5",
+    "tiles": "#eeeeee",
+    "rcell": "#dff2f0",
+}
 PROGRAMS = ("rcell_program", "rcell_join", "rcell_pipe")
 TITLE = re.compile(r"<title>([^<]+)</title>")
 HEAD = """digraph crates {
@@ -28,7 +35,11 @@ HEAD = """digraph crates {
 def crates():
     """What each crate of the product uses, of the product alone."""
     with open(f"{ROOT}/crates.txt", encoding="ascii") as file:
-        found = {name: words.split() for name, _, words in (line.partition(":") for line in file) if name.strip()}
+        found = {
+            name: words.split()
+            for name, _, words in (line.partition(":") for line in file)
+            if name.strip()
+        }
     is_of_tests = re.compile(r"_tests$|_test_maps$")
     product = {name: words for name, words in found.items() if not is_of_tests.search(name)}
     return {name: [word for word in words if word in product] for name, words in product.items()}
@@ -36,7 +47,11 @@ def crates():
 
 def all_below(name, uses):
     """Every crate that one uses, also through others."""
-    return set(uses[name]).union(*(all_below(below, uses) for below in uses[name])) if uses[name] else set()
+    return (
+        set(uses[name]).union(*(all_below(below, uses) for below in uses[name]))
+        if uses[name]
+        else set()
+    )
 
 
 def edges(uses):
@@ -68,7 +83,9 @@ def dot():
 
 
 def draw(path):
-    made = subprocess.run(["dot", "-Tsvg"], input=dot(), check=True, capture_output=True, text=True).stdout
+    made = subprocess.run(
+        ["dot", "-Tsvg"], input=dot(), check=True, capture_output=True, text=True
+    ).stdout
     # Comments name the version of dot; without them the picture changes only where the crates do.
     with open(path, "w", encoding="utf-8") as file:
         file.write(re.sub(r"<!--.*?-->\n?", "", made, flags=re.DOTALL))
@@ -82,8 +99,13 @@ def check():
         shown = {html.unescape(title) for title in TITLE.findall(file.read())}
     shown = {title for title in shown if title != "crates" and not title.startswith("cluster_")}
     name = os.path.relpath(PICTURE, ROOT)
-    faults = [f"{name}: {title} is missing (make pictures draws it)" for title in sorted(wanted - shown)]
-    faults += [f"{name}: {title} is not in crates.txt (make pictures leaves it out)" for title in sorted(shown - wanted)]
+    faults = [
+        f"{name}: {title} is missing (make pictures draws it)" for title in sorted(wanted - shown)
+    ]
+    faults += [
+        f"{name}: {title} is not in crates.txt (make pictures leaves it out)"
+        for title in sorted(shown - wanted)
+    ]
     return len(wanted & shown), faults
 
 

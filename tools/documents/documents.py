@@ -43,16 +43,41 @@ import figures
 import links
 import messages
 
-DOCUMENTS = ["README.md", "docs/tutorial.md", "docs/howto.md", "docs/large-maps.md", "docs/commands.md", "docs/rcell-join.md",
-             "docs/pipe.md", "docs/errors.md", "docs/grass.md", "examples/islands/README.md", "docs/proofs.md",
-             *(f"examples/{name}/README.md" for name in ("change", "woodland", "stream", "majority", "protected", "large-map"))]
-FENCE = re.compile(r"```(\S*)(?: file=(\S+))?(?: needs=(\S+))?\n(.*?)^```$", re.MULTILINE | re.DOTALL)
+DOCUMENTS = [
+    "README.md",
+    "docs/tutorial.md",
+    "docs/howto.md",
+    "docs/large-maps.md",
+    "docs/commands.md",
+    "docs/rcell-join.md",
+    "docs/pipe.md",
+    "docs/errors.md",
+    "docs/grass.md",
+    "examples/islands/README.md",
+    "docs/proofs.md",
+    *(
+        f"examples/{name}/README.md"
+        for name in ("change", "woodland", "stream", "majority", "protected", "large-map")
+    ),
+]
+FENCE = re.compile(
+    r"```(\S*)(?: file=(\S+))?(?: needs=(\S+))?\n(.*?)^```$", re.MULTILINE | re.DOTALL
+)
 # What is said of the lines that have to be believed: numbers, and what is around them.
-READING_ROW = re.compile(r"(`make reading(?: COMMAND=(?P<command>\S+))?` \| )(\d+)( \| )(\d+)( \| )(\d+)( \|)")
-READING_SENTENCE = re.compile(r"(for a table of (?P<command>r\.\w+) )(\d+)( lines, )(\d+)( with comments)")
+READING_ROW = re.compile(
+    r"(`make reading(?: COMMAND=(?P<command>\S+))?` \| )(\d+)( \| )(\d+)( \| )(\d+)( \|)"
+)
+READING_SENTENCE = re.compile(
+    r"(for a table of (?P<command>r\.\w+) )(\d+)( lines, )(\d+)( with comments)"
+)
 LANGUAGES = {"console", "pycon", "text", "python", "sh"}
-PACKAGES = {"gdal_retile.py": "python3-gdal", "gdalinfo": "gdal-bin", "Rscript": "r-base-core",
-            "/usr/share/gmt-gshhg/binned_GSHHS_f.nc": "gmt-gshhg-full", "/usr/share/qgis/resources/data/world_map.gpkg": "qgis-common"}
+PACKAGES = {
+    "gdal_retile.py": "python3-gdal",
+    "gdalinfo": "gdal-bin",
+    "Rscript": "r-base-core",
+    "/usr/share/gmt-gshhg/binned_GSHHS_f.nc": "gmt-gshhg-full",
+    "/usr/share/qgis/resources/data/world_map.gpkg": "qgis-common",
+}
 PYTHON_PACKAGES = "/usr/lib/python3/dist-packages"
 SESSION = "import sys; sys.path.insert(0, sys.argv[1]); import documents; print(documents.by_session(sys.stdin.read(), {}), end='')"
 SECONDS = 600  # only what hangs takes longer, also on a machine with much other work
@@ -82,7 +107,14 @@ class Command:
 def blocks_of(document):
     for found in FENCE.finditer(document):
         needs = found[3].split(",") if found[3] else []
-        yield Block(document.count("\n", 0, found.start()) + 1, found.span(4), found[1], found[2] or "", needs, found[4])
+        yield Block(
+            document.count("\n", 0, found.start()) + 1,
+            found.span(4),
+            found[1],
+            found[2] or "",
+            needs,
+            found[4],
+        )
 
 
 def commands_of(block):
@@ -102,7 +134,10 @@ def commands_of(block):
 
 def script_of(commands):
     """The commands as one script of sh that prints a line after each, and keeps its status for the next."""
-    return "".join(f"{command.text}\nended=$?; echo '{END_OF_COMMAND}'; (exit $ended)\n" for command in commands)
+    return "".join(
+        f"{command.text}\nended=$?; echo '{END_OF_COMMAND}'; (exit $ended)\n"
+        for command in commands
+    )
 
 
 class Room:
@@ -115,9 +150,20 @@ class Room:
             shutil.copy(program, f"{path}/bin/{name}")
         for helper in glob.glob(f"{ROOT}/helpers/rcell-*[a-z]"):
             shutil.copy(helper, f"{path}/bin")
-        shutil.copytree(f"{ROOT}/helpers", f"{path}/share/rcell", ignore=shutil.ignore_patterns("__pycache__", "rcell-*", "tests"))
-        shutil.copytree(f"{ROOT}/python/src", f"{path}/share/rcell", ignore=shutil.ignore_patterns("__pycache__"), dirs_exist_ok=True)
-        shutil.copytree(f"{ROOT}/examples", f"{path}/examples", ignore=shutil.ignore_patterns("__pycache__"))
+        shutil.copytree(
+            f"{ROOT}/helpers",
+            f"{path}/share/rcell",
+            ignore=shutil.ignore_patterns("__pycache__", "rcell-*", "tests"),
+        )
+        shutil.copytree(
+            f"{ROOT}/python/src",
+            f"{path}/share/rcell",
+            ignore=shutil.ignore_patterns("__pycache__"),
+            dirs_exist_ok=True,
+        )
+        shutil.copytree(
+            f"{ROOT}/examples", f"{path}/examples", ignore=shutil.ignore_patterns("__pycache__")
+        )
 
     def put(self, block):
         path = f"{self.here}/{block.file}"
@@ -127,20 +173,39 @@ class Room:
 
     def environment(self):
         """Of the commands: the programs and helpers are on the path, and the Python package can be imported."""
-        return {"PATH": f"{self.top}/bin:/usr/bin:/bin", "HOME": self.top, "LC_ALL": "C.UTF-8", "PYTHONPATH": f"{ROOT}/python/src",
-                "PYTHONDONTWRITEBYTECODE": "1"}
+        return {
+            "PATH": f"{self.top}/bin:/usr/bin:/bin",
+            "HOME": self.top,
+            "LC_ALL": "C.UTF-8",
+            "PYTHONPATH": f"{ROOT}/python/src",
+            "PYTHONDONTWRITEBYTECODE": "1",
+        }
 
     def session(self, text):
         """A session of Python with what it prints."""
         words = ["/usr/bin/python3", "-c", SESSION, f"{ROOT}/python/tools"]
-        ran = subprocess.run(words, cwd=self.here, env=self.environment(), input=text, capture_output=True, text=True, timeout=SECONDS)
+        ran = subprocess.run(
+            words,
+            cwd=self.here,
+            env=self.environment(),
+            input=text,
+            capture_output=True,
+            text=True,
+            timeout=SECONDS,
+        )
         return ran.stdout + ran.stderr
 
     def printed(self, commands):
         """What the commands print, one text a command; a ValueError where they do not all end."""
         script = f"exec 2>&1\n{script_of(commands)}pwd\n"
-        ran = subprocess.run(["sh", "-c", script], cwd=self.here, env=self.environment(), timeout=SECONDS,
-                             stdin=subprocess.DEVNULL, stdout=subprocess.PIPE)
+        ran = subprocess.run(
+            ["sh", "-c", script],
+            cwd=self.here,
+            env=self.environment(),
+            timeout=SECONDS,
+            stdin=subprocess.DEVNULL,
+            stdout=subprocess.PIPE,
+        )
         *texts, here = ran.stdout.decode(errors="replace").split(f"{END_OF_COMMAND}\n")
         if len(texts) != len(commands):
             raise ValueError(f"only {len(texts)} of {len(commands)} commands ended")
@@ -157,7 +222,9 @@ def shown_text(commands, texts):
 def is_installed(name):
     """Whether a program, a file by its path, or a Python package by its Debian name, such as python3-rasterio, is there."""
     module = {"python3-gdal": "osgeo"}.get(name, name.removeprefix("python3-"))
-    return bool(shutil.which(name) or os.path.isfile(name) or os.path.exists(f"{PYTHON_PACKAGES}/{module}"))
+    return bool(
+        shutil.which(name) or os.path.isfile(name) or os.path.exists(f"{PYTHON_PACKAGES}/{module}")
+    )
 
 
 def judge(block, room):
@@ -170,14 +237,19 @@ def judge(block, room):
     missing = [name for name in block.needs if not is_installed(name)]
     if missing:
         packages = " ".join(PACKAGES.get(name, name) for name in missing)
-        print(f"skipped  documents: {', '.join(missing)} is not installed, for the block at line {block.line}; install: apt-get install {packages}")
+        print(
+            f"skipped  documents: {', '.join(missing)} is not installed, for the block at line {block.line}; install: apt-get install {packages}"
+        )
         return None, block.text
     if block.language == "pycon":
         right = room.session(block.text)
         return unlike(block.text, right), right
     if block.language != "console":
         has_command = re.search(r"^\$ ", block.text, re.MULTILINE)
-        return "a command with its output in a block that is not run" if has_command else None, block.text
+        return (
+            "a command with its output in a block that is not run" if has_command else None,
+            block.text,
+        )
     try:
         commands = commands_of(block)
         right = shown_text(commands, room.printed(commands))
@@ -190,7 +262,9 @@ def unlike(shown, printed):
     """How what a block shows differs from what is printed, or ''."""
     if shown == printed:
         return ""
-    differs = difflib.unified_diff(shown.splitlines(), printed.splitlines(), "shown", "printed", lineterm="", n=1)
+    differs = difflib.unified_diff(
+        shown.splitlines(), printed.splitlines(), "shown", "printed", lineterm="", n=1
+    )
     return "\n    ".join(differs) or "the last line has no end"
 
 
@@ -221,13 +295,20 @@ def check_differences(program):
             answer = differences.by_rcell(row, program, room)
             passed += answer == row.rcell
             if answer != row.rcell:
-                faults.append(f"{differences.DOCUMENT}:{row.line}: rcell answers {answer!r}, and not {row.rcell!r}")
+                faults.append(
+                    f"{differences.DOCUMENT}:{row.line}: rcell answers {answer!r}, and not {row.rcell!r}"
+                )
     return passed, faults
 
 
 def counts_of_reading(command):
     """The numbers of lines that have to be believed: of definitions, with comments, and of Rust types."""
-    words = [sys.executable, f"{ROOT}/tools/lint/reading.py", "--count", *([command] if command else [])]
+    words = [
+        sys.executable,
+        f"{ROOT}/tools/lint/reading.py",
+        "--count",
+        *([command] if command else []),
+    ]
     return re.findall(r"\d+", subprocess.check_output(words, text=True))
 
 
@@ -242,10 +323,12 @@ def check_reading(write):
             nonlocal counted
             around, command, *parts = found.groups()
             told, between = parts[0::2], [around, *parts[1::2]]
-            wanted = counts_of_reading(command)[:len(told)]
+            wanted = counts_of_reading(command)[: len(told)]
             counted += told == wanted
             if told != wanted:
-                faults.append(f"{name}: {command or 'all'} has {', '.join(wanted)} lines, and not {', '.join(told)}")
+                faults.append(
+                    f"{name}: {command or 'all'} has {', '.join(wanted)} lines, and not {', '.join(told)}"
+                )
             return "".join(text for pair in zip(between, [*wanted, ""]) for text in pair)
 
         right = pattern.sub(with_counts, document)
@@ -264,9 +347,17 @@ def names_not_read():
 def warnings_of_man(page):
     """What man warns of on a manual page of the sources, or at a path."""
     environment = {**os.environ, "LC_ALL": "C.UTF-8", "MANROFFSEQ": "", "MANWIDTH": "80"}
-    ran = subprocess.run(["man", "--warnings", "-E", "UTF-8", "-l", "-Tutf8", "-Z", os.path.join(ROOT, page)], env=environment,
-                         stdout=subprocess.DEVNULL, stderr=subprocess.PIPE, text=True)
-    return [f"{page}: {warning}" for warning in ran.stderr.splitlines() or ["man fails"] * bool(ran.returncode)]
+    ran = subprocess.run(
+        ["man", "--warnings", "-E", "UTF-8", "-l", "-Tutf8", "-Z", os.path.join(ROOT, page)],
+        env=environment,
+        stdout=subprocess.DEVNULL,
+        stderr=subprocess.PIPE,
+        text=True,
+    )
+    return [
+        f"{page}: {warning}"
+        for warning in ran.stderr.splitlines() or ["man fails"] * bool(ran.returncode)
+    ]
 
 
 def has_man():
@@ -276,15 +367,23 @@ def has_man():
 def check_pages():
     """Whether man has nothing to warn of on the manual pages, the helpers' included, if it is installed."""
     if not has_man():
-        print("skipped  documents: man or groff is not installed, for the manual pages; install: apt-get install man-db groff")
+        print(
+            "skipped  documents: man or groff is not installed, for the manual pages; install: apt-get install man-db groff"
+        )
         return 0, []
-    pages = sorted(os.path.relpath(path, ROOT) for folder in ("docs", "helpers") for path in glob.glob(f"{ROOT}/{folder}/*.1"))
+    pages = sorted(
+        os.path.relpath(path, ROOT)
+        for folder in ("docs", "helpers")
+        for path in glob.glob(f"{ROOT}/{folder}/*.1")
+    )
     faults = [warnings_of_man(page) for page in pages]
     return faults.count([]), [fault for found in faults for fault in found]
 
 
 def main():
-    words = argparse.ArgumentParser(description=__doc__, formatter_class=argparse.RawDescriptionHelpFormatter)
+    words = argparse.ArgumentParser(
+        description=__doc__, formatter_class=argparse.RawDescriptionHelpFormatter
+    )
     words.add_argument("--program", default=f"{ROOT}/bin/rcell")
     words.add_argument("--joiner", default=f"{ROOT}/bin/rcell-join")
     words.add_argument("--pipe", default=f"{ROOT}/bin/rcell-pipe")
@@ -293,15 +392,36 @@ def main():
     words.add_argument("documents", nargs="*")
     settings = words.parse_args()
     program, joiner = os.path.abspath(settings.program), os.path.abspath(settings.joiner)
-    programs = {"rcell": program, "rcell-join": joiner, "rcell-pipe": os.path.abspath(settings.pipe)}
-    texts = [("the messages", lambda: messages.check(settings.write)), ("the links", links.check), ("the citations", citations.check),
-             ("the picture of the crates", crate_graph.check), ("the manual pages", check_pages),
-             ("the numbers of lines", lambda: check_reading(settings.write)), ("the figures", lambda: figures.check(settings.write))]
-    runs = [(name, lambda name=name: run_document(name, programs, settings.write)) for name in settings.documents or DOCUMENTS]
+    programs = {
+        "rcell": program,
+        "rcell-join": joiner,
+        "rcell-pipe": os.path.abspath(settings.pipe),
+    }
+    texts = [
+        ("the messages", lambda: messages.check(settings.write)),
+        ("the links", links.check),
+        ("the citations", citations.check),
+        ("the picture of the crates", crate_graph.check),
+        ("the manual pages", check_pages),
+        ("the numbers of lines", lambda: check_reading(settings.write)),
+        ("the figures", lambda: figures.check(settings.write)),
+    ]
+    runs = [
+        (name, lambda name=name: run_document(name, programs, settings.write))
+        for name in settings.documents or DOCUMENTS
+    ]
     if not settings.documents:
-        runs += [("the tables of differences", lambda: check_differences(program)),
-                 ("the flags, keys and functions", lambda: command_options.check(program, joiner))]
-    checks = [it for it in texts if not settings.documents or it[0].split()[-1] in settings.documents] if settings.texts else runs if settings.documents else texts + runs
+        runs += [
+            ("the tables of differences", lambda: check_differences(program)),
+            ("the flags, keys and functions", lambda: command_options.check(program, joiner)),
+        ]
+    checks = (
+        [it for it in texts if not settings.documents or it[0].split()[-1] in settings.documents]
+        if settings.texts
+        else runs
+        if settings.documents
+        else texts + runs
+    )
     passed = failed = 0
     for name, check in checks:
         good, faults = check()

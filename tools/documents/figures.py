@@ -47,8 +47,15 @@ def fault_of(commit):
     if git("merge-base", "--is-ancestor", commit, "HEAD").returncode:
         return "is no ancestor of this one"
     shown = git("show", f"{commit}:VERSION")
-    version, now = FIRST_VERSION if shown.returncode else shown.stdout.strip(), text_of("VERSION").strip()
-    return "" if version == now else f"is of version {version}, and this is {now}: make figures measures anew"
+    version, now = (
+        FIRST_VERSION if shown.returncode else shown.stdout.strip(),
+        text_of("VERSION").strip(),
+    )
+    return (
+        ""
+        if version == now
+        else f"is of version {version}, and this is {now}: make figures measures anew"
+    )
 
 
 def tables_of_results():
@@ -71,7 +78,9 @@ def check_readme(write):
         cells = tables.get((found[1], found[2]))
         figures = " | ".join([cells[1], cells[2], cells[-2], cells[-1]]) if cells else ""
         if figures != found[3]:
-            faults.append(f"{README}: {found[1]}, {found[2]}: {figures} in {RESULTS}, and not {found[3]} (--write mends it)")
+            faults.append(
+                f"{README}: {found[1]}, {found[2]}: {figures} in {RESULTS}, and not {found[3]} (--write mends it)"
+            )
         return f"| {found[1]} | {found[2]} | {figures} |"
 
     right = SPEED_ROW.sub(with_figures, document)
@@ -82,14 +91,22 @@ def check_readme(write):
 
 def check_page():
     """How many rows of docs/speed.md have their figures together on a line of bench/RESULTS.md."""
-    lines = [set(FIGURE.findall(line)) for line in text_of(RESULTS).splitlines() if line.startswith("|")]
+    lines = [
+        set(FIGURE.findall(line)) for line in text_of(RESULTS).splitlines() if line.startswith("|")
+    ]
     passed, faults = 0, []
     for number, line in enumerate(text_of(PAGE).splitlines(), 1):
-        figures = set(FIGURE.findall("|".join(line.split("|")[2:]))) if line.startswith("|") else set()
+        figures = (
+            set(FIGURE.findall("|".join(line.split("|")[2:]))) if line.startswith("|") else set()
+        )
         if figures - NO_FIGURES:
             is_there = any(figures - NO_FIGURES <= known for known in lines)
             passed += is_there
-            faults += [] if is_there else [f"{PAGE}:{number}: no line of {RESULTS} has {', '.join(sorted(figures))}"]
+            faults += (
+                []
+                if is_there
+                else [f"{PAGE}:{number}: no line of {RESULTS} has {', '.join(sorted(figures))}"]
+            )
     return passed, faults
 
 
@@ -102,7 +119,11 @@ def marks_of(name):
 def unmarked(name):
     """The tables of a page that have no mark above them, by their sections."""
     sections = [part for part in HEADING.split(text_of(name)) if TABLE.search(part)]
-    return [section.partition("\n")[0] for section in sections if not MARK.search(section.partition("\n|")[0])]
+    return [
+        section.partition("\n")[0]
+        for section in sections
+        if not MARK.search(section.partition("\n|")[0])
+    ]
 
 
 def check_marks():
@@ -112,16 +133,27 @@ def check_marks():
         marks = marks_of(name)
         found = [] if marks else [f"{name}: no mark <!-- figures: COMMIT -->"]
         for commit, part in marks:
-            wrong = [fault_of(commit), "" if TABLE.search(part) else "has no table below its mark",
-                     "" if commit in recorded else f"has no mark in {RESULTS}"]
+            wrong = [
+                fault_of(commit),
+                "" if TABLE.search(part) else "has no table below its mark",
+                "" if commit in recorded else f"has no mark in {RESULTS}",
+            ]
             found += [f"{name}: the commit {commit} {it}" for it in wrong if it]
         if name != README:
-            found += [f"{name}: no mark above the table of '{section}'" for section in unmarked(name)]
+            found += [
+                f"{name}: no mark above the table of '{section}'" for section in unmarked(name)
+            ]
         passed, faults = passed + len(marks), faults + found
-    for name in ["README.md", *sorted(f"docs/{path.name}" for path in (ROOT / "docs").glob("*.md"))]:
+    for name in [
+        "README.md",
+        *sorted(f"docs/{path.name}" for path in (ROOT / "docs").glob("*.md")),
+    ]:
         known = [commit for commit, _ in marks_of(name)]
-        faults += [f"{name}: the commit {commit} is named, and no table is marked with it" for commit in NAMED.findall(text_of(name))
-                   if not any(mark.startswith(commit) or commit.startswith(mark) for mark in known)]
+        faults += [
+            f"{name}: the commit {commit} is named, and no table is marked with it"
+            for commit in NAMED.findall(text_of(name))
+            if not any(mark.startswith(commit) or commit.startswith(mark) for mark in known)
+        ]
     return passed, faults
 
 
@@ -130,4 +162,6 @@ def check(write=False):
     if not (ROOT / RESULTS).exists():
         return 0, []
     counted = [check_readme(write), check_page(), check_marks()]
-    return sum(passed for passed, _ in counted), [fault for _, faults in counted for fault in faults]
+    return sum(passed for passed, _ in counted), [
+        fault for _, faults in counted for fault in faults
+    ]

@@ -15,7 +15,13 @@ HEADING = re.compile(r"^#+ (.+)$", re.MULTILINE)
 
 def documents():
     """The Markdown files of the repository, by their paths below its top."""
-    listed = subprocess.run(["git", "ls-files", "--cached", "--others", "--exclude-standard", "*.md"], cwd=ROOT, capture_output=True, text=True, check=False)
+    listed = subprocess.run(
+        ["git", "ls-files", "--cached", "--others", "--exclude-standard", "*.md"],
+        cwd=ROOT,
+        capture_output=True,
+        text=True,
+        check=False,
+    )
     names = listed.stdout.split() or [str(path.relative_to(ROOT)) for path in ROOT.rglob("*.md")]
     return [name for name in names if (ROOT / name).is_file()]
 
@@ -41,7 +47,11 @@ def fault_of(document, link):
     path = (document.parent / name).resolve() if name else document
     if not path.exists():
         return f"there is no {link}"
-    return f"{name or document.name} has no heading for #{anchor}" if anchor and path.suffix == ".md" and anchor not in anchors_of(path) else ""
+    return (
+        f"{name or document.name} has no heading for #{anchor}"
+        if anchor and path.suffix == ".md" and anchor not in anchors_of(path)
+        else ""
+    )
 
 
 def check():
@@ -49,7 +59,9 @@ def check():
     passed, faults = 0, []
     for name in documents():
         path = ROOT / name
-        for link in LINK.findall(re.sub(r"`[^`\n]*`", "", FENCED.sub("", path.read_text(encoding="utf-8")))):
+        for link in LINK.findall(
+            re.sub(r"`[^`\n]*`", "", FENCED.sub("", path.read_text(encoding="utf-8")))
+        ):
             fault = fault_of(path, link)
             passed += not fault
             faults += [f"{name}: {fault}"] * bool(fault)

@@ -45,23 +45,42 @@ def rows_of(part):
 
 
 def table_of(part):
-    heads = ["Text", *["Source"] * bool(part.get("sources")), "Cause", "What to do", *["Line"] * bool(part.get("lines"))]
+    heads = [
+        "Text",
+        *["Source"] * bool(part.get("sources")),
+        "Cause",
+        "What to do",
+        *["Line"] * bool(part.get("lines")),
+    ]
     lines = ["| " + " | ".join(heads) + " |", "|" + "---|" * len(heads)]
-    lines += ["|" + "".join(f" {cell} |" if cell else " |" for cell in cells) for cells in rows_of(part)]
+    lines += [
+        "|" + "".join(f" {cell} |" if cell else " |" for cell in cells) for cells in rows_of(part)
+    ]
     return "\n".join(lines)
 
 
 def tables():
-    return "".join(f"## {part['title']}\n\n{table_of(part)}\n\n" for part in read_parts()).rstrip("\n") + "\n"
+    return (
+        "".join(f"## {part['title']}\n\n{table_of(part)}\n\n" for part in read_parts()).rstrip("\n")
+        + "\n"
+    )
 
 
 def messages_of_the_code():
     """The texts of errors in the sources of the program, with N for a number; those that only hand on another text are left out."""
     found = set()
-    for path in [it for crate in build.crates_of(["rcell_program"]) for it in glob.glob(f"{crate.folder}/src/**/*.rt", recursive=True)]:
+    for path in [
+        it
+        for crate in build.crates_of(["rcell_program"])
+        for it in glob.glob(f"{crate.folder}/src/**/*.rt", recursive=True)
+    ]:
         with open(path, encoding="utf-8") as file:
             texts = re.findall(r'(?:#\[error\(|Fault::\w+ => )"([^"]*)"', file.read())
-        found |= {re.sub(r"\{written\}", "N", text) for text in texts if not re.search(r"\{(0|text|kind|line)\}", text)}
+        found |= {
+            re.sub(r"\{written\}", "N", text)
+            for text in texts
+            if not re.search(r"\{(0|text|kind|line)\}", text)
+        }
     return found - UNREPORTED
 
 
@@ -73,11 +92,29 @@ def check(write=False):
     if write and right != document:
         with open(DOCUMENT, "w", encoding="utf-8") as file:
             file.write(right)
-    faults = [] if write or right == document else ["docs/errors.md: the table is not that of python/src/rcell_front/messages.json (tools/documents/documents.py --texts --write)"]
-    texts, code = {message["text"] for part in read_parts() for message in part["messages"]}, messages_of_the_code()
-    faults += [f"python/src/rcell_front/messages.json: no row for the message '{text}'" for text in sorted(code - texts)]
-    faults += [f"python/src/rcell_front/messages.json: no such message: '{text}'" for text in sorted(texts - code)]
+    faults = (
+        []
+        if write or right == document
+        else [
+            "docs/errors.md: the table is not that of python/src/rcell_front/messages.json (tools/documents/documents.py --texts --write)"
+        ]
+    )
+    texts, code = {
+        message["text"] for part in read_parts() for message in part["messages"]
+    }, messages_of_the_code()
+    faults += [
+        f"python/src/rcell_front/messages.json: no row for the message '{text}'"
+        for text in sorted(code - texts)
+    ]
+    faults += [
+        f"python/src/rcell_front/messages.json: no such message: '{text}'"
+        for text in sorted(texts - code)
+    ]
     for part in read_parts():
-        faults += [f"python/src/rcell_front/messages.json: {message['text']}: an example lacks a word: {cells}" for message in part["messages"]
-                   for cells in rows_of({**part, "messages": [message]}) if re.search(r"\{[a-z_]+\}", "".join(cells))]
+        faults += [
+            f"python/src/rcell_front/messages.json: {message['text']}: an example lacks a word: {cells}"
+            for message in part["messages"]
+            for cells in rows_of({**part, "messages": [message]})
+            if re.search(r"\{[a-z_]+\}", "".join(cells))
+        ]
     return len(code & texts), faults

@@ -28,8 +28,15 @@ ISLANDS = f"{ROOT}/examples/islands"
 SQUARE_KILOMETRES_OF_A_CELL = 256
 STUDY = f"{ROOT}/examples/study"
 HECTARES_OF_A_CELL = 0.0625
-CLASSES = {11: ("town", "#c83c32"), 12: ("industry", "#823c6e"), 21: ("arable land", "#ebdc96"), 23: ("pasture", "#bed778"),
-           31: ("broad-leaved wood", "#46963c"), 32: ("conifers", "#1e643c"), 51: ("water", "#4682c8")}
+CLASSES = {
+    11: ("town", "#c83c32"),
+    12: ("industry", "#823c6e"),
+    21: ("arable land", "#ebdc96"),
+    23: ("pasture", "#bed778"),
+    31: ("broad-leaved wood", "#46963c"),
+    32: ("conifers", "#1e643c"),
+    51: ("water", "#4682c8"),
+}
 PATCHES = "r.reclass input=landcover output=wood\n31 thru 39 = 1\nend\nr.clump -d input=wood output=patches\n"
 SEA = (0.87, 0.93, 0.97)
 LEAST_LABELLED = 20  # cells of a country that gets its name
@@ -48,17 +55,27 @@ def grid(text):
 def rcell(program, script, folder=ISLANDS, grid_word="country=archipelago.txt"):
     """Run a script and return its output; a script of several lines goes through standard input."""
     words = [program, "/dev/stdin" if "\n" in script else script, grid_word]
-    return subprocess.run(words, cwd=folder, check=True, capture_output=True, text=True, input=script).stdout
+    return subprocess.run(
+        words, cwd=folder, check=True, capture_output=True, text=True, input=script
+    ).stdout
 
 
 def label(axes, cells, text):
     rows, columns = np.nonzero(cells)
-    axes.text(np.median(columns), np.median(rows), text, ha="center", va="center", fontsize=7, bbox=PLATE)
+    axes.text(
+        np.median(columns), np.median(rows), text, ha="center", va="center", fontsize=7, bbox=PLATE
+    )
 
 
 def draw_countries(axes, country, names):
     colours = [SEA, *[plt.get_cmap("tab20")(number)[:3] for number in range(country.max())]]
-    axes.imshow(country, cmap=ListedColormap(colours), vmin=-0.5, vmax=country.max() + 0.5, interpolation="nearest")
+    axes.imshow(
+        country,
+        cmap=ListedColormap(colours),
+        vmin=-0.5,
+        vmax=country.max() + 0.5,
+        interpolation="nearest",
+    )
     axes.set_title("the grid: land by country", fontsize=10)
     for code, name in names.items():
         if (country == code).sum() > LEAST_LABELLED:
@@ -69,7 +86,9 @@ def draw_islands(axes, island, names):
     random = np.random.default_rng(3)
     colours = np.vstack([[SEA], 0.25 + 0.65 * random.random((island.max(), 3))])
     axes.imshow(colours[island], interpolation="nearest")
-    axes.set_title(f"r.clump: {island.max()} connected areas of land, numbered and counted", fontsize=10)
+    axes.set_title(
+        f"r.clump: {island.max()} connected areas of land, numbered and counted", fontsize=10
+    )
     for number, name in names.items():
         area = f"{(island == number).sum() * SQUARE_KILOMETRES_OF_A_CELL:,}".replace(",", " ")
         label(axes, island == number, f"{name}\n{area} km²")
@@ -84,7 +103,9 @@ def islands(output, program):
         atlas = [line.split("\t") for line in file]
     figure, (left, right) = plt.subplots(1, 2, figsize=(14, 5.1), dpi=100)
     draw_countries(left, country, {int(rule[0]): rule[3].strip() for rule in rules})
-    draw_islands(right, grid(rcell(program, "islands")), {int(number): name for number, name, *_ in atlas})
+    draw_islands(
+        right, grid(rcell(program, "islands")), {int(number): name for number, name, *_ in atlas}
+    )
     for axes in (left, right):
         axes.set_xticks([])
         axes.set_yticks([])
@@ -101,7 +122,11 @@ def without_ticks(axes, title):
 def draw_hectares(axes, table):
     """Bars of the hectares of each class, the first class at the top."""
     hectares = [int(cells) * HECTARES_OF_A_CELL for _, cells in table]
-    bars = axes.barh([CLASSES[int(code)][0] for code, _ in table], hectares, color=[CLASSES[int(code)][1] for code, _ in table])
+    bars = axes.barh(
+        [CLASSES[int(code)][0] for code, _ in table],
+        hectares,
+        color=[CLASSES[int(code)][1] for code, _ in table],
+    )
     axes.bar_label(bars, fmt="%.2f ha", padding=3, fontsize=9)
     axes.invert_yaxis()
     axes.set_xlim(0, 1.25 * max(hectares))
@@ -113,7 +138,13 @@ def draw_hectares(axes, table):
 
 def draw_patches(axes, patches, sizes):
     colours = ["white", "#e6781e", "#7846a0", "#28a0a0", "#c83c5a"]
-    axes.imshow(patches, cmap=ListedColormap(colours), vmin=0, vmax=len(colours) - 1, interpolation="nearest")
+    axes.imshow(
+        patches,
+        cmap=ListedColormap(colours),
+        vmin=0,
+        vmax=len(colours) - 1,
+        interpolation="nearest",
+    )
     without_ticks(axes, "r.clump -d: four patches of woodland")
     for number, cells in sizes:
         label(axes, patches == int(number), f"{int(cells) * HECTARES_OF_A_CELL:.2f} ha")
@@ -121,6 +152,7 @@ def draw_patches(axes, patches, sizes):
 
 def study(output, program):
     """The land cover of the study, the hectares of its classes and its patches of woodland."""
+
     def answer(script):
         return rcell(program, script, STUDY, "landcover=landcover.txt")
 
@@ -128,23 +160,31 @@ def study(output, program):
         return [line.split() for line in answer(script).splitlines()]
 
     cover = grid(answer("r.out.ascii input=landcover\n"))
-    figure, (left, middle, right) = plt.subplots(1, 3, figsize=(13, 3.2), dpi=100, width_ratios=(1.1, 0.9, 1.1))
+    figure, (left, middle, right) = plt.subplots(
+        1, 3, figsize=(13, 3.2), dpi=100, width_ratios=(1.1, 0.9, 1.1)
+    )
     draw_cover(left, cover, "landcover.tif: 25 m cells")
     draw_hectares(middle, table("r.stats -c -n input=landcover\n"))
-    draw_patches(right, grid(answer(f"{PATCHES}r.out.ascii input=patches\n")), table(f"{PATCHES}r.stats -c -n input=patches\n"))
+    draw_patches(
+        right,
+        grid(answer(f"{PATCHES}r.out.ascii input=patches\n")),
+        table(f"{PATCHES}r.stats -c -n input=patches\n"),
+    )
     figure.tight_layout()
     figure.savefig(output)
 
 
 # What the picture of each example shows of the land cover: the map that its cells come from, and which part of it.
-SMOOTH = ("r.mapcalc m = nmode(g[-1,-1],g[-1,0],g[-1,1],g[0,-1],g,g[0,1],g[1,-1],g[1,0],g[1,1])\n"
-          "r.mapcalc x = if(isnull(g), null(), m)\n")
+SMOOTH = (
+    "r.mapcalc m = nmode(g[-1,-1],g[-1,0],g[-1,1],g[0,-1],g,g[0,1],g[1,-1],g[1,0],g[1,1])\n"
+    "r.mapcalc x = if(isnull(g), null(), m)\n"
+)
 GROWN = "if(g == 21 && row() > 8 && col() > 11, 11, if(g == 23 && col() < 8, 32, g))"
 NEAR = "nmax(w[-1,-1],w[-1,0],w[-1,1],w[0,-1],w[0,1],w[1,-1],w[1,0],w[1,1])"
 EXAMPLES = {
     "change": f"r.mapcalc later = {GROWN}\nr.mapcalc x = if(later != g, later, null())\n",
     "woodland": "r.reclass input=g output=wood\n31 thru 39 = 1\nend\nr.clump -d input=wood output=p\n"
-                "r.mapcalc x = if(p == 1 || p == 4, g, null())\n",
+    "r.mapcalc x = if(p == 1 || p == 4, g, null())\n",
     "stream": f"r.mapcalc w = g == 51\nr.mapcalc n = {NEAR}\nr.mapcalc x = if(n == 1 || w == 1, g, null())\n",
     "majority": SMOOTH,
     "protected": "r.mapcalc x = if(isnull(zones), null(), g)\n",
@@ -155,7 +195,9 @@ EXAMPLES = {
 def draw_cover(axes, cover, title):
     colours = ["white", *(colour for _, colour in CLASSES.values())]
     codes = np.where(cover == 0, 0, np.searchsorted(list(CLASSES), cover) + 1)
-    axes.imshow(codes, cmap=ListedColormap(colours), vmin=0, vmax=len(colours) - 1, interpolation="nearest")
+    axes.imshow(
+        codes, cmap=ListedColormap(colours), vmin=0, vmax=len(colours) - 1, interpolation="nearest"
+    )
     without_ticks(axes, title)
 
 
@@ -163,8 +205,19 @@ def examples(folder, program):
     """The land cover of the study next to what each example shows of it."""
     for name, script in EXAMPLES.items():
         words = [program, "/dev/stdin", "g=landcover.txt", "zones=zones.txt"]
-        shown, whole = (grid(subprocess.run(words, cwd=STUDY, check=True, capture_output=True, text=True, input=f"{text}r.out.ascii input={of}\n").stdout)
-                        for text, of in ((script, "x"), ("", "g")))
+        shown, whole = (
+            grid(
+                subprocess.run(
+                    words,
+                    cwd=STUDY,
+                    check=True,
+                    capture_output=True,
+                    text=True,
+                    input=f"{text}r.out.ascii input={of}\n",
+                ).stdout
+            )
+            for text, of in ((script, "x"), ("", "g"))
+        )
         figure, (left, right) = plt.subplots(1, 2, figsize=(9, 3), dpi=80)
         draw_cover(left, whole, "land cover")
         draw_cover(right, shown, "two tiles" if name == "large-map" else "shown by the example")
@@ -182,8 +235,16 @@ CHARTED = (
     ("r.out.ascii\npatchy land cover", "r.out.ascii", "patchy land cover, 4 million cells"),
     ("r.stats -c\nnoise", "r.stats -c", "noise, 4 million cells"),
     ("r.clump\npatchy land cover", "r.clump", "patchy land cover, 4 million cells"),
-    ("nine offsets, written\npatchy land cover", "sum of nine offsets, r.out.ascii", "patchy land cover, 4 million cells"),
-    ("r.reclass, counted\npatchy land cover", "r.reclass, r.stats -c", "patchy land cover, 4 million cells"),
+    (
+        "nine offsets, written\npatchy land cover",
+        "sum of nine offsets, r.out.ascii",
+        "patchy land cover, 4 million cells",
+    ),
+    (
+        "r.reclass, counted\npatchy land cover",
+        "r.reclass, r.stats -c",
+        "patchy land cover, 4 million cells",
+    ),
 )
 
 
@@ -192,12 +253,24 @@ def speed(output, _):
     rows = [tables[task, grids] for _, task, grids in CHARTED]
     places, width = np.arange(len(rows)), 0.38
     figure, axes = plt.subplots(figsize=(11, 4.2), dpi=100)
-    for shift, column, name, colour in ((-0.5, 1, "rcell", "#1b6ca8"), (0.5, 2, "C++, written by hand for the task", "#c9c9c9")):
-        bars = axes.bar(places + shift * width, [float(row[column]) for row in rows], width, label=name, color=colour)
+    for shift, column, name, colour in (
+        (-0.5, 1, "rcell", "#1b6ca8"),
+        (0.5, 2, "C++, written by hand for the task", "#c9c9c9"),
+    ):
+        bars = axes.bar(
+            places + shift * width,
+            [float(row[column]) for row in rows],
+            width,
+            label=name,
+            color=colour,
+        )
         axes.bar_label(bars, fmt="%.1f", fontsize=8)
     axes.set_xticks(places, [title for title, _, _ in CHARTED], fontsize=8)
     axes.set_ylabel("CPU time, ms per million cells")
-    axes.set_title("From the start of a program to its end, texts read and written (bench/RESULTS.md)", fontsize=10)
+    axes.set_title(
+        "From the start of a program to its end, texts read and written (bench/RESULTS.md)",
+        fontsize=10,
+    )
     axes.legend(frameon=False)
     for side in ("top", "right"):
         axes.spines[side].set_visible(False)
@@ -211,7 +284,9 @@ def main():
     words.add_argument("output")
     words.add_argument("--program", default=f"{ROOT}/bin/rcell")
     wanted = words.parse_args()
-    {"study": study, "examples": examples, "islands": islands, "speed": speed}[wanted.picture](wanted.output, os.path.abspath(wanted.program))
+    {"study": study, "examples": examples, "islands": islands, "speed": speed}[wanted.picture](
+        wanted.output, os.path.abspath(wanted.program)
+    )
 
 
 if __name__ == "__main__":

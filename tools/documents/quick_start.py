@@ -38,7 +38,9 @@ def unpacking(blocks, name):
     """The commands by which the README unpacks or installs a file of this kind."""
     found = [block.text for block in blocks if block.language == "sh" and name in block.text]
     if len(found) != 1:
-        sys.exit(f"README.md: the quick start has {len(found)} blocks of sh that name {name}, and not 1")
+        sys.exit(
+            f"README.md: the quick start has {len(found)} blocks of sh that name {name}, and not 1"
+        )
     return found[0]
 
 
@@ -47,7 +49,9 @@ def of_package(commands, root):
     if root:
         return commands.replace("sudo ", "")
     unpacked = rf"dpkg-deb -x \1 {UNPACKED} && PATH=$PWD/{UNPACKED}/usr/bin:$PATH"
-    commands = re.sub(r"^sudo (?:dpkg -i|apt install) (\S+)$", unpacked, commands, flags=re.MULTILINE)
+    commands = re.sub(
+        r"^sudo (?:dpkg -i|apt install) (\S+)$", unpacked, commands, flags=re.MULTILINE
+    )
     return commands.replace(" /usr/share", f" {UNPACKED}/usr/share")
 
 
@@ -66,10 +70,23 @@ def session(script, here, path, root):
     """Run a session of sh in the folder and return its output."""
     words = ["sh", "-c", script]
     if root:
-        words = ["chroot", root, "/bin/sh", "-c", f"cd {shlex.quote('/' + os.path.relpath(here, root))} && {script}"]
+        words = [
+            "chroot",
+            root,
+            "/bin/sh",
+            "-c",
+            f"cd {shlex.quote('/' + os.path.relpath(here, root))} && {script}",
+        ]
     environment = {"PATH": path, "HOME": here, "LC_ALL": "C.UTF-8"}
-    ran = subprocess.run(words, cwd=here, env=environment, timeout=SECONDS, stdin=subprocess.DEVNULL, stdout=subprocess.PIPE,
-                         executable=None if root else "/bin/sh")
+    ran = subprocess.run(
+        words,
+        cwd=here,
+        env=environment,
+        timeout=SECONDS,
+        stdin=subprocess.DEVNULL,
+        stdout=subprocess.PIPE,
+        executable=None if root else "/bin/sh",
+    )
     return ran.stdout.decode(errors="replace")
 
 
@@ -80,12 +97,17 @@ def run(file, here, path, root):
     commands = unpacking(blocks, name)
     if name.endswith(".deb"):
         commands = of_package(commands, root)
-    shown = [(block, documents.commands_of(block)) for block in blocks if block.language == "console"]
+    shown = [
+        (block, documents.commands_of(block)) for block in blocks if block.language == "console"
+    ]
     for block in blocks:
         if block.file:
             with open(f"{here}/{block.file}", "w", encoding="utf-8") as written:
                 written.write(block.text)
-    begin = "exec 2>&1\ncommand -v rt python3 rcell\n" + f"{commands}\necho '{documents.END_OF_COMMAND}'\n"
+    begin = (
+        "exec 2>&1\ncommand -v rt python3 rcell\n"
+        + f"{commands}\necho '{documents.END_OF_COMMAND}'\n"
+    )
     script = begin + "".join(documents.script_of(commands) for _, commands in shown)
     first, *texts = session(script, here, path, root).split(f"{documents.END_OF_COMMAND}\n")
     faults = [f"the unpacking printed: {first}"] if first and not root else []
@@ -99,13 +121,17 @@ def run(file, here, path, root):
 
 
 def main():
-    words = argparse.ArgumentParser(description="Runs the quick start of README.md with a file of the release.")
+    words = argparse.ArgumentParser(
+        description="Runs the quick start of README.md with a file of the release."
+    )
     words.add_argument("file")
     words.add_argument("--room")
     words.add_argument("--root")
     wanted = words.parse_args()
     with tempfile.TemporaryDirectory(prefix="rcell-quick-start-") as room:
-        here = wanted.room or (f"{os.path.abspath(wanted.root)}/srv/quick-start" if wanted.root else f"{room}/here")
+        here = wanted.room or (
+            f"{os.path.abspath(wanted.root)}/srv/quick-start" if wanted.root else f"{room}/here"
+        )
         os.makedirs(here)
         path = "/usr/sbin:/usr/bin:/sbin:/bin" if wanted.root else path_without_python(room)
         passed, faults = run(os.path.abspath(wanted.file), os.path.abspath(here), path, wanted.root)

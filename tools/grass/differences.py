@@ -63,14 +63,26 @@ def grid_text(lines):
     rows, cols = len(data), len(data[0].split())
     fitting = {"north": rows, "south": 0, "east": cols, "west": 0, "rows": rows, "cols": cols}
     keys = {line.split(":")[0].strip() for line in shown}
-    return "\n".join([*shown, *(f"{key}: {value}" for key, value in fitting.items() if key not in keys), *data]) + "\n"
+    return (
+        "\n".join(
+            [
+                *shown,
+                *(f"{key}: {value}" for key, value in fitting.items() if key not in keys),
+                *data,
+            ]
+        )
+        + "\n"
+    )
 
 
 def grids_of_head():
     """The grids that the head of the differences names, each as the lines that it shows."""
     with open(f"{ROOT}/{DOCUMENT}", encoding="utf-8") as file:
         head = file.read().partition("\n## Differences\n")[2].partition("\n## ")[0]
-    return {found[1]: [line for line in (found[3], *found[2].split(" / ")) if line] for found in NAMED_GRID.finditer(head)}
+    return {
+        found[1]: [line for line in (found[3], *found[2].split(" / ")) if line]
+        for found in NAMED_GRID.finditer(head)
+    }
 
 
 GRIDS = grids_of_head()
@@ -81,7 +93,9 @@ def inputs_of(line):
     name, _, rest = line.partition(" ")
     if name == "r.mapcalc":
         return re.findall(r"[A-Za-z_]\w*", rest.partition("=")[2])
-    named = [word.rpartition("=")[2] for word in rest.split() if re.match(r"(in(put)?=|[^-=]+$)", word)]
+    named = [
+        word.rpartition("=")[2] for word in rest.split() if re.match(r"(in(put)?=|[^-=]+$)", word)
+    ]
     return re.split("[,@]", ",".join(named))
 
 
@@ -90,7 +104,9 @@ def grids_of(row):
     if row.grid:
         return {"m": grid_text(row.grid)}
     named = {name for line in row.script if line.startswith("r.") for name in inputs_of(line)}
-    return {name: grid_text(GRIDS[name]) for name in GRIDS if name in named} or {"one": grid_text(["1"])}
+    return {name: grid_text(GRIDS[name]) for name in GRIDS if name in named} or {
+        "one": grid_text(["1"])
+    }
 
 
 def made_map(script):
@@ -99,7 +115,9 @@ def made_map(script):
     name, _, rest = statements[-1].partition(" ")
     if name not in MAKERS:
         return None
-    return rest.split("=")[0].strip() if name == "r.mapcalc" else re.search(r"output=(\S+)", rest)[1]
+    return (
+        rest.split("=")[0].strip() if name == "r.mapcalc" else re.search(r"output=(\S+)", rest)[1]
+    )
 
 
 def asked(script):
@@ -113,7 +131,9 @@ def joined(text, row):
     lines, is_map = text.splitlines(), row.grid or made_map(row.script)
     if is_map:
         return " / ".join(line.rstrip(" ") for line in lines if not HEADER_LINE.match(line))
-    return " / ".join(line.rstrip(" ") + "_" * (len(line) - len(line.rstrip(" "))) for line in lines)
+    return " / ".join(
+        line.rstrip(" ") + "_" * (len(line) - len(line.rstrip(" "))) for line in lines
+    )
 
 
 def by_rcell(row, program, room):
@@ -156,12 +176,21 @@ def by_grass(row, room):
             file.write(text)
         # The type is found out only where the row is about it: the module's guess is not steady.
         kind = "" if "2.5 1" in row.grid else " type=CELL"
-        commands.append(f"r.in.ascii input={name}.txt output={name}{kind} --quiet && g.region raster={name}")
+        commands.append(
+            f"r.in.ascii input={name}.txt output={name}{kind} --quiet && g.region raster={name}"
+        )
     commands += commands_of_grass(asked(row.script), room)
     with open(f"{room}/commands", "w", encoding="ascii") as file:
         file.write("\n".join(commands) + "\n")
     words = ["grass", f"{room}/here/PERMANENT", "--exec", "sh", "commands"]
-    ran = subprocess.Popen(words, cwd=room, stdout=subprocess.PIPE, stderr=subprocess.PIPE, text=True, start_new_session=True)
+    ran = subprocess.Popen(
+        words,
+        cwd=room,
+        stdout=subprocess.PIPE,
+        stderr=subprocess.PIPE,
+        text=True,
+        start_new_session=True,
+    )
     try:
         output, errors = ran.communicate(timeout=SECONDS)
     except subprocess.TimeoutExpired:

@@ -40,20 +40,26 @@ HEADER = "north: {n}\nsouth: {s}\neast: {e}\nwest: {w}\nrows: {r}\ncols: {c}\n"
 GRIDS = {
     "land cover": HEADER.format(n=3, s=0, e=4, w=0, r=3, c=4) + "1 1 2 *\n1 2 2 2\n3 3 1 1\n",
     "fractions": HEADER.format(n="10.50", s="-.25", e="4.", w="+0", r=1, c=2) + "7 *\n",
-    "greatest and least": HEADER.format(n=2, s=1, e=3, w=0, r=1, c=3) + "2147483647 -2147483647 0\n",
+    "greatest and least": HEADER.format(n=2, s=1, e=3, w=0, r=1, c=3)
+    + "2147483647 -2147483647 0\n",
     "another null text": HEADER.format(n=2, s=1, e=3, w=0, r=1, c=3) + "null: -9\n-9 9 8\n",
     "multiplier": HEADER.format(n=2, s=1, e=3, w=0, r=1, c=3) + "multiplier: 3\n1 -2 *\n",
 }
 LOCATIONS = {"metres": "EPSG:32632", "degrees": "EPSG:4326", "no projection": "XY"}
 # Edges of the map that is exported; in degrees without an end as decimals, and across the date line.
-REGIONS = [("metres", {}), ("no projection", {}), ("degrees", {"n": "48.3333333333333", "s": "40", "w": "-10", "e": "10"}),
-           ("degrees", {"n": "90", "s": "-90", "w": "-180", "e": "180"}), ("degrees", {"n": "10", "s": "-10", "w": "170", "e": "190"})]
+REGIONS = [
+    ("metres", {}),
+    ("no projection", {}),
+    ("degrees", {"n": "48.3333333333333", "s": "40", "w": "-10", "e": "10"}),
+    ("degrees", {"n": "90", "s": "-90", "w": "-180", "e": "180"}),
+    ("degrees", {"n": "10", "s": "-10", "w": "170", "e": "190"}),
+]
 
 RANDOM_RUNS = 100
 TASK_ROWS, TASK_COLS = 4000, 5000
 DEVIATION = 1e-6  # of areas, as a part of them
 OWN_MAP = f"{ROOT}/examples/land-cover/landuse.txt"
-LABELS = "1\tforest, old\n2\tmeadow: wet\n4\t\"town\" | grün\n"
+LABELS = '1\tforest, old\n2\tmeadow: wet\n4\t"town" | grün\n'
 WRITES, WRITES_NUMBER = b"r.out.ascii input=g\n", b"r.out.ascii input=g null_value=-9999\n"
 
 
@@ -86,7 +92,9 @@ def by_rcell(room, text, script):
 
 
 def made_location(room, kind="no projection"):
-    subprocess.run(["grass", "-e", "-c", LOCATIONS[kind], f"{room}/here"], check=True, capture_output=True)
+    subprocess.run(
+        ["grass", "-e", "-c", LOCATIONS[kind], f"{room}/here"], check=True, capture_output=True
+    )
 
 
 def by_grass(room, command):
@@ -100,13 +108,25 @@ def exchange(room, text, null_value):
     writes = b"r.out.ascii input=g null_value=" + null_value + b"\n"
     table, written = by_rcell(room, text, counts), by_rcell(room, text, writes)
     put(room, written=written)
-    found = by_grass(room, "r.in.ascii input=written output=g type=CELL --overwrite --quiet && g.region raster=g "
-                           "&& r.stats -c input=g --quiet")
-    back = by_grass(room, "g.region raster=g && r.out.ascii -i input=g output=- null_value=" + null_value.decode() + " --quiet")
+    found = by_grass(
+        room,
+        "r.in.ascii input=written output=g type=CELL --overwrite --quiet && g.region raster=g "
+        "&& r.stats -c input=g --quiet",
+    )
+    back = by_grass(
+        room,
+        "g.region raster=g && r.out.ascii -i input=g output=- null_value="
+        + null_value.decode()
+        + " --quiet",
+    )
     if null_value != b"*":
         back = back.replace(b"cols:", b"null: " + null_value + b"\ncols:", 1)
     again = by_rcell(room, back, writes)
-    return [f"{wanted!r}, by GRASS {other!r}" for wanted, other in ((table, found), (written, again)) if wanted != other]
+    return [
+        f"{wanted!r}, by GRASS {other!r}"
+        for wanted, other in ((table, found), (written, again))
+        if wanted != other
+    ]
 
 
 def grids_by_grass():
@@ -115,7 +135,10 @@ def grids_by_grass():
         made_location(room)
         for name, text in GRIDS.items():
             for null_value in (b"*", b"-9999"):
-                yield [f"{name}, null {null_value.decode()}: {it}" for it in exchange(room, text.encode(), null_value)]
+                yield [
+                    f"{name}, null {null_value.decode()}: {it}"
+                    for it in exchange(room, text.encode(), null_value)
+                ]
 
 
 def differences_by_grass():
@@ -123,7 +146,9 @@ def differences_by_grass():
     for row in differences.rows():
         with tempfile.TemporaryDirectory() as room:
             answer = differences.by_grass(row, room)
-        yield [f"{differences.DOCUMENT}:{row.line}: GRASS answers {answer!r}, and not {row.grass!r}"] * (answer != row.grass)
+        yield [
+            f"{differences.DOCUMENT}:{row.line}: GRASS answers {answer!r}, and not {row.grass!r}"
+        ] * (answer != row.grass)
 
 
 def blocks_with(name, word):
@@ -154,11 +179,17 @@ def export(place, commands, kind, edges):
         wanted = with_edges(content(OWN_MAP).decode(), edges).encode()
         put(room, own_txt=wanted)
         exact = " ".join(f"{key}={value}" for key, value in edges.items())
-        by_grass(room, "r.in.ascii input=own.txt output=landuse type=CELL" + f" && r.region map=landuse {exact}" * bool(edges))
+        by_grass(
+            room,
+            "r.in.ascii input=own.txt output=landuse type=CELL"
+            + f" && r.region map=landuse {exact}" * bool(edges),
+        )
         told = by_grass(room, commands)
         if not os.path.exists(f"{room}/landuse.txt"):
             return [f"{place}: in {kind} there is no landuse.txt: {told!r}"]
-        wanted, found = by_rcell(room, wanted, WRITES), by_rcell(room, content(f"{room}/landuse.txt"), WRITES)
+        wanted, found = by_rcell(room, wanted, WRITES), by_rcell(
+            room, content(f"{room}/landuse.txt"), WRITES
+        )
         if wanted != found:
             return [f"{place}: in {kind} the map {wanted!r} is exported as {found!r}"]
         return [f"{place}: in {kind} {it}" for it in way_back(room)]
@@ -169,7 +200,10 @@ def way_back(room):
     ((_, commands),) = blocks_with("docs/howto.md", "r.region map=result")
     put(room, script=b"r.out.ascii input=landuse\n")
     by_grass(room, commands)
-    told = by_grass(room, "for map in landuse result; do r.info -g $map | sort; g.region raster=$map; r.stats -1g $map --quiet; echo =; done")
+    told = by_grass(
+        room,
+        "for map in landuse result; do r.info -g $map | sort; g.region raster=$map; r.stats -1g $map --quiet; echo =; done",
+    )
     theirs, ours, *_ = told.split(b"=\n") if told.count(b"=\n") == 2 else (told, b"")
     return [f"the map comes back as {ours!r}, and not as {theirs!r}"] * (ours != theirs)
 
@@ -182,8 +216,11 @@ def labels_by_grass():
     with tempfile.TemporaryDirectory() as room:
         made_location(room)
         put(room, labels=LABELS.encode(), classes_rcell=rules, landuse_txt=content(OWN_MAP))
-        by_grass(room, "r.in.ascii input=landuse.txt output=landuse type=CELL; g.region raster=landuse; "
-                       "r.category landuse rules=labels separator=tab; g.copy raster=landuse,classes")
+        by_grass(
+            room,
+            "r.in.ascii input=landuse.txt output=landuse type=CELL; g.region raster=landuse; "
+            "r.category landuse rules=labels separator=tab; g.copy raster=landuse,classes",
+        )
         theirs = by_grass(room, "r.stats -cl landuse separator=tab --quiet")
         ours = by_grass(room, there)
         yield [f"labels: GRASS has {theirs!r}, and rcell {ours!r}"] * (ours != theirs)
@@ -209,13 +246,22 @@ def areas_by_grass():
         made_location(room, "degrees")
         put(room, **{name.replace(".", "_"): text.encode() for name, text in files.items()})
         by_grass(room, "r.in.ascii input=world.txt output=world type=CELL && g.region raster=world")
-        theirs = dict(line.split() for line in by_grass(room, "r.stats -an world --quiet").decode().splitlines())
+        theirs = dict(
+            line.split()
+            for line in by_grass(room, "r.stats -an world --quiet").decode().splitlines()
+        )
         size = "-v north=90 -v south=-90 -v width=360 -v rows=6 -v cols=6"
-        told = ran(["sh", "-c", f"rcell rows world=world.txt | awk {size} -f cells.awk"], room).decode()
-    ours = {line.split()[0]: float(line.split()[1]) for line in told.splitlines() if line[:1].isdigit()}
+        told = ran(
+            ["sh", "-c", f"rcell rows world=world.txt | awk {size} -f cells.awk"], room
+        ).decode()
+    ours = {
+        line.split()[0]: float(line.split()[1]) for line in told.splitlines() if line[:1].isdigit()
+    }
     for category, area in theirs.items():
         square = float(area) / 1e6
-        yield [f"category {category}: {ours.get(category)} km2, by GRASS {square}"] * (abs(ours.get(category, 0) - square) > DEVIATION * square)
+        yield [f"category {category}: {ours.get(category)} km2, by GRASS {square}"] * (
+            abs(ours.get(category, 0) - square) > DEVIATION * square
+        )
 
 
 def runs_by_grass():
@@ -237,10 +283,15 @@ def addon_by_grass():
             subprocess.run(["sh", "-ec", install], cwd=ROOT, env=home, check=True)
             tests = f"{ROOT}/grass/r.rcell/testsuite/test_r_rcell.py"
             words = ["grass", f"{room}/here/PERMANENT", "--exec", "/usr/bin/python3", tests]
-            done = subprocess.run(words, cwd=room, env=home, capture_output=True, text=True, errors="replace")
+            done = subprocess.run(
+                words, cwd=room, env=home, capture_output=True, text=True, errors="replace"
+            )
             counted = re.search(r"^Ran (\d+) tests?", done.stdout + done.stderr, re.MULTILINE)
             is_right = counted and re.search(r"^OK$", done.stdout + done.stderr, re.MULTILINE)
-            print(f"r.rcell in a location of {kind}: {counted[0] if counted else 'no tests'}", flush=True)
+            print(
+                f"r.rcell in a location of {kind}: {counted[0] if counted else 'no tests'}",
+                flush=True,
+            )
             yield [f"r.rcell in {kind}:\n{done.stdout}{done.stderr}"] * (not is_right)
 
 
@@ -273,19 +324,29 @@ def grids_by_gdal():
             to_gdal(room, text.encode(), WRITES, "back.asc", "AAIGrid")
             zeros = from_gdal(room)
         yield [f"{name}: {written!r}, by GDAL {again!r}"] * (again != written)
-        yield [f"{name}: {written!r}, by GDAL with zeros for nulls {zeros!r}"] * (zeros != written.replace(b"*", b"0"))
+        yield [f"{name}: {written!r}, by GDAL with zeros for nulls {zeros!r}"] * (
+            zeros != written.replace(b"*", b"0")
+        )
 
 
 def exports_by_gdal():
     """What differs where a GeoTIFF that GDAL made of our text is exported as the documents say, one list a block."""
-    blocks = [block for name in ("README.md", "docs/howto.md") for word in ("landuse.asc", "rcell-tif landuse.tif")
-              for block in blocks_with(name, word)]
+    blocks = [
+        block
+        for name in ("README.md", "docs/howto.md")
+        for word in ("landuse.asc", "rcell-tif landuse.tif")
+        for block in blocks_with(name, word)
+    ]
     for place, commands in dict(blocks).items():
         with tempfile.TemporaryDirectory() as room:
             to_gdal(room, content(OWN_MAP), WRITES_NUMBER, "landuse.tif", "GTiff")
             told = ran(["sh", "-c", commands], room)
             wanted = by_rcell(room, content(OWN_MAP), WRITES)
-            found = by_rcell(room, content(f"{room}/landuse.txt"), WRITES) if os.path.exists(f"{room}/landuse.txt") else told
+            found = (
+                by_rcell(room, content(f"{room}/landuse.txt"), WRITES)
+                if os.path.exists(f"{room}/landuse.txt")
+                else told
+            )
         yield [f"{place}: the map {wanted!r} is exported as {found!r}"] * (found != wanted)
 
 
@@ -296,18 +357,36 @@ def pictures_by_gdal():
         for name in ("landcover.colours", "show"):
             with open(f"{room}/{name}", "w", encoding="ascii") as file:
                 file.write(file_of("docs/howto.md", name))
-        ran([f"{ROOT}/helpers/rcell-aaigrid", f"{ROOT}/examples/study/landcover.asc", "landcover.txt"], room)
+        ran(
+            [
+                f"{ROOT}/helpers/rcell-aaigrid",
+                f"{ROOT}/examples/study/landcover.asc",
+                "landcover.txt",
+            ],
+            room,
+        )
         told = ran(["sh", "-ec", commands], room)
         for name in ("landcover.png",):
-            sums = [re.findall(rb"Checksum=\d+|Size is .*", ran(["gdalinfo", "-checksum", path], room)) for path in (f"{ROOT}/docs/{name}", name)]
-            yield [f"{place}: {name} is another picture ({told!r})"] * (sums[0] != sums[1] or not sums[0])
+            sums = [
+                re.findall(rb"Checksum=\d+|Size is .*", ran(["gdalinfo", "-checksum", path], room))
+                for path in (f"{ROOT}/docs/{name}", name)
+            ]
+            yield [f"{place}: {name} is another picture ({told!r})"] * (
+                sums[0] != sums[1] or not sums[0]
+            )
 
 
 CHECKS = {
-    "grids": ("grass", grids_by_grass), "exports": ("grass", exports_by_grass), "areas": ("grass", areas_by_grass),
-    "differences": ("grass", differences_by_grass), "pairs": ("grass", pairs_by_grass), "random": ("grass", runs_by_grass),
-    "addon": ("grass", addon_by_grass), "tasks": ("grass", tasks_by_grass),
-    "gdal": ("gdal_translate", lambda: [*grids_by_gdal(), *exports_by_gdal()]), "pictures": ("gdaldem", pictures_by_gdal),
+    "grids": ("grass", grids_by_grass),
+    "exports": ("grass", exports_by_grass),
+    "areas": ("grass", areas_by_grass),
+    "differences": ("grass", differences_by_grass),
+    "pairs": ("grass", pairs_by_grass),
+    "random": ("grass", runs_by_grass),
+    "addon": ("grass", addon_by_grass),
+    "tasks": ("grass", tasks_by_grass),
+    "gdal": ("gdal_translate", lambda: [*grids_by_gdal(), *exports_by_gdal()]),
+    "pictures": ("gdaldem", pictures_by_gdal),
 }
 
 

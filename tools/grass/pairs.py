@@ -63,7 +63,9 @@ def pairs():
     for at, line in enumerate(lines, 1):
         cells = re.split(r"(?<!\\)\|", line)[1:-1] if line.startswith("| `") else []
         if len(cells) == 3:
-            grass, rcell = (CODE.match(cell)[1].replace("\\|", "|").split(" ; ") for cell in cells[:2])
+            grass, rcell = (
+                CODE.match(cell)[1].replace("\\|", "|").split(" ; ") for cell in cells[:2]
+            )
             yield Pair(at, grass, rcell, cells[2].strip().replace("\\|", "|"))
 
 
@@ -73,7 +75,9 @@ def made_map(script):
     name, _, rest = statements[-1].partition(" ")
     if name not in MAKERS:
         return None
-    return rest.split("=")[0].strip() if name == "r.mapcalc" else re.search(r"output=(\S+)", rest)[1]
+    return (
+        rest.split("=")[0].strip() if name == "r.mapcalc" else re.search(r"output=(\S+)", rest)[1]
+    )
 
 
 def rows_of(text):
@@ -85,7 +89,9 @@ def rows_of(text):
 def put(room):
     """The grids and files that the pairs read."""
     for name, source in (("lc.txt", "landcover.txt"), ("zones.txt", "zones.txt")):
-        with open(f"{ROOT}/examples/study/{source}", "rb") as grid, open(f"{room}/{name}", "wb") as file:
+        with open(f"{ROOT}/examples/study/{source}", "rb") as grid, open(
+            f"{room}/{name}", "wb"
+        ) as file:
             file.write(grid.read())
     for name, text in (("rules.txt", RULES.removesuffix("end\n")), ("wood", WOOD + "\n")):
         with open(f"{room}/{name}", "w", encoding="ascii") as file:
@@ -104,10 +110,14 @@ def by_rcell(pair, program, room):
         script = pair.script
     target = made_map(script)
     with open(f"{room}/script", "w", encoding="ascii") as file:
-        file.write("".join(f"{line}\n" for line in script + [f"r.out.ascii input={target}"] * bool(target)))
+        file.write(
+            "".join(f"{line}\n" for line in script + [f"r.out.ascii input={target}"] * bool(target))
+        )
     behind = "" if pair.is_shell else " ".join(line for line in pair.rcell if pair.is_behind(line))
     command = f"rcell script {' '.join(GRIDS)} {behind}" + "; cat t.txt" * ("t.txt" in behind)
-    ran = subprocess.run(["sh", "-c", command], cwd=room, env=environment, capture_output=True, text=True)
+    ran = subprocess.run(
+        ["sh", "-c", command], cwd=room, env=environment, capture_output=True, text=True
+    )
     if ran.stderr or ran.returncode:
         raise RuntimeError(ran.stderr.strip() or f"status {ran.returncode}")
     return rows_of(ran.stdout) if target else ran.stdout
@@ -129,7 +139,9 @@ def commands_of(number, pair, target):
 def by_grass(asked, room):
     """The results of GRASS to pairs, in one session; each pair comes with the map that rcell makes, or None."""
     put(room)
-    subprocess.run(["grass", "-e", "-c", "EPSG:32632", f"{room}/here"], check=True, capture_output=True)
+    subprocess.run(
+        ["grass", "-e", "-c", "EPSG:32632", f"{room}/here"], check=True, capture_output=True
+    )
     lines = ["export GRASS_VERBOSE=0"]
     for name in ("lc", "zones"):
         lines.append(f"r.in.ascii input={name}.txt output={name} type=CELL")
@@ -140,8 +152,12 @@ def by_grass(asked, room):
         file.write("\n".join(lines) + "\n")
     words = ["grass", f"{room}/here/PERMANENT", "--exec", "sh", "commands"]
     ran = subprocess.run(words, cwd=room, capture_output=True, text=True, timeout=SECONDS)
-    texts = re.split("^" + re.escape(SIGN).replace(r"\{\}", r"\d+") + "\n", ran.stdout, flags=re.MULTILINE)[1:]
-    return [rows_of(text) if target else text for text, (_pair, target) in zip(texts, asked)], ran.stderr
+    texts = re.split(
+        "^" + re.escape(SIGN).replace(r"\{\}", r"\d+") + "\n", ran.stdout, flags=re.MULTILINE
+    )[1:]
+    return [
+        rows_of(text) if target else text for text, (_pair, target) in zip(texts, asked)
+    ], ran.stderr
 
 
 def fault_of(pair, ours, theirs):
@@ -150,14 +166,24 @@ def fault_of(pair, ours, theirs):
         return "" if ours == theirs else f"GRASS answers {theirs!r}, and rcell {ours!r}"
     if ours == theirs:
         return f"both answer {ours!r}"
-    missing = [shown for shown, answer in zip(pair.shown, (theirs, ours)) if shown not in answer.splitlines()]
+    missing = [
+        shown
+        for shown, answer in zip(pair.shown, (theirs, ours))
+        if shown not in answer.splitlines()
+    ]
     return f"no line of the answer is {missing}: {theirs!r}, {ours!r}" if missing else ""
 
 
 def target_of(pair, room):
     """The map that the script of a pair makes, once rcell has run it."""
     with open(f"{room}/script", encoding="ascii") as file:
-        return made_map([line for line in file.read().splitlines() if not line.startswith("r.out.ascii")]) if pair.is_shell else made_map(pair.script)
+        return (
+            made_map(
+                [line for line in file.read().splitlines() if not line.startswith("r.out.ascii")]
+            )
+            if pair.is_shell
+            else made_map(pair.script)
+        )
 
 
 def compared(program):
@@ -169,7 +195,9 @@ def compared(program):
             asked.append((pair, target_of(pair, room)))
     with tempfile.TemporaryDirectory() as room:
         theirs, told = by_grass(asked, room)
-    yield [f"{DOCUMENT} has {len(found)} pairs, and GRASS answered {len(theirs)}: {told}"] * (not len(found) == len(theirs) == COUNT)
+    yield [f"{DOCUMENT} has {len(found)} pairs, and GRASS answered {len(theirs)}: {told}"] * (
+        not len(found) == len(theirs) == COUNT
+    )
     for pair, answer, other in zip(found, ours, theirs):
         fault = fault_of(pair, answer, other)
         yield [f"{DOCUMENT}:{pair.line}: {fault}"] * bool(fault)

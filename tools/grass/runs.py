@@ -43,7 +43,10 @@ def by_first_cells(text):
     cells = [line.split() for line in lines[6:]]
     first = dict.fromkeys(cell for row in cells for cell in row if cell != b"*")
     numbers = {b"*": b"*", **{cell: b"%d" % number for number, cell in enumerate(first, 1)}}
-    return b"".join(line + b"\n" for line in lines[:6] + [b"".join(numbers[cell] + b" " for cell in row) for row in cells])
+    return b"".join(
+        line + b"\n"
+        for line in lines[:6] + [b"".join(numbers[cell] + b" " for cell in row) for row in cells]
+    )
 
 
 class RefusedByGrass(Exception):
@@ -54,28 +57,53 @@ class Grass:
     """The modules of GRASS over a location in a folder, a mapset a run."""
 
     def __init__(self, room):
-        asked = subprocess.run(["grass", "--config", "path"], check=True, capture_output=True, text=True)
+        asked = subprocess.run(
+            ["grass", "--config", "path"], check=True, capture_output=True, text=True
+        )
         base = asked.stdout.strip().splitlines()[-1]
         subprocess.run(["grass", "-e", "-c", "XY", f"{room}/here"], check=True, capture_output=True)
-        write(f"{room}/session", b"GISDBASE: %s\nLOCATION_NAME: here\nMAPSET: PERMANENT\nGUI: text\n" % os.fsencode(room))
-        paths = {"PATH": f"{base}/bin:{base}/scripts:/usr/bin:/bin", "LD_LIBRARY_PATH": f"{base}/lib"}
-        self.environment = {**os.environ, **paths, "GISBASE": base, "GISRC": f"{room}/session",
-                            "GIS_LOCK": str(os.getpid()), "GRASS_VERBOSE": "0"}
+        write(
+            f"{room}/session",
+            b"GISDBASE: %s\nLOCATION_NAME: here\nMAPSET: PERMANENT\nGUI: text\n"
+            % os.fsencode(room),
+        )
+        paths = {
+            "PATH": f"{base}/bin:{base}/scripts:/usr/bin:/bin",
+            "LD_LIBRARY_PATH": f"{base}/lib",
+        }
+        self.environment = {
+            **os.environ,
+            **paths,
+            "GISBASE": base,
+            "GISRC": f"{room}/session",
+            "GIS_LOCK": str(os.getpid()),
+            "GRASS_VERBOSE": "0",
+        }
         self.room, self.mapsets = room, 0
 
     def ran(self, room, *words):
         try:
-            done = subprocess.run(words, cwd=room, env=self.environment, stdin=subprocess.DEVNULL, capture_output=True,
-                                  timeout=SECONDS_OF_A_COMMAND)
+            done = subprocess.run(
+                words,
+                cwd=room,
+                env=self.environment,
+                stdin=subprocess.DEVNULL,
+                capture_output=True,
+                timeout=SECONDS_OF_A_COMMAND,
+            )
         except subprocess.TimeoutExpired:
             raise RefusedByGrass(f"no end: {words}") from None
         if done.returncode:
-            raise RefusedByGrass(f"status {done.returncode}: {words}: {done.stderr.decode(errors='backslashreplace')}")
+            raise RefusedByGrass(
+                f"status {done.returncode}: {words}: {done.stderr.decode(errors='backslashreplace')}"
+            )
         return done.stdout
 
     def answer(self, made, room):
         """What GRASS writes where the program would write the output of the run."""
-        shutil.rmtree(f"{self.room}/here/run{self.mapsets - 1}", ignore_errors=True)  # not the current one
+        shutil.rmtree(
+            f"{self.room}/here/run{self.mapsets - 1}", ignore_errors=True
+        )  # not the current one
         self.mapsets += 1
         output = b""
         try:
@@ -91,23 +119,33 @@ class Grass:
 
     def output_of(self, room, line, rules):
         words = line.split()
-        options = dict(word.split(b"=", 1) for word in words[1:] if not word.startswith(b"-") and b"=" in word)
+        options = dict(
+            word.split(b"=", 1) for word in words[1:] if not word.startswith(b"-") and b"=" in word
+        )
         if words[0] == b"r.mapcalc":
-            return self.ran(room, words[0], b"expression=" + line.strip(BLANKS).removeprefix(words[0]))
+            return self.ran(
+                room, words[0], b"expression=" + line.strip(BLANKS).removeprefix(words[0])
+            )
         if words[0] == b"r.reclass":
             write(f"{room}/rules", rules)
             return self.ran(room, *words, "rules=rules")
         output = self.ran(room, *words)
         if words[0] == b"r.clump":
             self.renumber(room, options[b"output"])
-        return as_here(output, options.get(b"null_value", b"*")) if words[0] == b"r.out.ascii" else output
+        return (
+            as_here(output, options.get(b"null_value", b"*"))
+            if words[0] == b"r.out.ascii"
+            else output
+        )
 
     def renumber(self, room, name):
         """Numbers the areas of a map by their first cells, since their order is one of the listed differences."""
         areas = self.ran(room, "r.out.ascii", b"input=" + name)
         if by_first_cells(areas) != areas:
             write(f"{room}/areas", by_first_cells(areas))
-            self.ran(room, "r.in.ascii", "input=areas", b"output=" + name, "type=CELL", "--overwrite")
+            self.ran(
+                room, "r.in.ascii", "input=areas", b"output=" + name, "type=CELL", "--overwrite"
+            )
 
 
 def commands_of(script):
@@ -130,7 +168,13 @@ def commands_of(script):
 def program_answer(program, made, room):
     words = [os.fsencode(program), *made.words]
     try:
-        done = subprocess.run(words, cwd=room, stdin=subprocess.DEVNULL, capture_output=True, timeout=SECONDS_OF_A_COMMAND)
+        done = subprocess.run(
+            words,
+            cwd=room,
+            stdin=subprocess.DEVNULL,
+            capture_output=True,
+            timeout=SECONDS_OF_A_COMMAND,
+        )
     except subprocess.TimeoutExpired:
         return Answer(1, b"", b"no end\n")
     return Answer(done.returncode, done.stdout, done.stderr)
@@ -138,9 +182,16 @@ def program_answer(program, made, room):
 
 def report(name, made, expected, got):
     """A run that differs: its files and both results."""
-    texts = {**made.files, "GRASS": expected.output, "GRASS, standard error": expected.told,
-             "rcell": got.output, "rcell, standard error": got.told}
-    shown = "".join(f"{title}:\n{text.decode(errors='backslashreplace')}\n" for title, text in texts.items())
+    texts = {
+        **made.files,
+        "GRASS": expected.output,
+        "GRASS, standard error": expected.told,
+        "rcell": got.output,
+        "rcell, standard error": got.told,
+    }
+    shown = "".join(
+        f"{title}:\n{text.decode(errors='backslashreplace')}\n" for title, text in texts.items()
+    )
     return f"{name} differs\n{shown}"
 
 
@@ -160,7 +211,9 @@ def compared(program, seed, first, count, folder=None):
 
 
 def main():
-    words = argparse.ArgumentParser(description=__doc__, formatter_class=argparse.RawDescriptionHelpFormatter)
+    words = argparse.ArgumentParser(
+        description=__doc__, formatter_class=argparse.RawDescriptionHelpFormatter
+    )
     words.add_argument("--runs", type=int, required=True)
     words.add_argument("--seed", type=int, default=1)
     words.add_argument("--first", type=int, default=0)
@@ -170,7 +223,9 @@ def main():
     if not shutil.which("grass"):
         sys.exit("grass: not installed")
     differences = 0
-    for found in compared(settings.program, settings.seed, settings.first, settings.runs, settings.keep):
+    for found in compared(
+        settings.program, settings.seed, settings.first, settings.runs, settings.keep
+    ):
         differences += len(found)
         print("".join(found), end="", flush=True)
     print(f"{settings.runs} runs, {differences} differences")

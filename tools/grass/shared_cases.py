@@ -15,13 +15,32 @@ from model_grids import GREATEST, Refused, read_map
 FARTHEST_CATEGORY = 4000
 NO_FRACTIONS = (b"", b"", b"", b"")
 # Of at most 15 digits: GRASS keeps an edge as a floating-point number.
-REGIONS = [((3, 0, 4, 0), NO_FRACTIONS), ((0, -3, 10, -2), NO_FRACTIONS), ((5812350, 5811000, 660150, 659250), NO_FRACTIONS),
-           ((7, 1, 2, 1), (b"5", b"", b"25", b"")), ((51, 50, 9, 8), (b"12345678", b"5", b"00000001", b"75"))]
+REGIONS = [
+    ((3, 0, 4, 0), NO_FRACTIONS),
+    ((0, -3, 10, -2), NO_FRACTIONS),
+    ((5812350, 5811000, 660150, 659250), NO_FRACTIONS),
+    ((7, 1, 2, 1), (b"5", b"", b"25", b"")),
+    ((51, 50, 9, 8), (b"12345678", b"5", b"00000001", b"75")),
+]
 SQUARE_WRAPS = 46341  # its square is above 2147483647
 SMALL_NUMBERS = [0, 1, 1, 2, 2, 3, 4, 5, 7, 10, 100]
 RULE_CATEGORIES = [0, 1, 2, 3, 5, 9, 10, -1, -5, 1000, -1000, 4000]
-LABELS = [b"low", b"b", b"two words", b"=", b"# no", b"a\tb", b"no data", b"l\xc3\xa4nge", b"\xff|", b"5", b"end", b"a:b",
-          b"%d", b"1 = 2"]
+LABELS = [
+    b"low",
+    b"b",
+    b"two words",
+    b"=",
+    b"# no",
+    b"a\tb",
+    b"no data",
+    b"l\xc3\xa4nge",
+    b"\xff|",
+    b"5",
+    b"end",
+    b"a:b",
+    b"%d",
+    b"1 = 2",
+]
 TWO_SIGNS = re.compile(rb"[^\w.)\]\s]\s*[-!]\s*[-!](?!=)")
 
 
@@ -61,8 +80,13 @@ def is_listed_of_mapcalc(statement, maps, line):
     """Wrapping, % 0 and ties; two signs in a row; labels that a map alone hands on."""
     region = next(iter(maps.values())).region
     term = statement.expression
-    return (bool(TWO_SIGNS.search(line)) or (isinstance(term, MapCell) and bool(maps[term.name].labels))
-            or any(has_listed_value(term, Place(maps, region, row, col)) for row, col in region.places()))
+    return (
+        bool(TWO_SIGNS.search(line))
+        or (isinstance(term, MapCell) and bool(maps[term.name].labels))
+        or any(
+            has_listed_value(term, Place(maps, region, row, col)) for row, col in region.places()
+        )
+    )
 
 
 def cells_of(made):
@@ -89,15 +113,23 @@ def is_listed_of_reclass(statement, maps, line):
     if any(rule.output == "same" or rule.label for rule in stars[:-1]):
         return True
     last, labelled = stars[-1] if stars else None, {rule.output for rule in rules if rule.label}
-    return bool(last) and (bool(given.labels) if last.output == "same" else not last.label and last.output in labelled)
+    return bool(last) and (
+        bool(given.labels) if last.output == "same" else not last.label and last.output in labelled
+    )
 
 
 def is_listed_of_stats(statement, maps, line):
     """The option `after`; the category 2147483647."""
-    return statement.after is not None or any(GREATEST in cells_of(maps[name]) for name in statement.inputs)
+    return statement.after is not None or any(
+        GREATEST in cells_of(maps[name]) for name in statement.inputs
+    )
 
 
-IS_LISTED = {Mapcalc: is_listed_of_mapcalc, Reclass: is_listed_of_reclass, Stats: is_listed_of_stats}
+IS_LISTED = {
+    Mapcalc: is_listed_of_mapcalc,
+    Reclass: is_listed_of_reclass,
+    Stats: is_listed_of_stats,
+}
 
 
 # Grids and scripts
@@ -151,7 +183,9 @@ class SharedMaker(ScriptMaker):
 
     def rule_item(self):
         low, high = (b"%d" % self.one(RULE_CATEGORIES + self.categories[:1]) for _ in range(2))
-        return low if self.chance(0.5) else low + self.one([b" thru ", b"\tthru ", b"  thru  "]) + high
+        return (
+            low if self.chance(0.5) else low + self.one([b" thru ", b"\tthru ", b"  thru  "]) + high
+        )
 
     def rule(self):
         """No commas, no plus signs and no comments."""
@@ -160,12 +194,24 @@ class SharedMaker(ScriptMaker):
         is_star = self.chance(0.25)
         items = [self.rule_item() for _ in range(self.one([1, 1, 2, 3]))]
         # Not 2147483647: r.stats of GRASS takes it for one of the map as soon as a rule gives it.
-        categories = [category for category in self.categories if category < GREATEST] + [0, 1, 2, 7, SQUARE_WRAPS]
+        categories = [category for category in self.categories if category < GREATEST] + [
+            0,
+            1,
+            2,
+            7,
+            SQUARE_WRAPS,
+        ]
         outputs = [b"%d" % self.one(categories) for _ in range(5)]
         outputs += [b"NULL", b"null"] + [b"*", b"*"] * is_star
         label = self.one([b" ", b"\t", b"  "]) + self.one(LABELS) if self.chance(0.5) else b""
         left = b"*" if is_star else self.one([b" ", b"  ", b"\t"]).join(items)
-        return left + self.one([b" = ", b" = ", b"=", b"\t= "]) + self.one(outputs) + label + self.one([b"", b"", b" "])
+        return (
+            left
+            + self.one([b" = ", b" = ", b"=", b"\t= "])
+            + self.one(outputs)
+            + label
+            + self.one([b"", b"", b" "])
+        )
 
     def reclass(self, known):
         """Rules of which the rules of `*` are the last."""
@@ -178,7 +224,13 @@ class SharedMaker(ScriptMaker):
     def statement(self, known):
         if self.chance(0.05):
             return super().statement(known)
-        makers = [self.stats] * 3 + [self.out_ascii] + [self.mapcalc] * 4 + [self.reclass] * 4 + [self.clump] * 2
+        makers = (
+            [self.stats] * 3
+            + [self.out_ascii]
+            + [self.mapcalc] * 4
+            + [self.reclass] * 4
+            + [self.clump] * 2
+        )
         return self.one(makers)(known)
 
     def unlisted(self, known, maps):
@@ -186,7 +238,9 @@ class SharedMaker(ScriptMaker):
         while True:
             names = list(known)
             lines = self.statement(names)
-            for _, statement in ScriptReader(b"".join(line + b"\n" for line in lines), known).read():
+            for _, statement in ScriptReader(
+                b"".join(line + b"\n" for line in lines), known
+            ).read():
                 if IS_LISTED.get(type(statement), lambda *_: False)(statement, maps, lines[0]):
                     break
                 statement.run(maps, next(iter(maps.values())).region)
@@ -211,7 +265,9 @@ class SharedMaker(ScriptMaker):
         return lines + ([b"r.stats -1l input=" + b",".join(for_stats)] if for_stats else [])
 
     def made(self):
-        names = self.random.sample([b"a", b"b", b"g", b"_x.1", b"script", b"N" * 64], self.one([1, 2, 2, 3]))
+        names = self.random.sample(
+            [b"a", b"b", b"g", b"_x.1", b"script", b"N" * 64], self.one([1, 2, 2, 3])
+        )
         texts, maps = self.grids_of_one_region(names)
         known, lines = list(names), []
         for _ in range(self.number(2, 8)):

@@ -40,20 +40,41 @@ class Task:
 
 
 TASKS = [
-    Task("counts and hectares as CSV", f"r.stats -an input=lc | {CSV} > grass.out", f"rcell count lc=lc.txt | {CSV} > rcell.out",
-         f"r.rcell script=count maps=lc | {CSV} > addon.out"),
-    Task("patches of three classes from 0.1 ha", "r.reclass input=lc output=wood rules=wood.rules\n"
-         "r.reclass.area -d input=wood output=large value=0.1 mode=greater",
-         f"{{ cat areas; echo 'r.reclass input=areas output=large'; rcell sizes lc=lc.txt | {LARGE}; echo end; cat large; }} > second\n"
-         "rcell second lc=lc.txt > rcell.out",
-         f"{{ cat areas; echo 'r.reclass input=areas output=large'; r.rcell script=sizes maps=lc | {LARGE}; echo end; }} > third\n"
-         "r.rcell script=third maps=lc output=large=large_addon", "large"),
-    Task("majority in 3 x 3", "r.neighbors input=lc output=most method=mode size=3", "rcell majority lc=lc.txt > rcell.out",
-         "r.rcell script=majority.map maps=lc output=most=most_addon", "most"),
-    Task("matrix of changes", "r.stats -cn input=lc,yr2 separator=comma > grass.out", "rcell changes lc=lc.txt yr2=yr2.txt > rcell.out",
-         "r.rcell script=changes maps=lc,yr2 > addon.out"),
-    Task("classes with labels by changes", "r.reclass input=lc output=k rules=k.rules\nr.stats -cln input=k,yr2 separator=pipe > grass.out",
-         "rcell labels lc=lc.txt yr2=yr2.txt > rcell.out", "r.rcell script=labels maps=lc,yr2 > addon.out"),
+    Task(
+        "counts and hectares as CSV",
+        f"r.stats -an input=lc | {CSV} > grass.out",
+        f"rcell count lc=lc.txt | {CSV} > rcell.out",
+        f"r.rcell script=count maps=lc | {CSV} > addon.out",
+    ),
+    Task(
+        "patches of three classes from 0.1 ha",
+        "r.reclass input=lc output=wood rules=wood.rules\n"
+        "r.reclass.area -d input=wood output=large value=0.1 mode=greater",
+        f"{{ cat areas; echo 'r.reclass input=areas output=large'; rcell sizes lc=lc.txt | {LARGE}; echo end; cat large; }} > second\n"
+        "rcell second lc=lc.txt > rcell.out",
+        f"{{ cat areas; echo 'r.reclass input=areas output=large'; r.rcell script=sizes maps=lc | {LARGE}; echo end; }} > third\n"
+        "r.rcell script=third maps=lc output=large=large_addon",
+        "large",
+    ),
+    Task(
+        "majority in 3 x 3",
+        "r.neighbors input=lc output=most method=mode size=3",
+        "rcell majority lc=lc.txt > rcell.out",
+        "r.rcell script=majority.map maps=lc output=most=most_addon",
+        "most",
+    ),
+    Task(
+        "matrix of changes",
+        "r.stats -cn input=lc,yr2 separator=comma > grass.out",
+        "rcell changes lc=lc.txt yr2=yr2.txt > rcell.out",
+        "r.rcell script=changes maps=lc,yr2 > addon.out",
+    ),
+    Task(
+        "classes with labels by changes",
+        "r.reclass input=lc output=k rules=k.rules\nr.stats -cln input=k,yr2 separator=pipe > grass.out",
+        "rcell labels lc=lc.txt yr2=yr2.txt > rcell.out",
+        "r.rcell script=labels maps=lc,yr2 > addon.out",
+    ),
 ]
 FILES = {
     "count": "r.stats -cn input=lc\n",
@@ -78,8 +99,12 @@ def covers(rows, cols):
     cover = np.kron(patches, np.ones((16, 16), np.int32))[:rows, :cols]
     for share in (0.1, 0.1):
         is_other = made.random((rows, cols), dtype=np.float32) < share
-        cover = np.where(is_other, made.integers(1, CLASSES + 1, (rows, cols), dtype=np.int32), cover)
-        yield np.where(made.random((rows, cols), dtype=np.float32) < 0.05, NULL, cover).astype(np.int32)
+        cover = np.where(
+            is_other, made.integers(1, CLASSES + 1, (rows, cols), dtype=np.int32), cover
+        )
+        yield np.where(made.random((rows, cols), dtype=np.float32) < 0.05, NULL, cover).astype(
+            np.int32
+        )
 
 
 def write_grid(path, cover):
@@ -90,7 +115,10 @@ def write_grid(path, cover):
     words = np.frombuffer(b"".join(b"%02d " % k for k in range(CLASSES + 1)) + b"** ", "S3")
     text = words[np.where(cover == NULL, CLASSES + 1, cover)].view(np.uint8).reshape(rows, 3 * cols)
     with open(path, "wb") as file:
-        file.write(b"north: %d\nsouth: 0\neast: %d\nwest: 0\nrows: %d\ncols: %d\nnull: **\n" % (rows, cols, rows, cols))
+        file.write(
+            b"north: %d\nsouth: 0\neast: %d\nwest: 0\nrows: %d\ncols: %d\nnull: **\n"
+            % (rows, cols, rows, cols)
+        )
         for at in range(0, rows, 256):
             lines = text[at : at + 256].copy()
             lines[:, -1] = ord("\n")
@@ -102,8 +130,27 @@ def prepare(rows, cols):
     for name, cover in zip(("lc", "yr2"), covers(rows, cols)):
         cover.tofile("cells")
         write_grid(f"{name}.txt", cover)
-        edges = [f"north={rows}", "south=0", f"east={cols}", "west=0", f"rows={rows}", f"cols={cols}"]
-        subprocess.run(["r.in.bin", "-s", "input=cells", f"output={name}", "bytes=4", f"anull={NULL}", "--quiet", *edges], check=True)
+        edges = [
+            f"north={rows}",
+            "south=0",
+            f"east={cols}",
+            "west=0",
+            f"rows={rows}",
+            f"cols={cols}",
+        ]
+        subprocess.run(
+            [
+                "r.in.bin",
+                "-s",
+                "input=cells",
+                f"output={name}",
+                "bytes=4",
+                f"anull={NULL}",
+                "--quiet",
+                *edges,
+            ],
+            check=True,
+        )
     os.remove("cells")
     subprocess.run(["g.region", "raster=lc"], check=True)
     for name, text in FILES.items():
@@ -122,7 +169,9 @@ def seconds_of(commands):
 def take_out(task):
     """The maps of GRASS as grids, as rcell writes them."""
     for name, path in ((task.map, "grass.out"), (f"{task.map}_addon", "addon.out")):
-        subprocess.run(["sh", "-ec", f"r.out.ascii input={name} output=- | sed 's/ $//' > {path}"], check=True)
+        subprocess.run(
+            ["sh", "-ec", f"r.out.ascii input={name} output=- | sed 's/ $//' > {path}"], check=True
+        )
 
 
 def same(left, right):
@@ -134,7 +183,10 @@ def inside():
     rows, cols = int(os.environ["TASK_ROWS"]), int(os.environ["TASK_COLS"])
     prepare(rows, cols)
     passed = failed = 0
-    print(f"{rows * cols / 1e6:g} million cells, s of the processor: GRASS, rcell, r.rcell", flush=True)
+    print(
+        f"{rows * cols / 1e6:g} million cells, s of the processor: GRASS, rcell, r.rcell",
+        flush=True,
+    )
     for task in TASKS:
         times = [seconds_of(commands) for commands in (task.grass, task.rcell, task.addon)]
         if task.map:
@@ -143,8 +195,15 @@ def inside():
         passed, failed = passed + sum(are_same), failed + 2 - sum(are_same)
         with open("rcell.out", "rb") as file:
             lines = sum(1 for _ in file)
-        told = "the same" if all(are_same) else f"rcell {'as' if are_same[0] else 'not as'} GRASS, r.rcell {'as' if are_same[1] else 'not as'} GRASS"
-        print(f"{task.name}: " + ", ".join(f"{it:.2f}" for it in times) + f"; {lines} lines, {told}", flush=True)
+        told = (
+            "the same"
+            if all(are_same)
+            else f"rcell {'as' if are_same[0] else 'not as'} GRASS, r.rcell {'as' if are_same[1] else 'not as'} GRASS"
+        )
+        print(
+            f"{task.name}: " + ", ".join(f"{it:.2f}" for it in times) + f"; {lines} lines, {told}",
+            flush=True,
+        )
     print(f"{passed} passed, {failed} failed")
     return 1 if failed else 0
 
@@ -155,18 +214,46 @@ def compared(program, rows, cols):
         os.makedirs(f"{room}/path")
         shutil.copy(program, f"{room}/path/rcell")
         os.symlink(f"{ROOT}/grass/r.rcell/r.rcell.py", f"{room}/path/r.rcell")
-        subprocess.run(["grass", "-e", "-c", "EPSG:32632", f"{room}/here"], check=True, capture_output=True)
-        environment = {**os.environ, "PATH": f"{room}/path:/usr/bin:/bin", "TASK_ROWS": str(rows), "TASK_COLS": str(cols), "GRASS_VERBOSE": "0"}
-        words = ["grass", f"{room}/here/PERMANENT", "--exec", "/usr/bin/python3", os.path.abspath(__file__), "--inside"]
-        done = subprocess.run(words, cwd=room, env=environment, stdout=subprocess.PIPE, stderr=subprocess.PIPE, text=True)
+        subprocess.run(
+            ["grass", "-e", "-c", "EPSG:32632", f"{room}/here"], check=True, capture_output=True
+        )
+        environment = {
+            **os.environ,
+            "PATH": f"{room}/path:/usr/bin:/bin",
+            "TASK_ROWS": str(rows),
+            "TASK_COLS": str(cols),
+            "GRASS_VERBOSE": "0",
+        }
+        words = [
+            "grass",
+            f"{room}/here/PERMANENT",
+            "--exec",
+            "/usr/bin/python3",
+            os.path.abspath(__file__),
+            "--inside",
+        ]
+        done = subprocess.run(
+            words,
+            cwd=room,
+            env=environment,
+            stdout=subprocess.PIPE,
+            stderr=subprocess.PIPE,
+            text=True,
+        )
     lines = done.stdout.splitlines()
-    return lines if lines and lines[-1].endswith("failed") else [*lines, done.stderr, "0 passed, 1 failed"]
+    return (
+        lines
+        if lines and lines[-1].endswith("failed")
+        else [*lines, done.stderr, "0 passed, 1 failed"]
+    )
 
 
 def main():
     if sys.argv[1:] == ["--inside"]:
         return inside()
-    words = argparse.ArgumentParser(description=__doc__, formatter_class=argparse.RawDescriptionHelpFormatter)
+    words = argparse.ArgumentParser(
+        description=__doc__, formatter_class=argparse.RawDescriptionHelpFormatter
+    )
     words.add_argument("--program", default=f"{ROOT}/bin/rcell")
     words.add_argument("--rows", type=int, default=4000)
     words.add_argument("--cols", type=int, default=5000)

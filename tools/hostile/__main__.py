@@ -41,8 +41,22 @@ from compare import ROOT, Program
 ALL = 10**9
 
 # What a short run makes of each part.
-SHORT = {"cases": 30, "longest": 1000, "places": 3, "places_of_long": 2, "changes": 1500, "growths": 2}
-WHOLE = {"cases": ALL, "longest": ALL, "places": ALL, "places_of_long": 60, "changes": None, "growths": ALL}
+SHORT = {
+    "cases": 30,
+    "longest": 1000,
+    "places": 3,
+    "places_of_long": 2,
+    "changes": 1500,
+    "growths": 2,
+}
+WHOLE = {
+    "cases": ALL,
+    "longest": ALL,
+    "places": ALL,
+    "places_of_long": 60,
+    "changes": None,
+    "growths": ALL,
+}
 
 
 def some(cases, settings):
@@ -53,7 +67,8 @@ def some(cases, settings):
 
 def of_devices(part):
     return lambda report, program, shims, cases, settings: part(
-        report, devices.Devices(program, shims["devices"]), some(cases, settings), settings)
+        report, devices.Devices(program, shims["devices"]), some(cases, settings), settings
+    )
 
 
 def of_sizes(part):
@@ -61,15 +76,23 @@ def of_sizes(part):
 
 
 PARTS = {
-    "growths": lambda report, program, shims, cases, settings: growths.growths(report, program, shims["refuse"], cases, settings),
-    "tests": lambda report, program, shims, cases, settings: growths.tests(report, program.room, shims["refuse"], settings),
+    "growths": lambda report, program, shims, cases, settings: growths.growths(
+        report, program, shims["refuse"], cases, settings
+    ),
+    "tests": lambda report, program, shims, cases, settings: growths.tests(
+        report, program.room, shims["refuse"], settings
+    ),
     "reads": of_devices(devices.reads),
     "writes": of_devices(devices.writes),
     "outputs": of_devices(devices.outputs),
     "inputs": of_devices(devices.inputs),
     "terminals": of_devices(devices.terminals),
-    "bytes": lambda report, program, shims, cases, settings: texts.spoiled(report, program, cases.made, settings),
-    "stack": lambda report, program, shims, cases, settings: sizes.stack(report, program, cases.made, settings),
+    "bytes": lambda report, program, shims, cases, settings: texts.spoiled(
+        report, program, cases.made, settings
+    ),
+    "stack": lambda report, program, shims, cases, settings: sizes.stack(
+        report, program, cases.made, settings
+    ),
     "sizes": of_sizes(sizes.greatest),
     "memory": of_sizes(sizes.memory),
     "times": of_sizes(sizes.growing),
@@ -82,14 +105,21 @@ def processor_seconds():
 
 
 def settings_of(words):
-    parser = argparse.ArgumentParser(description=__doc__, formatter_class=argparse.RawDescriptionHelpFormatter)
+    parser = argparse.ArgumentParser(
+        description=__doc__, formatter_class=argparse.RawDescriptionHelpFormatter
+    )
     parser.add_argument("--short", action="store_true")
     parser.add_argument("--program", default=f"{ROOT}/bin/rcell")
     parser.add_argument("--seed", type=int, default=1)
     parser.add_argument("--keep", default=os.path.join(tempfile.gettempdir(), "rcell-hostile"))
     parser.add_argument("--clang", required=True)
-    parser.add_argument("--slice", type=lambda text: tuple(int(number) for number in text.split("/")), default=(1, 1), metavar="K/N",
-                        help="of the part bytes only one in N, beginning with number K")
+    parser.add_argument(
+        "--slice",
+        type=lambda text: tuple(int(number) for number in text.split("/")),
+        default=(1, 1),
+        metavar="K/N",
+        help="of the part bytes only one in N, beginning with number K",
+    )
     parser.add_argument("parts", nargs="*", metavar="PART")
     settings = parser.parse_args(words)
     if set(settings.parts) - set(PARTS):
@@ -97,14 +127,18 @@ def settings_of(words):
     for name, value in (SHORT if settings.short else WHOLE).items():
         setattr(settings, name, value)
     settings.random = random.Random(settings.seed)
-    settings.parts = settings.parts or [part for part in PARTS if not settings.short or part not in NOT_SHORT]
+    settings.parts = settings.parts or [
+        part for part in PARTS if not settings.short or part not in NOT_SHORT
+    ]
     return settings
 
 
 def main():
     settings = settings_of(sys.argv[1:])
     report = Report(os.path.abspath(settings.keep))
-    with tempfile.TemporaryDirectory(prefix="rcell-hostile-", dir="/dev/shm" if os.path.isdir("/dev/shm") else None) as room:
+    with tempfile.TemporaryDirectory(
+        prefix="rcell-hostile-", dir="/dev/shm" if os.path.isdir("/dev/shm") else None
+    ) as room:
         shims = {name: f"{room}/{name}.so" for name in ("refuse", "devices")}
         for name, shim in shims.items():
             build_shim(settings.clang, shim, name)
@@ -113,7 +147,10 @@ def main():
         for part in settings.parts:
             begun, spent = time.monotonic(), processor_seconds()
             PARTS[part](report, program, shims, cases, settings)
-            print(f"{part}: {time.monotonic() - begun:.0f} s, {processor_seconds() - spent:.0f} of a processor", flush=True)
+            print(
+                f"{part}: {time.monotonic() - begun:.0f} s, {processor_seconds() - spent:.0f} of a processor",
+                flush=True,
+            )
         os.chdir(ROOT)
     print(f"{report.runs} runs")
     print(f"{report.passed} passed, {report.failed} failed")

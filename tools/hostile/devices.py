@@ -26,20 +26,36 @@ class Devices:
 
     def __init__(self, program: Program, shim: str):
         self.program, self.shim = program, shim
-        self.reads = self.before = self.stopped = self.writes = self.longest_read = self.longest_write = 0
+        self.reads = (
+            self.before
+        ) = self.stopped = self.writes = self.longest_read = self.longest_write = 0
 
     def answer(self, made: Made, **more) -> model.Answer:
         self.program.put(made)
         more = {name: str(number) for name, number in more.items()}
-        got = self.program.answer(made.words, LD_PRELOAD=self.shim, DEVICE_COUNTS=self.program.count, **more)
+        got = self.program.answer(
+            made.words, LD_PRELOAD=self.shim, DEVICE_COUNTS=self.program.count, **more
+        )
         numbers = [int(number) for number in read(self.program.count, b"0 0 0 0 0 0").split()]
-        self.reads, self.before, self.stopped, self.writes, self.longest_read, self.longest_write = numbers
+        (
+            self.reads,
+            self.before,
+            self.stopped,
+            self.writes,
+            self.longest_read,
+            self.longest_write,
+        ) = numbers
         os.unlink(self.program.count)
         return got
 
     def blocks(self) -> list[int]:
         """The sizes of the program's own blocks, as the last run asked for them, and one more and one less."""
-        sizes = {size + more for size in (self.longest_read, self.longest_write) if size for more in (-1, 0, 1)}
+        sizes = {
+            size + more
+            for size in (self.longest_read, self.longest_write)
+            if size
+            for more in (-1, 0, 1)
+        }
         return sorted(size for size in sizes if size > 0)
 
     def place_of_stop(self) -> Optional[int]:
@@ -55,14 +71,22 @@ def written(expected: model.Answer, count: int) -> model.Answer:
 
 def places(count: int, settings) -> list[int]:
     """The numbers from 1 to count, or some of them if they are many."""
-    most = settings.places if count <= LONGEST_WHOLE else min(settings.places, settings.places_of_long)
-    return list(range(1, count + 1)) if count <= most else sorted(settings.random.sample(range(1, count + 1), most))
+    most = (
+        settings.places if count <= LONGEST_WHOLE else min(settings.places, settings.places_of_long)
+    )
+    return (
+        list(range(1, count + 1))
+        if count <= most
+        else sorted(settings.random.sample(range(1, count + 1), most))
+    )
 
 
 # Reads
 
 
-def stopped_read(devices: Devices, made: Made, expected: model.Answer, answer_of, **how) -> tuple[str, bool]:
+def stopped_read(
+    devices: Devices, made: Made, expected: model.Answer, answer_of, **how
+) -> tuple[str, bool]:
     """One read fails or reports an end: what is wrong, and whether a read was stopped so."""
     got = devices.answer(made, **how)
     place = devices.place_of_stop()
@@ -70,23 +94,33 @@ def stopped_read(devices: Devices, made: Made, expected: model.Answer, answer_of
     return "" if got == wanted else f"with {how}: {got}, and not {wanted}", place is not None
 
 
-def stopped_reads(devices: Devices, made: Made, expected: model.Answer, settings) -> tuple[str, int]:
+def stopped_reads(
+    devices: Devices, made: Made, expected: model.Answer, settings
+) -> tuple[str, int]:
     """Each read fails in turn, for good and then once only, and each reports an end once, with all bytes a read and with one: what
-    is wrong, and how many reads were stopped so. A file that fails or ends once continues if it is asked again."""
+    is wrong, and how many reads were stopped so. A file that fails or ends once continues if it is asked again.
+    """
     stopped = 0
     for piece in (0, 1):
         devices.answer(made, READ_PIECE=piece)
         for at in places(devices.reads + 1, settings):
-            for answer_of, how in ((answer_of_failing, {"READ_FAILS": at}), (answer_of_failing, {"READ_FAILS": at, "READ_ONCE": 1}),
-                                   (answer_of_ending, {"READ_ENDS": at})):
-                wrong, was_stopped = stopped_read(devices, made, expected, answer_of, READ_PIECE=piece, **how)
+            for answer_of, how in (
+                (answer_of_failing, {"READ_FAILS": at}),
+                (answer_of_failing, {"READ_FAILS": at, "READ_ONCE": 1}),
+                (answer_of_ending, {"READ_ENDS": at}),
+            ):
+                wrong, was_stopped = stopped_read(
+                    devices, made, expected, answer_of, READ_PIECE=piece, **how
+                )
                 stopped += was_stopped
                 if wrong:
                     return wrong, stopped
     return "", stopped
 
 
-def small_pieces(devices: Devices, made: Made, expected: model.Answer, variable: str, settings) -> tuple[str, int]:
+def small_pieces(
+    devices: Devices, made: Made, expected: model.Answer, variable: str, settings
+) -> tuple[str, int]:
     """Reads or writes move a piece at a time, of each size."""
     if devices.answer(made) != expected:
         return "the preload alone changes the answer", 0
@@ -104,7 +138,9 @@ def read_pieces(devices: Devices, made: Made, expected: model.Answer, settings) 
     return small_pieces(devices, made, expected, "READ_PIECE", settings)
 
 
-def each_case(report: Report, devices: Devices, cases: dict[str, Made], settings, what: str, failing, pieces) -> None:
+def each_case(
+    report: Report, devices: Devices, cases: dict[str, Made], settings, what: str, failing, pieces
+) -> None:
     """The reads or writes of each case: each fails in turn (of reads, or ends), and then they move pieces."""
     failed = others = 0
     for name, made in cases.items():
@@ -114,7 +150,9 @@ def each_case(report: Report, devices: Devices, cases: dict[str, Made], settings
         failed, others = failed + count, others + more
         report.check(f"{what} of {name}", wrong or again)
     report.runs += failed + others
-    print(f"{what}: {len(cases)} cases, {failed} {what} that failed or ended in turn, {others} other runs")
+    print(
+        f"{what}: {len(cases)} cases, {failed} {what} that failed or ended in turn, {others} other runs"
+    )
 
 
 def reads(report: Report, devices: Devices, cases: dict[str, Made], settings) -> None:
@@ -124,7 +162,9 @@ def reads(report: Report, devices: Devices, cases: dict[str, Made], settings) ->
 # Writes
 
 
-def failing_writes(devices: Devices, made: Made, expected: model.Answer, settings) -> tuple[str, int]:
+def failing_writes(
+    devices: Devices, made: Made, expected: model.Answer, settings
+) -> tuple[str, int]:
     failed = 0
     for piece in (0, 1):
         devices.answer(made, WRITE_PIECE=piece)
@@ -140,7 +180,11 @@ def failing_writes(devices: Devices, made: Made, expected: model.Answer, setting
 def untold(devices: Devices, made: Made, expected: model.Answer) -> str:
     """A line that cannot be written on standard error leaves status and output as they are."""
     got = devices.answer(made, TELL_FAILS=1)
-    return "" if (got.status, got.output, got.told) == (expected.status, expected.output, b"") else f"untold: {got}"
+    return (
+        ""
+        if (got.status, got.output, got.told) == (expected.status, expected.output, b"")
+        else f"untold: {got}"
+    )
 
 
 def write_pieces(devices: Devices, made: Made, expected: model.Answer, settings) -> tuple[str, int]:
@@ -156,15 +200,25 @@ def writes(report: Report, devices: Devices, cases: dict[str, Made], settings) -
 # Outputs
 
 
-def ran(program: Program, words, output=subprocess.PIPE, given: Optional[bytes] = None, **more) -> model.Answer:
+def ran(
+    program: Program, words, output=subprocess.PIPE, given: Optional[bytes] = None, **more
+) -> model.Answer:
     """A run by way of subprocess, its standard error in a pipe."""
-    done = subprocess.run([program.path, *words], stdout=output, stderr=subprocess.PIPE, env={"PATH": "/usr/bin:/bin"},
-                          timeout=SECONDS, **({"stdin": subprocess.DEVNULL} if given is None else {"input": given}), **more)
+    done = subprocess.run(
+        [program.path, *words],
+        stdout=output,
+        stderr=subprocess.PIPE,
+        env={"PATH": "/usr/bin:/bin"},
+        timeout=SECONDS,
+        **({"stdin": subprocess.DEVNULL} if given is None else {"input": given}),
+        **more,
+    )
     return model.Answer(done.returncode, done.stdout or b"", done.stderr)
 
 
 def file_limited(program: Program, made: Made, limit: int) -> model.Answer:
     """A run whose output is a file of at most so many bytes, with the signal ignored."""
+
     def before():
         signal.signal(signal.SIGXFSZ, signal.SIG_IGN)
         resource.setrlimit(resource.RLIMIT_FSIZE, (limit, limit))
@@ -193,8 +247,14 @@ def closed_at_start(program: Program, made: Made, number: int) -> model.Answer:
 
 def to_waiting(program: Program, made: Made) -> model.Answer:
     """A run whose output is read a byte at a time, after a second."""
-    child = subprocess.Popen([program.path, *made.words], stdin=subprocess.DEVNULL, stdout=subprocess.PIPE,
-                             stderr=subprocess.PIPE, env={"PATH": "/usr/bin:/bin"}, bufsize=0)
+    child = subprocess.Popen(
+        [program.path, *made.words],
+        stdin=subprocess.DEVNULL,
+        stdout=subprocess.PIPE,
+        stderr=subprocess.PIPE,
+        env={"PATH": "/usr/bin:/bin"},
+        bufsize=0,
+    )
     time.sleep(1)
     output = b"".join(iter(lambda: child.stdout.read(1), b""))
     told = child.stderr.read()
@@ -216,14 +276,23 @@ def wrong_output(program: Program, made: Made, expected: model.Answer, settings)
     """What is wrong with the program at outputs that fail, and how many runs were made."""
     nothing_out = written(expected, 0) if expected.output else expected
     untold = model.Answer(expected.status, expected.output, b"")
-    runs = [("/dev/full", to_full(program, made), nothing_out), ("a closed pipe", to_closed(program, made), nothing_out),
-            ("closed standard input", closed_at_start(program, made, 0), expected),
-            ("closed standard error", closed_at_start(program, made, 2), untold)]
+    runs = [
+        ("/dev/full", to_full(program, made), nothing_out),
+        ("a closed pipe", to_closed(program, made), nothing_out),
+        ("closed standard input", closed_at_start(program, made, 0), expected),
+        ("closed standard error", closed_at_start(program, made, 2), untold),
+    ]
     if expected.output:
         closed = model.Answer(4, b"", written(expected, 0).told)
         runs.append(("closed standard output", closed_at_start(program, made, 1), closed))
         for limit in [place - 1 for place in places(len(expected.output), settings)]:
-            runs.append((f"a file of {limit} bytes", file_limited(program, made, limit), written(expected, limit)))
+            runs.append(
+                (
+                    f"a file of {limit} bytes",
+                    file_limited(program, made, limit),
+                    written(expected, limit),
+                )
+            )
     for where, got, wanted in runs:
         if got != wanted:
             return f"with {where}: {got}, and not {wanted}", len(runs)
@@ -244,7 +313,9 @@ def on_a_full_disk(program: Program, made: Made, size: int) -> Optional[model.An
     os.makedirs(disk, exist_ok=True)
     words = ["sh", "-c", DISK, "sh", str(size), disk, program.path, *made.words]
     for own_mounts in OWN_MOUNTS if shutil.which("unshare") else ():
-        done = subprocess.run([*own_mounts, *words], stdin=subprocess.DEVNULL, capture_output=True, timeout=SECONDS)
+        done = subprocess.run(
+            [*own_mounts, *words], stdin=subprocess.DEVNULL, capture_output=True, timeout=SECONDS
+        )
         if done.returncode != 99 and b"unshare" not in done.stderr:
             return model.Answer(done.returncode, done.stdout, done.stderr)
     return None
@@ -253,8 +324,13 @@ def on_a_full_disk(program: Program, made: Made, size: int) -> Optional[model.An
 def large_output() -> Made:
     """A grid that is written as more than a few blocks."""
     header = b"north: 50\nsouth: 0\neast: 100\nwest: 0\nrows: 50\ncols: 100\n"
-    cells = b"\n".join(b" ".join(b"%d" % (row * col % 1000) for col in range(100)) for row in range(50))
-    return Made({"script": b"r.stats -c input=g\nr.out.ascii input=g\n", "grid0": header + cells + b"\n"}, [(b"g", "grid0")])
+    cells = b"\n".join(
+        b" ".join(b"%d" % (row * col % 1000) for col in range(100)) for row in range(50)
+    )
+    return Made(
+        {"script": b"r.stats -c input=g\nr.out.ascii input=g\n", "grid0": header + cells + b"\n"},
+        [(b"g", "grid0")],
+    )
 
 
 def full_disks(report: Report, program: Program) -> None:
@@ -264,10 +340,17 @@ def full_disks(report: Report, program: Program) -> None:
     for size in (4096, 8192, 16384):
         got = on_a_full_disk(program, made, size)
         if got is None:
-            print("skipped  hostile/disks: no file system may be mounted here; install: apt-get install mount")
+            print(
+                "skipped  hostile/disks: no file system may be mounted here; install: apt-get install mount"
+            )
             return
         report.runs += 1
-        report.check(f"a disk of {size} bytes", "" if got == written(expected, size) else f"{got.status}, {got.told!r}, {len(got.output)} bytes")
+        report.check(
+            f"a disk of {size} bytes",
+            ""
+            if got == written(expected, size)
+            else f"{got.status}, {got.told!r}, {len(got.output)} bytes",
+        )
 
 
 def outputs(report: Report, devices: Devices, cases: dict[str, Made], settings) -> None:
@@ -280,9 +363,13 @@ def outputs(report: Report, devices: Devices, cases: dict[str, Made], settings) 
     full_disks(report, program)
     made = large_output()
     program.put(made)
-    report.compare("an output read a byte at a time", made, answer_of_model(made), to_waiting(program, made))
+    report.compare(
+        "an output read a byte at a time", made, answer_of_model(made), to_waiting(program, made)
+    )
     got = without_waiting(program, made)
-    report.compare("an output that does not wait", made, written(answer_of_model(made), len(got.output)), got)
+    report.compare(
+        "an output that does not wait", made, written(answer_of_model(made), len(got.output)), got
+    )
     report.runs += runs
     print(f"outputs: {len(cases)} cases, {runs} runs to full, closed and limited files")
 
@@ -292,6 +379,7 @@ def outputs(report: Report, devices: Devices, cases: dict[str, Made], settings) 
 
 def poured(path: str, text: bytes, at: int, seconds: float) -> threading.Thread:
     """Writes a text to a pipe with a name, waiting in the middle."""
+
     def pour():
         try:
             with open(path, "wb", buffering=0) as pipe:
@@ -308,7 +396,11 @@ def poured(path: str, text: bytes, at: int, seconds: float) -> threading.Thread:
 
 def middle_of_a_token(text: bytes) -> int:
     """A place inside a token, near the middle of the text."""
-    inside = [at for at in range(1, len(text)) if not text[at - 1 : at].isspace() and not text[at : at + 1].isspace()]
+    inside = [
+        at
+        for at in range(1, len(text))
+        if not text[at - 1 : at].isspace() and not text[at : at + 1].isspace()
+    ]
     return min(inside, key=lambda at: abs(at - len(text) // 2), default=len(text) // 2)
 
 
@@ -328,18 +420,28 @@ def through_pipes(program: Program, made: Made, paths: list[str], seconds: float
 def of_standard_input(program: Program, made: Made, path: str) -> model.Answer:
     """A run that reads one of its files as its standard input."""
     words = [b"/dev/stdin" if path == "script" else b"script"]
-    words += [name + b"=" + (b"/dev/stdin" if grid == path else grid.encode()) for name, grid in made.grids]
+    words += [
+        name + b"=" + (b"/dev/stdin" if grid == path else grid.encode())
+        for name, grid in made.grids
+    ]
     return ran(program, words, given=made.files[path])
 
 
 def inputs(report: Report, devices: Devices, cases: dict[str, Made], settings) -> None:
     """Pipes, standard input and readers that wait, over a few cases."""
     program, runs = devices.program, 0
-    chosen = [name for name in ("cases/five-commands", "cases/table-and-grid", "cases/last-cell-missing") if name in cases]
+    chosen = [
+        name
+        for name in ("cases/five-commands", "cases/table-and-grid", "cases/last-cell-missing")
+        if name in cases
+    ]
     for name in chosen:
         made = cases[name]
         expected, paths = answer_of_model(made), list(made.files)
-        trials: list[Callable[[], model.Answer]] = [lambda: through_pipes(program, made, paths, 0), lambda: through_pipes(program, made, paths[1:2], 1)]
+        trials: list[Callable[[], model.Answer]] = [
+            lambda: through_pipes(program, made, paths, 0),
+            lambda: through_pipes(program, made, paths[1:2], 1),
+        ]
         trials += [lambda: through_pipes(program, made, paths[:1], 1)]
         trials += [lambda path=path: of_standard_input(program, made, path) for path in paths]
         for number, trial in enumerate(trials):
@@ -347,7 +449,9 @@ def inputs(report: Report, devices: Devices, cases: dict[str, Made], settings) -
             if report.compare(f"input {number} of {name}", made, expected, trial()):
                 report.check("")
             runs += 1
-    print(f"inputs: {len(chosen)} cases, {runs} runs through pipes, standard input and readers that wait")
+    print(
+        f"inputs: {len(chosen)} cases, {runs} runs through pipes, standard input and readers that wait"
+    )
 
 
 # Terminals
@@ -382,14 +486,21 @@ def may_be_typed(text: bytes) -> bool:
 def terminals(report: Report, devices: Devices, cases: dict[str, Made], settings) -> None:
     """Each file of each case on a terminal that reports an end at the start of a line, and then continues: the run ends there."""
     program, runs = devices.program, 0
-    typed = [(name, made, path) for name, made in cases.items() for path in made.files if may_be_typed(made.files[path])]
+    typed = [
+        (name, made, path)
+        for name, made in cases.items()
+        for path in made.files
+        if may_be_typed(made.files[path])
+    ]
     for name, made, path in typed:
         text, place, wrong = made.files[path], list(made.files).index(path), ""
         starts = [at for at in range(len(text) + 1) if at == 0 or text[at - 1 : at] == b"\n"]
         for at in settings.random.sample(starts, min(len(starts), settings.places)):
             program.put(made)
             got, wanted = on_a_terminal(program, made, path, at), answer_of_ending(made, place, at)
-            wrong = wrong or ("" if got == wanted else f"with an end behind {at} bytes: {got}, and not {wanted}")
+            wrong = wrong or (
+                "" if got == wanted else f"with an end behind {at} bytes: {got}, and not {wanted}"
+            )
             runs += 1
         report.check(f"a terminal as {path} of {name}", wrong)
     report.runs += runs

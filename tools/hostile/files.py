@@ -31,10 +31,66 @@ MEMORY = 3 << 30  # bytes that a broken file may make a reader ask for
 LEFT_OUT = "left out"
 READ = "import sys; from osgeo import gdal; sys.stdout.buffer.write(gdal.Open(sys.argv[1]).ReadRaster())"
 NUMBER = re.compile(r"[+-]?([0-9]+\.?[0-9]*|\.[0-9]+)([eE][+-]?[0-9]+)?")
-WORDS = ["0", "00", "+0", "-0", "1", "7", "007", "+7", "255", "-9999", "-09999", "-9999.0", "2147483647", "-2147483647", "2147483648", "-2147483648", "1.0",
-         "1.5", "1e2", "1e-2", "-", "+", "nan", "NaN", "-nan", "inf", "*", "1e309", "-3.4028235e38", "-3.4028234663852886e+38", "1234567", "1234567.5", "x",
-         "1_0", "\u0661", "1,5", "9" * 30, "1e400", "-2147481600"]
-NODATA = ["0", "-9999", "-9999.0", "255", "7", "nan", "-2147483648", "2147483648", "1234567.5", "1e309", "-1e400", "1e4000", "-3.4028234663852886e+38", "x", "*", "+7", "00"]
+WORDS = [
+    "0",
+    "00",
+    "+0",
+    "-0",
+    "1",
+    "7",
+    "007",
+    "+7",
+    "255",
+    "-9999",
+    "-09999",
+    "-9999.0",
+    "2147483647",
+    "-2147483647",
+    "2147483648",
+    "-2147483648",
+    "1.0",
+    "1.5",
+    "1e2",
+    "1e-2",
+    "-",
+    "+",
+    "nan",
+    "NaN",
+    "-nan",
+    "inf",
+    "*",
+    "1e309",
+    "-3.4028235e38",
+    "-3.4028234663852886e+38",
+    "1234567",
+    "1234567.5",
+    "x",
+    "1_0",
+    "\u0661",
+    "1,5",
+    "9" * 30,
+    "1e400",
+    "-2147481600",
+]
+NODATA = [
+    "0",
+    "-9999",
+    "-9999.0",
+    "255",
+    "7",
+    "nan",
+    "-2147483648",
+    "2147483648",
+    "1234567.5",
+    "1e309",
+    "-1e400",
+    "1e4000",
+    "-3.4028234663852886e+38",
+    "x",
+    "*",
+    "+7",
+    "00",
+]
 
 
 def loaded(name):
@@ -73,8 +129,16 @@ def cells_of(text):
         fields[key] = value.strip()
     words = re.findall(r"[^ \t\r\n]+", "\n".join(lines))
     null = fields.get("null", "*")
-    good = all(word == null or (re.fullmatch(r"[+-]?[0-9]+", word) and len(word) <= 64 and abs(int(word)) <= GREATEST) for word in words)
-    return [None if word == null else int(word) for word in words] if good and len(words) == int(fields["rows"]) * int(fields["cols"]) else None
+    good = all(
+        word == null
+        or (re.fullmatch(r"[+-]?[0-9]+", word) and len(word) <= 64 and abs(int(word)) <= GREATEST)
+        for word in words
+    )
+    return (
+        [None if word == null else int(word) for word in words]
+        if good and len(words) == int(fields["rows"]) * int(fields["cols"])
+        else None
+    )
 
 
 def hostile_aaigrid(chance):
@@ -82,12 +146,28 @@ def hostile_aaigrid(chance):
     rows, cols = chance.randint(1, 4), chance.randint(1, 5)
     nodata = chance.choice(NODATA) if chance.random() < 0.8 else None
     some = chance.sample(WORDS, 3) + ["1", "7", "0", nodata or "3"]
-    words = [chance.choice(some) if chance.random() < 0.3 else chance.choice(["1", "2", "300", nodata or "3"]) for _ in range(rows * cols)]
-    header = [f"ncols {cols}", f"nrows {rows}", "xllcorner 0", "yllcorner 0", "cellsize 1"] + ([f"NODATA_value {nodata}"] if nodata else [])
-    text = "\n".join(header) + "\n" + chance.choice([" ", "\n", "\t", " \r\n"]).join(words) + chance.choice(["\n", "", " "])
+    words = [
+        chance.choice(some)
+        if chance.random() < 0.3
+        else chance.choice(["1", "2", "300", nodata or "3"])
+        for _ in range(rows * cols)
+    ]
+    header = [f"ncols {cols}", f"nrows {rows}", "xllcorner 0", "yllcorner 0", "cellsize 1"] + (
+        [f"NODATA_value {nodata}"] if nodata else []
+    )
+    text = (
+        "\n".join(header)
+        + "\n"
+        + chance.choice([" ", "\n", "\t", " \r\n"]).join(words)
+        + chance.choice(["\n", "", " "])
+    )
     if chance.random() < 0.2:
         at = chance.randrange(len(text))
-        text = text[:at] + chance.choice(["", "\0", "\x1b", "9" * 80, "-", "e", ":", "\n\n"]) + text[at + chance.randint(0, 3):]
+        text = (
+            text[:at]
+            + chance.choice(["", "\0", "\x1b", "9" * 80, "-", "e", ":", "\n\n"])
+            + text[at + chance.randint(0, 3) :]
+        )
         words = None
     return text.encode("utf-8"), nodata, words
 
@@ -113,10 +193,38 @@ def fault_of_aaigrid(helper, chance, folder):
 def hostile_grid(chance):
     rows, cols = chance.randint(1, 3), chance.randint(1, 4)
     some = chance.sample(WORDS, 2) + ["1", "7", "*"]
-    words = [chance.choice(some) if chance.random() < 0.2 else chance.choice(["1", "2", "300", "*"]) for _ in range(rows * cols)]
-    header = [f"north: {rows}", "south: 0", f"east: {cols}", "west: 0", f"rows: {rows}", f"cols: {cols}"]
-    header += [chance.choice(["null: 7", "null: -", "null: a b", "null: " + "n" * 65, "multiplier: 2", "multiplier: 0", "multiplier: 9999999999", "type: int",
-                              "type: float", "null: 00"])] if chance.random() < 0.4 else []
+    words = [
+        chance.choice(some) if chance.random() < 0.2 else chance.choice(["1", "2", "300", "*"])
+        for _ in range(rows * cols)
+    ]
+    header = [
+        f"north: {rows}",
+        "south: 0",
+        f"east: {cols}",
+        "west: 0",
+        f"rows: {rows}",
+        f"cols: {cols}",
+    ]
+    header += (
+        [
+            chance.choice(
+                [
+                    "null: 7",
+                    "null: -",
+                    "null: a b",
+                    "null: " + "n" * 65,
+                    "multiplier: 2",
+                    "multiplier: 0",
+                    "multiplier: 9999999999",
+                    "type: int",
+                    "type: float",
+                    "null: 00",
+                ]
+            )
+        ]
+        if chance.random() < 0.4
+        else []
+    )
     text = "\n".join(header) + "\n" + " ".join(words) + chance.choice(["\n", "", " "])
     return (text[: chance.randint(1, len(text))] if chance.random() < 0.2 else text).encode("utf-8")
 
@@ -126,7 +234,11 @@ def fault_of_grid(listing, model, chance):
     text = hostile_grid(chance)
     try:
         with listing.printed_grid(f"{ROOT}/bin/rcell", "m", iter([text])) as grid:
-            found = [None if cell == listing.NULL else cell for block in grid.blocks for cell in block.ravel().tolist()]
+            found = [
+                None if cell == listing.NULL else cell
+                for block in grid.blocks
+                for cell in block.ravel().tolist()
+            ]
     except listing.Rejected:
         return None
     try:
@@ -139,8 +251,12 @@ def fault_of_grid(listing, model, chance):
 def hostile_tiff(chance, gdal, numpy, path):
     """A TIFF with changed or missing bytes."""
     shape = chance.randint(1, 40), chance.randint(1, 40)
-    code, dtype = chance.choice([(1, "u1"), (3, "i2"), (5, "i4"), (6, "f4"), (12, "u8"), (13, "i8")])
-    options = chance.choice([[], ["COMPRESS=DEFLATE"], ["COMPRESS=LZW", "TILED=YES", "BLOCKXSIZE=16", "BLOCKYSIZE=16"]])
+    code, dtype = chance.choice(
+        [(1, "u1"), (3, "i2"), (5, "i4"), (6, "f4"), (12, "u8"), (13, "i8")]
+    )
+    options = chance.choice(
+        [[], ["COMPRESS=DEFLATE"], ["COMPRESS=LZW", "TILED=YES", "BLOCKXSIZE=16", "BLOCKYSIZE=16"]]
+    )
     if os.path.exists(path):
         os.unlink(path)
     made = gdal.GetDriverByName("GTiff").Create(path, shape[1], shape[0], 1, code, options)
@@ -151,24 +267,32 @@ def hostile_tiff(chance, gdal, numpy, path):
     with open(path, "rb") as file:
         data = bytearray(file.read())
     for _ in range(chance.randint(1, 6)):
-        data[chance.randrange(min(len(data), 500) if chance.random() < 0.7 else len(data))] = chance.choice([0, 1, 7, 0x7f, 0x80, 0xff])
+        data[
+            chance.randrange(min(len(data), 500) if chance.random() < 0.7 else len(data))
+        ] = chance.choice([0, 1, 7, 0x7F, 0x80, 0xFF])
     with open(path, "wb") as file:
         file.write(data[: chance.randint(8, len(data))] if chance.random() < 0.2 else data)
 
 
 def ways_of_tiff(helper, gdal, rcell):
     """What reads a TIFF, with the exceptions that end in one line."""
+
     def by_helper(path):
         written = []
         dataset = gdal.Open(path)
-        helper.write_grid(f"{ROOT}/bin/rcell-pipe", dataset, helper.one_band(dataset), written.append)
+        helper.write_grid(
+            f"{ROOT}/bin/rcell-pipe", dataset, helper.one_band(dataset), written.append
+        )
         return cells_of(b"".join(written))
 
     def by_package(path):
         cells = rcell.run("r.stats -1 input=m", m=path)[0].categories[:, 0].tolist()
         return [None if cell == helper.NULL else cell for cell in cells]
 
-    return (by_helper, (helper.Refused, RuntimeError, MemoryError)), (by_package, (rcell.RcellError, MemoryError))
+    return (by_helper, (helper.Refused, RuntimeError, MemoryError)), (
+        by_package,
+        (rcell.RcellError, MemoryError),
+    )
 
 
 def fault_of_tiff(ways, chance, gdal, numpy, path):
@@ -183,14 +307,23 @@ def fault_of_tiff(ways, chance, gdal, numpy, path):
         return None
     if is_unsteady(path):
         return LEFT_OUT
-    kept = shutil.copy(path, f"{tempfile.gettempdir()}/hostile-{os.getpid()}-{chance.randrange(10**6)}.tif")
+    kept = shutil.copy(
+        path, f"{tempfile.gettempdir()}/hostile-{os.getpid()}-{chance.randrange(10**6)}.tif"
+    )
     return f"{kept}: the helper and the package differ"
 
 
 def is_unsteady(path):
     """Whether the cells that GDAL alone reads depend on the bytes in free memory: of a block that ends early, it leaves the rest as it was."""
-    readings = [subprocess.run([sys.executable, "-c", READ, path], env={**os.environ, "MALLOC_PERTURB_": str(byte)}, capture_output=True, check=False).stdout
-                for byte in (1, 85, 170)]
+    readings = [
+        subprocess.run(
+            [sys.executable, "-c", READ, path],
+            env={**os.environ, "MALLOC_PERTURB_": str(byte)},
+            capture_output=True,
+            check=False,
+        ).stdout
+        for byte in (1, 85, 170)
+    ]
     return len(set(readings)) > 1
 
 
@@ -208,12 +341,17 @@ def tried(name, count, seed, fault_of):
             failed += 1
             print(f"{name} {at}: {fault[:600]}", flush=True)
         if (at + 1) % PROGRESS == 0 or at + 1 == count:
-            print(f"{name}: {at + 1 - failed - left_out} of {at + 1}, {left_out} left out, seed {seed}", flush=True)
+            print(
+                f"{name}: {at + 1 - failed - left_out} of {at + 1}, {left_out} left out, seed {seed}",
+                flush=True,
+            )
     return count - failed - left_out, failed
 
 
 def main():
-    words = argparse.ArgumentParser(description=__doc__, formatter_class=argparse.RawDescriptionHelpFormatter)
+    words = argparse.ArgumentParser(
+        description=__doc__, formatter_class=argparse.RawDescriptionHelpFormatter
+    )
     words.add_argument("--count", type=int, default=500)
     words.add_argument("--tiffs", type=int, help="of TIFFs, another number")
     words.add_argument("--seed", type=int, default=1)
@@ -225,23 +363,46 @@ def main():
 
     aaigrid = loaded("rcell-aaigrid")
     with tempfile.TemporaryDirectory(prefix="rcell-hostile-") as folder:
-        counts = [tried("AAIGrid", settings.count, settings.seed, lambda chance: fault_of_aaigrid(aaigrid, chance, folder)),
-                  tried("grid", settings.count, settings.seed, lambda chance: fault_of_grid(listing, model_grids, chance))]
+        counts = [
+            tried(
+                "AAIGrid",
+                settings.count,
+                settings.seed,
+                lambda chance: fault_of_aaigrid(aaigrid, chance, folder),
+            ),
+            tried(
+                "grid",
+                settings.count,
+                settings.seed,
+                lambda chance: fault_of_grid(listing, model_grids, chance),
+            ),
+        ]
         try:
             import numpy
             from osgeo import gdal
 
             importlib.import_module("rasterio")
         except ImportError as fault:
-            print(f"skipped  helpers/hostile TIFFs: {fault}; install: apt-get install python3-gdal python3-rasterio")
+            print(
+                f"skipped  helpers/hostile TIFFs: {fault}; install: apt-get install python3-gdal python3-rasterio"
+            )
         else:
             import rcell
 
             os.environ.setdefault("RCELL", f"{ROOT}/bin/rcell")
             gdal.UseExceptions()
             ways = ways_of_tiff(rcell_tif, gdal, rcell)
-            counts.append(tried("TIFF", settings.count if settings.tiffs is None else settings.tiffs, settings.seed, lambda chance: fault_of_tiff(ways, chance, gdal, numpy, f"{folder}/m.tif")))
-    print(f"{sum(passed for passed, _ in counts)} passed, {sum(failed for _, failed in counts)} failed")
+            counts.append(
+                tried(
+                    "TIFF",
+                    settings.count if settings.tiffs is None else settings.tiffs,
+                    settings.seed,
+                    lambda chance: fault_of_tiff(ways, chance, gdal, numpy, f"{folder}/m.tif"),
+                )
+            )
+    print(
+        f"{sum(passed for passed, _ in counts)} passed, {sum(failed for _, failed in counts)} failed"
+    )
     return 1 if any(failed for _, failed in counts) else 0
 
 

@@ -36,7 +36,9 @@ def numbers(settings, asked: int) -> Iterator[int]:
     return iter(sorted(settings.random.sample(range(1, asked + 1), settings.growths)))
 
 
-def wrong_growth(program: Program, made: Made, expected: model.Answer, shim: str, settings) -> tuple[str, int]:
+def wrong_growth(
+    program: Program, made: Made, expected: model.Answer, shim: str, settings
+) -> tuple[str, int]:
     """What is wrong with a run of which a growth was denied, and how many were denied."""
     plain, asked = program.answer_refused(made.words, shim, 0)
     if plain != expected:
@@ -48,7 +50,9 @@ def wrong_growth(program: Program, made: Made, expected: model.Answer, shim: str
     for at in numbers(settings, asked):
         got, asked = program.answer_refused(made.words, shim, at)
         if asked < at:
-            return ("" if got == expected else f"growth {at} was not asked for, and yet {got}"), refused
+            return (
+                "" if got == expected else f"growth {at} was not asked for, and yet {got}"
+            ), refused
         refused += 1
         # A run that asks once more, or does without what only saves time, does all its work.
         if got != expected and not is_told_refusal(expected, got):
@@ -83,14 +87,31 @@ def growths(report: Report, program: Program, shim: str, cases: Cases, settings)
 def run_test(path: str, test: str, room: str, shim: str, at: int) -> tuple[int, bytes, int]:
     """How a test ends with growth `at` denied, what it prints, and how many growths it asked for."""
     count = f"{room}/count"
-    environment = {"PATH": "/usr/bin:/bin", "LD_PRELOAD": shim, "REFUSE_AT": str(at), "REFUSE_COUNT": count}
-    done = subprocess.run([path, test], cwd=room, env=environment, stdin=subprocess.DEVNULL, capture_output=True, timeout=SECONDS)
+    environment = {
+        "PATH": "/usr/bin:/bin",
+        "LD_PRELOAD": shim,
+        "REFUSE_AT": str(at),
+        "REFUSE_COUNT": count,
+    }
+    done = subprocess.run(
+        [path, test],
+        cwd=room,
+        env=environment,
+        stdin=subprocess.DEVNULL,
+        capture_output=True,
+        timeout=SECONDS,
+    )
     return done.returncode, done.stderr, int(read(count, b"0"))
 
 
 def is_end(test: str, status: int, told: bytes) -> bool:
     """Whether a test may end so with a growth denied. One that makes a failed call once more has to find all as it asserts."""
-    return status in (PASSED, FAILED) or not test.endswith(AGAIN) and status == ASSERTED and b"assert" in told
+    return (
+        status in (PASSED, FAILED)
+        or not test.endswith(AGAIN)
+        and status == ASSERTED
+        and b"assert" in told
+    )
 
 
 def end_of(status: int, told: bytes) -> str:
@@ -102,10 +123,21 @@ def end_of(status: int, told: bytes) -> str:
 def wrong_test(path: str, test: str, room: str, shim: str, settings) -> tuple[str, dict[str, int]]:
     """What is wrong with a test of which each growth is denied in turn, and how its runs ended."""
     status, told, asked = run_test(path, test, room, shim, 0)
-    ends = {"growths": asked, "refused": 0, "passed": 0, "made again": 0, "named memory": 0, "failed": 0}
+    ends = {
+        "growths": asked,
+        "refused": 0,
+        "passed": 0,
+        "made again": 0,
+        "named memory": 0,
+        "failed": 0,
+    }
     if status != PASSED:
         return f"status {status}, told {told!r}", ends
-    chosen = range(1, asked + 1) if asked <= MOST_GROWTHS else settings.random.sample(range(1, asked + 1), MOST_GROWTHS)
+    chosen = (
+        range(1, asked + 1)
+        if asked <= MOST_GROWTHS
+        else settings.random.sample(range(1, asked + 1), MOST_GROWTHS)
+    )
     begun = time.monotonic()
     for at in chosen:
         if asked > MOST_GROWTHS and time.monotonic() - begun > SECONDS_OF_CHOICE:
@@ -137,6 +169,14 @@ def tests(report: Report, room: str, shim: str, settings) -> None:
             wrong, ends = wrong_test(path, test, room, shim, settings)
             report.runs += ends["refused"]
             if report.check(f"tests: {name}", wrong):
-                print(f"tests: {name}: " + ", ".join(f"{count} {end}" for end, count in ends.items()), flush=True)
-    print(f"tests: {len(programs)} test programs, in which {made_again} tests make a refused call once more")
-    report.check("tests: refused calls made again", "" if made_again >= CALLS_AGAIN else f"{made_again} of {CALLS_AGAIN} are built")
+                print(
+                    f"tests: {name}: " + ", ".join(f"{count} {end}" for end, count in ends.items()),
+                    flush=True,
+                )
+    print(
+        f"tests: {len(programs)} test programs, in which {made_again} tests make a refused call once more"
+    )
+    report.check(
+        "tests: refused calls made again",
+        "" if made_again >= CALLS_AGAIN else f"{made_again} of {CALLS_AGAIN} are built",
+    )

@@ -54,14 +54,22 @@ HELD = re.compile(rb"VmHWM:\s*([0-9]+) kB")
 
 def spent(program: Program, words: list[bytes], stack_kib: int = 0, shim: str = "") -> Spent:
     """A run with its time, under a stack of so many KiB if that is asked for, and with its memory if a shim reports it."""
-    limits = f"ulimit -c 0; ulimit -n {MOST_FILES}; ulimit -t {MOST_SECONDS}; ulimit -s {stack_kib or MOST_WORDS_KIB}; exec \"$@\""
+    limits = f'ulimit -c 0; ulimit -n {MOST_FILES}; ulimit -t {MOST_SECONDS}; ulimit -s {stack_kib or MOST_WORDS_KIB}; exec "$@"'
     whole = ["sh", "-c", limits, "sh", program.path, *words]
     more = {"LD_PRELOAD": shim, "DEVICE_STATUS": program.count} if shim else {}
-    child = os.posix_spawn("/bin/sh", whole, {"PATH": "/usr/bin:/bin", **more}, file_actions=program.actions)
+    child = os.posix_spawn(
+        "/bin/sh", whole, {"PATH": "/usr/bin:/bin", **more}, file_actions=program.actions
+    )
     _, status, used = os.wait4(child, 0)
     seconds = used.ru_utime + used.ru_stime
     held = HELD.search(read(program.count)) if shim else None
-    return Spent(os.waitstatus_to_exitcode(status), seconds, int(held[1]) if held else 0, read(program.told), read(program.output))
+    return Spent(
+        os.waitstatus_to_exitcode(status),
+        seconds,
+        int(held[1]) if held else 0,
+        read(program.told),
+        read(program.output),
+    )
 
 
 # A small stack, and the largest inputs
@@ -96,23 +104,36 @@ def stack_needed(program: Program, made: Made, expected: model.Answer) -> int:
     few, enough = LEAST_STACK_KIB, STACK_KIB
     while enough - few > STACK_STEP_KIB:
         middle = (few + enough) // 2
-        few, enough = (few, middle) if on_stack(program, made, middle) == expected else (middle, enough)
+        few, enough = (
+            (few, middle) if on_stack(program, made, middle) == expected else (middle, enough)
+        )
     return enough
 
 
 def stack(report: Report, program: Program, cases: dict[str, Made], settings) -> None:
     """Each case, and each deep expression over a few cells, on the small stack."""
     text = grid(3, 4, lambda row, col: row * col)
-    made_deep = {f"a script of {name}": over(text, b"r.mapcalc x = %s\nr.out.ascii input=x\n" % body) for name, body in deep().items()}
+    made_deep = {
+        f"a script of {name}": over(text, b"r.mapcalc x = %s\nr.out.ascii input=x\n" % body)
+        for name, body in deep().items()
+    }
     most = 0
     for name, made in {**cases, **made_deep}.items():
         program.put(made)
         expected = answer_of_model(made)
-        if report.compare(f"stack of {STACK_KIB} KiB of {name}", made, expected, on_stack(program, made, STACK_KIB)):
+        if report.compare(
+            f"stack of {STACK_KIB} KiB of {name}",
+            made,
+            expected,
+            on_stack(program, made, STACK_KIB),
+        ):
             report.check("")
             most = most if settings.short else max(most, stack_needed(program, made, expected))
     needed = f", none of which needs more than {most}" if most else ""
-    print(f"stack: {len(cases)} cases and {len(made_deep)} deep expressions on a stack of {STACK_KIB} KiB{needed}", flush=True)
+    print(
+        f"stack: {len(cases)} cases and {len(made_deep)} deep expressions on a stack of {STACK_KIB} KiB{needed}",
+        flush=True,
+    )
 
 
 def name_at(number: int) -> bytes:
@@ -142,7 +163,9 @@ def fitting(head: list[bytes], many: list[bytes], tail: list[bytes]) -> tuple[by
 Kind = Callable[[int], tuple[Made, list[bytes], int]]
 
 
-def of_script(head: list[bytes], many: list[bytes], tail: list[bytes], text: bytes = ONE_CELL) -> tuple[Made, list[bytes], int]:
+def of_script(
+    head: list[bytes], many: list[bytes], tail: list[bytes], text: bytes = ONE_CELL
+) -> tuple[Made, list[bytes], int]:
     script, count = fitting(head, many, tail)
     made = over(text, script)
     return made, made.words, count
@@ -175,34 +198,58 @@ def names(count: int):
 
 def names_in_a_chain(count: int):
     made = [name_at(at) for at in range(count)]
-    return of_script([], [b"r.mapcalc %s=%s" % (new, old) for new, old in zip(made, [b"g", *made])], [])
+    return of_script(
+        [], [b"r.mapcalc %s=%s" % (new, old) for new, old in zip(made, [b"g", *made])], []
+    )
 
 
 def rules(count: int):
     many = [b"%d=%d" % (at, at % 9) for at in range(count)]
-    return of_script([b"r.reclass input=g output=r"], many, [b"end", b"r.stats -c input=r"], in_rows(1000, lambda at: at))
+    return of_script(
+        [b"r.reclass input=g output=r"],
+        many,
+        [b"end", b"r.stats -c input=r"],
+        in_rows(1000, lambda at: at),
+    )
 
 
 def rules_and_categories(count: int):
     many = [b"%d=%d" % (at, at % 9) for at in range(count)]
-    return of_script([b"r.reclass input=g output=r"], many, [b"end", b"r.stats -c input=r"], in_rows(count, lambda at: at))
+    return of_script(
+        [b"r.reclass input=g output=r"],
+        many,
+        [b"end", b"r.stats -c input=r"],
+        in_rows(count, lambda at: at),
+    )
 
 
 def ranges_in_ranges(count: int):
     """Each range lies in the one before; then the other way round."""
     inward = [b"%d thru %d=%d" % (at, 2 * count - at, at % 9) for at in range(count // 2)]
-    return of_script([b"r.reclass input=g output=r"], inward + inward[::-1], [b"end", b"r.stats -c input=r"], in_rows(count, lambda at: at))
+    return of_script(
+        [b"r.reclass input=g output=r"],
+        inward + inward[::-1],
+        [b"end", b"r.stats -c input=r"],
+        in_rows(count, lambda at: at),
+    )
 
 
 def ranges_of_a_rule(count: int):
     line = b" ".join(b"%d" % at for at in range(min(count, 11000))) + b"=1"
-    made, words, _ = of_script([b"r.reclass input=g output=r", line], [], [b"end"], in_rows(1000, lambda at: at))
+    made, words, _ = of_script(
+        [b"r.reclass input=g output=r", line], [], [b"end"], in_rows(1000, lambda at: at)
+    )
     return made, words, min(count, 11000)
 
 
 def labels(count: int):
     many = [b"%d=%d a" % (at, at) for at in range(count)]
-    return of_script([b"r.reclass input=g output=r"], many, [b"end", b"r.stats -l input=r"], in_rows(1000, lambda at: at))
+    return of_script(
+        [b"r.reclass input=g output=r"],
+        many,
+        [b"end", b"r.stats -l input=r"],
+        in_rows(1000, lambda at: at),
+    )
 
 
 def categories(count: int):
@@ -210,7 +257,11 @@ def categories(count: int):
 
 
 def areas(count: int):
-    return of_grid(in_rows(count, lambda at: (at // 1000 + at % 1000) % 2), b"r.clump input=g output=c\nr.stats -c input=c\n", count)
+    return of_grid(
+        in_rows(count, lambda at: (at // 1000 + at % 1000) % 2),
+        b"r.clump input=g output=c\nr.stats -c input=c\n",
+        count,
+    )
 
 
 def combinations(count: int):
@@ -218,9 +269,23 @@ def combinations(count: int):
     return of_grid(in_rows(count, lambda at: at * 7919 % 1000003), script, count)
 
 
-KINDS: dict[str, Kind] = {kind.__name__.replace("_", " "): kind for kind in (
-    grids, statements, names, names_in_a_chain, rules, rules_and_categories, ranges_in_ranges, ranges_of_a_rule, labels, categories,
-    areas, combinations)}
+KINDS: dict[str, Kind] = {
+    kind.__name__.replace("_", " "): kind
+    for kind in (
+        grids,
+        statements,
+        names,
+        names_in_a_chain,
+        rules,
+        rules_and_categories,
+        ranges_in_ranges,
+        ranges_of_a_rule,
+        labels,
+        categories,
+        areas,
+        combinations,
+    )
+}
 
 
 def time_of(program: Program, shim: str, kind: Kind, size: int) -> tuple[int, Spent]:
@@ -231,20 +296,40 @@ def time_of(program: Program, shim: str, kind: Kind, size: int) -> tuple[int, Sp
 
 def is_steep(times: list[tuple[int, Spent]]) -> bool:
     """Whether a time grows much faster than what it is spent on, from one size to the next."""
-    return any(late.status == OUT_OF_TIME or late.seconds > SLOW and math.log(late.seconds / max(early.seconds, 0.001)) > STEEPEST * math.log(more / less)
-               for (less, early), (more, late) in zip(times, times[1:]) if more > less)
+    return any(
+        late.status == OUT_OF_TIME
+        or late.seconds > SLOW
+        and math.log(late.seconds / max(early.seconds, 0.001)) > STEEPEST * math.log(more / less)
+        for (less, early), (more, late) in zip(times, times[1:])
+        if more > less
+    )
 
 
 def growing(report: Report, program: Program, shim: str) -> None:
-    print(f"{'seconds and MB at':24} {SIZES[0]:>18,} {SIZES[1]:>18,} {SIZES[2]:>18,}, or as many as a script holds")
+    print(
+        f"{'seconds and MB at':24} {SIZES[0]:>18,} {SIZES[1]:>18,} {SIZES[2]:>18,}, or as many as a script holds"
+    )
     for name, kind in KINDS.items():
         times = [time_of(program, shim, kind, size) for size in SIZES]
-        cells = [(f"over {MOST_SECONDS} s" if one.status == OUT_OF_TIME else f"{one.seconds:.2f} {one.kib / 1024:.0f}") + ("" if count == size else f" ({count:,})")
-                 for size, (count, one) in zip(SIZES, times)]
+        cells = [
+            (
+                f"over {MOST_SECONDS} s"
+                if one.status == OUT_OF_TIME
+                else f"{one.seconds:.2f} {one.kib / 1024:.0f}"
+            )
+            + ("" if count == size else f" ({count:,})")
+            for size, (count, one) in zip(SIZES, times)
+        ]
         print(f"{name:24} {cells[0]:>18} {cells[1]:>18} {cells[2]:>18}", flush=True)
-        bad = [f"status {one.status}, {one.told!r}" for _, one in times if one.status not in (0, OUT_OF_TIME)]
+        bad = [
+            f"status {one.status}, {one.told!r}"
+            for _, one in times
+            if one.status not in (0, OUT_OF_TIME)
+        ]
         report.runs += len(times)
-        report.check(f"times of {name}", bad[0] if bad else "more than linear" if is_steep(times) else "")
+        report.check(
+            f"times of {name}", bad[0] if bad else "more than linear" if is_steep(times) else ""
+        )
 
 
 # The largest inputs
@@ -258,12 +343,25 @@ def sums_in_a_chain(count: int) -> Made:
 
 
 def greatest(report: Report, program: Program, shim: str) -> None:
-    wide = b"north: 1\nsouth: 0\neast: 65535\nwest: 0\nrows: 1\ncols: 65535\n" + b"1 2 3 4 5\n" * 13107
+    wide = (
+        b"north: 1\nsouth: 0\neast: 65535\nwest: 0\nrows: 1\ncols: 65535\n" + b"1 2 3 4 5\n" * 13107
+    )
     most = {
-        "16 maps": (over(ONE_CELL, b"r.stats -c input=%s\n" % b",".join([b"g"] * 16)), b"1 " * 16 + b"1\n"),
-        "65535 columns": (over(wide, b"r.mapcalc x = g[0,255] * 2\nr.stats -c input=x\n"),
-                          b"2 13056\n4 13056\n6 13056\n8 13056\n10 13056\n* 255\n"),
-        "65535 rows": (over(HEADER % (65535, 1, 65535, 1) + b"7\n" * 65535, b"r.clump input=g output=c\nr.stats -c input=c\n"), b"1 65535\n"),
+        "16 maps": (
+            over(ONE_CELL, b"r.stats -c input=%s\n" % b",".join([b"g"] * 16)),
+            b"1 " * 16 + b"1\n",
+        ),
+        "65535 columns": (
+            over(wide, b"r.mapcalc x = g[0,255] * 2\nr.stats -c input=x\n"),
+            b"2 13056\n4 13056\n6 13056\n8 13056\n10 13056\n* 255\n",
+        ),
+        "65535 rows": (
+            over(
+                HEADER % (65535, 1, 65535, 1) + b"7\n" * 65535,
+                b"r.clump input=g output=c\nr.stats -c input=c\n",
+            ),
+            b"1 65535\n",
+        ),
         "1200 maps made": (sums_in_a_chain(1200), b"1201 1\n"),
         "2000 grids": (None, b"1 1\n"),
     }
@@ -275,7 +373,10 @@ def greatest(report: Report, program: Program, shim: str) -> None:
         one = spent(program, words, shim=shim)
         report.runs += 1
         good = (one.status, one.output, one.told) == (0, output, b"")
-        report.check(f"sizes: {name}", "" if good else f"status {one.status}, told {one.told!r}, {one.output[:60]!r}")
+        report.check(
+            f"sizes: {name}",
+            "" if good else f"status {one.status}, told {one.told!r}, {one.output[:60]!r}",
+        )
         print(f"sizes: {name}: {one.seconds:.2f} s, {one.kib // 1024} MB", flush=True)
 
 
@@ -289,7 +390,9 @@ WORK = {
     "r.stats -1": b"r.stats -1 input=g\n",
     "r.stats -c of two": b"r.stats -c input=g,g\n",
     "r.mapcalc": b"r.mapcalc x = g + 1\n",
-    "r.mapcalc of nine cells": b"r.mapcalc x = " + b" + ".join(b"g[%d,%d]" % (row, col) for row in (-1, 0, 1) for col in (-1, 0, 1)) + b"\n",
+    "r.mapcalc of nine cells": b"r.mapcalc x = "
+    + b" + ".join(b"g[%d,%d]" % (row, col) for row in (-1, 0, 1) for col in (-1, 0, 1))
+    + b"\n",
     "r.reclass": b"r.reclass input=g output=r\n1 thru 4 = 1 low\n* = 2 high\nend\n",
     "r.clump": b"r.clump input=g output=c\n",
     "r.clump -d": b"r.clump -d input=g output=c\n",
@@ -300,16 +403,22 @@ WORK = {
 def patches_and_noise(side: int) -> dict[str, bytes]:
     """Two square grids of eight categories: in patches, and each cell by chance."""
     choice = random.Random(1)
-    patches = [[choice.randint(1, 8) for _ in range(side // PATCH + 1)] for _ in range(side // PATCH + 1)]
-    return {"patchy": grid(side, side, lambda row, col: patches[row // PATCH][col // PATCH]),
-            "noise": grid(side, side, lambda row, col: choice.randint(1, 8))}
+    patches = [
+        [choice.randint(1, 8) for _ in range(side // PATCH + 1)] for _ in range(side // PATCH + 1)
+    ]
+    return {
+        "patchy": grid(side, side, lambda row, col: patches[row // PATCH][col // PATCH]),
+        "noise": grid(side, side, lambda row, col: choice.randint(1, 8)),
+    }
 
 
 def memory(report: Report, program: Program, shim: str) -> None:
     """Bytes a cell of each command, by what a larger grid takes beyond a smaller one."""
     texts = {side: patches_and_noise(side) for side in SIDES}
     less, more = SIDES
-    print(f"bytes a cell, {more}x{more} cells beyond {less}x{less}, MB of the larger, and its seconds")
+    print(
+        f"bytes a cell, {more}x{more} cells beyond {less}x{less}, MB of the larger, and its seconds"
+    )
     print(f"{'':30} {'patchy':>20} {'noise':>20}")
     for name, script in WORK.items():
         cells = []
@@ -320,7 +429,12 @@ def memory(report: Report, program: Program, shim: str) -> None:
                 program.put(made)
                 held[side] = spent(program, made.words, shim=shim)
                 report.runs += 1
-                report.check(f"memory of {name}", "" if held[side].status == 0 else f"status {held[side].status}, {held[side].told!r}")
+                report.check(
+                    f"memory of {name}",
+                    ""
+                    if held[side].status == 0
+                    else f"status {held[side].status}, {held[side].told!r}",
+                )
             a_cell = (held[more].kib - held[less].kib) * 1024 / (more**2 - less**2)
             cells.append(f"{a_cell:.1f} {held[more].kib / 1024:.0f} {held[more].seconds:.2f}")
         print(f"{name:30} {cells[0]:>20} {cells[1]:>20}", flush=True)

@@ -64,7 +64,9 @@ def all_changes(cases: dict[str, Made], settings) -> list[Change]:
     seen, changes = set(), []
     for case, made in cases.items():
         for path, text in made.files.items():
-            others = tuple(sorted((other, made.files[other]) for other in made.files if other != path))
+            others = tuple(
+                sorted((other, made.files[other]) for other in made.files if other != path)
+            )
             if (text, others if path == "script" else made.files["script"]) not in seen:
                 seen.add((text, others if path == "script" else made.files["script"]))
                 changes += changes_of(case, path, text, settings)
@@ -73,7 +75,11 @@ def all_changes(cases: dict[str, Made], settings) -> list[Change]:
 
 def spoiled(report: Report, program: Program, cases: dict[str, Made], settings) -> None:
     """Runs the program and the model over each change, or some of them."""
-    cases = {name: made for name, made in cases.items() if sum(map(len, made.files.values())) <= settings.longest}
+    cases = {
+        name: made
+        for name, made in cases.items()
+        if sum(map(len, made.files.values())) <= settings.longest
+    }
     changes = all_changes(cases, settings)
     place, slices = settings.slice
     chosen = changes[place - 1 :: slices]
@@ -88,7 +94,9 @@ def spoiled(report: Report, program: Program, cases: dict[str, Made], settings) 
             program.put(made)
             in_place = change.case
         program.put_one(change.path, made.files[change.path])
-        if not report.compare(f"bytes of {change}", made, answer_of_model(made), program.answer(made.words)):
+        if not report.compare(
+            f"bytes of {change}", made, answer_of_model(made), program.answer(made.words)
+        ):
             wrong_cases.add(change.case)
         program.put_one(change.path, cases[change.case].files[change.path])
     for name in cases:

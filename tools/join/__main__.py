@@ -59,12 +59,28 @@ class Runner:
                 with open(os.path.join(os.fsencode(self.room), name), "wb") as file:
                     file.write(text)
 
-    def run(self, words: list[bytes], stdout: int | IO[Any] = subprocess.PIPE, program: str = "", **more: str) -> Reply:
-        ran = subprocess.run([program or self.program, *words], cwd=self.room, stdin=subprocess.DEVNULL, stdout=stdout, stderr=subprocess.PIPE,
-                             timeout=SECONDS, env={"PATH": "/usr/bin:/bin", **more}, restore_signals=False)
+    def run(
+        self,
+        words: list[bytes],
+        stdout: int | IO[Any] = subprocess.PIPE,
+        program: str = "",
+        **more: str,
+    ) -> Reply:
+        ran = subprocess.run(
+            [program or self.program, *words],
+            cwd=self.room,
+            stdin=subprocess.DEVNULL,
+            stdout=stdout,
+            stderr=subprocess.PIPE,
+            timeout=SECONDS,
+            env={"PATH": "/usr/bin:/bin", **more},
+            restore_signals=False,
+        )
         return ran.returncode, ran.stdout or b"", ran.stderr
 
-    def answer(self, words: list[bytes], files: Mapping[bytes, bytes | Failing], **more: str) -> Reply:
+    def answer(
+        self, words: list[bytes], files: Mapping[bytes, bytes | Failing], **more: str
+    ) -> Reply:
         self.lay_out(files)
         return self.run(words, **more)
 
@@ -78,7 +94,11 @@ class Runner:
     def answers_of_rcell(self, grid: CellMap, with_corners: bool) -> tuple[bytes, bytes, bytes]:
         """The table of a map, the grid of its clump numbers and their table."""
         flag = b"-d " if with_corners else b""
-        output = self.output_of_rcell(grid, b"r.stats -c input=m\nr.clump %sinput=m output=p\nr.out.ascii input=p\nr.stats -c input=p\n" % flag)
+        output = self.output_of_rcell(
+            grid,
+            b"r.stats -c input=m\nr.clump %sinput=m output=p\nr.out.ascii input=p\nr.stats -c input=p\n"
+            % flag,
+        )
         begin = output.index(b"north:")
         lines = output[begin:].splitlines(keepends=True)
         end = HEADER_LINES + grid.region.rows
@@ -88,7 +108,10 @@ class Runner:
 def difference(got: Reply, wanted: Reply) -> str:
     if got == wanted:
         return ""
-    shown = [(status, output if len(output) < 400 else b"%d bytes" % len(output), told) for status, output, told in (got, wanted)]
+    shown = [
+        (status, output if len(output) < 400 else b"%d bytes" % len(output), told)
+        for status, output, told in (got, wanted)
+    ]
     return f"{shown[0]}, and not {shown[1]}"
 
 
@@ -103,7 +126,11 @@ def try_named(runner: Runner, count: cases.Count) -> None:
 
 def reads_of_pieces(draw: random.Random, shims: Mapping[str, str]) -> dict[str, str]:
     """In one run of two, reads that move few bytes."""
-    return {"LD_PRELOAD": shims["devices"], "READ_PIECE": str(draw.choice(PIECES))} if shims and draw.random() < 0.5 else {}
+    return (
+        {"LD_PRELOAD": shims["devices"], "READ_PIECE": str(draw.choice(PIECES))}
+        if shims and draw.random() < 0.5
+        else {}
+    )
 
 
 def try_tables(runner: Runner, count: cases.Count, shims: Mapping[str, str], seed: int) -> None:
@@ -111,7 +138,13 @@ def try_tables(runner: Runner, count: cases.Count, shims: Mapping[str, str], see
     form, options = draw.choice(made.FORMATS)
     files = dict((made.long_files if seed % LONG_IN == 0 else made.random_files)(draw, form))
     words = [b"tables", *options, *files]
-    count.add(f"seed {seed}", difference(runner.answer(words, files, **reads_of_pieces(draw, shims)), join_model.answer(words, files)))
+    count.add(
+        f"seed {seed}",
+        difference(
+            runner.answer(words, files, **reads_of_pieces(draw, shims)),
+            join_model.answer(words, files),
+        ),
+    )
 
 
 def try_labels(runner: Runner, count: cases.Count, shims: Mapping[str, str], seed: int) -> None:
@@ -119,10 +152,15 @@ def try_labels(runner: Runner, count: cases.Count, shims: Mapping[str, str], see
     draw = random.Random(seed)
     cut = made.random_cut(draw, made.random_map(draw))
     script, options = made.labelling(draw, cut.whole)
-    files = {b"t%d" % place: runner.output_of_rcell(made.tile_of(cut.whole, span), script) for place, span in enumerate(cut.spans)}
+    files = {
+        b"t%d" % place: runner.output_of_rcell(made.tile_of(cut.whole, span), script)
+        for place, span in enumerate(cut.spans)
+    }
     words = [b"tables", *options, *files]
     got = runner.answer(words, files, **reads_of_pieces(draw, shims))
-    wrong = difference(got, (0, runner.output_of_rcell(cut.whole, script), b"")) or difference(join_model.answer(words, files), got)
+    wrong = difference(got, (0, runner.output_of_rcell(cut.whole, script), b"")) or difference(
+        join_model.answer(words, files), got
+    )
     count.add(f"labels {seed}, {cut.name}", wrong)
 
 
@@ -132,15 +170,34 @@ def try_labels(runner: Runner, count: cases.Count, shims: Mapping[str, str], see
 class Tiles:
     """The tiles of a map: their maps, what rcell computes of each, and their borders."""
 
-    def __init__(self, runner: Runner, draw: random.Random, shims: Mapping[str, str], cut: Cut, with_corners: bool):
-        self.runner, self.draw, self.shims, self.cut, self.flag = runner, draw, shims, cut, [b"-d"] * with_corners
+    def __init__(
+        self,
+        runner: Runner,
+        draw: random.Random,
+        shims: Mapping[str, str],
+        cut: Cut,
+        with_corners: bool,
+    ):
+        self.runner, self.draw, self.shims, self.cut, self.flag = (
+            runner,
+            draw,
+            shims,
+            cut,
+            [b"-d"] * with_corners,
+        )
         self.wrong = ""
         self.maps = [made.tile_of(cut.whole, span) for span in cut.spans]
         answers = [runner.answers_of_rcell(tile, with_corners) for tile in self.maps]
         self.tables = self.named(b"t", [table for table, _, _ in answers])
         self.numbers = [numbers for _, numbers, _ in answers]
         self.sizes = self.named(b"s", [sizes for _, _, sizes in answers])
-        self.borders = self.named(b"b", [self.answer([b"border", *self.flag, b"m"], {b"m": grid_text(tile, b"*")})[1] for tile in self.maps])
+        self.borders = self.named(
+            b"b",
+            [
+                self.answer([b"border", *self.flag, b"m"], {b"m": grid_text(tile, b"*")})[1]
+                for tile in self.maps
+            ],
+        )
 
     @staticmethod
     def named(letter: bytes, texts: list[bytes]) -> dict[bytes, bytes]:
@@ -159,14 +216,20 @@ class Tiles:
 def full_numbers(numbering: bytes) -> dict[tuple[int, int], int]:
     """The number in the full map of each clump of each tile, by a numbering."""
     lines = [tuple(map(int, line.split())) for line in numbering.splitlines()]
-    return {(tile, clump): number + clump - first for tile, first, last, number in lines for clump in range(first, last + 1)}
+    return {
+        (tile, clump): number + clump - first
+        for tile, first, last, number in lines
+        for clump in range(first, last + 1)
+    }
 
 
 def wrong_cells(numbering: bytes, tiles: Tiles, whole: bytes) -> str:
     """Where the numbers of tiles, by a numbering, are not the numbers of the full map."""
     numbers, wanted = full_numbers(numbering), read_map(b"whole", whole).rows
     rows = [list(row) for row in wanted]
-    for tile, ((top, bottom, left, right), text) in enumerate(zip(tiles.cut.spans, tiles.numbers), 1):
+    for tile, ((top, bottom, left, right), text) in enumerate(
+        zip(tiles.cut.spans, tiles.numbers), 1
+    ):
         for row, cells in zip(rows[top:bottom], read_map(b"numbers", text).rows):
             row[left:right] = [numbers.get((tile, cell)) if cell else None for cell in cells]
     return "" if rows == wanted else f"other numbers: {numbering!r}, and not those of {whole!r}"
@@ -177,15 +240,32 @@ def wrong_join(tiles: Tiles, with_corners: bool) -> str:
     table, numbers, sizes = tiles.runner.answers_of_rcell(tiles.cut.whole, with_corners)
     numbering = tiles.numbering()
     merged = tiles.answer([b"tables", *tiles.tables], tiles.tables)
-    added = tiles.answer([b"sizes", b"numbering", *tiles.sizes], {b"numbering": numbering, **tiles.sizes})
-    without_null = b"".join(line for line in sizes.splitlines(keepends=True) if not line.startswith(b"*"))
-    wrong = tiles.wrong or difference(merged, (0, table, b"")) or wrong_cells(numbering, tiles, numbers)
+    added = tiles.answer(
+        [b"sizes", b"numbering", *tiles.sizes], {b"numbering": numbering, **tiles.sizes}
+    )
+    without_null = b"".join(
+        line for line in sizes.splitlines(keepends=True) if not line.startswith(b"*")
+    )
+    wrong = (
+        tiles.wrong or difference(merged, (0, table, b"")) or wrong_cells(numbering, tiles, numbers)
+    )
     return wrong or difference(added, (0, without_null, b""))
 
 
-def try_cut(runner: Runner, count: cases.Count, shims: Mapping[str, str], name: str, draw: random.Random, cut: Cut, with_corners: bool) -> Tiles:
+def try_cut(
+    runner: Runner,
+    count: cases.Count,
+    shims: Mapping[str, str],
+    name: str,
+    draw: random.Random,
+    cut: Cut,
+    with_corners: bool,
+) -> Tiles:
     tiles = Tiles(runner, draw, shims, cut, with_corners)
-    count.add(f"{name}, {cut.name}, {'corners' if with_corners else 'edges'}", wrong_join(tiles, with_corners))
+    count.add(
+        f"{name}, {cut.name}, {'corners' if with_corners else 'edges'}",
+        wrong_join(tiles, with_corners),
+    )
     return tiles
 
 
@@ -194,7 +274,10 @@ def try_random_map(runner: Runner, count: cases.Count, shims: Mapping[str, str],
     cut = made.random_cut(draw, made.random_map(draw))
     tiles = try_cut(runner, count, shims, f"map {seed}", draw, cut, draw.random() < 0.5)
     words, files = damaged_texts(tiles, draw)
-    count.add(f"map {seed}, damaged", difference(runner.answer(words, files), join_model.answer(words, files)))
+    count.add(
+        f"map {seed}, damaged",
+        difference(runner.answer(words, files), join_model.answer(words, files)),
+    )
 
 
 def damaged_texts(tiles: Tiles, draw: random.Random) -> tuple[list[bytes], dict[bytes, bytes]]:
@@ -204,7 +287,13 @@ def damaged_texts(tiles: Tiles, draw: random.Random) -> tuple[list[bytes], dict[
     if command == b"border":
         files = [(b"map", grid_text(draw.choice(tiles.maps), b"*"))]
     elif command == b"sizes":
-        files = [(b"numbering", join_model.answer([b"clumps", *tiles.flag, *tiles.borders], tiles.borders)[1]), *tiles.sizes.items()]
+        files = [
+            (
+                b"numbering",
+                join_model.answer([b"clumps", *tiles.flag, *tiles.borders], tiles.borders)[1],
+            ),
+            *tiles.sizes.items(),
+        ]
     names, texts = [name for name, _ in files], [text for _, text in files]
     at, other, kind = draw.randrange(len(files)), draw.randrange(len(files)), draw.randrange(8)
     if kind == 0:
@@ -215,7 +304,9 @@ def damaged_texts(tiles: Tiles, draw: random.Random) -> tuple[list[bytes], dict[
     elif kind == 2 and len(files) > 2:
         del names[at], texts[at]
     elif kind == 3 and command == b"clumps":
-        texts[at] = join_model.answer([b"border", *[b"-d"][len(tiles.flag) :], b"m"], {b"m": grid_text(tiles.maps[at], b"*")})[1]
+        texts[at] = join_model.answer(
+            [b"border", *[b"-d"][len(tiles.flag) :], b"m"], {b"m": grid_text(tiles.maps[at], b"*")}
+        )[1]
     else:
         texts[at] = made.damaged(draw, texts[at])
     return [command, *(tiles.flag if command != b"sizes" else []), *names], dict(zip(names, texts))
@@ -233,7 +324,9 @@ def hard_cuts() -> Iterator[tuple[str, random.Random, Cut]]:
         for col_ends in ([cols], [1, 75, 76, cols]):
             yield f"long {name}", draw, Cut(whole, [1, 2, 50, 51, rows - 1, rows], col_ends)
     draw = random.Random(1)
-    noise = made.in_region(draw, [[draw.randrange(3) or None for _ in range(300)] for _ in range(200)])
+    noise = made.in_region(
+        draw, [[draw.randrange(3) or None for _ in range(300)] for _ in range(200)]
+    )
     yield "noise", draw, Cut(noise, list(range(10, 201, 10)), [300])
     yield "noise", draw, Cut(noise, [60, 130, 200], [70, 71, 150, 300])
 
@@ -256,7 +349,9 @@ def wrong_prefix(runner: Runner, text: bytes) -> str:
     for length in range(len(text)):
         files = {b"b": text[:length]}
         got = runner.answer([b"clumps", b"b"], files)
-        if got[0] != (0 if length == len(text) - 1 else 1) or got != join_model.answer([b"clumps", b"b"], files):
+        if got[0] != (0 if length == len(text) - 1 else 1) or got != join_model.answer(
+            [b"clumps", b"b"], files
+        ):
             return f"{length} bytes of a border: {got}"
     return ""
 
@@ -286,30 +381,50 @@ def limited(runner: Runner, words: list[bytes], files: Mapping[bytes, bytes], wa
             finally:
                 resource.setrlimit(resource.RLIMIT_FSIZE, (soft, hard))
             output.seek(0)
-            if (status, output.read(), told) != (4, wanted[:size], b"rcell-join: output:0: write failed after %d bytes\n" % size):
+            if (status, output.read(), told) != (
+                4,
+                wanted[:size],
+                b"rcell-join: output:0: write failed after %d bytes\n" % size,
+            ):
                 return f"an output of {size} bytes: {status} {told!r}"
     return ""
 
 
-def growths_refused(runner: Runner, words: list[bytes], files: Mapping[bytes, bytes], wanted: bytes, shim: str) -> str:
+def growths_refused(
+    runner: Runner, words: list[bytes], files: Mapping[bytes, bytes], wanted: bytes, shim: str
+) -> str:
     """What is wrong where growth 1, 2, .. is denied: the message says so, and nothing is written but whole lines of tables."""
     runner.lay_out(files)
     counted, fronts = f"{runner.room}/count", {b""}
     if words[0] == b"tables":
-        fronts = {b"".join(wanted.splitlines(keepends=True)[:n]) for n in range(wanted.count(b"\n") + 1)}
+        fronts = {
+            b"".join(wanted.splitlines(keepends=True)[:n]) for n in range(wanted.count(b"\n") + 1)
+        }
     for at in range(1, 10000):
-        status, output, told = runner.run(words, LD_PRELOAD=shim, REFUSE_AT=str(at), REFUSE_COUNT=counted)
+        status, output, told = runner.run(
+            words, LD_PRELOAD=shim, REFUSE_AT=str(at), REFUSE_COUNT=counted
+        )
         with open(counted, encoding="ascii") as file:
             asked = int(file.read())
         if asked < at:
-            return "" if (status, output) == (0, wanted) else f"growth {at} was not asked for, and yet {status} {told!r}"
-        is_refusal = status == 3 and output in fronts and told in (b"rcell-join: %s:0: no memory\n" % it for it in (words[0], b"arguments"))
+            return (
+                ""
+                if (status, output) == (0, wanted)
+                else f"growth {at} was not asked for, and yet {status} {told!r}"
+            )
+        is_refusal = (
+            status == 3
+            and output in fronts
+            and told in (b"rcell-join: %s:0: no memory\n" % it for it in (words[0], b"arguments"))
+        )
         if not is_refusal and not (status == 0 and output == wanted and asked > at):
             return f"with growth {at} refused: {status} {output!r} {told!r}"
     return "no run ended without a refusal"
 
 
-def stopped_as(names: list[bytes], files: Mapping[bytes, bytes], shim_counts: str, fails: bool) -> Mapping[bytes, bytes | Failing]:
+def stopped_as(
+    names: list[bytes], files: Mapping[bytes, bytes], shim_counts: str, fails: bool
+) -> Mapping[bytes, bytes | Failing]:
     """The files, of which the one whose read was stopped fails or ends where that was."""
     with open(shim_counts, encoding="ascii") as file:
         _, before, stopped, *_ = map(int, file.read().split())
@@ -319,15 +434,21 @@ def stopped_as(names: list[bytes], files: Mapping[bytes, bytes], shim_counts: st
     return {**files, name: Failing(files[name][:before]) if fails else files[name][:before]}
 
 
-def wrong_reads(runner: Runner, words: list[bytes], names: list[bytes], files: Mapping[bytes, bytes], shim: str) -> str:
+def wrong_reads(
+    runner: Runner, words: list[bytes], names: list[bytes], files: Mapping[bytes, bytes], shim: str
+) -> str:
     """What is wrong where read 1, 2, .. fails, for good or once only, or ends once: a source is not asked again."""
     runner.lay_out(files)
     counts = f"{runner.room}/reads"
     for piece in READS:
         for how in ({"READ_FAILS": 1}, {"READ_FAILS": 1, "READ_ONCE": 1}, {"READ_ENDS": 1}):
             for at in range(1, 10000):
-                more = {name: str(number if name == "READ_ONCE" else at) for name, number in how.items()}
-                got = runner.run(words, LD_PRELOAD=shim, DEVICE_COUNTS=counts, READ_PIECE=str(piece), **more)
+                more = {
+                    name: str(number if name == "READ_ONCE" else at) for name, number in how.items()
+                }
+                got = runner.run(
+                    words, LD_PRELOAD=shim, DEVICE_COUNTS=counts, READ_PIECE=str(piece), **more
+                )
                 stopped = stopped_as(names, files, counts, "READ_FAILS" in how)
                 wanted = join_model.answer(words, stopped)
                 if got != wanted:
@@ -347,13 +468,21 @@ def try_refusals(runner: Runner, count: cases.Count, shims: Mapping[str, str]) -
         count.add(f"{name}, closed outputs", closed(runner, words, files))
         if shims:
             names = [word for word in words if word in files]
-            count.add(f"{name}, each growth refused", growths_refused(runner, words, files, wanted, shims["refuse"]))
-            count.add(f"{name}, each read stopped", wrong_reads(runner, words, names, files, shims["devices"]))
+            count.add(
+                f"{name}, each growth refused",
+                growths_refused(runner, words, files, wanted, shims["refuse"]),
+            )
+            count.add(
+                f"{name}, each read stopped",
+                wrong_reads(runner, words, names, files, shims["devices"]),
+            )
     count.add("borders cut short", wrong_prefix(runner, named_cases.TILES[b"a"]))
 
 
 def main() -> int:
-    words = argparse.ArgumentParser(description="Runs rcell-join beside a plain model of it, and beside rcell over maps that are not cut.")
+    words = argparse.ArgumentParser(
+        description="Runs rcell-join beside a plain model of it, and beside rcell over maps that are not cut."
+    )
     words.add_argument("clang", nargs="?")
     words.add_argument("--program", default=f"{ROOT}/bin/rcell-join")
     words.add_argument("--rcell", default=f"{ROOT}/bin/rcell")

@@ -13,7 +13,16 @@ from dataclasses import dataclass
 from typing import Callable, Iterator, Mapping, Optional
 
 from model import clumped
-from model_grids import COORDINATE_UNIT, Cell, CellMap, Failing, Refused, Region, grid_text, read_map
+from model_grids import (
+    COORDINATE_UNIT,
+    Cell,
+    CellMap,
+    Failing,
+    Refused,
+    Region,
+    grid_text,
+    read_map,
+)
 
 Given = bytes | Failing | None  # what a file gives; None: it cannot be opened
 Reply = tuple[int, bytes, bytes]  # the status, the output and the message
@@ -28,15 +37,27 @@ class Fault(Exception):
 
     def __init__(self, source: bytes, line: int, text: bytes, status: int = 1, output: bytes = b""):
         super().__init__(source, line, text)
-        self.source, self.line, self.text, self.status, self.output = source, line, text, status, output
+        self.source, self.line, self.text, self.status, self.output = (
+            source,
+            line,
+            text,
+            status,
+            output,
+        )
 
     def reply(self) -> Reply:
-        return self.status, self.output, b"rcell-join: %s:%d: %s\n" % (shown(self.source), self.line, self.text)
+        return (
+            self.status,
+            self.output,
+            b"rcell-join: %s:%d: %s\n" % (shown(self.source), self.line, self.text),
+        )
 
 
 # Tables
 
-Entry = tuple[tuple[tuple[bool, int], ...], int]  # cells, each with whether it is null first, and their count
+Entry = tuple[
+    tuple[tuple[bool, int], ...], int
+]  # cells, each with whether it is null first, and their count
 Labels = tuple[bytes, ...]  # one after each cell
 
 
@@ -50,7 +71,12 @@ class Format:
         """Whether fields printed so can be distinguished."""
         is_in_number = self.separator.isdigit() or self.separator == b"-"
         is_in_label = self.labels and self.separator in NULL_LABEL
-        return not is_in_number and not is_in_label and self.separator not in self.null_text and not is_category(self.null_text)
+        return (
+            not is_in_number
+            and not is_in_label
+            and self.separator not in self.null_text
+            and not is_category(self.null_text)
+        )
 
     def printed(self, entry: Entry, labels: Labels = ()) -> bytes:
         cells, count = entry
@@ -90,9 +116,17 @@ class TableText:
         """The cells of a line and its count; its labels are kept."""
         *fields, last = line.split(self.form.separator)
         step = 2 if self.form.labels else 1
-        cells = tuple(self.cell_of(*fields[at : at + step]) for at in range(0, len(fields) // step * step, step))
+        cells = tuple(
+            self.cell_of(*fields[at : at + step])
+            for at in range(0, len(fields) // step * step, step)
+        )
         self.labels = tuple(fields[1::2]) if self.form.labels else ()
-        if len(fields) % step or not last.isdigit() or last != b"%d" % int(last) or not 0 < int(last) <= GREATEST_COUNT:
+        if (
+            len(fields) % step
+            or not last.isdigit()
+            or last != b"%d" % int(last)
+            or not 0 < int(last) <= GREATEST_COUNT
+        ):
             raise self.fault(b"bad count")
         return cells, int(last)
 
@@ -141,7 +175,11 @@ def tables(form: Format, names: list[bytes], given: list[bytes | Failing]) -> by
                 if it.head and it.head[0] == least:
                     count = it.head[1]
                     it.next()
-                    total = added(total, count, b" ".join(b"*" if is_null else b"%d" % cell for is_null, cell in least))
+                    total = added(
+                        total,
+                        count,
+                        b" ".join(b"*" if is_null else b"%d" % cell for is_null, cell in least),
+                    )
             output += form.printed((least, total), labels)
     except Fault as fault:
         fault.output = output
@@ -155,13 +193,18 @@ def labels_of(texts: list[TableText]) -> Labels:
     for it in texts[1:]:
         for (_, category), label, other in zip(it.head[0], labels, it.labels):
             if label != other:
-                raise it.fault(b"two labels for %d: %s and %s" % (category, shown(label), shown(other)))
+                raise it.fault(
+                    b"two labels for %d: %s and %s" % (category, shown(label), shown(other))
+                )
     return labels
 
 
 def shown(text: bytes) -> bytes:
     """A path or a label as messages print it: control characters are escaped."""
-    return "".join(ESCAPES.get(c, f"\\u{{{ord(c):x}}}") if unicodedata.category(c) == "Cc" else c for c in text.decode(errors="replace")).encode()
+    return "".join(
+        ESCAPES.get(c, f"\\u{{{ord(c):x}}}") if unicodedata.category(c) == "Cc" else c
+        for c in text.decode(errors="replace")
+    ).encode()
 
 
 def added(total: int, count: int, name: bytes) -> int:
@@ -172,8 +215,13 @@ def added(total: int, count: int, name: bytes) -> int:
 
 # Sizes
 
-NUMBERING_KINDS = {b"bad cell": b"not four numbers", b"bad count": b"not four numbers", b"other number of cells": b"not four numbers",
-                   b"combination listed twice": b"clumps out of order", b"combination out of order": b"clumps out of order"}
+NUMBERING_KINDS = {
+    b"bad cell": b"not four numbers",
+    b"bad count": b"not four numbers",
+    b"other number of cells": b"not four numbers",
+    b"combination listed twice": b"clumps out of order",
+    b"combination out of order": b"clumps out of order",
+}
 
 
 class Numbering:
@@ -189,7 +237,9 @@ class Numbering:
 
     @staticmethod
     def of_table(fault: Fault) -> Fault:
-        return Fault(fault.source, fault.line, NUMBERING_KINDS.get(fault.text, fault.text), fault.status)
+        return Fault(
+            fault.source, fault.line, NUMBERING_KINDS.get(fault.text, fault.text), fault.status
+        )
 
     @property
     def line(self) -> int:
@@ -268,7 +318,9 @@ def sizes(form: Format, names: list[bytes], given: list[bytes | Failing]) -> byt
     for number in range(1, max(found, default=0)):
         if number not in found:
             raise Fault(names[0], 0, b"number %d left out" % number)
-    return b"".join(form.printed((((False, number),), size)) for number, size in sorted(found.items()))
+    return b"".join(
+        form.printed((((False, number),), size)) for number, size in sorted(found.items())
+    )
 
 
 # Borders and clumps
@@ -277,7 +329,9 @@ ROWS, SIZE_ROW, COUNTS_ROW, SIZE_CELLS = 10, 8, 9, 4
 JOININGS = {4: False, 8: True}  # whether cells that touch at a corner are joined
 
 Side = tuple[list[Cell], list[Cell]]  # cells, and the numbers of their clumps
-Place = tuple[int, int, int, int]  # row of tiles, row of the tile in which the clump begins, column of tiles, number: in order of first cells
+Place = tuple[
+    int, int, int, int
+]  # row of tiles, row of the tile in which the clump begins, column of tiles, number: in order of first cells
 
 
 @dataclass(frozen=True)
@@ -292,12 +346,19 @@ class Border:
     def text(self) -> bytes:
         tile = self.region
         width = max(tile.rows, tile.cols, SIZE_CELLS)
-        lines = [line for side in self.sides for line in side] + [[tile.rows, tile.cols, sum(self.begun), self.connectivity], list(self.begun)]
+        lines = [line for side in self.sides for line in side] + [
+            [tile.rows, tile.cols, sum(self.begun), self.connectivity],
+            list(self.begun),
+        ]
         rows = [line + [None] * (width - len(line)) for line in lines]
-        return grid_text(CellMap(Region(tile.north, tile.south, tile.east, tile.west, ROWS, width), rows), b"*")
+        return grid_text(
+            CellMap(Region(tile.north, tile.south, tile.east, tile.west, ROWS, width), rows), b"*"
+        )
 
     def row_begun(self, number: int) -> int:
-        return next(row for row, total in enumerate(itertools.accumulate(self.begun)) if number <= total)
+        return next(
+            row for row, total in enumerate(itertools.accumulate(self.begun)) if number <= total
+        )
 
 
 def border_of(connectivity: int, cells: CellMap) -> Border:
@@ -307,7 +368,9 @@ def border_of(connectivity: int, cells: CellMap) -> Border:
         least, most = most, max([most, *(number for number in row if number is not None)])
         begun.append(most - least)
     lines = [(cells.rows[at], numbers.rows[at]) for at in (0, -1)]
-    columns = [([row[at] for row in cells.rows], [row[at] for row in numbers.rows]) for at in (0, -1)]
+    columns = [
+        ([row[at] for row in cells.rows], [row[at] for row in numbers.rows]) for at in (0, -1)
+    ]
     return Border(cells.region, connectivity, lines + columns, begun)
 
 
@@ -336,12 +399,16 @@ def pair_fault(most: int, cell: Cell, number: Cell) -> bytes:
     return b"number above the count of clumps that begin up to its row" if number > most else b""
 
 
-def judge_line(name: bytes, row: int, most: list[int], cells: list[Cell], numbers: list[Cell]) -> None:
+def judge_line(
+    name: bytes, row: int, most: list[int], cells: list[Cell], numbers: list[Cell]
+) -> None:
     """A row of cells and the numbers below it, where each cell has a largest number."""
     for at, line in ((row, cells), (row + 1, numbers)):
-        for col, cell in enumerate(line[len(most):], len(most)):
+        for col, cell in enumerate(line[len(most) :], len(most)):
             if cell is not None:
-                raise Fault(name, 0, b"row %d, column %d: behind the end of a side" % (at + 1, col + 1))
+                raise Fault(
+                    name, 0, b"row %d, column %d: behind the end of a side" % (at + 1, col + 1)
+                )
     for col, (largest, cell, number) in enumerate(zip(most, cells, numbers)):
         if wrong := pair_fault(largest, cell, number):
             raise Fault(name, 0, b"row %d, column %d: %s" % (row + 2, col + 1, wrong))
@@ -354,7 +421,12 @@ def size_of(grid: CellMap) -> Optional[tuple[Region, int, int]]:
         return None
     rows, cols, clumps, connectivity = (cell or 0 for cell in cells[:SIZE_CELLS])
     tile = Region(region.north, region.south, region.east, region.west, rows, cols)
-    is_right = tile.is_allowed() and max(rows, cols, SIZE_CELLS) == region.cols and clumps >= 0 and connectivity in JOININGS
+    is_right = (
+        tile.is_allowed()
+        and max(rows, cols, SIZE_CELLS) == region.cols
+        and clumps >= 0
+        and connectivity in JOININGS
+    )
     return (tile, clumps, connectivity) if is_right else None
 
 
@@ -364,7 +436,11 @@ def read_border(name: bytes, given: bytes | Failing) -> Border:
         raise Fault(name, 0, b"not ten rows")
     size = size_of(grid)
     if not size:
-        raise Fault(name, 0, b"row 9: not the rows, columns, number of clumps and connectivity of a tile as wide as this text")
+        raise Fault(
+            name,
+            0,
+            b"row 9: not the rows, columns, number of clumps and connectivity of a tile as wide as this text",
+        )
     tile, clumps, connectivity = size
     counts = grid.rows[COUNTS_ROW]
     begun = [count for count in counts[: tile.rows] if count is not None and count >= 0]
@@ -392,7 +468,12 @@ def edge_text(edge: int) -> bytes:
 
 
 def edge_fault(edge: bytes, own: int, other_edge: bytes, other: int) -> bytes:
-    return b"" if own == other else b"%s edge %s is not the %s edge %s" % (edge, edge_text(own), other_edge, edge_text(other))
+    return (
+        b""
+        if own == other
+        else b"%s edge %s is not the %s edge %s"
+        % (edge, edge_text(own), other_edge, edge_text(other))
+    )
 
 
 def size_fault(own: int, what: bytes, other: int) -> bytes:
@@ -401,13 +482,21 @@ def size_fault(own: int, what: bytes, other: int) -> bytes:
 
 def beside_fault(left: Region, tile: Region) -> bytes:
     """Why a tile is not right of another, or nothing."""
-    return (edge_fault(b"west", tile.west, b"east", left.east) or size_fault(tile.rows, b"rows", left.rows)
-            or edge_fault(b"north", tile.north, b"north", left.north) or edge_fault(b"south", tile.south, b"south", left.south))
+    return (
+        edge_fault(b"west", tile.west, b"east", left.east)
+        or size_fault(tile.rows, b"rows", left.rows)
+        or edge_fault(b"north", tile.north, b"north", left.north)
+        or edge_fault(b"south", tile.south, b"south", left.south)
+    )
 
 
 def below_fault(above: Region, tile: Region) -> bytes:
-    return (edge_fault(b"north", tile.north, b"south", above.south) or size_fault(tile.cols, b"columns", above.cols)
-            or edge_fault(b"west", tile.west, b"west", above.west) or edge_fault(b"east", tile.east, b"east", above.east))
+    return (
+        edge_fault(b"north", tile.north, b"south", above.south)
+        or size_fault(tile.cols, b"columns", above.cols)
+        or edge_fault(b"west", tile.west, b"west", above.west)
+        or edge_fault(b"east", tile.east, b"east", above.east)
+    )
 
 
 @dataclass(frozen=True)
@@ -420,10 +509,16 @@ def in_first_row(row: list[Tile], tile: Tile) -> bool:
     """Whether a tile is right of the last one; if not, it is below the first. If it is neither, it was meant to be below the first if the
     first tile ends where it begins, and begins elsewhere than the last one ends."""
     region = tile.border.region
-    beside, below = beside_fault(row[-1].border.region, region), below_fault(row[0].border.region, region)
+    beside, below = beside_fault(row[-1].border.region, region), below_fault(
+        row[0].border.region, region
+    )
     if beside and below:
         is_below = beside.startswith(b"west") and not below.startswith(b"north")
-        raise Fault(tile.name, 0, b"%s of %s" % ((below, row[0].name) if is_below else (beside, row[-1].name)))
+        raise Fault(
+            tile.name,
+            0,
+            b"%s of %s" % ((below, row[0].name) if is_below else (beside, row[-1].name)),
+        )
     return not beside
 
 
@@ -451,17 +546,32 @@ def clumps(with_corners: bool, names: list[bytes], given: list[bytes | Failing])
         tile = Tile(name, read_border(name, text))
         if JOININGS[tile.border.connectivity] != with_corners:
             other = names[0] if rows else b"clumps -d" if with_corners else b"clumps without -d"
-            raise Fault(name, 0, b"connectivity %d is not the %d of %s" % (tile.border.connectivity, 8 if with_corners else 4, other))
+            raise Fault(
+                name,
+                0,
+                b"connectivity %d is not the %d of %s"
+                % (tile.border.connectivity, 8 if with_corners else 4, other),
+            )
         if begins_row(rows, tile):
             rows.append([])
         rows[-1].append(tile)
     if len(rows) > 1 and len(rows[-1]) < len(rows[-2]):
-        raise Fault(rows[-1][-1].name, 0, b"last row of tiles too short: %s has none below it" % rows[-2][len(rows[-1])].name)
+        raise Fault(
+            rows[-1][-1].name,
+            0,
+            b"last row of tiles too short: %s has none below it" % rows[-2][len(rows[-1])].name,
+        )
     grid = [[tile.border for tile in row] for row in rows]
     numbers = numbers_of(grid, with_corners)
     tiles = [(row, col, tile) for row, line in enumerate(grid) for col, tile in enumerate(line)]
-    return b"".join(line for at, (row, col, tile) in enumerate(tiles, 1)
-                    for line in runs_of(at, [numbers[place_of(row, col, tile, number)] for number in range(1, sum(tile.begun) + 1)]))
+    return b"".join(
+        line
+        for at, (row, col, tile) in enumerate(tiles, 1)
+        for line in runs_of(
+            at,
+            [numbers[place_of(row, col, tile, number)] for number in range(1, sum(tile.begun) + 1)],
+        )
+    )
 
 
 def runs_of(tile: int, numbers: list[int]) -> Iterator[bytes]:
@@ -484,7 +594,10 @@ def place_of(row: int, col: int, tile: Border, number: int) -> Place:
 
 def marks(row: int, col: int, tile: Border, side: int) -> list[Mark]:
     cells, numbers = tile.sides[side]
-    return [None if cell is None or number is None else (cell, place_of(row, col, tile, number)) for cell, number in zip(cells, numbers)]
+    return [
+        None if cell is None or number is None else (cell, place_of(row, col, tile, number))
+        for cell, number in zip(cells, numbers)
+    ]
 
 
 def seams(rows: list[list[Border]]) -> Iterator[tuple[list[Mark], list[Mark]]]:
@@ -493,14 +606,20 @@ def seams(rows: list[list[Border]]) -> Iterator[tuple[list[Mark], list[Mark]]]:
         for col, (left, right) in enumerate(zip(line, line[1:])):
             yield marks(row, col, left, 3), marks(row, col + 1, right, 2)
     for row, (upper, lower) in enumerate(zip(rows, rows[1:])):
-        yield ([mark for col, tile in enumerate(upper) for mark in marks(row, col, tile, 1)],
-               [mark for col, tile in enumerate(lower) for mark in marks(row + 1, col, tile, 0)])
+        yield (
+            [mark for col, tile in enumerate(upper) for mark in marks(row, col, tile, 1)],
+            [mark for col, tile in enumerate(lower) for mark in marks(row + 1, col, tile, 0)],
+        )
 
 
 def numbers_of(rows: list[list[Border]], with_corners: bool) -> dict[Place, int]:
     """The number in the full map of each clump of each tile: clumps that a chain of meetings joins have one number."""
-    places = sorted(place_of(row, col, tile, number) for row, line in enumerate(rows) for col, tile in enumerate(line)
-                    for number in range(1, sum(tile.begun) + 1))
+    places = sorted(
+        place_of(row, col, tile, number)
+        for row, line in enumerate(rows)
+        for col, tile in enumerate(line)
+        for number in range(1, sum(tile.begun) + 1)
+    )
     near: dict[Place, list[Place]] = {place: [] for place in places}
     for one, other in seams(rows):
         for at, mark in enumerate(other):
@@ -523,8 +642,12 @@ def numbers_of(rows: list[list[Border]], with_corners: bool) -> dict[Place, int]
 # The command line
 
 USAGE = b"usage: rcell-join (tables|border|clumps|sizes) ..."
-USAGES = {b"tables": b"usage: rcell-join tables [-l] [separator=S] [null_value=N] FILE...", b"border": b"usage: rcell-join border [-d] MAP",
-          b"clumps": b"usage: rcell-join clumps [-d] BORDER...", b"sizes": b"usage: rcell-join sizes [separator=S] [null_value=N] NUMBERING TABLE..."}
+USAGES = {
+    b"tables": b"usage: rcell-join tables [-l] [separator=S] [null_value=N] FILE...",
+    b"border": b"usage: rcell-join border [-d] MAP",
+    b"clumps": b"usage: rcell-join clumps [-d] BORDER...",
+    b"sizes": b"usage: rcell-join sizes [separator=S] [null_value=N] NUMBERING TABLE...",
+}
 VISIBLE = re.compile(rb"[!-~]{1,64}")
 SEPARATORS = {b"pipe": b"|", b"comma": b",", b"space": b" ", b"tab": b"\t"}
 
@@ -564,8 +687,14 @@ def is_utf8(word: bytes) -> bool:
     return True
 
 
-def with_options(join: Callable[[Format, list[bytes], list[bytes | Failing]], bytes], least: int, usage: bytes, words: list[bytes],
-                 files: Mapping[bytes, Given], labels: bool = False) -> bytes:
+def with_options(
+    join: Callable[[Format, list[bytes], list[bytes | Failing]], bytes],
+    least: int,
+    usage: bytes,
+    words: list[bytes],
+    files: Mapping[bytes, Given],
+    labels: bool = False,
+) -> bytes:
     names = [word for word in words if not is_option(word)]
     if len(names) < least or any(word.startswith(b"-") for word in words):
         raise misuse(usage)
@@ -579,11 +708,18 @@ def output_of(words: list[bytes], files: Mapping[bytes, Given]) -> bytes:
         raise misuse(USAGE)
     usage = USAGES[command]
     if command == b"tables":
-        return with_options(tables, 1, usage, [word for word in behind if word != b"-l"], files, b"-l" in behind)
+        return with_options(
+            tables, 1, usage, [word for word in behind if word != b"-l"], files, b"-l" in behind
+        )
     if command == b"sizes":
         return with_options(sizes, 2, usage, behind, files)
     names = [word for word in behind if word != b"-d"]
-    if not names or any(word.startswith(b"-") for word in names) or command == b"border" and len(names) > 1:
+    if (
+        not names
+        or any(word.startswith(b"-") for word in names)
+        or command == b"border"
+        and len(names) > 1
+    ):
         raise misuse(usage)
     join = border if command == b"border" else clumps
     return join(b"-d" in behind, names, opened(names, files))

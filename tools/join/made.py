@@ -14,9 +14,23 @@ Span = tuple[int, int, int, int]  # rows and columns: the first, and the one aft
 Cells = tuple[tuple[bool, int], ...]  # each with whether it is null first
 
 LARGEST_SIDE, MOST_TILES = 24, 5
-FORMATS = [(Format(), []), (Format(b"|", b"NA"), [b"separator=pipe", b"null_value=NA"]), (Format(b","), [b"separator=,"]),
-           (Format(b";", labels=True), [b"-l", b"separator=;"]), (Format(b"|", b"NA", True), [b"separator=pipe", b"-l", b"null_value=NA"])]
-LABELS = [b"", b"forest", b"forest edge", b"17", b"*", b"no data", b"\xc3\xa9t\xc3\xa9", b"\xff\xc3"]
+FORMATS = [
+    (Format(), []),
+    (Format(b"|", b"NA"), [b"separator=pipe", b"null_value=NA"]),
+    (Format(b","), [b"separator=,"]),
+    (Format(b";", labels=True), [b"-l", b"separator=;"]),
+    (Format(b"|", b"NA", True), [b"separator=pipe", b"-l", b"null_value=NA"]),
+]
+LABELS = [
+    b"",
+    b"forest",
+    b"forest edge",
+    b"17",
+    b"*",
+    b"no data",
+    b"\xc3\xa9t\xc3\xa9",
+    b"\xff\xc3",
+]
 
 
 # Tables
@@ -26,7 +40,10 @@ def labels_of(draw: random.Random, form: Format, cells: Cells, strange: float) -
     """The labels of cells, which all texts have, but others now and then."""
     if not form.labels:
         return ()
-    usual = [NULL_LABEL if is_null else LABELS[(category + 3 * column) % len(LABELS)] for column, (is_null, category) in enumerate(cells)]
+    usual = [
+        NULL_LABEL if is_null else LABELS[(category + 3 * column) % len(LABELS)]
+        for column, (is_null, category) in enumerate(cells)
+    ]
     return tuple(draw.choice(LABELS) if draw.random() < strange else label for label in usual)
 
 
@@ -35,10 +52,24 @@ def random_files(draw: random.Random, form: Format) -> Named:
     width, cells, strange = draw.randint(1, 4), draw.choice([2, 3, 9]), draw.choice([0, 0, 0.03])
     files = []
     for place in range(draw.randint(1, 6)):
-        keys = {tuple((True, 0) if draw.random() < 0.2 else (False, draw.randint(-cells, cells)) for _ in range(width)) for _ in range(draw.randint(0, 12))}
-        counts = [draw.choice([1, 7, 10**6, 2**63]) if draw.random() < 0.05 else draw.randint(1, 99) for _ in keys]
+        keys = {
+            tuple(
+                (True, 0) if draw.random() < 0.2 else (False, draw.randint(-cells, cells))
+                for _ in range(width)
+            )
+            for _ in range(draw.randint(0, 12))
+        }
+        counts = [
+            draw.choice([1, 7, 10**6, 2**63]) if draw.random() < 0.05 else draw.randint(1, 99)
+            for _ in keys
+        ]
         entries = sorted(zip(keys, counts))
-        files.append((b"t%d" % place, b"".join(form.printed(it, labels_of(draw, form, it[0], strange)) for it in entries)))
+        files.append(
+            (
+                b"t%d" % place,
+                b"".join(form.printed(it, labels_of(draw, form, it[0], strange)) for it in entries),
+            )
+        )
     if draw.random() < 0.33:
         at = draw.randrange(len(files))
         name, text = files[at]
@@ -51,10 +82,20 @@ def long_files(draw: random.Random, form: Format) -> Named:
     width, files = draw.choice([1, 2, 4, 16]), []
     greatest = draw.choice([9, 5000, 2**31 - 1])
     for place in range(draw.randint(1, 5)):
-        keys = {tuple((True, 0) if draw.random() < 0.05 else (False, draw.randint(-greatest, greatest)) for _ in range(width))
-                for _ in range(draw.choice([3, 1500, 9000]))}
+        keys = {
+            tuple(
+                (True, 0) if draw.random() < 0.05 else (False, draw.randint(-greatest, greatest))
+                for _ in range(width)
+            )
+            for _ in range(draw.choice([3, 1500, 9000]))
+        }
         entries = [(key, draw.choice([1, 99, 10**9])) for key in sorted(keys)]
-        files.append((b"t%d" % place, b"".join(form.printed(it, labels_of(draw, form, it[0], 0)) for it in entries)))
+        files.append(
+            (
+                b"t%d" % place,
+                b"".join(form.printed(it, labels_of(draw, form, it[0], 0)) for it in entries),
+            )
+        )
     if draw.random() < 0.33:
         name, text = files[-1]
         files[-1] = name, damaged(draw, text, form.separator)
@@ -85,9 +126,20 @@ def labelling(draw: random.Random, whole: CellMap) -> tuple[bytes, list[bytes]]:
     cells = sorted({cell for row in whole.rows for cell in row if cell is not None})
     rules = [b"* = *" if draw.random() < 0.5 else b"* = 5 the rest"]
     for cell in draw.sample(cells, draw.randint(0, min(len(cells), 6))):
-        made = draw.choice([b"1 forest", b"2", b"3 wood, and water", b"-4 \xc3\xa9t\xc3\xa9", b"NULL", b"6 no data"])
+        made = draw.choice(
+            [
+                b"1 forest",
+                b"2",
+                b"3 wood, and water",
+                b"-4 \xc3\xa9t\xc3\xa9",
+                b"NULL",
+                b"6 no data",
+            ]
+        )
         rules.append(b"%d = %s" % (cell, made))
-    options = draw.choice([[b"separator=;"], [b"null_value=NA", b"separator=|"], [b"separator=tab"]])
+    options = draw.choice(
+        [[b"separator=;"], [b"null_value=NA", b"separator=|"], [b"separator=tab"]]
+    )
     names = draw.choice([b"c", b"c,m", b"m,c"])
     script = b"r.reclass input=m output=c\n" + b"".join(rule + b"\n" for rule in rules) + b"end\n"
     return script + b"r.stats -cl %s input=%s\n" % (b" ".join(options), names), [b"-l", *options]
@@ -98,7 +150,9 @@ def labelling(draw: random.Random, whole: CellMap) -> tuple[bytes, list[bytes]]:
 
 def comb(rows: int, cols: int) -> Rows:
     """Teeth that meet in the last row alone: one clump, which is many until the last row of tiles."""
-    return [[1 if row == rows - 1 or col % 2 == 0 else 2 for col in range(cols)] for row in range(rows)]
+    return [
+        [1 if row == rows - 1 or col % 2 == 0 else 2 for col in range(cols)] for row in range(rows)
+    ]
 
 
 def spiral(rows: int, cols: int) -> Rows:
@@ -112,7 +166,12 @@ def spiral(rows: int, cols: int) -> Rows:
     cells[0][0] = 1
     while turns < 2:
         ahead = (row + down, col + right)
-        if 0 <= ahead[0] < rows and 0 <= ahead[1] < cols and not is_way(*ahead) and not is_way(ahead[0] + down, ahead[1] + right):
+        if (
+            0 <= ahead[0] < rows
+            and 0 <= ahead[1] < cols
+            and not is_way(*ahead)
+            and not is_way(ahead[0] + down, ahead[1] + right)
+        ):
             row, col = ahead
             cells[row][col], turns = 1, 0
         else:
@@ -145,22 +204,41 @@ SHAPES: dict[str, Callable[[int, int], Rows]] = {
 
 def random_rows(draw: random.Random, rows: int, cols: int) -> Rows:
     """Random cells of one to nine categories, up to half of them null; copies of neighbours make longer clumps."""
-    kinds: list[Cell] = [*draw.choice([range(1, 10), range(0, 9), range(-4, 5), [-2147483647, 2147483647]])][: draw.randint(1, 9)]
+    kinds: list[Cell] = [
+        *draw.choice([range(1, 10), range(0, 9), range(-4, 5), [-2147483647, 2147483647]])
+    ][: draw.randint(1, 9)]
     nulls, likeness = draw.choice([0, 0, 0.1, 0.5]), draw.choice([0, 0.4, 0.8])
     cells: Rows = []
     for row in range(rows):
         cells.append([])
         for col in range(cols):
-            near = [line[at] for line, at in ((cells[max(row - 1, 0)], col), (cells[row], col - 1)) if 0 <= at < len(line)]
+            near = [
+                line[at]
+                for line, at in ((cells[max(row - 1, 0)], col), (cells[row], col - 1))
+                if 0 <= at < len(line)
+            ]
             is_like = near and draw.random() < likeness
-            cells[row].append(draw.choice(near) if is_like else None if draw.random() < nulls else draw.choice(kinds))
+            cells[row].append(
+                draw.choice(near)
+                if is_like
+                else None
+                if draw.random() < nulls
+                else draw.choice(kinds)
+            )
     return cells
 
 
 def random_map(draw: random.Random) -> CellMap:
     """A random map of up to 24 x 24 cells, or a shape that is hard to cut."""
-    rows, cols = (draw.choice([1, draw.randint(1, LARGEST_SIDE), draw.randint(1, LARGEST_SIDE)]) for _ in range(2))
-    made = draw.choice(list(SHAPES.values()))(rows, cols) if draw.random() < 0.2 else random_rows(draw, rows, cols)
+    rows, cols = (
+        draw.choice([1, draw.randint(1, LARGEST_SIDE), draw.randint(1, LARGEST_SIDE)])
+        for _ in range(2)
+    )
+    made = (
+        draw.choice(list(SHAPES.values()))(rows, cols)
+        if draw.random() < 0.2
+        else random_rows(draw, rows, cols)
+    )
     return in_region(draw, made)
 
 
@@ -170,7 +248,9 @@ def in_region(draw: random.Random, rows: Rows) -> CellMap:
     north = draw.choice([0, len(rows) * height, 5 * 10**6, -0.25])
     south, west = north - len(rows) * height, draw.choice([0, -3.5, 4 * 10**5])
     east = west + len(rows[0]) * width
-    north, south, east, west = (round(side * COORDINATE_UNIT) for side in (north, south, east, west))
+    north, south, east, west = (
+        round(side * COORDINATE_UNIT) for side in (north, south, east, west)
+    )
     return CellMap(Region(north, south, east, west, len(rows), len(rows[0])), rows)
 
 
@@ -192,32 +272,54 @@ class Cut:
     @property
     def spans(self) -> list[Span]:
         """The rows and the columns of each tile, up to the one after it, row by row."""
-        return [(*rows, *cols) for rows in zip([0, *self.ends], self.ends) for cols in zip([0, *self.col_ends], self.col_ends)]
+        return [
+            (*rows, *cols)
+            for rows in zip([0, *self.ends], self.ends)
+            for cols in zip([0, *self.col_ends], self.col_ends)
+        ]
 
 
 def tile_of(whole: CellMap, span: Span) -> CellMap:
     """Some rows and columns as a map of their own."""
     region, (top, bottom, left, right) = whole.region, span
-    height, width = (region.north - region.south) // region.rows, (region.east - region.west) // region.cols
+    height, width = (region.north - region.south) // region.rows, (
+        region.east - region.west
+    ) // region.cols
     north, south = region.north - top * height, region.north - bottom * height
     west, east = region.west + left * width, region.west + right * width
-    return CellMap(Region(north, south, east, west, bottom - top, right - left), [row[left:right] for row in whole.rows[top:bottom]])
+    return CellMap(
+        Region(north, south, east, west, bottom - top, right - left),
+        [row[left:right] for row in whole.rows[top:bottom]],
+    )
 
 
 def random_ends(draw: random.Random, count: int) -> list[int]:
     """One to five rows or columns of tiles."""
-    return [*sorted(draw.sample(range(1, count), draw.randint(0, min(count, MOST_TILES) - 1))), count]
+    return [
+        *sorted(draw.sample(range(1, count), draw.randint(0, min(count, MOST_TILES) - 1))),
+        count,
+    ]
 
 
 def random_cut(draw: random.Random, whole: CellMap) -> Cut:
     """A grid of tiles of uneven sizes; in one of four it has one column."""
     cols = whole.region.cols
-    return Cut(whole, random_ends(draw, whole.region.rows), [cols] if draw.random() < 0.25 else random_ends(draw, cols))
+    return Cut(
+        whole,
+        random_ends(draw, whole.region.rows),
+        [cols] if draw.random() < 0.25 else random_ends(draw, cols),
+    )
 
 
 def some_cuts(draw: random.Random, whole: CellMap) -> list[Cut]:
     """Single cells, single columns, single rows, halves, and random cuts."""
     rows, cols = whole.region.rows, whole.region.cols
     all_rows, all_cols = list(range(1, rows + 1)), list(range(1, cols + 1))
-    return [Cut(whole, all_rows, all_cols), Cut(whole, [rows], all_cols), Cut(whole, all_rows, [cols]), Cut(whole, [rows // 2, rows], [cols // 2, cols]),
-            Cut(whole, [rows], [cols]), *(random_cut(draw, whole) for _ in range(5))]
+    return [
+        Cut(whole, all_rows, all_cols),
+        Cut(whole, [rows], all_cols),
+        Cut(whole, all_rows, [cols]),
+        Cut(whole, [rows // 2, rows], [cols // 2, cols]),
+        Cut(whole, [rows], [cols]),
+        *(random_cut(draw, whole) for _ in range(5)),
+    ]

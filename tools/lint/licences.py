@@ -18,7 +18,9 @@ NAMED = {
     "packaging/copyright.in": "License: Apache-2.0 or GPL-2+",
 }
 # Of the folders that users copy files from, those that carry the line themselves.
-COPIED = re.compile(r"helpers/(?!tests/|.*\.(1|json|md|mk)$)|(python/src|qgis/rcell)/.*\.py$|r/rcell/R/.*\.R$|grass/r\.rcell/r\.rcell\.py$|Makefile$")
+COPIED = re.compile(
+    r"helpers/(?!tests/|.*\.(1|json|md|mk)$)|(python/src|qgis/rcell)/.*\.py$|r/rcell/R/.*\.R$|grass/r\.rcell/r\.rcell\.py$|Makefile$"
+)
 EXCEPTION = {"LICENSE.md": "LGPL-3.0-or-later", "packaging/copyright.in": "License: LGPL-3+"}
 
 
@@ -29,7 +31,9 @@ def read(name):
 def tracked():
     """The files of the repository, also new ones that git does not ignore."""
     words = ["git", "ls-files", "--cached", "--others", "--exclude-standard"]
-    names = subprocess.run(words, cwd=ROOT, capture_output=True, text=True, check=True).stdout.splitlines()
+    names = subprocess.run(
+        words, cwd=ROOT, capture_output=True, text=True, check=True
+    ).stdout.splitlines()
     return [name for name in names if (ROOT / name).is_file()]
 
 
@@ -42,12 +46,29 @@ def licences():
     wanted["CITATION.cff"].append(f"version: {version}")
     for name in HELPERS:
         wanted[f"helpers/{name}"] = [f'VERSION = "{version}"']
-    found = [f"{name}: does not say {line!r}" for name, lines in wanted.items() for line in lines if f"\n{line}\n" not in f"\n{read(name)}\n"
-             and not (name in EXCEPTION and line in read(name))]
+    found = [
+        f"{name}: does not say {line!r}"
+        for name, lines in wanted.items()
+        for line in lines
+        if f"\n{line}\n" not in f"\n{read(name)}\n"
+        and not (name in EXCEPTION and line in read(name))
+    ]
     tops = {name: read(name).split("\n")[:TOP_LINES] for name in tracked() if COPIED.match(name)}
-    found += [f"{name}: no line {SPDX!r} within the first {TOP_LINES}" for name, top in tops.items() if not any(SPDX in line for line in top)]
-    others = [name for name in tracked() if name.endswith((".py", ".sh", ".R", ".toml", ".cff", ".txt", "DESCRIPTION")) and "lint/" not in name]
+    found += [
+        f"{name}: no line {SPDX!r} within the first {TOP_LINES}"
+        for name, top in tops.items()
+        if not any(SPDX in line for line in top)
+    ]
+    others = [
+        name
+        for name in tracked()
+        if name.endswith((".py", ".sh", ".R", ".toml", ".cff", ".txt", "DESCRIPTION"))
+        and "lint/" not in name
+    ]
     for name in others:
-        said = re.findall(r"(?m)^\W*SPDX-License-Identifier: (.*)$", (ROOT / name).read_text(encoding="utf-8", errors="replace"))
+        said = re.findall(
+            r"(?m)^\W*SPDX-License-Identifier: (.*)$",
+            (ROOT / name).read_text(encoding="utf-8", errors="replace"),
+        )
         found += [f"{name}: another licence, {it}" for it in said if it.strip() != LICENCE]
     return found

@@ -8,9 +8,23 @@ from collections import defaultdict
 import prose
 
 MOST_LINES = {
-    "README.md": 220, "docs/tutorial.md": 350, "docs/howto.md": 300, "docs/large-maps.md": 220, "docs/commands.md": 500,
-    "docs/rcell-join.md": 150, "docs/pipe.md": 280, "docs/errors.md": 350, "docs/grass.md": 280, "docs/python.md": 350, "docs/r.md": 280, "docs/qgis.md": 220,
-    "docs/proofs.md": 280, "docs/speed.md": 200, "docs/architecture.md": 350, "docs/DECISIONS.md": 150, "docs/cheatsheet.md": 80,
+    "README.md": 220,
+    "docs/tutorial.md": 350,
+    "docs/howto.md": 300,
+    "docs/large-maps.md": 220,
+    "docs/commands.md": 500,
+    "docs/rcell-join.md": 150,
+    "docs/pipe.md": 280,
+    "docs/errors.md": 350,
+    "docs/grass.md": 280,
+    "docs/python.md": 350,
+    "docs/r.md": 280,
+    "docs/qgis.md": 220,
+    "docs/proofs.md": 280,
+    "docs/speed.md": 200,
+    "docs/architecture.md": 350,
+    "docs/DECISIONS.md": 150,
+    "docs/cheatsheet.md": 80,
 }
 MOST_COLUMNS = 120
 MOST_WORDS_OF_README = 1_700
@@ -27,21 +41,38 @@ def text_of(name):
 
 def by_hand():
     """The pages of docs/ that people write."""
-    return [name for name in prose.tracked() if re.fullmatch(r"docs/[^/]+\.md", name) and not text_of(name).startswith(GENERATED)]
+    return [
+        name
+        for name in prose.tracked()
+        if re.fullmatch(r"docs/[^/]+\.md", name) and not text_of(name).startswith(GENERATED)
+    ]
 
 
 def too_long():
     """What is longer than it may be: pages, their lines outside code and tables, and docs/ as a whole."""
     pages = ["README.md", *by_hand()]
-    counted = [(f"{name}: lines", text_of(name).count("\n"), MOST_LINES.get(name, 0)) for name in pages]
-    counted += [("README.md: words", len(text_of("README.md").split()), MOST_WORDS_OF_README),
-                ("docs/: lines", sum(text_of(name).count("\n") for name in by_hand()), MOST_LINES_OF_DOCS),
-                ("docs/: words", sum(len(text_of(name).split()) for name in by_hand()), MOST_WORDS_OF_DOCS)]
-    found = [f"{what}: {count:,}, at most {most:,} (tools/lint/pages.py)" for what, count, most in counted if count > most]
+    counted = [
+        (f"{name}: lines", text_of(name).count("\n"), MOST_LINES.get(name, 0)) for name in pages
+    ]
+    counted += [
+        ("README.md: words", len(text_of("README.md").split()), MOST_WORDS_OF_README),
+        ("docs/: lines", sum(text_of(name).count("\n") for name in by_hand()), MOST_LINES_OF_DOCS),
+        ("docs/: words", sum(len(text_of(name).split()) for name in by_hand()), MOST_WORDS_OF_DOCS),
+    ]
+    found = [
+        f"{what}: {count:,}, at most {most:,} (tools/lint/pages.py)"
+        for what, count, most in counted
+        if count > most
+    ]
     for name in pages:
-        lines = prose.FENCED.sub(lambda block: "\n" * block[0].count("\n"), text_of(name)).split("\n")
-        found += [f"{name}:{number}: {len(line)} columns, at most {MOST_COLUMNS}" for number, line in enumerate(lines, 1)
-                  if len(line) > MOST_COLUMNS and not re.match(r"\s*(\||!?\[)", line)]
+        lines = prose.FENCED.sub(lambda block: "\n" * block[0].count("\n"), text_of(name)).split(
+            "\n"
+        )
+        found += [
+            f"{name}:{number}: {len(line)} columns, at most {MOST_COLUMNS}"
+            for number, line in enumerate(lines, 1)
+            if len(line) > MOST_COLUMNS and not re.match(r"\s*(\||!?\[)", line)
+        ]
     return found
 
 
@@ -54,7 +85,11 @@ def repeated():
                 words = WORD.findall(sentence.lower())
                 if len(words) >= WORDS_OF_A_SENTENCE:
                     pages[" ".join(words)].add(name)
-    return [f"{' and '.join(sorted(names))} both say '{words}': one may link to the other" for words, names in pages.items() if len(names) > 1]
+    return [
+        f"{' and '.join(sorted(names))} both say '{words}': one may link to the other"
+        for words, names in pages.items()
+        if len(names) > 1
+    ]
 
 
 def faults():

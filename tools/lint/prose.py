@@ -16,44 +16,82 @@ import tokenize
 ROOT = pathlib.Path(__file__).resolve().parent.parent.parent
 MEAN_WORDS, LONG, MOST_LONG, VERY_LONG, MOST_VERY_LONG = 18, 25, 0.10, 45, 0.01
 # For those who change the program, not for those who use it.
-FOR_DEVELOPERS = {"docs/DECISIONS.md", "docs/architecture.md", "bench/RESULTS.md", "bench/hostile.md",
-                  "packaging/object.md", "fronts/README.md",
-                  "qgis/README.md", "grass/README.md"}
+FOR_DEVELOPERS = {
+    "docs/DECISIONS.md",
+    "docs/architecture.md",
+    "bench/RESULTS.md",
+    "bench/hostile.md",
+    "packaging/object.md",
+    "fronts/README.md",
+    "qgis/README.md",
+    "grass/README.md",
+}
 # Pages that have not been written anew yet. None is added.
 PENDING = set((pathlib.Path(__file__).parent / "pending.txt").read_text(encoding="utf-8").split())
 # Folders whose messages are checked, and the table of causes that rcell-explain and the packages print.
-MESSAGES_OF, CAUSES = re.compile(r"(helpers|python/src/rcell_front)/.*\.py"), "python/src/rcell_front/messages.json"
+MESSAGES_OF, CAUSES = (
+    re.compile(r"(helpers|python/src/rcell_front)/.*\.py"),
+    "python/src/rcell_front/messages.json",
+)
 FENCED = re.compile(r"^```.*?^```$", re.MULTILINE | re.DOTALL)
 # Phrases that neither a document nor a helper or package has, in code and tests of R included.
 IN_SOURCES = re.compile(r"README\.md|docs/[^/]*\.(md|1)|(helpers|python/src|r/rcell|qgis/rcell)/.*")
 PHRASES = re.compile(
     r"\b(is|are|was) told\b|\btells?\b|\banswers (a|an|the|all|which|one)\b|\bwhat (no|the) [a-z]+ (names|refuses|has|gives|makes)\b"
     r"|\bthe (least|greatest) of\b|\bof the whole\b|\b(by|behind) (awk|GDAL|it)\b|\bwhere (there is|it is|none|one|no|memory|nothing)\b"
-    r"|\bstands? (in|for|on|beside|behind|alone)\b", re.IGNORECASE)
+    r"|\bstands? (in|for|on|beside|behind|alone)\b",
+    re.IGNORECASE,
+)
 # Code in docstrings and comments: what backticks enclose, paths, options, targets of make; keys of tables, and of parameters.
-CODE = re.compile(r"`[^`]*`|[\w.*]*/[\w./*]*|(?<=[\s[])--[\w-]+|^# make [\w-]+|\b\w+\.py\b|^[\w, ]+ : |^\w+  ")
+CODE = re.compile(
+    r"`[^`]*`|[\w.*]*/[\w./*]*|(?<=[\s[])--[\w-]+|^# make [\w-]+|\b\w+\.py\b|^[\w, ]+ : |^\w+  "
+)
 DOCUMENTED = (ast.Module, ast.ClassDef, ast.FunctionDef, ast.AsyncFunctionDef)
 PYTHON = re.compile(r".*\.py|helpers/rcell-[a-z]+")
-COMMENT_OF = {".rt": "//", ".antt": "--", ".sh": "#", ".mk": "#", ".R": "#", ".c": "//", ".cpp": "//", ".h": "//"}
+COMMENT_OF = {
+    ".rt": "//",
+    ".antt": "--",
+    ".sh": "#",
+    ".mk": "#",
+    ".R": "#",
+    ".c": "//",
+    ".cpp": "//",
+    ".h": "//",
+}
 
 
 @functools.cache
 def patterns():
     """The retired patterns, each with what to write instead."""
     lines = (pathlib.Path(__file__).parent / "retired.txt").read_text(encoding="utf-8").splitlines()
-    return [(re.compile(pattern), instead) for pattern, _, instead in (line.partition("\t") for line in lines if line and not line.startswith("#"))]
+    return [
+        (re.compile(pattern), instead)
+        for pattern, _, instead in (
+            line.partition("\t") for line in lines if line and not line.startswith("#")
+        )
+    ]
 
 
 @functools.cache
 def tracked():
     """The files of the repository, by their paths below its top."""
-    listed = subprocess.run(["git", "ls-files", "--cached", "--others", "--exclude-standard"], cwd=ROOT, capture_output=True, text=True, check=True)
+    listed = subprocess.run(
+        ["git", "ls-files", "--cached", "--others", "--exclude-standard"],
+        cwd=ROOT,
+        capture_output=True,
+        text=True,
+        check=True,
+    )
     return [name for name in listed.stdout.splitlines() if (ROOT / name).is_file()]
 
 
 def documents():
     """The documents for users: Markdown pages, manual pages and pages of R."""
-    return [name for name in tracked() if re.search(r"\.(md|1|Rd)$", name) and name not in FOR_DEVELOPERS]
+    return [
+        name
+        for name in tracked()
+        if re.search(r"\.(md|1|Rd)$", name) and name not in FOR_DEVELOPERS
+    ]
 
 
 def plain(name):
@@ -61,12 +99,19 @@ def plain(name):
     text = (ROOT / name).read_text(encoding="utf-8")
     if name.endswith(".md"):
         text = FENCED.sub(lambda found: "\n" * found[0].count("\n"), text)
-        text = re.sub(r"<!--.*?-->", lambda found: "\n" * found[0].count("\n"), text, flags=re.DOTALL)
+        text = re.sub(
+            r"<!--.*?-->", lambda found: "\n" * found[0].count("\n"), text, flags=re.DOTALL
+        )
         text = re.sub(r"`[^`\n]*`|[\w/]+/must-fail/[\w-]+|\b\w+-\w+-[\w-]+\b", "CODE", text)
         return re.sub(r"\]\([^)\s]*\)", "]", text)
     if name.endswith(".Rd"):
         text = re.sub(r"\\(code|link|href|preformatted|dQuote)\{[^{}]*\}", "CODE", text)
-        return re.sub(r"\\(usage|examples|name|alias)\{.*?^\}", lambda found: "\n" * found[0].count("\n"), text, flags=re.MULTILINE | re.DOTALL)
+        return re.sub(
+            r"\\(usage|examples|name|alias)\{.*?^\}",
+            lambda found: "\n" * found[0].count("\n"),
+            text,
+            flags=re.MULTILINE | re.DOTALL,
+        )
     return re.sub(r'^\.\\".*$|^\.[BI]R? .*$|\\f[BI].*?\\f[RP]', "", text, flags=re.MULTILINE)
 
 
@@ -80,10 +125,16 @@ def retired_in(text):
 
 def sentences(text):
     """The sentences of a page, without headings and tables; an item of a list is a paragraph."""
-    lines = [re.sub(r"^\s*(?:[-*]|\d+\.) ", "\n", line) for line in text.split("\n") if not re.match(r"\s*(\||#|!\[)", line)]
+    lines = [
+        re.sub(r"^\s*(?:[-*]|\d+\.) ", "\n", line)
+        for line in text.split("\n")
+        if not re.match(r"\s*(\||#|!\[)", line)
+    ]
     for paragraph in re.split(r"\n\s*\n", "\n".join(lines)):
         joined = re.sub(r"[*_\[\]]", "", " ".join(paragraph.split()))
-        yield from (it for it in re.split(r"(?<=[.!?])\s+(?=[A-Z(\"])", joined) if len(it.split()) > 2)
+        yield from (
+            it for it in re.split(r"(?<=[.!?])\s+(?=[A-Z(\"])", joined) if len(it.split()) > 2
+        )
 
 
 def long_winded(name):
@@ -92,7 +143,9 @@ def long_winded(name):
     if len(lengths) < 10:
         return ""
     mean = sum(lengths) / len(lengths)
-    long, very_long = (sum(it > most for it in lengths) / len(lengths) for most in (LONG, VERY_LONG))
+    long, very_long = (
+        sum(it > most for it in lengths) / len(lengths) for most in (LONG, VERY_LONG)
+    )
     if mean <= MEAN_WORDS and long <= MOST_LONG and very_long <= MOST_VERY_LONG:
         return ""
     return f"{mean:.1f} words a sentence, {100 * long:.0f} % over {LONG}, {100 * very_long:.1f} % over {VERY_LONG}"
@@ -103,7 +156,12 @@ def strings_of(name):
     tree = ast.parse((ROOT / name).read_text(encoding="utf-8"))
     documenting = {id(node.value) for node in ast.walk(tree) if isinstance(node, ast.Expr)}
     for node in ast.walk(tree):
-        if isinstance(node, ast.Constant) and isinstance(node.value, str) and " " in node.value.strip() and id(node) not in documenting:
+        if (
+            isinstance(node, ast.Constant)
+            and isinstance(node.value, str)
+            and " " in node.value.strip()
+            and id(node) not in documenting
+        ):
             yield node.lineno, node.value
 
 
@@ -113,15 +171,24 @@ def messages():
         yield from ((name, number, text) for number, text in strings_of(name))
     for part in json.loads((ROOT / CAUSES).read_text(encoding="utf-8"))["parts"]:
         for message in part["messages"]:
-            yield from ((CAUSES, message["text"], cause[key]) for cause in message["causes"] for key in ("cause", "instead"))
+            yield from (
+                (CAUSES, message["text"], cause[key])
+                for cause in message["causes"]
+                for key in ("cause", "instead")
+            )
 
 
 def phrases_in_sources():
     """Yield each retired phrase of the documents, helpers and packages, with its file and line."""
     for name in filter(IN_SOURCES.fullmatch, tracked()):
         content = (ROOT / name).read_bytes()
-        for number, line in enumerate([] if b"\0" in content else content.decode("utf-8", "replace").split("\n"), 1):
-            yield from (f"{name}:{number}: '{found[0]}' is retired: say it as english readers do" for found in PHRASES.finditer(line))
+        for number, line in enumerate(
+            [] if b"\0" in content else content.decode("utf-8", "replace").split("\n"), 1
+        ):
+            yield from (
+                f"{name}:{number}: '{found[0]}' is retired: say it as english readers do"
+                for found in PHRASES.finditer(line)
+            )
 
 
 def faults():
@@ -130,11 +197,17 @@ def faults():
     for name in documents():
         if name in PENDING:
             continue
-        found += [f"{name}:{number}: '{word}' is retired: {instead}" for number, word, instead in retired_in(plain(name))]
+        found += [
+            f"{name}:{number}: '{word}' is retired: {instead}"
+            for number, word, instead in retired_in(plain(name))
+        ]
         if name.endswith(".md") and (winded := long_winded(name)):
             found.append(f"{name}: {winded}")
     for name, place, text in messages():
-        found += [f"{name}:{place}: '{word}' is retired: {instead}" for _, word, instead in retired_in(re.sub(r"`[^`]*`", "CODE", text))]
+        found += [
+            f"{name}:{place}: '{word}' is retired: {instead}"
+            for _, word, instead in retired_in(re.sub(r"`[^`]*`", "CODE", text))
+        ]
     return found
 
 
@@ -144,7 +217,9 @@ def comments_of_python(text):
     for node in ast.walk(ast.parse(text)):
         if isinstance(node, DOCUMENTED) and ast.get_docstring(node) is not None:
             places = range(node.body[0].lineno, (node.body[0].end_lineno or 0) + 1)
-            found.update({number: re.sub(r'^r?"""|"""$', "", lines[number - 1].strip()) for number in places})
+            found.update(
+                {number: re.sub(r'^r?"""|"""$', "", lines[number - 1].strip()) for number in places}
+            )
     for token in tokenize.generate_tokens(io.StringIO(text).readline):
         if token.type == tokenize.COMMENT:
             found[token.start[0]] = token.string
@@ -157,7 +232,11 @@ def comments_of(name):
     if PYTHON.fullmatch(name):
         return comments_of_python(text)
     mark = COMMENT_OF[pathlib.Path(name).suffix]
-    return {number: line.strip() for number, line in enumerate(text.split("\n"), 1) if line.strip().startswith(mark)}
+    return {
+        number: line.strip()
+        for number, line in enumerate(text.split("\n"), 1)
+        if line.strip().startswith(mark)
+    }
 
 
 def retired_in_comments(name):
@@ -172,10 +251,18 @@ def retired_in_comments(name):
 @functools.cache
 def retired_by_file():
     """The retired words of docstrings and comments, by file."""
-    found = {name: list(retired_in_comments(name)) for name in tracked() if PYTHON.fullmatch(name) or pathlib.Path(name).suffix in COMMENT_OF}
+    found = {
+        name: list(retired_in_comments(name))
+        for name in tracked()
+        if PYTHON.fullmatch(name) or pathlib.Path(name).suffix in COMMENT_OF
+    }
     return {name: words for name, words in found.items() if words}
 
 
 def pending_counts():
     """How many retired words the pages have that are not written anew yet."""
-    return {name: sum(1 for _ in retired_in(plain(name))) for name in sorted(PENDING) if (ROOT / name).is_file()}
+    return {
+        name: sum(1 for _ in retired_in(plain(name)))
+        for name in sorted(PENDING)
+        if (ROOT / name).is_file()
+    }

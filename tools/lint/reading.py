@@ -45,7 +45,9 @@ class Reading:
             self.own.setdefault(module, set()).add(name)
             if it.kind == "data":
                 found = (re.match(r"\s+(\w+) :", line) for line in it.lines[1:])
-                self.constructors.update({(module, match.group(1)): (module, name) for match in found if match})
+                self.constructors.update(
+                    {(module, match.group(1)): (module, name) for match in found if match}
+                )
         self.find_given_on()
         self.find_types()
 
@@ -55,18 +57,23 @@ class Reading:
             for line in text.split("\n"):
                 if match := re.match(r"pub use Rattle\.([^\s{}]+?)\.\{(.*)\}", line):
                     names = (it.strip() for it in match.group(2).split(","))
-                    self.given_on.update({(sources.module_of(path), name): (match.group(1), name) for name in names})
+                    self.given_on.update(
+                        {(sources.module_of(path), name): (match.group(1), name) for name in names}
+                    )
 
     def find_types(self):
         """The declarations of public structs, enums and constants, by crate, module and name."""
         for crate, path, text in sources.read_files("src"):
-            module = path[len(crate) + len("/src/"):].removesuffix(".rt").replace("/", ".")
+            module = path[len(crate) + len("/src/") :].removesuffix(".rt").replace("/", ".")
             blanked = sources.blank_literals(text)
             for match in sources.RUST_TYPE.finditer(blanked):
                 end = sources.closing_place(blanked, match.end() - 1)
-                self.types[(crate, module, match.group(1))] = (path, text[match.start():end + 1])
+                self.types[(crate, module, match.group(1))] = (path, text[match.start() : end + 1])
             for match in sources.RUST_CONSTANT.finditer(blanked):
-                self.types[(crate, module, match.group(1))] = (path, text[match.start():match.end()])
+                self.types[(crate, module, match.group(1))] = (
+                    path,
+                    text[match.start() : match.end()],
+                )
 
     def resolve(self, target):
         """The definition or the type that a (module, name) pair stands for, or None."""
@@ -79,9 +86,15 @@ class Reading:
         match = re.match(r"(\w+)\.specs\.declared\.([\w.]+)", target[0])
         if match is None:
             return None
-        crate, parts = match.group(1), [it for it in match.group(2).split(".") if it not in ("TheVariants", "TheConstants")]
-        places = [(crate, ".".join(parts[:end - 1]), parts[end - 1]) for end in range(len(parts), 1, -1)]
-        return next((it for it in [*places, (crate, ".".join(parts), target[1])] if it in self.types), None)
+        crate, parts = match.group(1), [
+            it for it in match.group(2).split(".") if it not in ("TheVariants", "TheConstants")
+        ]
+        places = [
+            (crate, ".".join(parts[: end - 1]), parts[end - 1]) for end in range(len(parts), 1, -1)
+        ]
+        return next(
+            (it for it in [*places, (crate, ".".join(parts), target[1])] if it in self.types), None
+        )
 
     def lines_without(self, key, stops):
         """The lines of a definition, without equations and constructors that cite what is named in stops, where others are left."""
@@ -89,14 +102,30 @@ class Reading:
         begins = re.compile(r"  \S+ : " if it.kind == "data" else re.escape(it.name) + r" (?!: )")
         starts = [place for place, line in enumerate(it.lines) if begins.match(line)]
         parts = [it.lines[start:end] for start, end in zip(starts, [*starts[1:], len(it.lines)])]
-        kept = [part for part in parts if not {*sources.words_of(sources.without_comment("\n".join(part)))} & stops]
-        return [*it.lines[:starts[0]], *(line for part in kept for line in part)] if kept else it.lines
+        kept = [
+            part
+            for part in parts
+            if not {*sources.words_of(sources.without_comment("\n".join(part)))} & stops
+        ]
+        return (
+            [*it.lines[: starts[0]], *(line for part in kept for line in part)]
+            if kept
+            else it.lines
+        )
 
     def cited_by(self, key, stops):
         """The keys that a definition cites, in the order of its words."""
         it, found = self.definitions[key], {}
-        for word in sources.words_of(sources.without_comment("\n".join(self.lines_without(key, stops)))):
-            found.update({resolved: None for target in self.targets_of(it, word) if (resolved := self.resolve(target)) not in (None, key)})
+        for word in sources.words_of(
+            sources.without_comment("\n".join(self.lines_without(key, stops)))
+        ):
+            found.update(
+                {
+                    resolved: None
+                    for target in self.targets_of(it, word)
+                    if (resolved := self.resolve(target)) not in (None, key)
+                }
+            )
         return list(found)
 
     def targets_of(self, definition, word):
@@ -110,10 +139,17 @@ class Reading:
         """What the headline cites."""
         text = next(text for _, path, text in sources.read_files("src") if path == RUN_FILE)
         imports, found = sources.read_imports(text), {}
-        clauses = [clause for it in sources.read_functions() if (it.path, it.name) == (RUN_FILE, RUN) for clause in it.clauses]
+        clauses = [
+            clause
+            for it in sources.read_functions()
+            if (it.path, it.name) == (RUN_FILE, RUN)
+            for clause in it.clauses
+        ]
         headline = next(it for it in clauses if it.label == HEADLINE)
         for word in sources.words_of(headline.condition):
-            found.update({it: None for target in imports.targets(word) if (it := self.resolve(target))})
+            found.update(
+                {it: None for target in imports.targets(word) if (it := self.resolve(target))}
+            )
         return headline, list(found)
 
     def walk(self, starts, stops):
@@ -154,8 +190,10 @@ def unprinted(reading, order):
 
 def words_up_to_blank(path, line):
     """The words of a file from a line to the next blank line, without comments."""
-    lines = path.read_text(encoding="utf-8").split("\n")[line - 1:]
-    return sources.words_of(sources.without_comment("\n".join(itertools.takewhile(str.strip, lines))))
+    lines = path.read_text(encoding="utf-8").split("\n")[line - 1 :]
+    return sources.words_of(
+        sources.without_comment("\n".join(itertools.takewhile(str.strip, lines)))
+    )
 
 
 def lines_of_code(text):
@@ -167,12 +205,21 @@ def print_reading(reading, headline, order, stops):
     print(f"-- {RUN_FILE}: the theorem\n{headline.text}")
     last = None
     for key in order:
-        path, text = reading.types[key] if key in reading.types else (reading.definitions[key].path, None)
+        path, text = (
+            reading.types[key] if key in reading.types else (reading.definitions[key].path, None)
+        )
         if path != last:
             print(f"\n-- {path}")
             last = path
         it = reading.definitions.get(key)
-        print("\n" + (text if it is None else "\n".join([*it.comments, *reading.lines_without(key, stops)])))
+        print(
+            "\n"
+            + (
+                text
+                if it is None
+                else "\n".join([*it.comments, *reading.lines_without(key, stops)])
+            )
+        )
 
 
 def main():
@@ -180,11 +227,27 @@ def main():
     signal.signal(signal.SIGPIPE, signal.SIG_DFL)
     parser = argparse.ArgumentParser(description=__doc__.splitlines()[0])
     parser.add_argument("--count", action="store_true", help="print the numbers of lines alone")
-    parser.add_argument("--check", action="store_true", help="print the names that a printed definition uses and that are not printed")
-    parser.add_argument("command", nargs="?", choices=[*BEGINNINGS, []], default=[], metavar="COMMAND", help=", ".join(BEGINNINGS))
+    parser.add_argument(
+        "--check",
+        action="store_true",
+        help="print the names that a printed definition uses and that are not printed",
+    )
+    parser.add_argument(
+        "command",
+        nargs="?",
+        choices=[*BEGINNINGS, []],
+        default=[],
+        metavar="COMMAND",
+        help=", ".join(BEGINNINGS),
+    )
     words = parser.parse_args()
     reading = Reading()
-    stops = {name for command, names in BEGINNINGS.items() if words.command and command != words.command for name in names}
+    stops = {
+        name
+        for command, names in BEGINNINGS.items()
+        if words.command and command != words.command
+        for name in names
+    }
     stops.update(BESIDES.get(words.command, []) if words.command else [])
     headline, starts = reading.starts()
     order = reading.walk(starts, stops)

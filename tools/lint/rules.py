@@ -18,7 +18,13 @@ ANSWERS = {"Answers.antt", "Invariants.antt", "Proof.antt"}
 WORKED = "Worked.antt"
 # The crates that the steps of an expression are for: those that make them, the one that evaluates them, and the one that
 # says how far they reach.
-CRATES_OF_STEPS = {"cell_calc_grammar", "cell_calc_language", "cell_calc_binding", "cell_calc", "rcell_plan"}
+CRATES_OF_STEPS = {
+    "cell_calc_grammar",
+    "cell_calc_language",
+    "cell_calc_binding",
+    "cell_calc",
+    "rcell_plan",
+}
 EXAMPLE = re.compile(r"^//! ```\n(.*?)^//! ```$", re.MULTILINE | re.DOTALL)
 STEPS = re.compile(r"\.steps\(|\bstep::Step\b|declared\.step\b")
 GHOST_MEMBER = re.compile(r"^ *ghost \w+ = \{(.*?)\};", re.MULTILINE | re.DOTALL)
@@ -32,7 +38,11 @@ def wide_clauses():
     """Clauses whose first line is over 100 columns, by file."""
     counts = Counter()
     for _, path, text in sources.read_files("src"):
-        counts[path] += sum(1 for line in text.split("\n") if re.match(r"\s*(requires|ensures)\b", line) and len(line) > CLAUSE_COLUMNS)
+        counts[path] += sum(
+            1
+            for line in text.split("\n")
+            if re.match(r"\s*(requires|ensures)\b", line) and len(line) > CLAUSE_COLUMNS
+        )
     return counted(counts)
 
 
@@ -40,7 +50,11 @@ def widest_clauses():
     """Clauses that have a line over 120 columns, by file."""
     counts = Counter()
     for it in sources.read_functions():
-        counts[it.path] += sum(1 for clause in it.clauses if any(len(line) > LONGEST_CLAUSE for line in clause.text.split("\n")))
+        counts[it.path] += sum(
+            1
+            for clause in it.clauses
+            if any(len(line) > LONGEST_CLAUSE for line in clause.text.split("\n"))
+        )
     return counted(counts)
 
 
@@ -54,32 +68,66 @@ def wide_proofs():
 
 def crate_limits():
     """Crates over 100 functions, 1,600 lines of code or 5,000 lines of proofs."""
-    functions, code, proofs = Counter(it.crate for it in sources.read_functions()), Counter(), Counter()
+    functions, code, proofs = (
+        Counter(it.crate for it in sources.read_functions()),
+        Counter(),
+        Counter(),
+    )
     for crate, _, text in sources.read_files("src"):
-        code[crate] += sum(1 for line in text.split("\n") if line.strip() and not line.strip().startswith("//"))
+        code[crate] += sum(
+            1 for line in text.split("\n") if line.strip() and not line.strip().startswith("//")
+        )
     for crate, _, text in sources.read_files("proofs"):
         proofs[crate] += text.count("\n")
-    limits = (("functions", functions, MOST_FUNCTIONS), ("lines of code", code, MOST_CODE), ("lines of proofs", proofs, MOST_PROOFS))
-    return [f"{crate} {what} {counts[crate]}" for crate in sources.crate_names() for what, counts, most in limits if counts[crate] > most]
+    limits = (
+        ("functions", functions, MOST_FUNCTIONS),
+        ("lines of code", code, MOST_CODE),
+        ("lines of proofs", proofs, MOST_PROOFS),
+    )
+    return [
+        f"{crate} {what} {counts[crate]}"
+        for crate in sources.crate_names()
+        for what, counts, most in limits
+        if counts[crate] > most
+    ]
 
 
 def undocumented():
     """Public functions without a doc comment."""
-    return [f"{it.path} {it.name}" for it in sources.read_functions()
-            if it.is_public and not it.is_of_trait_impl and not any(line.startswith("///") for line in it.comments)]
+    return [
+        f"{it.path} {it.name}"
+        for it in sources.read_functions()
+        if it.is_public
+        and not it.is_of_trait_impl
+        and not any(line.startswith("///") for line in it.comments)
+    ]
 
 
 def names_alike():
     """The names that are meant to be in several files, as kind and name; tools/lint/names_alike.txt says why of each."""
-    lines = (pathlib.Path(__file__).resolve().parent / "names_alike.txt").read_text(encoding="utf-8").splitlines()
+    lines = (
+        (pathlib.Path(__file__).resolve().parent / "names_alike.txt")
+        .read_text(encoding="utf-8")
+        .splitlines()
+    )
     return {line.partition(": ")[0] for line in lines if line and not line.startswith("#")}
 
 
 def in_several(places, what):
     """Those names that are in several files and are not meant to, and those that are meant to and do not."""
-    several, alike = {name: paths for name, paths in places.items() if len(paths) > 1}, names_alike()
-    found = [f"{what} {name}: {', '.join(sorted(paths))}" for name, paths in sorted(several.items()) if f"{what} {name}" not in alike]
-    return found + [f"{it}: in names_alike.txt, and in one file" for it in sorted(alike) if it.startswith(f"{what} ") and it.partition(" ")[2] not in several]
+    several, alike = {
+        name: paths for name, paths in places.items() if len(paths) > 1
+    }, names_alike()
+    found = [
+        f"{what} {name}: {', '.join(sorted(paths))}"
+        for name, paths in sorted(several.items())
+        if f"{what} {name}" not in alike
+    ]
+    return found + [
+        f"{it}: in names_alike.txt, and in one file"
+        for it in sorted(alike)
+        if it.startswith(f"{what} ") and it.partition(" ")[2] not in several
+    ]
 
 
 def names():
@@ -89,21 +137,39 @@ def names():
         name = path.rpartition("/")[2].removesuffix(".rt")
         if name not in COMMON_FILES:
             modules[name].add(path)
-        for match in re.finditer(r"^(?:pub(?:\(crate\))? )?(?:struct|enum|trait|type) (\w+)", sources.blank_literals(text), re.MULTILINE):
+        for match in re.finditer(
+            r"^(?:pub(?:\(crate\))? )?(?:struct|enum|trait|type) (\w+)",
+            sources.blank_literals(text),
+            re.MULTILINE,
+        ):
             types[match.group(1)].add(path)
     for _, path, _ in sources.read_files("specs"):
         name = path.rpartition("/")[2].removesuffix(".antt")
         if name not in COMMON_SPECS:
             files[name].add(path)
     for it in sources.read_functions():
-        if it.is_public and not it.is_of_trait_impl and not it.container.startswith(("pub trait", "trait")) and it.name not in COMMON_FUNCTIONS:
+        if (
+            it.is_public
+            and not it.is_of_trait_impl
+            and not it.container.startswith(("pub trait", "trait"))
+            and it.name not in COMMON_FUNCTIONS
+        ):
             functions[it.name].add(it.path)
     for it in sources.read_definitions("specs").values():
         definitions[it.name].add(it.path)
         if it.kind in ("record", "data"):
             types[it.name].add(it.path)
-    return [line for places, what in ((modules, "module"), (files, "specs"), (functions, "function"), (definitions, "definition"), (types, "type"))
-            for line in in_several(places, what)]
+    return [
+        line
+        for places, what in (
+            (modules, "module"),
+            (files, "specs"),
+            (functions, "function"),
+            (definitions, "definition"),
+            (types, "type"),
+        )
+        for line in in_several(places, what)
+    ]
 
 
 def citations(kinds):
@@ -115,7 +181,13 @@ def citations(kinds):
             of_module[it.module].append(it)
     for kind in ("src", *kinds):
         for crate, path, text in sources.read_files(kind, True):
-            cite_file(edges, crate, path, text, of_module.get(sources.module_of(path), []) if kind != "src" else [])
+            cite_file(
+                edges,
+                crate,
+                path,
+                text,
+                of_module.get(sources.module_of(path), []) if kind != "src" else [],
+            )
     return edges
 
 
@@ -155,15 +227,27 @@ def reached_from(edges, starts):
 def uncited():
     """Definitions that no clause, definition or proof cites."""
     seen = reached_from(citations(("specs", "proofs")), [None])
-    found = [it for key, it in sources.read_definitions("specs").items() if key not in seen and it.kind != "lemma" and not is_infix(it.name)]
+    found = [
+        it
+        for key, it in sources.read_definitions("specs").items()
+        if key not in seen and it.kind != "lemma" and not is_infix(it.name)
+    ]
     return [f"{it.path} {it.name}" for it in sorted(found, key=lambda it: (it.path, it.line))]
 
 
 def dead_lemmas():
     """Definitions and lemmas of proofs that nothing proved uses, but for worked examples (Worked.antt)."""
     seen = reached_from(citations(("specs", "proofs")), [None])
-    return [f"{it.path} {it.name}" for key, it in sorted(sources.read_definitions("proofs", True).items(), key=lambda pair: (pair[1].path, pair[1].line))
-            if key not in seen and it.path.rpartition("/")[2] not in {*ANSWERS, WORKED} and not is_infix(it.name)]
+    return [
+        f"{it.path} {it.name}"
+        for key, it in sorted(
+            sources.read_definitions("proofs", True).items(),
+            key=lambda pair: (pair[1].path, pair[1].line),
+        )
+        if key not in seen
+        and it.path.rpartition("/")[2] not in {*ANSWERS, WORKED}
+        and not is_infix(it.name)
+    ]
 
 
 def is_infix(name):
@@ -174,8 +258,12 @@ def is_infix(name):
 def citing_of_public():
     """The (module, name) pairs that clauses of public functions, traits and models cite, and members of what implements them."""
     texts = {path: text for _, path, text in sources.read_files("src", True)}
-    found = {it for text in texts.values() for member in GHOST_MEMBER.findall(text)
-             for it in sources.targets_in(member, sources.read_imports(text))}
+    found = {
+        it
+        for text in texts.values()
+        for member in GHOST_MEMBER.findall(text)
+        for it in sources.targets_in(member, sources.read_imports(text))
+    }
     for it in sources.read_functions(True):
         if it.is_public or it.container:
             imports = sources.read_imports(texts[it.path])
@@ -188,37 +276,78 @@ def parts():
     """Definitions outside specs/parts/ that no contract of a public function uses."""
     definitions = sources.read_definitions("specs", True)
     seen = reached_from(citations(("specs",)), citing_of_public())
-    return [f"{it.path} {it.name}" for key, it in sorted(definitions.items(), key=lambda pair: (pair[1].path, pair[1].line))
-            if key not in seen and "/specs/parts/" not in it.path and not sources.OF_TESTS.match(it.crate) and it.kind != "lemma"]
+    return [
+        f"{it.path} {it.name}"
+        for key, it in sorted(definitions.items(), key=lambda pair: (pair[1].path, pair[1].line))
+        if key not in seen
+        and "/specs/parts/" not in it.path
+        and not sources.OF_TESTS.match(it.crate)
+        and it.kind != "lemma"
+    ]
 
 
 def steps():
     """Places outside the crates of expressions that see the steps of one."""
-    return sorted({path for kind in ("src", "specs") for crate, path, text in sources.read_files(kind, True)
-                   if crate not in CRATES_OF_STEPS and STEPS.search(sources.without_comment(text))})
+    return sorted(
+        {
+            path
+            for kind in ("src", "specs")
+            for crate, path, text in sources.read_files(kind, True)
+            if crate not in CRATES_OF_STEPS and STEPS.search(sources.without_comment(text))
+        }
+    )
 
 
 def unused_edges():
     """Libraries that crates.txt lists for a crate whose sources do not name them."""
     found = []
     for crate, used in sources.crate_edges().items():
-        texts = [text for kind in ("src", "specs", "proofs") for of, _, text in sources.read_files(kind, True) if of == crate]
-        found += [f"{crate} {name}" for name in used if not any(re.search(rf"\b{name}\b", text) for text in texts)]
+        texts = [
+            text
+            for kind in ("src", "specs", "proofs")
+            for of, _, text in sources.read_files(kind, True)
+            if of == crate
+        ]
+        found += [
+            f"{crate} {name}"
+            for name in used
+            if not any(re.search(rf"\b{name}\b", text) for text in texts)
+        ]
     return found
+
+
+def without_layout(text):
+    """A text without blanks, line ends and the commas that a formatter adds."""
+    return "".join(text.split()).replace(",)", ")")
 
 
 def examples():
     """Crates whose first comment has an example that is in no test, word for word."""
-    tests = [text for crate, _, text in sources.read_files("src", True) if sources.OF_TESTS.match(crate)]
-    tests += [path.read_text(encoding="utf-8") for path in (sources.CRATES.parent / "tools").rglob("test_*.py")]
-    known = [" ".join(text.split()) for text in tests]
-    return [crate for crate, _, text in sources.read_files("src") for found in EXAMPLE.findall(text)
-            if not any(" ".join(found.replace("//!", "").split()) in it for it in known)]
+    tests = [
+        text for crate, _, text in sources.read_files("src", True) if sources.OF_TESTS.match(crate)
+    ]
+    tests += [
+        path.read_text(encoding="utf-8")
+        for path in (sources.CRATES.parent / "tools").rglob("test_*.py")
+    ]
+    known = [without_layout(text) for text in tests]
+    return [
+        crate
+        for crate, _, text in sources.read_files("src")
+        for found in EXAMPLE.findall(text)
+        if not any(without_layout(found.replace("//!", "")) in it for it in known)
+    ]
 
 
 def symbolic_links():
     """Symbolic links, which rt ci rejects wherever they are."""
-    listed = subprocess.run(["git", "ls-files", "-s"], cwd=sources.CRATES.parent, capture_output=True, text=True, check=True).stdout
+    listed = subprocess.run(
+        ["git", "ls-files", "-s"],
+        cwd=sources.CRATES.parent,
+        capture_output=True,
+        text=True,
+        check=True,
+    ).stdout
     return [line.split("\t")[1] for line in listed.splitlines() if line.startswith("120000 ")]
 
 
@@ -227,6 +356,24 @@ def words():
     return counted({name: len(found) for name, found in prose.retired_by_file().items()})
 
 
-ALL = {it.__name__: it for it in (wide_clauses, widest_clauses, wide_proofs, crate_limits, undocumented, names, uncited, dead_lemmas, parts, steps,
-                                  unused_edges, examples, symbolic_links, licences_of_files.licences, words)}
+ALL = {
+    it.__name__: it
+    for it in (
+        wide_clauses,
+        widest_clauses,
+        wide_proofs,
+        crate_limits,
+        undocumented,
+        names,
+        uncited,
+        dead_lemmas,
+        parts,
+        steps,
+        unused_edges,
+        examples,
+        symbolic_links,
+        licences_of_files.licences,
+        words,
+    )
+}
 COUNTED = {"wide_clauses", "widest_clauses", "wide_proofs", "words"}

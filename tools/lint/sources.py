@@ -10,12 +10,18 @@ from dataclasses import dataclass, field
 
 CRATES = pathlib.Path(__file__).resolve().parents[2] / "crates"
 OF_TESTS = re.compile(r".*_tests$|cell_core_test_maps$")
-FUNCTION = re.compile(r"^([ \t]*)((?:pub(?:\([a-z]+\))? )?(?:const )?(?:unsafe )?)fn (\w+)", re.MULTILINE)
+FUNCTION = re.compile(
+    r"^([ \t]*)((?:pub(?:\([a-z]+\))? )?(?:const )?(?:unsafe )?)fn (\w+)", re.MULTILINE
+)
 KEYWORD = re.compile(r"requires\b|ensures\b|decreases\b|\{|;")
 CONTAINER = re.compile(r"^(impl\b[^{;]*|(?:pub )?trait [^{;]*)\{", re.MULTILINE)
-IMPORT = re.compile(r"\s*(?:pub )?(?:ghost )?use Rattle\.([^\s{}]+?)(?:\.\{(.*)\})?(?: as (\w+))?;?\s*$")
+IMPORT = re.compile(
+    r"\s*(?:pub )?(?:ghost )?use Rattle\.([^\s{}]+?)(?:\.\{(.*)\})?(?: as (\w+))?;?\s*$"
+)
 USE = re.compile(r"\s*(?:pub )?(?:ghost )?use ")
-USE_OF_MANY_LINES = re.compile(r"^(\s*(?:pub )?(?:ghost )?use [^{}\n]*\{)([^{}]*\n[^{}]*)(\}.*)$", re.MULTILINE)
+USE_OF_MANY_LINES = re.compile(
+    r"^(\s*(?:pub )?(?:ghost )?use [^{}\n]*\{)([^{}]*\n[^{}]*)(\}.*)$", re.MULTILINE
+)
 CITED_PATH = re.compile(r"(?:crate|\w+)::(?:specs|proofs)::[\w:\-]+")
 WORD = re.compile(r"[^\s(){}\[\],;=]+")
 DEFINITION = re.compile(r"(\s*)(abbrev |unfoldable )?(pub )?([^\s:(){}]+) (?:\([^:]*\) )*: ")
@@ -104,9 +110,11 @@ def crate_names(with_tests=False):
 
 def with_short_imports(text):
     """A text whose imports are on one line each, with blank lines after them, so that the others keep their numbers."""
+
     def joined(match):
         names = ", ".join(name.strip() for name in match[2].split(",") if name.strip())
         return match[1] + names + match[3] + "\n" * match[2].count("\n")
+
     return USE_OF_MANY_LINES.sub(joined, text)
 
 
@@ -114,8 +122,11 @@ def with_short_imports(text):
 def read_files(kind, with_tests=False):
     """The files of src, specs or proofs: a list of crate, path below crates/ and text."""
     suffix = ".rt" if kind == "src" else ".antt"
-    return [(crate, str(path.relative_to(CRATES)), path.read_text(encoding="utf-8"))
-            for crate in crate_names(with_tests) for path in sorted((CRATES / crate / kind).rglob(f"*{suffix}"))]
+    return [
+        (crate, str(path.relative_to(CRATES)), path.read_text(encoding="utf-8"))
+        for crate in crate_names(with_tests)
+        for path in sorted((CRATES / crate / kind).rglob(f"*{suffix}"))
+    ]
 
 
 def module_of(path):
@@ -168,7 +179,11 @@ def closing_place(text, at):
 def comments_above(text, start):
     """The lines of comments and attributes right above a place."""
     found = []
-    for line in reversed(text[:start].rstrip("\n").split("\n") if text[:start].endswith("\n") else text[:start].split("\n")):
+    for line in reversed(
+        text[:start].rstrip("\n").split("\n")
+        if text[:start].endswith("\n")
+        else text[:start].split("\n")
+    ):
         if not re.match(r"\s*(///|//|#\[)", line):
             break
         found.append(line.strip())
@@ -183,8 +198,15 @@ def clauses_after(text, blanked, at):
             break
         opening = blanked.index("{", keyword.end())
         end = closing_place(blanked, opening)
-        found.append(Clause(keyword.group(), text[keyword.end():opening].strip(), text[opening + 1:end].strip(),
-                            text[keyword.start():end + 1], blanked[:keyword.start()].count("\n") + 1))
+        found.append(
+            Clause(
+                keyword.group(),
+                text[keyword.end() : opening].strip(),
+                text[opening + 1 : end].strip(),
+                text[keyword.start() : end + 1],
+                blanked[: keyword.start()].count("\n") + 1,
+            )
+        )
         at = end + 1
     return found
 
@@ -205,9 +227,18 @@ def read_functions(with_tests=False):
         blanked = blank_literals(text)
         for match in FUNCTION.finditer(blanked):
             parameters = closing_place(blanked, blanked.index("(", match.end()))
-            found.append(Function(crate, path, match.group(3), match.group(2).startswith("pub "), blanked[:match.start()].count("\n") + 1,
-                                  container_of(blanked, match.start()), comments_above(text, match.start()),
-                                  clauses_after(text, blanked, parameters + 1)))
+            found.append(
+                Function(
+                    crate,
+                    path,
+                    match.group(3),
+                    match.group(2).startswith("pub "),
+                    blanked[: match.start()].count("\n") + 1,
+                    container_of(blanked, match.start()),
+                    comments_above(text, match.start()),
+                    clauses_after(text, blanked, parameters + 1),
+                )
+            )
     return found
 
 
@@ -247,15 +278,24 @@ def definitions_of(crate, path, text):
         of_type, of_value = TYPE_DEFINITION.match(line), DEFINITION.match(line)
         if of_type and indent == outermost:
             kind, name = of_type.group(3), of_type.group(4)
-        elif of_value and (current is None or comments) and indent == outermost and not re.match(r"\s*unfolding", line):
-            kind, name = ("definition" if of_value.group(2) or outermost else "lemma"), of_value.group(4)
+        elif (
+            of_value
+            and (current is None or comments)
+            and indent == outermost
+            and not re.match(r"\s*unfolding", line)
+        ):
+            kind, name = (
+                "definition" if of_value.group(2) or outermost else "lemma"
+            ), of_value.group(4)
         else:
             if current is not None:
                 current.lines += [*comments, line]
             comments = []
             continue
         above = [comment.strip() for comment in comments]
-        current = Definition(crate, path, module_of(path), name, kind, number, above, [line], imports)
+        current = Definition(
+            crate, path, module_of(path), name, kind, number, above, [line], imports
+        )
         comments = []
         found.append(current)
     return found
@@ -264,7 +304,11 @@ def definitions_of(crate, path, text):
 @functools.cache
 def read_definitions(kind, with_tests=False):
     """The definitions of specs or of proofs by (module, name)."""
-    return {(it.module, it.name): it for crate, path, text in read_files(kind, with_tests) for it in definitions_of(crate, path, text)}
+    return {
+        (it.module, it.name): it
+        for crate, path, text in read_files(kind, with_tests)
+        for it in definitions_of(crate, path, text)
+    }
 
 
 def words_of(text):

@@ -41,7 +41,11 @@ def cases_of(room: str) -> Cases:
     for case in folders():
         if os.path.exists(f"{case}/output"):
             continue
-        expected, folder, name = answer_to_case(case, room), f"{room}/{os.path.basename(case)}", case[len(ROOT) + 1 :]
+        expected, folder, name = (
+            answer_to_case(case, room),
+            f"{room}/{os.path.basename(case)}",
+            case[len(ROOT) + 1 :],
+        )
         made = made_of(case, folder)
         if made:
             cases.made[name] = made
@@ -56,6 +60,7 @@ def with_text(made: Made, path: str, text: bytes) -> Made:
 
 def answer_of_stopped(made: Made, place: int, stopped) -> model.Answer:
     """What the model gives if the file at a place, the script being 0, gives what `stopped` makes of its text."""
+
     def given(at, path):
         text = made.files[path]
         return stopped(text) if at == place else text

@@ -65,7 +65,10 @@ def output_to(place):
 
 def folders():
     """The folders of cases: all of cases/, and those in examples/ that have the words of a run."""
-    return sorted(glob.glob(f"{ROOT}/cases/*") + [os.path.dirname(it) for it in glob.glob(f"{ROOT}/examples/*/args")])
+    return sorted(
+        glob.glob(f"{ROOT}/cases/*")
+        + [os.path.dirname(it) for it in glob.glob(f"{ROOT}/examples/*/args")]
+    )
 
 
 def words_of(case):
@@ -73,14 +76,24 @@ def words_of(case):
 
 
 def expected_of_case(case):
-    return model.Answer(int(read(f"{case}/status", b"0")), read(f"{case}/stdout"), read(f"{case}/stderr"))
+    return model.Answer(
+        int(read(f"{case}/status", b"0")), read(f"{case}/stdout"), read(f"{case}/stderr")
+    )
 
 
 def run_to(output, case, folder, restore_signals=True, **more):
     """Runs the program in the folder with the words of the case and its standard output to a file or a pipe."""
     environment = {"PATH": "/usr/bin:/bin", **more}
-    ran = subprocess.run([PROGRAM.encode(), *words_of(case)], cwd=folder, stdin=subprocess.DEVNULL, stdout=output,
-                         stderr=subprocess.PIPE, timeout=120, env=environment, restore_signals=restore_signals)
+    ran = subprocess.run(
+        [PROGRAM.encode(), *words_of(case)],
+        cwd=folder,
+        stdin=subprocess.DEVNULL,
+        stdout=output,
+        stderr=subprocess.PIPE,
+        timeout=120,
+        env=environment,
+        restore_signals=restore_signals,
+    )
     return model.Answer(ran.returncode, ran.stdout or b"", ran.stderr)
 
 
@@ -101,7 +114,11 @@ def refusal(wanted, got):
     if got.status != 3 or not told:
         return None
     source, line = told[1], int(told[2])
-    is_place = source in (b"arguments", b"script", *wanted.grids) if line == 0 else source == b"script" and line in dict(wanted.parts)
+    is_place = (
+        source in (b"arguments", b"script", *wanted.grids)
+        if line == 0
+        else source == b"script" and line in dict(wanted.parts)
+    )
     before = b"".join(output for at, output in wanted.parts if at < line)
     return (source.decode(), line, len(before)) if is_place and got.output == before else None
 
@@ -117,7 +134,12 @@ def refused_in_turn(case, folder, shim, room, wanted):
         got = run(case, folder, LD_PRELOAD=shim, REFUSE_AT=str(at), REFUSE_COUNT=count)
         asked = int(read(count) or b"0")
         if asked < at:
-            return at - 1, wrong_refusals(case, found) if got == wanted else f"growth {at} was not asked for, and yet {got}"
+            return (
+                at - 1,
+                wrong_refusals(case, found)
+                if got == wanted
+                else f"growth {at} was not asked for, and yet {got}",
+            )
         told = refusal(wanted, got)
         if told:
             found.add(told)
@@ -130,7 +152,11 @@ def wrong_refusals(case, found):
     """What is wrong with where growths were denied, if the case says where that is."""
     lines = (line.split() for line in read(f"{case}/refused").decode().splitlines())
     wanted = {(source, int(line), int(count)) for source, line, count in lines}
-    return f"refused at {sorted(found)}, and not at {sorted(wanted)}" if wanted and found != wanted else ""
+    return (
+        f"refused at {sorted(found)}, and not at {sorted(wanted)}"
+        if wanted and found != wanted
+        else ""
+    )
 
 
 def run_limited(case, folder, size):
@@ -151,7 +177,9 @@ def limited_in_turn(case, folder, wanted):
     sizes = range(len(wanted.output) if len(wanted.output) <= LONGEST_LIMITED else 0)
     for size in sizes:
         got = run_limited(case, folder, size)
-        if got != model.Answer(4, wanted.output[:size], b"rcell: output:0: write failed after %d bytes\n" % size):
+        if got != model.Answer(
+            4, wanted.output[:size], b"rcell: output:0: write failed after %d bytes\n" % size
+        ):
             return size + 1, f"with an output of {size} bytes: {got}"
     return len(sizes), ""
 
@@ -187,8 +215,21 @@ class Count:
 
 
 def build_shim(clang, path, name="refuse"):
-    subprocess.run([clang, "--target=x86_64-unknown-linux-gnu", "-O1", "-fPIC", "-shared", "-nostdlib", "-fuse-ld=lld",
-                    "-o", path, f"{ROOT}/tools/hostile/{name}.c"], check=True)
+    subprocess.run(
+        [
+            clang,
+            "--target=x86_64-unknown-linux-gnu",
+            "-O1",
+            "-fPIC",
+            "-shared",
+            "-nostdlib",
+            "-fuse-ld=lld",
+            "-o",
+            path,
+            f"{ROOT}/tools/hostile/{name}.c",
+        ],
+        check=True,
+    )
 
 
 def main():
@@ -198,8 +239,13 @@ def main():
         build_shim(sys.argv[1], shim)
         for case in folders():
             wrong, grown, cut = judge(case, room, shim)
-            refusals = f", {grown} growths refused in turn" * bool(grown) + f", an output of {cut} sizes" * bool(cut)
-            print(f"{case[len(ROOT) + 1 :]}: {'FAILED: ' + wrong if wrong else 'ok' + refusals}", flush=True)
+            refusals = f", {grown} growths refused in turn" * bool(
+                grown
+            ) + f", an output of {cut} sizes" * bool(cut)
+            print(
+                f"{case[len(ROOT) + 1 :]}: {'FAILED: ' + wrong if wrong else 'ok' + refusals}",
+                flush=True,
+            )
             passed, failed = passed + (not wrong), failed + bool(wrong)
     print(f"{passed} passed, {failed} failed")
     return 1 if failed else 0

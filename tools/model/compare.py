@@ -27,7 +27,32 @@ from made_stretches import make_stretches
 
 ROOT = os.path.abspath(f"{__file__}/../../..")
 MAKERS = {"any": make, "stretches": make_stretches}
-PIECES = [1, 2, 3, 4, 5, 6, 7, 8, 9, 11, 13, 15, 16, 17, 31, 32, 33, 63, 64, 65, 100, 255, 1000, 4095]
+PIECES = [
+    1,
+    2,
+    3,
+    4,
+    5,
+    6,
+    7,
+    8,
+    9,
+    11,
+    13,
+    15,
+    16,
+    17,
+    31,
+    32,
+    33,
+    63,
+    64,
+    65,
+    100,
+    255,
+    1000,
+    4095,
+]
 
 
 def read(path, otherwise=b""):
@@ -70,9 +95,11 @@ class Program:
         self.path, self.room = os.path.abspath(path), room
         self.output, self.told, self.count = (f"{room}/{name}" for name in ("out", "err", "count"))
         opening = os.O_WRONLY | os.O_CREAT | os.O_TRUNC
-        self.actions = [(os.POSIX_SPAWN_OPEN, 0, "/dev/null", os.O_RDONLY, 0),
-                        (os.POSIX_SPAWN_OPEN, 1, self.output, opening, 0o600),
-                        (os.POSIX_SPAWN_OPEN, 2, self.told, opening, 0o600)]
+        self.actions = [
+            (os.POSIX_SPAWN_OPEN, 0, "/dev/null", os.O_RDONLY, 0),
+            (os.POSIX_SPAWN_OPEN, 1, self.output, opening, 0o600),
+            (os.POSIX_SPAWN_OPEN, 2, self.told, opening, 0o600),
+        ]
         os.chdir(room)
 
     def put(self, made: Made):
@@ -84,7 +111,9 @@ class Program:
 
     def answer(self, words, **more) -> model.Answer:
         environment = {"PATH": "/usr/bin:/bin", **more}
-        child = os.posix_spawn(self.path, [self.path, *words], environment, file_actions=self.actions)
+        child = os.posix_spawn(
+            self.path, [self.path, *words], environment, file_actions=self.actions
+        )
         status = os.waitstatus_to_exitcode(os.waitpid(child, 0)[1])
         return model.Answer(status, read(self.output), read(self.told))
 
@@ -130,7 +159,9 @@ def wrong_answer(program, made, expected, shims, choice):
     program.put(made)
     got = program.answer(made.words)
     if got == expected and shims["devices"] and choice.random() < 2 / 3:
-        got = program.answer(made.words, LD_PRELOAD=shims["devices"], READ_PIECE=str(choice.choice(PIECES)))
+        got = program.answer(
+            made.words, LD_PRELOAD=shims["devices"], READ_PIECE=str(choice.choice(PIECES))
+        )
     if got != expected or not shims["refuse"]:
         return None if got == expected else got
     shim = shims["refuse"]
@@ -144,7 +175,9 @@ def wrong_answer(program, made, expected, shims, choice):
 def compare_runs(settings):
     differences, kinds = 0, collections.Counter()
     kept = os.path.abspath(settings.keep)
-    with tempfile.TemporaryDirectory(prefix="rcell-runs-", dir="/dev/shm" if os.path.isdir("/dev/shm") else None) as room:
+    with tempfile.TemporaryDirectory(
+        prefix="rcell-runs-", dir="/dev/shm" if os.path.isdir("/dev/shm") else None
+    ) as room:
         clangs = {"refuse": settings.refuse, "devices": settings.pieces}
         shims = {name: f"{room}/{name}.so" if clang else "" for name, clang in clangs.items()}
         for name, shim in shims.items():
@@ -160,7 +193,10 @@ def compare_runs(settings):
             if wrong:
                 differences += 1
                 keep(f"{kept}/{settings.seed}-{number}", made, expected, wrong)
-                print(f"run {number} of seed {settings.seed} differs: {kept}/{settings.seed}-{number}", flush=True)
+                print(
+                    f"run {number} of seed {settings.seed} differs: {kept}/{settings.seed}-{number}",
+                    flush=True,
+                )
         os.chdir(ROOT)
     for kind, count in kinds.most_common():
         print(f"{count:8} {kind}")
@@ -169,7 +205,9 @@ def compare_runs(settings):
 
 
 def main():
-    words = argparse.ArgumentParser(description=__doc__, formatter_class=argparse.RawDescriptionHelpFormatter)
+    words = argparse.ArgumentParser(
+        description=__doc__, formatter_class=argparse.RawDescriptionHelpFormatter
+    )
     words.add_argument("--cases", action="store_true")
     words.add_argument("--runs", type=int)
     words.add_argument("--seed", type=int, default=1)

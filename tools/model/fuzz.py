@@ -28,9 +28,41 @@ from made_stretches import make_stretches
 
 COMMANDS = (b"r.mapcalc", b"r.reclass", b"r.clump", b"r.stats", b"r.out.ascii")
 MOST_TRIALS = 3000  # how often a run that differs is made again to make it smaller
-WORDS = [b"", b"-", b"--help", b"-h", b"--", b"-c", b"script", b"other", b".", b"/", b"=", b"g", b"g=", b"=grid0", b"g=grid0",
-         b"1a=grid0", b"g=other", b"g=.", b"g=a=b", b"h=grid0", b"script=grid0", b"\xff", b"g=\xff", b"\xff=grid0", b"g= grid0",
-         b"A" * 64 + b"=grid0", b"A" * 65 + b"=grid0", b"g=script", b"g\xc3\xa4=grid0", b"g=grid0 ", b" =grid0", b"@file", b"g=/dev/null"]
+WORDS = [
+    b"",
+    b"-",
+    b"--help",
+    b"-h",
+    b"--",
+    b"-c",
+    b"script",
+    b"other",
+    b".",
+    b"/",
+    b"=",
+    b"g",
+    b"g=",
+    b"=grid0",
+    b"g=grid0",
+    b"1a=grid0",
+    b"g=other",
+    b"g=.",
+    b"g=a=b",
+    b"h=grid0",
+    b"script=grid0",
+    b"\xff",
+    b"g=\xff",
+    b"\xff=grid0",
+    b"g= grid0",
+    b"A" * 64 + b"=grid0",
+    b"A" * 65 + b"=grid0",
+    b"g=script",
+    b"g\xc3\xa4=grid0",
+    b"g=grid0 ",
+    b" =grid0",
+    b"@file",
+    b"g=/dev/null",
+]
 
 
 # Runs made at random
@@ -40,8 +72,22 @@ def damaged_bytes(choice: random.Random, text: bytes) -> bytes:
     """The text with a few of its bytes turned, left out, doubled, put in or cut off."""
     for _ in range(choice.randint(1, 3)):
         at, length = choice.randint(0, len(text)), choice.choice((1, 1, 2, 5))
-        piece = choice.choice((bytes([choice.randint(0, 255)]), choice.choice(ODD_BYTES), text[at : at + length] * 2, b""))
-        text = choice.choice((text[:at] + piece + text[at:], text[:at] + piece + text[at + length :], text[:at], text[at:]))
+        piece = choice.choice(
+            (
+                bytes([choice.randint(0, 255)]),
+                choice.choice(ODD_BYTES),
+                text[at : at + length] * 2,
+                b"",
+            )
+        )
+        text = choice.choice(
+            (
+                text[:at] + piece + text[at:],
+                text[:at] + piece + text[at + length :],
+                text[:at],
+                text[at:],
+            )
+        )
     return text
 
 
@@ -62,7 +108,9 @@ def of_cases(choice: random.Random, cases: list[Made]) -> Made:
     return Made(files, grids)
 
 
-def with_script(choice: random.Random, lines: Callable[[ScriptMaker, list[bytes]], list[bytes]]) -> Made:
+def with_script(
+    choice: random.Random, lines: Callable[[ScriptMaker, list[bytes]], list[bytes]]
+) -> Made:
     """Good grids and a script of one kind of line; some of these lines are a little bad."""
     maker = ScriptMaker(choice)
     names = maker.random.sample([b"a", b"b", b"g"], maker.number(1, 2))
@@ -81,7 +129,10 @@ def of_expressions(choice: random.Random, cases: list[Made]) -> Made:
         text = []
         for _ in range(maker.number(1, 4)):
             target = maker.target(known)
-            text.append(b"r.mapcalc" + maker.assignment_of(target, maker.expression(maker.number(2, 7), known)))
+            text.append(
+                b"r.mapcalc"
+                + maker.assignment_of(target, maker.expression(maker.number(2, 7), known))
+            )
             known.append(target)
         return text
 
@@ -103,13 +154,22 @@ def of_words(choice: random.Random, cases: list[Made]) -> Made:
     made = make(choice)
     words = [choice.choice(WORDS) for _ in range(choice.randint(0, 4))]
     if choice.random() < 0.5:
-        words = [choice.choice(([word], [word], [], [word, choice.choice(WORDS)])) for word in made.words]
+        words = [
+            choice.choice(([word], [word], [], [word, choice.choice(WORDS)])) for word in made.words
+        ]
         words = [word for some in words for word in some]
     return replace(made, other_words=words)
 
 
-KINDS = [(lambda choice, cases: make(choice), 40), (damaged, 15), (of_cases, 10), (of_expressions, 20), (of_rules, 10), (of_words, 5),
-         (lambda choice, cases: make_stretches(choice), 10)]
+KINDS = [
+    (lambda choice, cases: make(choice), 40),
+    (damaged, 15),
+    (of_cases, 10),
+    (of_expressions, 20),
+    (of_rules, 10),
+    (of_words, 5),
+    (lambda choice, cases: make_stretches(choice), 10),
+]
 
 
 def made_at(seed: int, number: int, cases: list[Made]) -> Made:
@@ -165,11 +225,20 @@ class Shrinking:
 
     def small(self) -> Made:
         if self.made.other_words is None:
-            without_pieces(self.made.grids, lambda grids: bool(grids) and self.differs(replace(self.made, grids=grids)))
+            without_pieces(
+                self.made.grids,
+                lambda grids: bool(grids) and self.differs(replace(self.made, grids=grids)),
+            )
             used = {"script", *(path for _, path in self.made.grids)}
-            self.made = replace(self.made, files={path: text for path, text in self.made.files.items() if path in used})
+            self.made = replace(
+                self.made,
+                files={path: text for path, text in self.made.files.items() if path in used},
+            )
         else:
-            without_pieces(self.made.other_words, lambda words: self.differs(replace(self.made, other_words=words)))
+            without_pieces(
+                self.made.other_words,
+                lambda words: self.differs(replace(self.made, other_words=words)),
+            )
         for path in list(self.made.files):
             self.shrink(path, lambda text: text.splitlines(keepends=True))
             self.shrink(path, lambda text: [text[at : at + 1] for at in range(len(text))])
@@ -177,7 +246,9 @@ class Shrinking:
 
     def shrink(self, path: str, cut: Callable[[bytes], list[bytes]]) -> None:
         def is_wrong(pieces):
-            return self.differs(replace(self.made, files={**self.made.files, path: b"".join(pieces)}))
+            return self.differs(
+                replace(self.made, files={**self.made.files, path: b"".join(pieces)})
+            )
 
         without_pieces(cut(self.made.files[path]), is_wrong)
 
@@ -206,7 +277,9 @@ class Counts:
 
 def fuzz(settings, program: Program) -> int:
     whole = cases_of(f"{program.room}/cases").made.values()
-    cases = [made for made in whole if all(len(text) <= LONGEST_WHOLE for text in made.files.values())]
+    cases = [
+        made for made in whole if all(len(text) <= LONGEST_WHOLE for text in made.files.values())
+    ]
     counts, differences, number = Counts(), 0, settings.first
     begun = time.monotonic()
     while time.monotonic() - begun < settings.seconds:
@@ -222,13 +295,17 @@ def fuzz(settings, program: Program) -> int:
         number += 1
     runs, seconds = number - settings.first, time.monotonic() - begun
     counts.show()
-    print(f"seed {settings.seed}, runs {settings.first} to {number - 1}, in {seconds:.0f} s: {runs / seconds:.0f} a second")
+    print(
+        f"seed {settings.seed}, runs {settings.first} to {number - 1}, in {seconds:.0f} s: {runs / seconds:.0f} a second"
+    )
     print(f"{runs} runs, {differences} differences")
     return differences
 
 
 def main():
-    parser = argparse.ArgumentParser(description=__doc__, formatter_class=argparse.RawDescriptionHelpFormatter)
+    parser = argparse.ArgumentParser(
+        description=__doc__, formatter_class=argparse.RawDescriptionHelpFormatter
+    )
     parser.add_argument("--seconds", type=float, default=60)
     parser.add_argument("--seed", type=int, default=int(time.time()))
     parser.add_argument("--first", type=int, default=0)
@@ -236,7 +313,9 @@ def main():
     parser.add_argument("--keep", default=os.path.join(tempfile.gettempdir(), "rcell-fuzz"))
     settings = parser.parse_args()
     settings.keep = os.path.abspath(settings.keep)
-    with tempfile.TemporaryDirectory(prefix="rcell-fuzz-", dir="/dev/shm" if os.path.isdir("/dev/shm") else None) as room:
+    with tempfile.TemporaryDirectory(
+        prefix="rcell-fuzz-", dir="/dev/shm" if os.path.isdir("/dev/shm") else None
+    ) as room:
         os.mkdir(f"{room}/run")
         program = Program(settings.program, room)
         os.chdir(f"{room}/run")

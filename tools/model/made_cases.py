@@ -10,36 +10,123 @@ WRONG_NAMES = [b"", b"A" * 65, *b"1a a-b h unknown a,b * a=b \xff a@b".split()]
 CATEGORIES = [1, 1, 1, 2, 2, 3, 0, -1, 5, 10, 65536, 2147483647, -2147483647]
 NUMBERS = [0, 1, 1, 2, 2, 3, 4, 7, 10, 46341, 65536, 1073741824, 2147483646, 2147483647]
 WRONG_NUMBERS = [b"", *b"2147483648 -2147483648 1.5 x 1x - + 1e3 * 99999999999999999999".split()]
-LABELS = [b"low", b"b", b"two words", b"=", b"# no", b"a\tb", b"no data", b"l\xc3\xa4nge", b"\xff|", b"5", b"end"]
+LABELS = [
+    b"low",
+    b"b",
+    b"two words",
+    b"=",
+    b"# no",
+    b"a\tb",
+    b"no data",
+    b"l\xc3\xa4nge",
+    b"\xff|",
+    b"5",
+    b"end",
+]
 
 # What is put into texts to spoil them.
 ODD_BYTES = b": * - + = , . # 0 9 a \x00 \xff & | [ ) ( ? 1 65536".split()
 ODD_BYTES += [b" ", b"\t", b"\r", b"\n", b"\r\n", b"\n\n", b"\x0b", b"end\n", b" thru "]
 ODD_COORDINATES = [b"", b"1 2", *b"1e5 . 12345678901 1.123456789 - 3N 0:0:1 00000000000".split()]
 ODD_HEADER_LINES = [(b"rows", b"2"), (b"colour", b"1"), (b"", b"3"), (b"North", b"3")]
-ODD_CELLS = WRONG_NUMBERS + [b"9" * 64, b"0" * 63 + b"1", b"1" * 65, *b"a:b 2147483647 null -0 1,2".split()]
+ODD_CELLS = WRONG_NUMBERS + [
+    b"9" * 64,
+    b"0" * 63 + b"1",
+    b"1" * 65,
+    *b"a:b 2147483647 null -0 1,2".split(),
+]
 ODD_GRIDS = [b"", b"\n", b" ", b"1 2 3", b"north: 3", b"\r\n\r\n"]
-ODD_OFFSETS = [offset.split() for offset in (b"256", b"- 256", b"- - 1", b"a", b"2147483648", b"+ 300", b"( 1 )")]
+ODD_OFFSETS = [
+    offset.split()
+    for offset in (b"256", b"- 256", b"- - 1", b"a", b"2147483648", b"+ 300", b"( 1 )")
+]
 ODD_OPTIONS = b"""- -x --c -c=1 colour=1 input = =3 input=a -cc after=1 -d output=new null_value=: separator= INPUT=a -1 #
     null_value=\x7f""".split()
 ODD_SEPARATORS = [b"", b"newline", b"ab", b"\x80", b"Comma"]
 ODD_NULL_VALUES = [b"", b"x" * 65, b"\xff", b"a:b", b":"]
-ODD_ITEMS = [b"", b"thru", b"1 thru", b"thru 1", b"*", b"1 thru thru", b"1 thru 2 thru 3", b"NULL", b"x", b"1-3"]
+ODD_ITEMS = [
+    b"",
+    b"thru",
+    b"1 thru",
+    b"thru 1",
+    b"*",
+    b"1 thru thru",
+    b"1 thru 2 thru 3",
+    b"NULL",
+    b"x",
+    b"1-3",
+]
 ODD_ITEMS += [b"2147483648", b"* thru 2"]
-ODD_RULES = [b"end,", b"end = 5", b"1", b"=", b"1 =", b"= 5", b"1 = thru", b"1 = *", b",# x", b"1 = x y", b"x = thru"]
-ODD_RULES += [b"1 = 2=3", b",=1", b"1 = 5,6", b"END", b"r.stats -c input=a", b"1 = 2147483648", b"* * = 1", b"x = 1"]
+ODD_RULES = [
+    b"end,",
+    b"end = 5",
+    b"1",
+    b"=",
+    b"1 =",
+    b"= 5",
+    b"1 = thru",
+    b"1 = *",
+    b",# x",
+    b"1 = x y",
+    b"x = thru",
+]
+ODD_RULES += [
+    b"1 = 2=3",
+    b",=1",
+    b"1 = 5,6",
+    b"END",
+    b"r.stats -c input=a",
+    b"1 = 2147483648",
+    b"* * = 1",
+    b"x = 1",
+]
 ODD_RULES += [b"1 = -2147483648", b"1 thru x =", b"* = NULL x"]
-ODD_STATEMENTS = [b"r.what input=a", b"R.STATS input=a", b"r.mapcalc", b"r.stats", b"end", b"-c", b"r.clump", b"=", b"\x00"]
-ODD_STATEMENTS += [b"r.mapcalcx=1", b"r.mapcalc x", b"r.out.ascii", b"r.reclass", b"r.stats,input=a", b"1 = 2"]
+ODD_STATEMENTS = [
+    b"r.what input=a",
+    b"R.STATS input=a",
+    b"r.mapcalc",
+    b"r.stats",
+    b"end",
+    b"-c",
+    b"r.clump",
+    b"=",
+    b"\x00",
+]
+ODD_STATEMENTS += [
+    b"r.mapcalcx=1",
+    b"r.mapcalc x",
+    b"r.out.ascii",
+    b"r.reclass",
+    b"r.stats,input=a",
+    b"1 = 2",
+]
 ODD_STATEMENTS += [b"r.mapcalc x == 1", b"r.mapcalc foo(1) = 2"]
 
 OPERATORS = b"+ - * / % < <= > >= == != && || &&& |||".split()
-ARGUMENTS = {b"if": (1, 3), b"isnull": (1, 1), b"null": (0, 0), b"abs": (1, 1), b"min": (2, 4), b"max": (2, 4),
-             b"mode": (2, 6), b"row": (0, 0), b"col": (0, 0), b"nrows": (0, 0), b"ncols": (0, 0), b"eval": (1, 3),
-             b"nmin": (2, 4), b"nmax": (2, 4), b"nmode": (2, 6)}
+ARGUMENTS = {
+    b"if": (1, 3),
+    b"isnull": (1, 1),
+    b"null": (0, 0),
+    b"abs": (1, 1),
+    b"min": (2, 4),
+    b"max": (2, 4),
+    b"mode": (2, 6),
+    b"row": (0, 0),
+    b"col": (0, 0),
+    b"nrows": (0, 0),
+    b"ncols": (0, 0),
+    b"eval": (1, 3),
+    b"nmin": (2, 4),
+    b"nmax": (2, 4),
+    b"nmode": (2, 6),
+}
 WRONG_FUNCTIONS = b"foo a median xor IF nmedian".split()
-ODD_TOKENS = OPERATORS + b"""= ? : ( ) [ ] , 1 a & | &&&& ! 1.5 . 2a 1e2 ^ @ null( min(1) foo( a[256,0] a[0,-256] 2147483648
-    \xff""".split() + [b"n" * 65]
+ODD_TOKENS = (
+    OPERATORS
+    + b"""= ? : ( ) [ ] , 1 a & | &&&& ! 1.5 . 2a 1e2 ^ @ null( min(1) foo( a[256,0] a[0,-256] 2147483648
+    \xff""".split()
+    + [b"n" * 65]
+)
 
 
 @dataclass
@@ -63,7 +150,9 @@ class Maker:
         self.badness = 0.0
         self.rows, self.cols = self.number(1, 6), self.number(1, 6)
         if self.chance(0.02):
-            self.rows, self.cols = self.one([(1, self.number(7, 300)), (self.number(7, 40), self.number(1, 6)), (9, 9)])
+            self.rows, self.cols = self.one(
+                [(1, self.number(7, 300)), (self.number(7, 40), self.number(1, 6)), (9, 9)]
+            )
         self.categories = self.random.sample(CATEGORIES, self.number(1, 5))
 
     def number(self, least: int, most: int) -> int:
@@ -107,8 +196,14 @@ class GridMaker(Maker):
 
     def __init__(self, random_source: random.Random):
         super().__init__(random_source)
-        self.edges = self.one([(3, 0, 4, 0), (0, -3, 10, -2), (9999999999, -9999999999, 1, 0), (7, 1, 2, 1)])
-        self.fractions = self.one([(b"", b"", b"", b""), (b"5", b"", b"25", b"")]) if self.edges[0] > 0 else (b"",) * 4
+        self.edges = self.one(
+            [(3, 0, 4, 0), (0, -3, 10, -2), (9999999999, -9999999999, 1, 0), (7, 1, 2, 1)]
+        )
+        self.fractions = (
+            self.one([(b"", b"", b"", b""), (b"5", b"", b"25", b"")])
+            if self.edges[0] > 0
+            else (b"",) * 4
+        )
         if self.edges[0] == 9999999999:
             self.fractions = (b"99999999", b"00000001", b"", b"")
 
@@ -117,7 +212,11 @@ class GridMaker(Maker):
             return self.one(ODD_COORDINATES)
         digits = b"%d" % abs(whole)
         digits = self.one([digits, digits, b"0" * (10 - len(digits)) + digits])
-        sign = b"-" if whole < 0 else self.one([b"", b"", b"+"] + ([b"-"] if whole == 0 and not fraction else []))
+        sign = (
+            b"-"
+            if whole < 0
+            else self.one([b"", b"", b"+"] + ([b"-"] if whole == 0 and not fraction else []))
+        )
         if not fraction:
             return sign + digits + self.one([b"", b"", b".", b".0", b".00000000"])
         before_point = b"" if whole == 0 and self.chance(0.5) else digits
@@ -129,15 +228,29 @@ class GridMaker(Maker):
         if self.chance(0.01):
             edges[self.number(0, 3)] += self.one([1, -1, 5, -20])
         if self.chance(0.01):
-            sizes = [(rows + 1, cols), (0, cols), (-1, cols), (65536, 1), (1, 65536), (65535, 65535), (cols, rows)]
+            sizes = [
+                (rows + 1, cols),
+                (0, cols),
+                (-1, cols),
+                (65536, 1),
+                (1, 65536),
+                (65535, 65535),
+                (cols, rows),
+            ]
             rows, cols = self.one(sizes)
-        lines = [(key, self.coordinate(edge, fraction))
-                 for key, edge, fraction in zip((b"north", b"south", b"east", b"west"), edges, self.fractions)]
+        lines = [
+            (key, self.coordinate(edge, fraction))
+            for key, edge, fraction in zip(
+                (b"north", b"south", b"east", b"west"), edges, self.fractions
+            )
+        ]
         lines += [(b"rows", self.whole(rows)), (b"cols", self.whole(cols))]
         if null_text != b"*" or self.chance(0.1):
             lines.append((b"null", null_text))
         if self.chance(0.1):
-            lines.append((b"type", self.one([b"float", b"INT", b"int:"]) if self.slips() else b"int"))
+            lines.append(
+                (b"type", self.one([b"float", b"INT", b"int:"]) if self.slips() else b"int")
+            )
         if multiplier != 1 or self.chance(0.1):
             lines.append((b"multiplier", self.whole(multiplier)))
         if self.chance(0.5):
@@ -170,7 +283,9 @@ class GridMaker(Maker):
     def grid(self) -> bytes:
         if self.chance(0.003):
             return self.one(ODD_GRIDS)
-        null_text = self.one([b"-9", b"1", b"NA", b"0", b"x" * 64, b"rows"]) if self.chance(0.12) else b"*"
+        null_text = (
+            self.one([b"-9", b"1", b"NA", b"0", b"x" * 64, b"rows"]) if self.chance(0.12) else b"*"
+        )
         if self.slips():
             null_text = self.one([b"a:b", b":", b"x" * 65, b"1 2"])
         multiplier = self.one([1, 2, 3, -1, 0, 2147483647]) if self.chance(0.1) else 1
@@ -187,7 +302,11 @@ class GridMaker(Maker):
             text = line_end.join(header + rows)
         else:
             whites = [self.one([b" ", b"  ", b"\n", b"\t", b"\r\n", b" \n "]) for _ in cells]
-            text = line_end.join(header) + line_end + b"".join(cell + white for cell, white in zip(cells, whites))
+            text = (
+                line_end.join(header)
+                + line_end
+                + b"".join(cell + white for cell, white in zip(cells, whites))
+            )
         return text + self.one([b"\n", b"\n", b"\n", b"", b"  ", b"\r\n", b"\n\n \t\n"])
 
 
@@ -199,7 +318,11 @@ class ExpressionMaker(Maker):
         if depth == 0 or kind < 5:
             return self.leaf(known)
         if kind < 12:
-            return self.expression(depth - 1, known) + [self.one(OPERATORS)] + self.expression(depth - 1, known)
+            return (
+                self.expression(depth - 1, known)
+                + [self.one(OPERATORS)]
+                + self.expression(depth - 1, known)
+            )
         if kind < 14:
             return [self.one([b"-", b"-", b"!"])] + self.expression(depth - 1, known)
         if kind < 15:
@@ -244,19 +367,35 @@ class ExpressionMaker(Maker):
         at = self.number(0, len(tokens) - 1)
         before, token, behind = tokens[:at], tokens[at], tokens[at + 1 :]
         odd = self.one(ODD_TOKENS)
-        return self.one([before, before + behind, before + [odd] + behind, before + [odd, token] + behind,
-                         before + [token, token] + behind])
+        return self.one(
+            [
+                before,
+                before + behind,
+                before + [odd] + behind,
+                before + [odd, token] + behind,
+                before + [token, token] + behind,
+            ]
+        )
 
     def long_expression(self, known: list[bytes]) -> list[bytes]:
         leaf = self.one(known)
         count = self.one([10, 100, 498, 499, 500])
         inside, part = count - 1, count // 4
-        return self.one([[leaf] + [b"+", b"1"] * count, [b"-"] * (2 * count) + [leaf],
-                         [b"("] * inside + [leaf] + [b")"] * inside,
-                         [leaf, b"?"] * part + [b"1"] + [b":", leaf] * part])
+        return self.one(
+            [
+                [leaf] + [b"+", b"1"] * count,
+                [b"-"] * (2 * count) + [leaf],
+                [b"("] * inside + [leaf] + [b")"] * inside,
+                [leaf, b"?"] * part + [b"1"] + [b":", leaf] * part,
+            ]
+        )
 
     def assignment(self, target: bytes, known: list[bytes]) -> bytes:
-        body = self.long_expression(known) if self.chance(0.004) else self.expression(self.number(0, 4), known)
+        body = (
+            self.long_expression(known)
+            if self.chance(0.004)
+            else self.expression(self.number(0, 4), known)
+        )
         return self.assignment_of(target, body)
 
     def assignment_of(self, target: bytes, body: list[bytes]) -> bytes:
@@ -288,14 +427,20 @@ class ScriptMaker(GridMaker, ExpressionMaker):
         if self.chance(0.5):
             self.random.shuffle(words)
         blank = self.one([b" ", b" ", b" ", b"  ", b"\t", b" \r "])
-        before, behind = self.one([b"", b"", b"", b" ", b"\t"]), self.one([b"", b"", b"", b" ", b"\r"])
+        before, behind = self.one([b"", b"", b"", b" ", b"\t"]), self.one(
+            [b"", b"", b"", b" ", b"\r"]
+        )
         return before + blank.join([command] + words) + behind
 
     def flags(self, letters: bytes, part: float) -> list[bytes]:
         chosen = [bytes([letter]) for letter in letters if self.chance(part)]
         if chosen and self.chance(0.1):
             chosen.append(self.one(chosen))
-        return [b"-" + b"".join(chosen)] if chosen and self.chance(0.5) else [b"-" + letter for letter in chosen]
+        return (
+            [b"-" + b"".join(chosen)]
+            if chosen and self.chance(0.5)
+            else [b"-" + letter for letter in chosen]
+        )
 
     def null_value(self, part: float) -> list[bytes]:
         if self.slips():
@@ -307,7 +452,9 @@ class ScriptMaker(GridMaker, ExpressionMaker):
         if self.slips():
             width = self.number(0, 3)
         numbers = self.categories * 2 + CATEGORIES
-        parts = [b"*" if self.chance(0.3) else self.spelled(self.one(numbers)) for _ in range(width)]
+        parts = [
+            b"*" if self.chance(0.3) else self.spelled(self.one(numbers)) for _ in range(width)
+        ]
         if parts and self.slips():
             parts[self.number(0, width - 1)] = self.one(WRONG_NUMBERS)
         return b",".join(parts)
@@ -333,8 +480,13 @@ class ScriptMaker(GridMaker, ExpressionMaker):
     def rule_item(self) -> bytes:
         if self.slips():
             return self.one(ODD_ITEMS)
-        low, high = (self.spelled(self.one(self.categories + [0, 2, 9, 2147483647, -2147483647]), 0.9) for _ in range(2))
-        return low if self.chance(0.5) else low + self.one([b" thru ", b"\tthru ", b", thru ,"]) + high
+        low, high = (
+            self.spelled(self.one(self.categories + [0, 2, 9, 2147483647, -2147483647]), 0.9)
+            for _ in range(2)
+        )
+        return (
+            low if self.chance(0.5) else low + self.one([b" thru ", b"\tthru ", b", thru ,"]) + high
+        )
 
     def rule(self) -> bytes:
         if self.chance(0.08):
@@ -343,15 +495,30 @@ class ScriptMaker(GridMaker, ExpressionMaker):
             return self.one(ODD_RULES)
         is_star = self.chance(0.2)
         items = [self.rule_item() for _ in range(self.one([1, 1, 2, 3]))]
-        left = self.one([b"*", b" * ", b",*,"]) if is_star else self.one([b" ", b",", b", "]).join(items)
-        outputs = [self.spelled(self.one(self.categories + [1, 2, 7])) for _ in range(5)] + [b"NULL", b"null"]
+        left = (
+            self.one([b"*", b" * ", b",*,"])
+            if is_star
+            else self.one([b" ", b",", b", "]).join(items)
+        )
+        outputs = [self.spelled(self.one(self.categories + [1, 2, 7])) for _ in range(5)] + [
+            b"NULL",
+            b"null",
+        ]
         outputs += [b"*", b"*"] if is_star else []
         label = self.one([b" ", b"\t", b"  "]) + self.one(LABELS) if self.chance(0.5) else b""
-        return left + self.one([b"=", b" = ", b"\t= "]) + self.one(outputs) + label + self.one([b"", b"", b" ", b" \r"])
+        return (
+            left
+            + self.one([b"=", b" = ", b"\t= "])
+            + self.one(outputs)
+            + label
+            + self.one([b"", b"", b" ", b" \r"])
+        )
 
     def reclass(self, known: list[bytes]) -> list[bytes]:
         target = self.target(known)
-        lines = [self.joined(b"r.reclass", [b"input=" + self.known_name(known), b"output=" + target])]
+        lines = [
+            self.joined(b"r.reclass", [b"input=" + self.known_name(known), b"output=" + target])
+        ]
         lines += [self.rule() for _ in range(self.one([0, 1, 2, 3, 4]))]
         known.append(target)
         return lines + ([] if self.slips() else [self.one([b"end", b"end", b" end ", b"end\r"])])
@@ -370,14 +537,21 @@ class ScriptMaker(GridMaker, ExpressionMaker):
         return [line]
 
     def out_ascii(self, known: list[bytes]) -> list[bytes]:
-        return [self.joined(b"r.out.ascii", [b"input=" + self.known_name(known)] + self.null_value(0.3))]
+        return [
+            self.joined(b"r.out.ascii", [b"input=" + self.known_name(known)] + self.null_value(0.3))
+        ]
 
     def statement(self, known: list[bytes]) -> list[bytes]:
         if self.slips():
             return [self.one(ODD_STATEMENTS)]
         if self.chance(0.1):
             return [self.one([b"", b" ", b"# note", b"\t# r.stats", b"\r", b"#" * 100])]
-        makers = [self.stats] * 2 + [self.out_ascii] * 2 + [self.mapcalc] * 3 + [self.reclass, self.clump]
+        makers = (
+            [self.stats] * 2
+            + [self.out_ascii] * 2
+            + [self.mapcalc] * 3
+            + [self.reclass, self.clump]
+        )
         return self.one(makers)(known)
 
     def damaged_statement(self, known: list[bytes]) -> list[bytes]:
@@ -388,7 +562,11 @@ class ScriptMaker(GridMaker, ExpressionMaker):
             tokens = [self.target(known), b"=", *self.expression(self.number(1, 4), known)]
             for _ in range(self.one([1, 1, 2])):
                 tokens = self.damaged_tokens(tokens) or [b"x"]
-            return [b"r.mapcalc " + self.one([b" ", b" ", b"", b"  "]).join(tokens) + self.one([b"", b" "])]
+            return [
+                b"r.mapcalc "
+                + self.one([b" ", b" ", b"", b"  "]).join(tokens)
+                + self.one([b"", b" "])
+            ]
         self.badness = 0.15
         return self.one([self.stats, self.reclass, self.clump, self.out_ascii])(known)
 
@@ -402,7 +580,9 @@ class ScriptMaker(GridMaker, ExpressionMaker):
             lines += self.statement(known)
         made = [name for name in known if name not in names]
         if made and self.badness == 0:
-            lines += [b"r.out.ascii input=" + name for name in made] + [b"r.stats -cl input=" + b",".join(made)]
+            lines += [b"r.out.ascii input=" + name for name in made] + [
+                b"r.stats -cl input=" + b",".join(made)
+            ]
         if self.slips():
             at = self.number(0, len(lines) - 1)
             lines[at] += self.one([b" ", b"x"]) * (65535 - len(lines[at]) + self.number(-1, 1))
@@ -412,7 +592,9 @@ class ScriptMaker(GridMaker, ExpressionMaker):
 
     def made(self) -> Made:
         """Half of the runs are all good, some have bad grids, more have bad scripts."""
-        grid_badness, script_badness = self.one([(0, 0)] * 5 + [(0.005, 0), (0.03, 0), (0, 0.02), (0, 0.05), (0, 0.15)])
+        grid_badness, script_badness = self.one(
+            [(0, 0)] * 5 + [(0.005, 0), (0.03, 0), (0, 0.02), (0, 0.05), (0, 0.15)]
+        )
         self.badness = grid_badness
         names = self.random.sample(NAMES, self.one([1, 1, 2, 2, 3]))
         if self.slips():

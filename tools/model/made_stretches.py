@@ -8,15 +8,85 @@ from made_cases import ODD_CELLS, Made, ScriptMaker
 
 BLOCK = 65536  # what the program reads at a time
 
-LENGTHS = [1, 1, 2, 3, 4, 5, 6, 7, 8, 9, 12, 15, 16, 17, 24, 31, 32, 33, 63, 64, 65, 127, 128, 129, 300]
+LENGTHS = [
+    1,
+    1,
+    2,
+    3,
+    4,
+    5,
+    6,
+    7,
+    8,
+    9,
+    12,
+    15,
+    16,
+    17,
+    24,
+    31,
+    32,
+    33,
+    63,
+    64,
+    65,
+    127,
+    128,
+    129,
+    300,
+]
 SEPARATORS = [b" "] * 6 + [b"  ", b"   ", b"\t", b" \t", b"\t\t", b"\r", b" \r", b" " * 8]
-ROW_ENDS = [b"\n"] * 4 + [b"\r\n"] * 3 + [b" \n", b" \r\n", b"\t\n", b"  \n", b"\n\n", b"\r\n\r\n", b" \n ", b"\n  "]
+ROW_ENDS = (
+    [b"\n"] * 4
+    + [b"\r\n"] * 3
+    + [b" \n", b" \r\n", b"\t\n", b"  \n", b"\n\n", b"\r\n\r\n", b" \n ", b"\n  "]
+)
 WORDS = [b"%d" % 10**digits for digits in range(10)] + [b"1" * digits for digits in range(1, 10)]
-WORDS += [b"12345678", b"12345679", b"22345678", b"1234567", b"123456789", b"123456780", b"-1", b"-11", b"-123456", b"-1234567"]
-WORDS += [b"0", b"2", b"3", b"7", b"12", b"21", b"13", b"112", b"122", b"65535", b"65536", b"2147483647", b"-2147483647"]
+WORDS += [
+    b"12345678",
+    b"12345679",
+    b"22345678",
+    b"1234567",
+    b"123456789",
+    b"123456780",
+    b"-1",
+    b"-11",
+    b"-123456",
+    b"-1234567",
+]
+WORDS += [
+    b"0",
+    b"2",
+    b"3",
+    b"7",
+    b"12",
+    b"21",
+    b"13",
+    b"112",
+    b"122",
+    b"65535",
+    b"65536",
+    b"2147483647",
+    b"-2147483647",
+]
 SPELLINGS = [b"+%s", b"0%s", b"00%s", b"0000000%s", b"00000000%s", b"+0%s", b"-0%s"]
 NULL_TEXTS = [b"*"] * 6 + [b"0", b"1", b"-9999", b"NA", b"NoData12", b"***", b"11", b"x" * 64]
-BAD_BYTES = [b"\x00", b"\x0b", b"\x0c", b"\xa0", b":", b"*", b"-", b".", b"\xff", b"9", b"\n", b"\r", b" ", b""]
+BAD_BYTES = [
+    b"\x00",
+    b"\x0b",
+    b"\x0c",
+    b"\xa0",
+    b":",
+    b"*",
+    b"-",
+    b".",
+    b"\xff",
+    b"9",
+    b"\n",
+    b"\r",
+    b" ",
+    b"",
+]
 
 
 class StretchMaker(ScriptMaker):
@@ -24,12 +94,18 @@ class StretchMaker(ScriptMaker):
 
     def __init__(self, random_source: random.Random):
         super().__init__(random_source)
-        shapes = [(self.number(1, 5), self.number(1, 60)), (self.number(1, 3), self.number(60, 200)), (self.number(1, 2), self.number(200, 700))]
+        shapes = [
+            (self.number(1, 5), self.number(1, 60)),
+            (self.number(1, 3), self.number(60, 200)),
+            (self.number(1, 2), self.number(200, 700)),
+        ]
         self.rows, self.cols = self.random.choices(shapes, [60, 30, 10])[0]
         if self.chance(0.003):
             self.rows, self.cols = self.number(20, 40), self.number(300, 600)
         self.words = self.random.sample(WORDS, self.one([1, 2, 2, 3, 5, 12]))
-        self.lengths = self.one([LENGTHS, LENGTHS, [self.cols], [self.cols * 2, self.cols, 7], [1, 2, 3], [64, 65, 200]])
+        self.lengths = self.one(
+            [LENGTHS, LENGTHS, [self.cols], [self.cols * 2, self.cols, 7], [1, 2, 3], [64, 65, 200]]
+        )
         self.breaks = self.break_places()
         self.has_fault = False
 
@@ -53,7 +129,11 @@ class StretchMaker(ScriptMaker):
                 if self.chance(0.1) and word not in (null_text, b"*"):
                     word = self.spelled_word(word)
             other = part_of_others and self.chance(part_of_others)
-            words.append(self.one([null_text, self.one(self.words), self.spelled_word(word)]) if other else word)
+            words.append(
+                self.one([null_text, self.one(self.words), self.spelled_word(word)])
+                if other
+                else word
+            )
         return words
 
     def spelled_word(self, word: bytes) -> bytes:
@@ -62,13 +142,20 @@ class StretchMaker(ScriptMaker):
         if not digits.isdigit():
             return word
         spelled = self.one(SPELLINGS) % digits
-        return b"-" + spelled.lstrip(b"+-") if word.startswith(b"-") or (spelled.startswith(b"-") and int(digits)) else spelled
+        return (
+            b"-" + spelled.lstrip(b"+-")
+            if word.startswith(b"-") or (spelled.startswith(b"-") and int(digits))
+            else spelled
+        )
 
     def separators(self, count: int) -> list[bytes]:
         """What is after each cell: one separator for all of the map, or now and then another, and the ends of the rows."""
         usual, row_end = self.one(SEPARATORS), self.one(ROW_ENDS)
         part_of_others = self.one([0, 0, 0, 0.005, 0.1])
-        found = [self.one(SEPARATORS) if part_of_others and self.chance(part_of_others) else usual for _ in range(count)]
+        found = [
+            self.one(SEPARATORS) if part_of_others and self.chance(part_of_others) else usual
+            for _ in range(count)
+        ]
         kind = self.number(0, 9)
         for at in range(self.cols - 1, count, self.cols):
             if kind > 0:  # else all cells are on one line
@@ -87,9 +174,19 @@ class StretchMaker(ScriptMaker):
         if self.slips() or self.chance(0.08):
             self.has_fault = True
             at = self.number(0, len(words) - 1)
-            words[at : at + 1] = self.one([[self.one(ODD_CELLS)], [], [words[at]] * 2, [words[at] + self.one(BAD_BYTES)], [b"0" * self.number(60, 66) + b"1"]])
+            words[at : at + 1] = self.one(
+                [
+                    [self.one(ODD_CELLS)],
+                    [],
+                    [words[at]] * 2,
+                    [words[at] + self.one(BAD_BYTES)],
+                    [b"0" * self.number(60, 66) + b"1"],
+                ]
+            )
         cells = [piece for pair in zip(words, self.separators(len(words))) for piece in pair]
-        header = self.one([b"\n", b"\r\n"]).join(self.header_lines(null_text, multiplier)) + self.one([b"\n", b"\r\n", b"\n\n", b"\n "])
+        header = self.one([b"\n", b"\r\n"]).join(
+            self.header_lines(null_text, multiplier)
+        ) + self.one([b"\n", b"\r\n", b"\n\n", b"\n "])
         text = self.padded(header, b"".join(cells))
         if self.chance(0.04):
             self.has_fault = True
@@ -107,12 +204,31 @@ class StretchMaker(ScriptMaker):
 
     def whole_script(self, names: list[bytes]) -> bytes:
         """All that prints the cells: areas, tables over all maps, and the maps themselves."""
-        lines = [b"r.clump %sinput=%s output=areas" % (self.one([b"", b"-d "]), self.one(names))] if self.chance(0.5) else []
-        lines += [b"r.mapcalc %s" % self.one([b"z = %s[0,1] == %s" % (names[0], names[-1]), b"z = if(isnull(%s), 7, %s)" % (names[0], names[-1]),
-                                              b"z = %s + %s" % (names[0], names[-1]), b"z = %s == 1 ? %s : row()" % (names[0], names[-1])])]
+        lines = (
+            [b"r.clump %sinput=%s output=areas" % (self.one([b"", b"-d "]), self.one(names))]
+            if self.chance(0.5)
+            else []
+        )
+        lines += [
+            b"r.mapcalc %s"
+            % self.one(
+                [
+                    b"z = %s[0,1] == %s" % (names[0], names[-1]),
+                    b"z = if(isnull(%s), 7, %s)" % (names[0], names[-1]),
+                    b"z = %s + %s" % (names[0], names[-1]),
+                    b"z = %s == 1 ? %s : row()" % (names[0], names[-1]),
+                ]
+            )
+        ]
         lines += self.reclass(list(names)) if self.chance(0.2) else []
         made = [*names, b"z", *([b"areas"] if lines[0].startswith(b"r.clump") else [])]
-        lines += [b"r.stats %sinput=%s" % (self.one([b"-c ", b"-c ", b"-cn ", b"-cN ", b"", b"-1 "]), b",".join(self.random.sample(made, self.number(1, len(made)))))]
+        lines += [
+            b"r.stats %sinput=%s"
+            % (
+                self.one([b"-c ", b"-c ", b"-cn ", b"-cN ", b"", b"-1 "]),
+                b",".join(self.random.sample(made, self.number(1, len(made)))),
+            )
+        ]
         lines += [b"r.out.ascii input=" + name for name in made]
         return b"\n".join(lines) + b"\n"
 
@@ -122,7 +238,11 @@ class StretchMaker(ScriptMaker):
         grids = [(name, f"grid{at}") for at, name in enumerate(names)]
         files = {path: self.grid() for _, path in grids}
         self.badness = 0
-        script = self.whole_script(names) if self.has_fault or self.rows * self.cols > 400 or self.chance(0.6) else self.script(names)
+        script = (
+            self.whole_script(names)
+            if self.has_fault or self.rows * self.cols > 400 or self.chance(0.6)
+            else self.script(names)
+        )
         return Made({"script": script, **files}, grids)
 
 

@@ -13,8 +13,23 @@ from dataclasses import dataclass, replace
 from typing import Optional, Sequence
 
 from model_expressions import CalcRefused, Expression, Parser, Place
-from model_grids import (BLANKS, TOKEN, Answer, Cell, CellMap, Failing, Refused, Region, cell_text, grid_text, is_name,
-                         map_of, order, read_map, whole_number)
+from model_grids import (
+    BLANKS,
+    TOKEN,
+    Answer,
+    Cell,
+    CellMap,
+    Failing,
+    Refused,
+    Region,
+    cell_text,
+    grid_text,
+    is_name,
+    map_of,
+    order,
+    read_map,
+    whole_number,
+)
 
 MOST_INPUTS = 16
 LONGEST_LINE = 65535
@@ -52,7 +67,11 @@ def left_items(tokens: list[bytes]) -> Optional[list[tuple[bytes, bytes]]]:
     items, at = [], 0
     while at < len(tokens):
         is_range = tokens[at + 1 : at + 2] == [b"thru"]
-        ends = [tokens[at], tokens[at + 2] if at + 2 < len(tokens) else b"thru"] if is_range else [tokens[at]] * 2
+        ends = (
+            [tokens[at], tokens[at + 2] if at + 2 < len(tokens) else b"thru"]
+            if is_range
+            else [tokens[at]] * 2
+        )
         if b"thru" in ends or b"*" in ends:
             raise RuleRefused("bad rule")
         items.append((ends[0], ends[1]))
@@ -66,7 +85,12 @@ def read_rule(line: bytes) -> Rule:
     left, equals, right = line.partition(b"=")
     items = left_items(TOKEN.findall(left.replace(b",", b" ")))
     output = TOKEN.search(right)
-    if not equals or not output or output.group() == b"thru" or (output.group() == b"*" and items is not None):
+    if (
+        not equals
+        or not output
+        or output.group() == b"thru"
+        or (output.group() == b"*" and items is not None)
+    ):
         raise RuleRefused("bad rule")
     ranges = None
     if items is not None:
@@ -82,7 +106,9 @@ def read_rule(line: bytes) -> Rule:
 def reclassed(rules: list[Rule], cell: Cell) -> Cell:
     if cell is None:
         return None
-    rules_for_it = [rule for rule in rules if rule.lists(cell)] or [rule for rule in rules if rule.ranges is None]
+    rules_for_it = [rule for rule in rules if rule.lists(cell)] or [
+        rule for rule in rules if rule.ranges is None
+    ]
     if not rules_for_it:
         return None
     return cell if rules_for_it[-1].output == "same" else rules_for_it[-1].output
@@ -92,8 +118,14 @@ def reclassed(rules: list[Rule], cell: Cell) -> Cell:
 
 
 def neighbours(row: int, col: int, with_corners: bool) -> list[tuple[int, int]]:
-    steps = [(down, right) for down in (-1, 0, 1) for right in (-1, 0, 1) if (down, right) != (0, 0)]
-    return [(row + down, col + right) for down, right in steps if with_corners or down == 0 or right == 0]
+    steps = [
+        (down, right) for down in (-1, 0, 1) for right in (-1, 0, 1) if (down, right) != (0, 0)
+    ]
+    return [
+        (row + down, col + right)
+        for down, right in steps
+        if with_corners or down == 0 or right == 0
+    ]
 
 
 def clumped(grid: CellMap, with_corners: bool) -> CellMap:
@@ -124,10 +156,14 @@ Maps = dict[bytes, CellMap]
 class Mapcalc:
     target: bytes
     expression: Expression
-    calls: Sequence[tuple[bytes, int, int]] = ()  # functions with the columns of their first and last bytes
+    calls: Sequence[
+        tuple[bytes, int, int]
+    ] = ()  # functions with the columns of their first and last bytes
 
     def run(self, maps: Maps, region: Region) -> bytes:
-        maps[self.target] = map_of(region, lambda row, col: self.expression.value(Place(maps, region, row, col)))
+        maps[self.target] = map_of(
+            region, lambda row, col: self.expression.value(Place(maps, region, row, col))
+        )
         return b""
 
 
@@ -138,7 +174,9 @@ class Reclass:
     rules: list[Rule]
 
     def run(self, maps: Maps, region: Region) -> bytes:
-        made = map_of(region, lambda row, col: reclassed(self.rules, maps[self.input].cell(row, col)))
+        made = map_of(
+            region, lambda row, col: reclassed(self.rules, maps[self.input].cell(row, col))
+        )
         for rule in self.rules:
             if isinstance(rule.output, int) and rule.label:
                 made.labels[rule.output] = rule.label
@@ -194,7 +232,11 @@ class Stats:
             return b"".join(self.line(picked, combination, None) for combination in kept)
         entries = sorted(set(kept), key=combination_order)
         if self.after is not None:
-            entries = [entry for entry in entries if combination_order(entry) > combination_order(self.after)]
+            entries = [
+                entry
+                for entry in entries
+                if combination_order(entry) > combination_order(self.after)
+            ]
         return b"".join(self.line(picked, entry, kept.count(entry)) for entry in entries)
 
     def line(self, picked: list[CellMap], combination: Combination, count: Optional[int]) -> bytes:
@@ -238,7 +280,9 @@ SEPARATORS = {b"pipe": b"|", b"comma": b",", b"space": b" ", b"tab": b"\t"}
 def script_lines(text: bytes) -> list[bytes]:
     pieces = text.split(b"\n")
     ended, last = pieces[:-1], pieces[-1]
-    return [piece[:-1] if piece.endswith(b"\r") else piece for piece in ended] + ([last] if last else [])
+    return [piece[:-1] if piece.endswith(b"\r") else piece for piece in ended] + (
+        [last] if last else []
+    )
 
 
 def is_skipped(line: bytes) -> bool:
@@ -314,11 +358,19 @@ class ScriptReader:
                 if name not in self.known:
                     raise CalcRefused(column, "unknown map")
         except CalcRefused as fault:
-            raise script_refused(self.at, f"{fault.text} at column {begin + fault.column}") from None
+            raise script_refused(
+                self.at, f"{fault.text} at column {begin + fault.column}"
+            ) from None
         self.make(target)
-        return Mapcalc(target, expression, [(name, begin + first, begin + last) for name, first, last in parser.calls])
+        return Mapcalc(
+            target,
+            expression,
+            [(name, begin + first, begin + last) for name, first, last in parser.calls],
+        )
 
-    def flags_and_options(self, command: bytes, tokens: list[bytes]) -> tuple[frozenset[bytes], dict[bytes, bytes]]:
+    def flags_and_options(
+        self, command: bytes, tokens: list[bytes]
+    ) -> tuple[frozenset[bytes], dict[bytes, bytes]]:
         flags: set[bytes] = set()
         options: dict[bytes, bytes] = {}
         for token in tokens:
@@ -341,7 +393,11 @@ class ScriptReader:
         return {bytes([letter]) for letter in letters}
 
     def with_options(
-        self, command: bytes, inputs: list[bytes], flags: frozenset[bytes], options: dict[bytes, bytes]
+        self,
+        command: bytes,
+        inputs: list[bytes],
+        flags: frozenset[bytes],
+        options: dict[bytes, bytes],
     ) -> Statement:
         null_text = options.get(b"null_value", b"*")
         if command == b"r.clump":

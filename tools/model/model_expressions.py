@@ -178,7 +178,9 @@ class Binary:
             return and_past_null(left, right)
         if self.operator == b"|||":
             return or_past_null(left, right)
-        return None if left is None or right is None else STRICT_OPERATORS[self.operator](left, right)
+        return (
+            None if left is None or right is None else STRICT_OPERATORS[self.operator](left, right)
+        )
 
 
 @dataclass(frozen=True)
@@ -234,13 +236,24 @@ def calc_tokens(text: bytes) -> list[CalcToken]:
         if not found:
             raise CalcRefused(at + 1, "bad byte")
         is_word = found.re is WORD
-        tokens.append(word_token(found.group(), at + 1) if is_word else CalcToken("sign", found.group(), at + 1))
+        tokens.append(
+            word_token(found.group(), at + 1)
+            if is_word
+            else CalcToken("sign", found.group(), at + 1)
+        )
         at = found.end()
     return tokens + [CalcToken("end", b"", len(text) + 1)]
 
 
 # Operators that group from the left, from the loosest to the tightest level.
-LEVELS = ((b"||", b"|||"), (b"&&", b"&&&"), (b"==", b"!="), (b"<", b"<=", b">", b">="), (b"+", b"-"), (b"*", b"/", b"%"))
+LEVELS = (
+    (b"||", b"|||"),
+    (b"&&", b"&&&"),
+    (b"==", b"!="),
+    (b"<", b"<=", b">", b">="),
+    (b"+", b"-"),
+    (b"*", b"/", b"%"),
+)
 
 
 class Parser:
@@ -250,7 +263,9 @@ class Parser:
         self.tokens = calc_tokens(text)
         self.at = 0
         self.maps: list[tuple[bytes, int]] = []  # names with their columns, in order of the text
-        self.calls: list[tuple[bytes, int, int]] = []  # functions with the columns of their names and last parentheses
+        self.calls: list[
+            tuple[bytes, int, int]
+        ] = []  # functions with the columns of their names and last parentheses
 
     def next_is(self, *signs: bytes) -> bool:
         return self.tokens[self.at].kind == "sign" and self.tokens[self.at].text in signs

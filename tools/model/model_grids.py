@@ -27,8 +27,12 @@ class Answer:
     status: int
     output: bytes
     told: bytes
-    parts: tuple[tuple[int, bytes], ...] = field(default=(), compare=False)  # the output of each statement, by its line
-    grids: tuple[bytes, ...] = field(default=(), compare=False)  # the names of the grids that were given
+    parts: tuple[tuple[int, bytes], ...] = field(
+        default=(), compare=False
+    )  # the output of each statement, by its line
+    grids: tuple[bytes, ...] = field(
+        default=(), compare=False
+    )  # the names of the grids that were given
 
 
 class Refused(Exception):
@@ -39,7 +43,9 @@ class Refused(Exception):
         self.source, self.line, self.text, self.status = source, line, text, status
 
     def answer(self) -> Answer:
-        return Answer(self.status, b"", b"rcell: %s:%d: %s\n" % (self.source, self.line, self.text.encode()))
+        return Answer(
+            self.status, b"", b"rcell: %s:%d: %s\n" % (self.source, self.line, self.text.encode())
+        )
 
 
 def is_name(text: bytes) -> bool:
@@ -71,7 +77,12 @@ class Region:
 
     def is_allowed(self) -> bool:
         sides_fit = 1 <= self.rows <= GREATEST_SIDE and 1 <= self.cols <= GREATEST_SIDE
-        return self.north > self.south and self.east > self.west and sides_fit and self.rows * self.cols <= MOST_CELLS
+        return (
+            self.north > self.south
+            and self.east > self.west
+            and sides_fit
+            and self.rows * self.cols <= MOST_CELLS
+        )
 
     def places(self) -> Iterator[tuple[int, int]]:
         """All cells in row order."""
@@ -91,7 +102,9 @@ class CellMap:
 
 
 def map_of(region: Region, cell_at: Callable[[int, int], Cell]) -> CellMap:
-    return CellMap(region, [[cell_at(row, col) for col in range(region.cols)] for row in range(region.rows)])
+    return CellMap(
+        region, [[cell_at(row, col) for col in range(region.cols)] for row in range(region.rows)]
+    )
 
 
 def order(cell: Cell) -> tuple[bool, int]:
@@ -102,7 +115,17 @@ def order(cell: Cell) -> tuple[bool, int]:
 # Grid texts
 
 # What a place of a grid text is judged by, in this order where several meet at one place.
-LONG_TOKEN, STUCK, SECOND_VALUE, LINE_END, HEADER_END, CELL_END, INPUT_END, TOKEN_TOO_MANY, READ_FAILS = range(9)
+(
+    LONG_TOKEN,
+    STUCK,
+    SECOND_VALUE,
+    LINE_END,
+    HEADER_END,
+    CELL_END,
+    INPUT_END,
+    TOKEN_TOO_MANY,
+    READ_FAILS,
+) = range(9)
 TOLD_AT_AN_END = (LINE_END, HEADER_END, CELL_END, INPUT_END)
 
 EDGES = (b"north", b"south", b"east", b"west")
@@ -162,7 +185,11 @@ class GridText:
         self.text = given if self.ends else given.text
         text = self.text
         self.tokens = grid_tokens(text)
-        begins_data = (at for at, token in enumerate(self.tokens) if token.is_first_of_line and b":" not in token.text)
+        begins_data = (
+            at
+            for at, token in enumerate(self.tokens)
+            if token.is_first_of_line and b":" not in token.text
+        )
         data_at = next(begins_data, len(self.tokens))
         self.header, self.data = self.tokens[:data_at], self.tokens[data_at:]
         self.values: dict[bytes, object] = {}
@@ -180,7 +207,9 @@ class GridText:
     def judge_failure(self) -> None:
         """A text that fails has no end, so nothing that an end shows is reported there."""
         end = len(self.text)
-        self.faults = [told for told in self.faults if told.place < end or told.rank not in TOLD_AT_AN_END]
+        self.faults = [
+            told for told in self.faults if told.place < end or told.rank not in TOLD_AT_AN_END
+        ]
         self.tell(end, READ_FAILS, self.line_at(end), "read failed")
 
     def tell(self, place: int, rank: int, line: int, text: str) -> None:
@@ -208,7 +237,9 @@ class GridText:
     def judge_header_line(self, tokens: list[GridToken]) -> None:
         first = tokens[0]
         key, _, glued = first.text.partition(b":")
-        values = ([(glued, first.end - len(glued))] if glued else []) + [(token.text, token.start) for token in tokens[1:]]
+        values = ([(glued, first.end - len(glued))] if glued else []) + [
+            (token.text, token.start) for token in tokens[1:]
+        ]
         if len(values) > 1:
             self.tell(values[1][1], SECOND_VALUE, first.line, "bad header line")
             return
@@ -241,7 +272,9 @@ class GridText:
         if any(key not in self.values for key in EDGES + SIDES):
             self.tell(place, HEADER_END, line, "missing key")
             return False
-        self.region = Region(*(self.values[key] for key in EDGES), *(max(0, self.values[key]) for key in SIDES))
+        self.region = Region(
+            *(self.values[key] for key in EDGES), *(max(0, self.values[key]) for key in SIDES)
+        )
         if not self.region.is_allowed():
             self.tell(place, HEADER_END, line, "bad region")
         return self.region.is_allowed()
@@ -268,10 +301,16 @@ class GridText:
             return ""
         if not WHOLE_NUMBER.fullmatch(text):
             return "bad cell"
-        return "" if is_in_range(int(text)) and is_in_range(self.product(text)) else "cell out of range"
+        return (
+            ""
+            if is_in_range(int(text)) and is_in_range(self.product(text))
+            else "cell out of range"
+        )
 
     def map(self) -> CellMap:
-        cells = [None if self.is_null(token.text) else self.product(token.text) for token in self.data]
+        cells = [
+            None if self.is_null(token.text) else self.product(token.text) for token in self.data
+        ]
         return map_of(self.region, lambda row, col: cells[row * self.region.cols + col])
 
 

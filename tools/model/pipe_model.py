@@ -9,7 +9,12 @@ from typing import Any, Callable, Iterable, Optional
 NULL = -(2**31)
 # The letter of `struct`, the smallest and the largest number, by the code of the type.
 TYPES = {
-    1: ("B", 0, 255), 2: ("b", -128, 127), 3: ("H", 0, 65535), 4: ("h", -32768, 32767), 5: ("I", 0, 2**32 - 1), 6: ("i", NULL, 2**31 - 1),
+    1: ("B", 0, 255),
+    2: ("b", -128, 127),
+    3: ("H", 0, 65535),
+    4: ("h", -32768, 32767),
+    5: ("I", 0, 2**32 - 1),
+    6: ("i", NULL, 2**31 - 1),
     7: ("q", -(2**63), 2**63 - 1),
 }
 NAME = re.compile(rb"[A-Za-z_][A-Za-z0-9_.]{0,63}")
@@ -37,7 +42,10 @@ class Raster:
     def cells(self) -> list[list[Optional[int]]]:
         """Return the rows as categories and None."""
         masks = self.mask or [[0] * len(row) for row in self.rows]
-        return [[None if hidden or n == self.nodata else n for n, hidden in zip(row, mask)] for row, mask in zip(self.rows, masks)]
+        return [
+            [None if hidden or n == self.nodata else n for n, hidden in zip(row, mask)]
+            for row, mask in zip(self.rows, masks)
+        ]
 
 
 def short(text: bytes) -> bytes:
@@ -48,7 +56,11 @@ def request(maps: list[Raster], script: bytes) -> bytes:
     """Return the bytes of a request."""
     out = b"RCELLQ1\n" + struct.pack("<I", len(maps))
     for it in maps:
-        out += short(it.name) + b"".join(map(short, it.edges)) + struct.pack("<II", len(it.rows), len(it.rows[0]))
+        out += (
+            short(it.name)
+            + b"".join(map(short, it.edges))
+            + struct.pack("<II", len(it.rows), len(it.rows[0]))
+        )
         flags = (it.nodata is not None) + 2 * (it.mask is not None)
         out += struct.pack("<BBqI", it.type, flags, it.nodata or 0, len(it.labels))
         for category, text in it.labels:
@@ -146,8 +158,12 @@ class Reader:
             if found.mask is not None:
                 found.mask.append(list(self.take(region[5])))
                 self.need(max(found.mask[-1]) <= 1, "bad mask")
-            row = Raster(name, edges, code, found.rows[-1:], nodata, found.mask and found.mask[-1:]).cells()[0]
-            self.need(all(cell is None or NULL < cell < 2**31 for cell in row), "cell out of range")
+            row = Raster(
+                name, edges, code, found.rows[-1:], nodata, found.mask and found.mask[-1:]
+            ).cells()[0]
+            self.need(
+                all(cell is None or NULL < cell < 2**31 for cell in row), "cell out of range"
+            )
         self.row = 0
         return found
 
@@ -196,7 +212,9 @@ class Response:
         frame["counts"] = self.numbers(entries) if counts else None
         cells = self.numbers(entries * width, "i")
         frame["cells"] = [cells[i * width : (i + 1) * width] for i in range(entries)]
-        frame["labels"] = [[self.text() for _ in range(width)] for _ in range(entries)] if labels else None
+        frame["labels"] = (
+            [[self.text() for _ in range(width)] for _ in range(entries)] if labels else None
+        )
         return frame
 
     def grid(self) -> Frame:
@@ -205,17 +223,28 @@ class Response:
         rows, cols = self.numbers(2)
         is_small = self.take(1) == b"\1"
         cells, null = self.numbers(rows * cols, "B" if is_small else "i"), 255 if is_small else NULL
-        frame["rows"] = [[None if cell == null else cell for cell in cells[r * cols : (r + 1) * cols]] for r in range(rows)]
+        frame["rows"] = [
+            [None if cell == null else cell for cell in cells[r * cols : (r + 1) * cols]]
+            for r in range(rows)
+        ]
         return frame
 
     def done(self) -> Frame:
-        return {**dict(zip(("status", "source", "maps", "line", "column"), self.numbers(5))), "text": self.text()}
+        return {
+            **dict(zip(("status", "source", "maps", "line", "column"), self.numbers(5))),
+            "text": self.text(),
+        }
 
     def frames(self) -> list[Frame]:
         """Return the frames, of which the last is DONE."""
         if self.take(8) != b"RCELLA1\n":
             raise ValueError("another magic")
-        kinds: dict[bytes, Callable[[], Frame]] = {b"TABL": self.table, b"CELL": self.table, b"GRID": self.grid, b"DONE": self.done}
+        kinds: dict[bytes, Callable[[], Frame]] = {
+            b"TABL": self.table,
+            b"CELL": self.table,
+            b"GRID": self.grid,
+            b"DONE": self.done,
+        }
         found: list[Frame] = []
         while not found or found[-1]["kind"] != b"DONE":
             kind = self.take(4)
@@ -233,20 +262,32 @@ def cell_text(cell: Optional[int], null: bytes) -> bytes:
 
 def header(edges: Iterable[bytes], rows: int, cols: int) -> bytes:
     """Return the lines of a region."""
-    return b"".join(b"%s: %s\n" % pair for pair in zip(SIDES, edges)) + b"rows: %d\ncols: %d\n" % (rows, cols)
+    return b"".join(b"%s: %s\n" % pair for pair in zip(SIDES, edges)) + b"rows: %d\ncols: %d\n" % (
+        rows,
+        cols,
+    )
 
 
 def printed(frame: Frame) -> bytes:
     """Return the text that `rcell` prints for a frame."""
     if frame["kind"] == b"GRID":
         null = b"" if frame["null"] == b"*" else b"null: " + frame["null"] + b"\n"
-        rows = (b" ".join(cell_text(cell, frame["null"]) for cell in row) + b"\n" for row in frame["rows"])
-        return header(frame["edges"], len(frame["rows"]), len(frame["rows"][0])) + null + b"".join(rows)
+        rows = (
+            b" ".join(cell_text(cell, frame["null"]) for cell in row) + b"\n"
+            for row in frame["rows"]
+        )
+        return (
+            header(frame["edges"], len(frame["rows"]), len(frame["rows"][0]))
+            + null
+            + b"".join(rows)
+        )
     out = b""
     for place, cells in enumerate(frame["cells"]):
         fields = []
         for column, cell in enumerate(cells):
-            fields += [cell_text(cell, frame["null"])] + ([frame["labels"][place][column]] if frame["labels"] is not None else [])
+            fields += [cell_text(cell, frame["null"])] + (
+                [frame["labels"][place][column]] if frame["labels"] is not None else []
+            )
         fields += [b"%d" % frame["counts"][place]] if frame["counts"] is not None else []
         out += frame["separator"].join(fields) + b"\n"
     return out

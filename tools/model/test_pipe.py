@@ -28,7 +28,21 @@ from typing import Iterator, Optional
 import cases
 from fuzz import damaged_bytes
 from made_cases import NAMES, ScriptMaker
-from pipe_model import NULL, TYPES, UNITS, Edges, Frame, Raster, Reader, Rejected, Response, cell_text, header, printed, request
+from pipe_model import (
+    NULL,
+    TYPES,
+    UNITS,
+    Edges,
+    Frame,
+    Raster,
+    Reader,
+    Rejected,
+    Response,
+    cell_text,
+    header,
+    printed,
+    request,
+)
 
 ROOT = os.path.abspath(f"{__file__}/../../..")
 SIZES = [(1, 1), (1, 70), (3, 5), (7, 130), (40, 1), (9, 64), (5, 65), (2, 3), (4, 4)]
@@ -50,7 +64,13 @@ class Programs:
         self.pipe, self.rcell, self.room = pipe, rcell, room
 
     def run(self, data: bytes, **more: str) -> tuple[int, bytes]:
-        ran = subprocess.run([self.pipe], input=data, stdout=subprocess.PIPE, timeout=SECONDS, env={"PATH": "/usr/bin:/bin", **more})
+        ran = subprocess.run(
+            [self.pipe],
+            input=data,
+            stdout=subprocess.PIPE,
+            timeout=SECONDS,
+            env={"PATH": "/usr/bin:/bin", **more},
+        )
         return ran.returncode, ran.stdout
 
     def frames(self, data: bytes, **more: str) -> list[Frame]:
@@ -68,10 +88,19 @@ class Programs:
             rows = (b" ".join(cell_text(cell, b"*") for cell in row) + b"\n" for row in it.cells())
             self.put(f"{place}", header(it.edges, len(it.rows), len(it.rows[0])) + b"".join(rows))
             words.append(b"q%d=%d" % (place, place))
-            labels = b"".join(b"%d = %d %s\n" % (category, category, text) for category, text in dict(it.labels).items())
+            labels = b"".join(
+                b"%d = %d %s\n" % (category, category, text)
+                for category, text in dict(it.labels).items()
+            )
             before += b"r.reclass input=q%d output=%s\n%s* = *\nend\n" % (place, it.name, labels)
         self.put("script", before + script)
-        ran = subprocess.run([self.rcell, *words], cwd=self.room, stdin=subprocess.DEVNULL, capture_output=True, timeout=SECONDS)
+        ran = subprocess.run(
+            [self.rcell, *words],
+            cwd=self.room,
+            stdin=subprocess.DEVNULL,
+            capture_output=True,
+            timeout=SECONDS,
+        )
         return ran.returncode, ran.stdout, ran.stderr, before.count(b"\n")
 
     def put(self, name: str, text: bytes) -> None:
@@ -85,24 +114,40 @@ class Programs:
 def random_raster(choice: random.Random, name: bytes, edges: Edges, rows: int, cols: int) -> Raster:
     code = choice.randint(1, 7)
     _, smallest, largest = TYPES[code]
-    low, high = max(smallest, choice.choice([-2, -300, NULL + 1])), min(largest, choice.choice([3, 300, 254, 2**31 - 1]))
+    low, high = max(smallest, choice.choice([-2, -300, NULL + 1])), min(
+        largest, choice.choice([3, 300, 254, 2**31 - 1])
+    )
     nodata = choice.choice([None, low, high, smallest, largest])
-    mask = [[choice.randint(0, 1) for _ in range(cols)] for _ in range(rows)] if choice.random() < 0.3 else None
+    mask = (
+        [[choice.randint(0, 1) for _ in range(cols)] for _ in range(rows)]
+        if choice.random() < 0.3
+        else None
+    )
     table = []
     for place in range(rows):
         number, row = choice.randint(low, high), []
         for column in range(cols):
             number = number if choice.random() < 0.6 else choice.randint(low, high)
-            row.append(choice.randint(smallest, largest) if mask and mask[place][column] else number)
+            row.append(
+                choice.randint(smallest, largest) if mask and mask[place][column] else number
+            )
         table.append(row)
-    labels = [(choice.randint(low, high), choice.choice(LABELS)) for _ in range(choice.choice([0, 0, 1, 4]))]
+    labels = [
+        (choice.randint(low, high), choice.choice(LABELS))
+        for _ in range(choice.choice([0, 0, 1, 4]))
+    ]
     return Raster(name, edges, code, table, nodata, mask, labels)
 
 
 def random_edges(choice: random.Random) -> Edges:
     """North, south, east and west as texts, not always as rcell prints them."""
-    south, west = (choice.choice([0, 1, -1, -99999999, 5 * 10**7, choice.randint(-(10**17), 10**17)]) for _ in range(2))
-    north, east = (edge + choice.choice([1, 10**8, choice.randint(1, 10**16)]) for edge in (south, west))
+    south, west = (
+        choice.choice([0, 1, -1, -99999999, 5 * 10**7, choice.randint(-(10**17), 10**17)])
+        for _ in range(2)
+    )
+    north, east = (
+        edge + choice.choice([1, 10**8, choice.randint(1, 10**16)]) for edge in (south, west)
+    )
     return tuple(coordinate(choice, units) for units in (north, south, east, west))
 
 
@@ -150,7 +195,11 @@ def wrong_run(programs: Programs, maps: list[Raster], script: bytes) -> str:
         return f"rcell says {message!r}"
     wanted = (2, 0, int(found[1]) - before, int(found[3] or 0), found[2])
     got = tuple(end[key] for key in ("source", "maps", "line", "column", "text"))
-    return "" if got == wanted and not frames else f"{script!r}: {got} is not {wanted}, after {len(frames)} frames"
+    return (
+        ""
+        if got == wanted and not frames
+        else f"{script!r}: {got} is not {wanted}, after {len(frames)} frames"
+    )
 
 
 def wrong_reading(programs: Programs, data: bytes) -> str:
@@ -161,10 +210,18 @@ def wrong_reading(programs: Programs, data: bytes) -> str:
         maps, script = Reader(data).run()
     except Rejected as error:
         *frames, end = programs.frames(data)
-        got = end["status"], end["source"], (end["text"], end["maps"], end["line"]), end["column"], len(frames)
+        got = (
+            end["status"],
+            end["source"],
+            (end["text"], end["maps"], end["line"]),
+            end["column"],
+            len(frames),
+        )
         wanted = STATUS_REJECTED, 1, error.place, 0, 0
         is_same = programs.run(as_text(data)) == programs.run(data)
-        return "" if got == wanted and is_same else f"{data!r}: {got} is not {wanted}, or not as text"
+        return (
+            "" if got == wanted and is_same else f"{data!r}: {got} is not {wanted}, or not as text"
+        )
     if not all(is_plain(it) for it in maps):
         programs.frames(data)
         return ""
@@ -193,14 +250,33 @@ def named_errors() -> Iterator[tuple[str, bytes]]:
     yield "bad region", good.replace(struct.pack("<II", 2, 3), struct.pack("<II", 65536, 3), 1)
     yield "bad region", good.replace(struct.pack("<II", 2, 3), struct.pack("<II", 65535, 32769), 1)
     yield "other region", request([land, replace(zone, edges=(b"2", b"0", b"3", b"-1"))], script)
-    yield "bad type", request([land], script).replace(struct.pack("<BB", 1, 1) + struct.pack("<q", 255), struct.pack("<BBq", 8, 1, 255), 1)
-    yield "bad flags", request([land], script).replace(struct.pack("<BBq", 1, 1, 255), struct.pack("<BBq", 1, 4, 255), 1)
+    yield "bad type", request([land], script).replace(
+        struct.pack("<BB", 1, 1) + struct.pack("<q", 255), struct.pack("<BBq", 8, 1, 255), 1
+    )
+    yield "bad flags", request([land], script).replace(
+        struct.pack("<BBq", 1, 1, 255), struct.pack("<BBq", 1, 4, 255), 1
+    )
     yield "bad nodata", request([replace(land, nodata=256)], script)
-    yield "bad nodata", request([land], script).replace(struct.pack("<BBq", 1, 1, 255), struct.pack("<BBq", 1, 0, 255), 1)
+    yield "bad nodata", request([land], script).replace(
+        struct.pack("<BBq", 1, 1, 255), struct.pack("<BBq", 1, 0, 255), 1
+    )
     yield "bad label", request([replace(land, labels=[(NULL, b"x")])], script)
     yield "bad label", request([replace(land, labels=[(1, b"a\nb")])], script)
-    yield "bad mask", request([replace(land, type=6, rows=[[1, 1, 2], [NULL, 2, 3]], nodata=None, mask=[[0, 0, 0], [0, 0, 2]])], script)
-    yield "cell out of range", request([land, replace(zone, type=7, rows=[[1, 1, 2], [2, 2**31, 3]], nodata=None)], script)
+    yield "bad mask", request(
+        [
+            replace(
+                land,
+                type=6,
+                rows=[[1, 1, 2], [NULL, 2, 3]],
+                nodata=None,
+                mask=[[0, 0, 0], [0, 0, 2]],
+            )
+        ],
+        script,
+    )
+    yield "cell out of range", request(
+        [land, replace(zone, type=7, rows=[[1, 1, 2], [2, 2**31, 3]], nodata=None)], script
+    )
     yield "script too long", request([land], b"#" * 1048577)
     yield "bytes after the request", good + b"\n"
     yield "bytes after the request", good + good
@@ -219,11 +295,18 @@ def check_damage(programs: Programs, count: cases.Count, choice: random.Random, 
     for number in range(10):
         maps, script = random_request(choice)
         data = request(maps, script)
-        places = range(len(data)) if len(data) < LONGEST_WHOLE else sorted(choice.sample(range(len(data)), LONGEST_WHOLE))
+        places = (
+            range(len(data))
+            if len(data) < LONGEST_WHOLE
+            else sorted(choice.sample(range(len(data)), LONGEST_WHOLE))
+        )
         wrong = (wrong_reading(programs, data[:at]) for at in places)
         count.add(f"request {number}, cut short", next(filter(None, wrong), ""))
     for number in range(runs // DAMAGED_IN):
-        count.add(f"damaged request {number}", wrong_reading(programs, damaged_bytes(choice, request(*random_request(choice)))))
+        count.add(
+            f"damaged request {number}",
+            wrong_reading(programs, damaged_bytes(choice, request(*random_request(choice)))),
+        )
 
 
 def check_random(programs: Programs, count: cases.Count, choice: random.Random, runs: int) -> None:
@@ -238,12 +321,16 @@ def check_random(programs: Programs, count: cases.Count, choice: random.Random, 
 def wide_request() -> bytes:
     """A request whose response fills a pipe several times."""
     rows = [[column % 250 for column in range(1000)]] * 400
-    return request([Raster(b"land", (b"400", b"0", b"1000", b"0"), 1, rows)], b"r.out.ascii input=land\n" * 3)
+    return request(
+        [Raster(b"land", (b"400", b"0", b"1000", b"0"), 1, rows)], b"r.out.ascii input=land\n" * 3
+    )
 
 
 def wrong_stop(programs: Programs, data: bytes, taken: int) -> str:
     """A caller that takes so many bytes of a long response, and stops reading: the program ends."""
-    with subprocess.Popen([programs.pipe], stdin=subprocess.PIPE, stdout=subprocess.PIPE, stderr=subprocess.PIPE) as ran:
+    with subprocess.Popen(
+        [programs.pipe], stdin=subprocess.PIPE, stdout=subprocess.PIPE, stderr=subprocess.PIPE
+    ) as ran:
         assert ran.stdin and ran.stdout
         ran.stdin.write(data)
         ran.stdin.close()
@@ -259,10 +346,25 @@ def limit_memory() -> None:
 
 def wrong_announcement(programs: Programs, rows: int, cols: int, labels: int) -> str:
     """A header that announces cells or labels and gives none, in little memory."""
-    data = b"RCELLQ1\n" + struct.pack("<I", 1) + b"\4land\0011\0010\0011\0010" + struct.pack("<IIBBqI", rows, cols, 6, 0, 0, labels)
-    ran = subprocess.run([programs.pipe], input=data, stdout=subprocess.PIPE, preexec_fn=limit_memory, timeout=SECONDS)
+    data = (
+        b"RCELLQ1\n"
+        + struct.pack("<I", 1)
+        + b"\4land\0011\0010\0011\0010"
+        + struct.pack("<IIBBqI", rows, cols, 6, 0, 0, labels)
+    )
+    ran = subprocess.run(
+        [programs.pipe],
+        input=data,
+        stdout=subprocess.PIPE,
+        preexec_fn=limit_memory,
+        timeout=SECONDS,
+    )
     end = Response(ran.stdout).frames()[-1]
-    return "" if (ran.returncode, end["text"]) == (STATUS_REJECTED, b"request too short") else f"status {ran.returncode}, {end}"
+    return (
+        ""
+        if (ran.returncode, end["text"]) == (STATUS_REJECTED, b"request too short")
+        else f"status {ran.returncode}, {end}"
+    )
 
 
 def wrong_order(programs: Programs) -> str:
@@ -276,11 +378,25 @@ def wrong_order(programs: Programs) -> str:
         ran.stdin.write(data[len(data) // 2 :])
         ran.stdin.close()
         output = ran.stdout.read()
-    return "bytes before the end of the request" if is_early else "" if (ran.returncode, output) == programs.run(data) else f"status {ran.returncode}"
+    return (
+        "bytes before the end of the request"
+        if is_early
+        else ""
+        if (ran.returncode, output) == programs.run(data)
+        else f"status {ran.returncode}"
+    )
 
 
 def few_bytes() -> bytes:
-    land = Raster(b"land", (b"2", b"0", b"3", b"0"), 6, [[1, 1, 2], [2, 700, 255]], 255, [[0, 0, 1], [0, 0, 0]], [(1, b"wood"), (2, b"x")])
+    land = Raster(
+        b"land",
+        (b"2", b"0", b"3", b"0"),
+        6,
+        [[1, 1, 2], [2, 700, 255]],
+        255,
+        [[0, 0, 1], [0, 0, 0]],
+        [(1, b"wood"), (2, b"x")],
+    )
     script = b"r.mapcalc b = land + 1\nr.clump input=b output=k\nr.stats -cl input=land,k\nr.stats -1 input=land\n"
     script += b"r.stats -1nl input=land,k\nr.out.ascii input=b\n"
     return request([land, replace(land, name=b"zone", type=4)], script)
@@ -292,10 +408,16 @@ def wrong_growths(programs: Programs, shim: str) -> str:
     wanted, at, asked = programs.frames(data), 0, 1
     while at < asked:
         at += 1
-        *frames, end = programs.frames(data, LD_PRELOAD=shim, REFUSE_AT=str(at), REFUSE_COUNT=counter)
+        *frames, end = programs.frames(
+            data, LD_PRELOAD=shim, REFUSE_AT=str(at), REFUSE_COUNT=counter
+        )
         with open(counter, encoding="ascii") as file:
             asked = int(file.read())
-        is_end = end == wanted[-1] if end["status"] == STATUS_DONE else (end["status"], end["source"], end["text"]) == (STATUS_MEMORY, 0, b"no memory")
+        is_end = (
+            end == wanted[-1]
+            if end["status"] == STATUS_DONE
+            else (end["status"], end["source"], end["text"]) == (STATUS_MEMORY, 0, b"no memory")
+        )
         if not is_end or frames != wanted[: len(frames)]:
             return f"with growth {at} refused: {end}"
     return ""
@@ -309,38 +431,64 @@ def wrong_text_growths(programs: Programs, shim: str) -> str:
     at, asked = 0, 1
     while at < asked:
         at += 1
-        status, output = programs.run(as_text(data), LD_PRELOAD=shim, REFUSE_AT=str(at), REFUSE_COUNT=counter)
+        status, output = programs.run(
+            as_text(data), LD_PRELOAD=shim, REFUSE_AT=str(at), REFUSE_COUNT=counter
+        )
         with open(counter, encoding="ascii") as file:
             asked = int(file.read())
-        is_end = output.startswith(b"RCELLA1\n") and Response(output).frames()[-1]["text"] == b"no memory"
-        if not (output == starts[-1] if status == STATUS_DONE else status == STATUS_MEMORY and (is_end or output in starts)):
+        is_end = (
+            output.startswith(b"RCELLA1\n")
+            and Response(output).frames()[-1]["text"] == b"no memory"
+        )
+        if not (
+            output == starts[-1]
+            if status == STATUS_DONE
+            else status == STATUS_MEMORY and (is_end or output in starts)
+        ):
             return f"with growth {at} refused: status {status}, {output!r}"
     return ""
 
 
 def wrong_devices(programs: Programs, shim: str) -> str:
     """The system fails for a request of either form."""
-    return wrong_device(programs, shim, few_bytes()) or wrong_device(programs, shim, as_text(few_bytes()))
+    return wrong_device(programs, shim, few_bytes()) or wrong_device(
+        programs, shim, as_text(few_bytes())
+    )
 
 
 def wrong_device(programs: Programs, shim: str, data: bytes) -> str:
     """Each read that fails or ends once, reads and writes that move little, and each write that fails."""
     wanted = programs.run(data)
     for piece in (1, 7, 64):
-        if programs.run(data, LD_PRELOAD=shim, READ_PIECE=str(piece), WRITE_PIECE=str(piece)) != wanted:
+        if (
+            programs.run(data, LD_PRELOAD=shim, READ_PIECE=str(piece), WRITE_PIECE=str(piece))
+            != wanted
+        ):
             return f"by pieces of {piece} bytes"
     for at in range(1, len(data) // 7 + 2):
         for once in ("0", "1"):
-            end = programs.frames(data, LD_PRELOAD=shim, READ_PIECE="7", READ_FAILS=str(at), READ_ONCE=once)[-1]
+            end = programs.frames(
+                data, LD_PRELOAD=shim, READ_PIECE="7", READ_FAILS=str(at), READ_ONCE=once
+            )[-1]
             if (end["status"], end["text"]) != (STATUS_FAILED, b"read failed"):
                 return f"read {at} fails: {end}"
-        if at * 7 < len(data) and programs.frames(data, LD_PRELOAD=shim, READ_PIECE="7", READ_ENDS=str(at))[-1]["text"] != b"request too short":
+        if (
+            at * 7 < len(data)
+            and programs.frames(data, LD_PRELOAD=shim, READ_PIECE="7", READ_ENDS=str(at))[-1][
+                "text"
+            ]
+            != b"request too short"
+        ):
             return f"read {at} ends"
     status, output, at = STATUS_FAILED, b"", 0
     while status == STATUS_FAILED:
         at, before = at + 1, output
         status, output = programs.run(data, LD_PRELOAD=shim, WRITE_PIECE="7", WRITE_FAILS=str(at))
-        if not wanted[1].startswith(output) or not output.startswith(before) or (at == 1 and output):
+        if (
+            not wanted[1].startswith(output)
+            or not output.startswith(before)
+            or (at == 1 and output)
+        ):
             return f"write {at} fails: {len(output)} bytes"
     return "" if (status, output) == wanted else f"{at} writes, status {status}"
 
@@ -348,12 +496,18 @@ def wrong_device(programs: Programs, shim: str, data: bytes) -> str:
 def check_system(programs: Programs, count: cases.Count, clang: Optional[str]) -> None:
     for taken in (0, 1, 100_000):
         for data in (wide_request(), as_text(wide_request())):
-            count.add(f"a caller of {data[:7]!r} that stops after {taken} bytes", wrong_stop(programs, data, taken))
+            count.add(
+                f"a caller of {data[:7]!r} that stops after {taken} bytes",
+                wrong_stop(programs, data, taken),
+            )
     count.add("a header that announces 8 GB", wrong_announcement(programs, 32767, 65535, 0))
     count.add("a header that announces labels", wrong_announcement(programs, 1, 1, 2**32 - 1))
     count.add("half of a request", wrong_order(programs))
     if clang:
-        for name, *wrong in (("refuse", wrong_growths, wrong_text_growths), ("devices", wrong_devices)):
+        for name, *wrong in (
+            ("refuse", wrong_growths, wrong_text_growths),
+            ("devices", wrong_devices),
+        ):
             shim = os.path.join(programs.room, f"{name}.so")
             cases.build_shim(clang, shim, name)
             for one in wrong:
@@ -361,7 +515,9 @@ def check_system(programs: Programs, count: cases.Count, clang: Optional[str]) -
 
 
 def main() -> int:
-    words = argparse.ArgumentParser(description=__doc__, formatter_class=argparse.RawDescriptionHelpFormatter)
+    words = argparse.ArgumentParser(
+        description=__doc__, formatter_class=argparse.RawDescriptionHelpFormatter
+    )
     words.add_argument("clang", nargs="?")
     words.add_argument("--program", default=f"{ROOT}/bin/rcell-pipe")
     words.add_argument("--rcell", default=f"{ROOT}/bin/rcell")

@@ -98,7 +98,12 @@ def reads_of(statement: model.Statement) -> list[tuple[bytes, Need]]:
     """The maps that a statement reads; a map may come several times."""
     if isinstance(statement, model.Mapcalc):
         return [
-            (part.name, Need(max(0, -part.down), max(0, part.down), max(0, -part.right), max(0, part.right)))
+            (
+                part.name,
+                Need(
+                    max(0, -part.down), max(0, part.down), max(0, -part.right), max(0, part.right)
+                ),
+            )
             for part in within(statement.expression)
             if isinstance(part, MapCell)
         ]
@@ -116,7 +121,10 @@ def options_of(statement: model.Statement) -> int:
     if not isinstance(statement, model.Stats):
         return 0
     skip = 8 if b"n" in statement.flags else 16 if b"N" in statement.flags else 0
-    return sum(value for flag, value in ((b"c", 1), (b"l", 2), (b"1", 4)) if flag in statement.flags) + skip
+    return (
+        sum(value for flag, value in ((b"c", 1), (b"l", 2), (b"1", 4)) if flag in statement.flags)
+        + skip
+    )
 
 
 def after_of(statement: model.Statement) -> tuple[int, ...]:
@@ -127,12 +135,18 @@ def after_of(statement: model.Statement) -> tuple[int, ...]:
 def calls_of(statement: model.Statement) -> tuple[tuple[int, int, int], ...]:
     """The columns of the first and the last byte of each call, and the number of its function."""
     calls = getattr(statement, "calls", [])
-    return tuple((first, last, POSITIONS.index(name) + 1) for name, first, last in calls if name in POSITIONS)
+    return tuple(
+        (first, last, POSITIONS.index(name) + 1) for name, first, last in calls if name in POSITIONS
+    )
 
 
 def labels_of(statement: model.Statement) -> tuple[tuple[int, bytes], ...]:
     """The labels of rules, in their order."""
-    return tuple((rule.output, rule.label) for rule in getattr(statement, "rules", []) if isinstance(rule.output, int) and rule.label)
+    return tuple(
+        (rule.output, rule.label)
+        for rule in getattr(statement, "rules", [])
+        if isinstance(rule.output, int) and rule.label
+    )
 
 
 def flags_of(statement: model.Statement) -> int:
@@ -157,7 +171,11 @@ def plan(names: list[bytes], statements: list[tuple[int, model.Statement]]) -> l
     frames = []
     for line, statement in statements:
         reads = joined(reads_of(statement), known)
-        found = [(name, need.moved(reach)) for read, reach in reads.items() for name, need in needs_of[read].items()]
+        found = [
+            (name, need.moved(reach))
+            for read, reach in reads.items()
+            for name, need in needs_of[read].items()
+        ]
         if isinstance(statement, model.Clump):
             found = [(name, need._replace(whole=True)) for name, need in found]
         needs = joined(found, names)
@@ -168,7 +186,18 @@ def plan(names: list[bytes], statements: list[tuple[int, model.Statement]]) -> l
         command = COMMANDS.index(type(statement)) + 1
         options = options_of(statement), tuple(inputs_of(statement)), after_of(statement)
         details = calls_of(statement), labels_of(statement)
-        frames.append(Frame(line, command, flags_of(statement), made, tuple(reads.items()), tuple(needs.items()), *options, *details))
+        frames.append(
+            Frame(
+                line,
+                command,
+                flags_of(statement),
+                made,
+                tuple(reads.items()),
+                tuple(needs.items()),
+                *options,
+                *details,
+            )
+        )
     return frames
 
 
@@ -199,7 +228,11 @@ class Reader:
 
 
 def request(names: list[bytes], script: bytes) -> bytes:
-    head = b"RCELLP1\n" + struct.pack("<I", len(names)) + b"".join(bytes([len(name)]) + name for name in names)
+    head = (
+        b"RCELLP1\n"
+        + struct.pack("<I", len(names))
+        + b"".join(bytes([len(name)]) + name for name in names)
+    )
     return head + struct.pack("<I", len(script)) + script
 
 
@@ -256,13 +289,22 @@ class ResponseReader(Reader):
         return tuple(found)
 
     def frame(self) -> Frame:
-        line, command, flags, made = self.number("Q"), self.number("B"), self.number("B"), self.text()
+        line, command, flags, made = (
+            self.number("Q"),
+            self.number("B"),
+            self.number("B"),
+            self.text(),
+        )
         reads, needs, options = self.needs(False), self.needs(True), self.number("B")
         inputs = tuple(self.text() for _ in range(self.number("Q")))
         after = tuple(self.number("i") for _ in range(self.number("Q")))
-        calls = tuple((self.number("Q"), self.number("Q"), self.number("B")) for _ in range(self.number("Q")))
+        calls = tuple(
+            (self.number("Q"), self.number("Q"), self.number("B")) for _ in range(self.number("Q"))
+        )
         labels = tuple((self.number("i"), self.text()) for _ in range(self.number("Q")))
-        return Frame(line, command, flags, made, reads, needs, options, inputs, after, calls, labels)
+        return Frame(
+            line, command, flags, made, reads, needs, options, inputs, after, calls, labels
+        )
 
     def response(self) -> Response:
         if self.take(8) != b"RCELLA1\n":
@@ -282,17 +324,33 @@ class ResponseReader(Reader):
 
 GIVEN = [b"g", b"h", b"k"]
 EXAMPLES = {
-    "made maps add up": (b"r.mapcalc a = g[1,0]\nr.mapcalc b = a[0,-2] + h\nr.stats -c input=b\n",
-                         {b"b": {b"g": Need(0, 1, 2, 0), b"h": Need()}}),
-    "r.clump needs the full map": (b"r.mapcalc a = g[0,3]\nr.clump input=a output=b\nr.mapcalc c = b + h[-1,0]\n",
-                                   {b"b": {b"g": Need(0, 0, 0, 3, True)}, b"c": {b"g": Need(0, 0, 0, 3, True), b"h": Need(1)}}),
-    "the widest of several": (b"r.mapcalc a = g[-1,4] + g[2,-3] + g\n", {b"a": {b"g": Need(1, 2, 3, 4)}}),
-    "rules pass needs on": (b"r.mapcalc a = k[5,0]\nr.reclass input=a output=b\n1 = 2 wood\nend\n", {b"b": {b"k": Need(0, 5)}}),
+    "made maps add up": (
+        b"r.mapcalc a = g[1,0]\nr.mapcalc b = a[0,-2] + h\nr.stats -c input=b\n",
+        {b"b": {b"g": Need(0, 1, 2, 0), b"h": Need()}},
+    ),
+    "r.clump needs the full map": (
+        b"r.mapcalc a = g[0,3]\nr.clump input=a output=b\nr.mapcalc c = b + h[-1,0]\n",
+        {b"b": {b"g": Need(0, 0, 0, 3, True)}, b"c": {b"g": Need(0, 0, 0, 3, True), b"h": Need(1)}},
+    ),
+    "the widest of several": (
+        b"r.mapcalc a = g[-1,4] + g[2,-3] + g\n",
+        {b"a": {b"g": Need(1, 2, 3, 4)}},
+    ),
+    "rules pass needs on": (
+        b"r.mapcalc a = k[5,0]\nr.reclass input=a output=b\n1 = 2 wood\nend\n",
+        {b"b": {b"k": Need(0, 5)}},
+    ),
     "maps in their order": (b"r.stats -nlc input=h,g,h after=1,*,-2\nr.stats -1N input=k\n", {}),
     "a position needs no map": (b"r.mapcalc a = row() * ncols()\n", {b"a": {}}),
-    "calls at their columns": (b" \tr.mapcalc\trow=if( row\t( ) ,g,col()+nrows())*abs(ncols(\t))\r\nr.mapcalc b = row + g", {}),
-    "labels in the order of the rules": (b"r.reclass input=g output=a\n# 7 = 7 no\n1 = 2 wood\n\n 3 thru 5=+2  a = b \n9 = NULL gone\n6 = 1\n* = * kept\n end \r\n"
-                                         b"r.reclass input=a output=b\n7 = -1 x\nend\nr.mapcalc c = a\n", {}),
+    "calls at their columns": (
+        b" \tr.mapcalc\trow=if( row\t( ) ,g,col()+nrows())*abs(ncols(\t))\r\nr.mapcalc b = row + g",
+        {},
+    ),
+    "labels in the order of the rules": (
+        b"r.reclass input=g output=a\n# 7 = 7 no\n1 = 2 wood\n\n 3 thru 5=+2  a = b \n9 = NULL gone\n6 = 1\n* = * kept\n end \r\n"
+        b"r.reclass input=a output=b\n7 = -1 x\nend\nr.mapcalc c = a\n",
+        {},
+    ),
 }
 
 
@@ -352,7 +410,12 @@ def check_examples(tests: Tests) -> None:
     for name, (script, needs) in EXAMPLES.items():
         frames, _ = expected(request(GIVEN, script))
         found = {frame.made: dict(frame.needs) for frame in frames}
-        tests.check(name, "" if all(found[made] == wanted for made, wanted in needs.items()) else f"the model says {found}")
+        tests.check(
+            name,
+            ""
+            if all(found[made] == wanted for made, wanted in needs.items())
+            else f"the model says {found}",
+        )
         tests.check(name, tests.wrong(request(GIVEN, script)))
 
 
@@ -378,7 +441,9 @@ def main() -> int:
     check_errors(tests)
     chance = random.Random(settings.seed)
     for number in range(settings.runs):
-        tests.check(f"random request {number} of seed {settings.seed}", tests.wrong(random_request(chance)))
+        tests.check(
+            f"random request {number} of seed {settings.seed}", tests.wrong(random_request(chance))
+        )
     print(f"{tests.passed} passed, {tests.failed} failed")
     return tests.failed > 0
 

@@ -23,7 +23,19 @@ FEW_ROWS, FEW_COLS = 3, 20
 WIDE_SHARE = 0.8
 LENGTHS = (1, 3, 64, 65, 300, 5000)  # the most cells of a stretch
 # The smallest and the largest number of a stretch.
-RANGES = ((0, 1), (7, 7), (1, 12), (0, 254), (0, 255), (1, 999), (0, 19_999), (0, 99_999_999), (-120, -1), (-9999, 9999), (-MOST, MOST))
+RANGES = (
+    (0, 1),
+    (7, 7),
+    (1, 12),
+    (0, 254),
+    (0, 255),
+    (1, 999),
+    (0, 19_999),
+    (0, 99_999_999),
+    (-120, -1),
+    (-9999, 9999),
+    (-MOST, MOST),
+)
 SPELLINGS = ("%d",) * 4 + ("%d ", "%5d", "%d\t", "%05d", "%d\r\n", "%d\n", "%12d")
 SCRIPT = b"""r.stats -c input=g
 r.stats -c input=g,h
@@ -70,7 +82,10 @@ def table(*maps):
         last = np.where(cells == NULL, MOST + 1, cells).ravel()
         keys = keys << np.uint64(32) | (last + MOST).astype(np.uint64)
     found, counts = np.unique(keys, return_counts=True)
-    columns = [(found >> np.uint64(32 * at) & np.uint64(2**32 - 1)).astype(np.int64) - MOST for at in reversed(range(len(maps)))]
+    columns = [
+        (found >> np.uint64(32 * at) & np.uint64(2**32 - 1)).astype(np.int64) - MOST
+        for at in reversed(range(len(maps)))
+    ]
     words = [words_of(np.where(column > MOST, NULL, column)) for column in columns]
     return "".join(" ".join(line) + "\n" for line in zip(*words, map(str, counts.tolist())))
 
@@ -83,7 +98,11 @@ def expected(g, h):
     beside = np.full(g.shape, NULL, np.int64)
     beside[:, :-1] = g[:, 1:]
     largest = np.where((beside == NULL) | (h == NULL), NULL, np.maximum(beside, h))
-    classes = np.select([h == NULL, (0 <= h) & (h <= 9), (10 <= h) & (h <= 254), (-120 <= h) & (h <= -1)], [NULL, 1, 200, NULL], 2)
+    classes = np.select(
+        [h == NULL, (0 <= h) & (h <= 9), (10 <= h) & (h <= 254), (-120 <= h) & (h <= -1)],
+        [NULL, 1, 200, NULL],
+        2,
+    )
     return table(g) + table(g, h) + grid(g) + grid(largest) + table(classes)
 
 
@@ -92,23 +111,35 @@ def random_shape(random):
     most = int(random.choice([200, 3000, MOST_LENGTH]))
     if random.random() < WIDE_SHARE:
         return int(random.integers(1, FEW_ROWS + 1)), int(random.integers(1, most))
-    return int(random.integers(1, most)), int(random.integers(1, min(FEW_COLS, FEW_ROWS * MOST_LENGTH // most) + 1))
+    return int(random.integers(1, most)), int(
+        random.integers(1, min(FEW_COLS, FEW_ROWS * MOST_LENGTH // most) + 1)
+    )
 
 
 def is_equal(program, shim, seed, number):
     random = np.random.default_rng([seed, number])
     shape = random_shape(random)
     (g, text), (h, other) = random_map(random, shape), random_map(random, shape)
-    files = {"script": SCRIPT, "grid0": (header(shape) + text).encode(), "grid1": (header(shape) + other).encode()}
+    files = {
+        "script": SCRIPT,
+        "grid0": (header(shape) + text).encode(),
+        "grid1": (header(shape) + other).encode(),
+    }
     made = Made(files, [(b"g", "grid0"), (b"h", "grid1")])
     program.put(made)
-    pieces = {"LD_PRELOAD": shim, "READ_PIECE": str(random.choice(PIECES))} if shim and random.random() < 0.5 else {}
+    pieces = (
+        {"LD_PRELOAD": shim, "READ_PIECE": str(random.choice(PIECES))}
+        if shim and random.random() < 0.5
+        else {}
+    )
     got = program.answer(made.words, **pieces)
     return (got.status, got.output, got.told) == (0, expected(g, h).encode(), b"")
 
 
 def main():
-    parser = argparse.ArgumentParser(description=__doc__, formatter_class=argparse.RawDescriptionHelpFormatter)
+    parser = argparse.ArgumentParser(
+        description=__doc__, formatter_class=argparse.RawDescriptionHelpFormatter
+    )
     parser.add_argument("--maps", type=int, default=100)
     parser.add_argument("--seed", type=int, default=1)
     parser.add_argument("--first", type=int, default=0)
@@ -121,7 +152,9 @@ def main():
             cases.build_shim(wanted.pieces, shim, "devices")
         program = Program(wanted.program, room)
         numbers = range(wanted.first, wanted.first + wanted.maps)
-        different = [number for number in numbers if not is_equal(program, shim, wanted.seed, number)]
+        different = [
+            number for number in numbers if not is_equal(program, shim, wanted.seed, number)
+        ]
         for number in different:
             print(f"map {number} of seed {wanted.seed} differs")
     print(f"{wanted.maps} maps, {len(different)} differences")

@@ -48,12 +48,26 @@ def almanac():
 def shoreline():
     """The figure of each island: of the largest polygon that has a coast in its degree square."""
     group = gdal.OpenEx(SHORELINE, gdal.OF_MULTIDIM_RASTER).GetRootGroup()
-    read = {name: group.OpenMDArray(name).ReadAsArray() for name in (
-        "The_km_squared_area_of_polygons", "Id_of_GSHHS_ID", "Id_of_first_segment_in_a_bin", "N_segments_in_a_bin")}
-    areas = read["The_km_squared_area_of_polygons"][read["Id_of_GSHHS_ID"]]  # of each segment of coast
+    read = {
+        name: group.OpenMDArray(name).ReadAsArray()
+        for name in (
+            "The_km_squared_area_of_polygons",
+            "Id_of_GSHHS_ID",
+            "Id_of_first_segment_in_a_bin",
+            "N_segments_in_a_bin",
+        )
+    }
+    areas = read["The_km_squared_area_of_polygons"][
+        read["Id_of_GSHHS_ID"]
+    ]  # of each segment of coast
     squares = [(89 - south) * 360 + west for *_, (west, south), _ in ISLANDS]
-    firsts, counts = read["Id_of_first_segment_in_a_bin"][squares], read["N_segments_in_a_bin"][squares]
-    return [round(float(areas[first : first + count].max())) for first, count in zip(firsts, counts)]
+    firsts, counts = (
+        read["Id_of_first_segment_in_a_bin"][squares],
+        read["N_segments_in_a_bin"][squares],
+    )
+    return [
+        round(float(areas[first : first + count].max())) for first, count in zip(firsts, counts)
+    ]
 
 
 def land():

@@ -15,7 +15,9 @@ LEAST_CORNERS = 3
 
 
 def said_by_gmt(*words):
-    return subprocess.run(["gmt", "coast", *words], check=True, capture_output=True, text=True).stdout.splitlines()
+    return subprocess.run(
+        ["gmt", "coast", *words], check=True, capture_output=True, text=True
+    ).stdout.splitlines()
 
 
 def countries():
@@ -31,19 +33,30 @@ def rings(iso):
             found.append([])
         elif line.strip():
             found[-1].append([float(word) for word in line.split()[:2]])
-    return [ring if ring[0] == ring[-1] else [*ring, ring[0]] for ring in found if len(ring) >= LEAST_CORNERS]
+    return [
+        ring if ring[0] == ring[-1] else [*ring, ring[0]]
+        for ring in found
+        if len(ring) >= LEAST_CORNERS
+    ]
 
 
 def on_the_map(ring):
     """The ring's copies between the meridians of -180 and 180 degrees."""
     for turn in TURNS:
         moved = [[longitude + turn, latitude] for longitude, latitude in ring]
-        if min(longitude for longitude, _ in moved) < 180 and max(longitude for longitude, _ in moved) > -180:
+        if (
+            min(longitude for longitude, _ in moved) < 180
+            and max(longitude for longitude, _ in moved) > -180
+        ):
             yield moved
 
 
 def feature(code, ring):
-    return {"type": "Feature", "properties": {"code": code}, "geometry": {"type": "Polygon", "coordinates": [ring]}}
+    return {
+        "type": "Feature",
+        "properties": {"code": code},
+        "geometry": {"type": "Polygon", "coordinates": [ring]},
+    }
 
 
 def main(output, labels):

@@ -12,7 +12,15 @@ import numpy as np
 from osgeo import gdal
 from scipy import ndimage
 
-FIRST = ("Indonesia", "Malaysia", "Philippines", "Papua New Guinea", "Brunei Darussalam", "Timor-Leste", "Singapore")
+FIRST = (
+    "Indonesia",
+    "Malaysia",
+    "Philippines",
+    "Papua New Guinea",
+    "Brunei Darussalam",
+    "Timor-Leste",
+    "Singapore",
+)
 LAND = 1
 MOST_CODES = 1000
 
@@ -25,11 +33,17 @@ def main(land_path, countries_path, labels_path, output, output_labels):
     gdal.UseExceptions()
     land, source = gdal.Open(land_path).ReadAsArray(), gdal.Open(countries_path)
     codes = source.ReadAsArray()
-    nearest = ndimage.distance_transform_edt(codes == 0, return_distances=False, return_indices=True)
+    nearest = ndimage.distance_transform_edt(
+        codes == 0, return_distances=False, return_indices=True
+    )
     country = np.where(land == LAND, codes[tuple(nearest)], 0)
     with open(labels_path, encoding="utf-8") as file:
-        names = {int(code): name for code, name in (line.rstrip("\n").split(" ", 1) for line in file)}
-    order = sorted((int(code) for code in np.unique(country) if code), key=lambda code: rank(names[code]))
+        names = {
+            int(code): name for code, name in (line.rstrip("\n").split(" ", 1) for line in file)
+        }
+    order = sorted(
+        (int(code) for code in np.unique(country) if code), key=lambda code: rank(names[code])
+    )
     new = np.zeros(MOST_CODES, np.uint8)
     new[order] = np.arange(1, len(order) + 1)
     copy = gdal.GetDriverByName("GTiff").CreateCopy(output, source)

@@ -71,7 +71,11 @@ def align(map: Any, to: Any, resample: str | None = None, *, crs: Any = None) ->
         made, aligned = _shifted(source, like, cells, null, resample)
     else:
         made, aligned = _projected(source, like, cells, null)
-    place: Any = like.transform if Region.from_transform(like.transform, *like.region.shape) == like.region else like.region
+    place: Any = (
+        like.transform
+        if Region.from_transform(like.transform, *like.region.shape) == like.region
+        else like.region
+    )
     return Map(made, place, known, None, source.labels, source.colors, aligned)
 
 
@@ -81,45 +85,77 @@ def _cells_of(source: Source) -> tuple[Cells, Mask]:
     cells = np.concatenate([block.cells for block in blocks])
     null = np.zeros(cells.shape, np.bool_) if source.nodata is None else cells == source.nodata
     if any(block.null is not None for block in blocks):
-        null |= np.concatenate([np.zeros(block.cells.shape, np.bool_) if block.null is None else block.null for block in blocks])
+        null |= np.concatenate(
+            [
+                np.zeros(block.cells.shape, np.bool_) if block.null is None else block.null
+                for block in blocks
+            ]
+        )
     return cells, null
 
 
-def _shifted(source: Source, like: Source, cells: Cells, null: Mask, resample: str | None) -> tuple[Any, Aligned]:
+def _shifted(
+    source: Source, like: Source, cells: Cells, null: Mask, resample: str | None
+) -> tuple[Any, Aligned]:
     """Return a map on the grid of another one: moved by whole rows and columns, or with the nearest cells."""
     shift = Shift.between(source.transform, like.transform, like.region.shape)
     if resample is None and not shift.is_whole:
         raise OtherRegion("map", f'{shift.told("to")}: resample="nearest" takes the nearest cell')
     places = [np.floor(centres + _ON_BORDER).astype(np.int64) for centres in shift.centres()]
     inside = [(found >= 0) & (found < size) for found, size in zip(places, cells.shape)]
-    (rows, cols), (to_rows, to_cols) = ([_run(found) for found in sides] for sides in ([at[kept] for at, kept in zip(places, inside)], map(np.flatnonzero, inside)))
+    (rows, cols), (to_rows, to_cols) = (
+        [_run(found) for found in sides]
+        for sides in ([at[kept] for at, kept in zip(places, inside)], map(np.flatnonzero, inside))
+    )
     made, is_null = np.zeros(like.region.shape, cells.dtype), np.ones(like.region.shape, np.bool_)
     made[to_rows, to_cols], is_null[to_rows, to_cols] = cells[rows][:, cols], null[rows][:, cols]
-    often = [np.bincount(at[kept], minlength=size) for at, kept, size in zip(places, inside, cells.shape)]
-    used, once = (np.count_nonzero(~null[often[0] >= 1 if many else often[0] == 1], axis=0)[often[1] >= 1 if many else often[1] == 1].sum() for many in (True, False))
+    often = [
+        np.bincount(at[kept], minlength=size) for at, kept, size in zip(places, inside, cells.shape)
+    ]
+    used, once = (
+        np.count_nonzero(~null[often[0] >= 1 if many else often[0] == 1], axis=0)[
+            often[1] >= 1 if many else often[1] == 1
+        ].sum()
+        for many in (True, False)
+    )
     lost = null.size - np.count_nonzero(null) - used
-    return masked(made, is_null), Aligned(shift.rows, shift.cols, int(used), int(used - once), int(lost))
+    return masked(made, is_null), Aligned(
+        shift.rows, shift.cols, int(used), int(used - once), int(lost)
+    )
 
 
 def _run(places: NDArray[np.int64]) -> Any:
     """Return consecutive indices as a slice, which indexes many times faster; other indices unchanged."""
     if not places.size:
         return slice(0, 0)
-    return slice(int(places[0]), int(places[-1]) + 1) if places[-1] - places[0] + 1 == places.size else places
+    return (
+        slice(int(places[0]), int(places[-1]) + 1)
+        if places[-1] - places[0] + 1 == places.size
+        else places
+    )
 
 
 def _projected(source: Source, like: Source, cells: Cells, null: Mask) -> tuple[Any, Aligned]:
     """Return a map on the grid of another one: with the nearest cells, in another reference system."""
     pyproj = need("pyproj", "gis", "to align maps of two reference systems")
-    systems = (pyproj.CRS.from_user_input(crs.to_wkt() if hasattr(crs, "to_wkt") else crs) for crs in (like.crs, source.crs))
+    systems = (
+        pyproj.CRS.from_user_input(crs.to_wkt() if hasattr(crs, "to_wkt") else crs)
+        for crs in (like.crs, source.crs)
+    )
     change = pyproj.Transformer.from_crs(*systems, always_xy=True)
     width, _, west, _, height, north = source.transform
     made, is_null = np.zeros(like.region.shape, cells.dtype), np.ones(like.region.shape, np.bool_)
-    often, step, (rows, cols) = np.zeros(cells.size, np.int64), max(1, _BLOCK // like.region.cols), cells.shape
+    often, step, (rows, cols) = (
+        np.zeros(cells.size, np.int64),
+        max(1, _BLOCK // like.region.cols),
+        cells.shape,
+    )
     for row in range(0, like.region.rows, step):
         part = slice(row, min(row + step, like.region.rows))
         x, y = change.transform(*_centres(like, part))
-        down, across = np.floor((y - north) / height + _ON_BORDER), np.floor((x - west) / width + _ON_BORDER)
+        down, across = np.floor((y - north) / height + _ON_BORDER), np.floor(
+            (x - west) / width + _ON_BORDER
+        )
         inside = (down >= 0) & (down < rows) & (across >= 0) & (across < cols)
         at = down[inside].astype(np.int64) * cols + across[inside].astype(np.int64)
         made[part][inside], is_null[part][inside] = cells.reshape(-1)[at], null.reshape(-1)[at]
@@ -128,11 +164,15 @@ def _projected(source: Source, like: Source, cells: Cells, null: Mask) -> tuple[
         raise BadMap("map", "has no cell in the extent of `to`")
     often = np.where(null.reshape(-1), 0, often)
     used = np.count_nonzero(often)
-    return masked(made, is_null), Aligned(None, None, used, np.count_nonzero(often > 1), null.size - np.count_nonzero(null) - used)
+    return masked(made, is_null), Aligned(
+        None, None, used, np.count_nonzero(often > 1), null.size - np.count_nonzero(null) - used
+    )
 
 
 def _centres(like: Source, rows: slice) -> list[NDArray[np.float64]]:
     """Return the coordinates of the centres of some rows."""
     width, _, west, _, height, north = like.transform
-    x, y = west + width * (np.arange(like.region.cols) + 0.5), north + height * (np.arange(rows.start, rows.stop) + 0.5)
+    x, y = west + width * (np.arange(like.region.cols) + 0.5), north + height * (
+        np.arange(rows.start, rows.stop) + 0.5
+    )
     return list(np.meshgrid(x, y))

@@ -62,10 +62,12 @@ class Result(Sequence["StatsTable | Grid"]):
         return {output.name: output for output in self._outputs if isinstance(output, Grid)}
 
     @overload
-    def __getitem__(self, place: int) -> StatsTable | Grid: ...
+    def __getitem__(self, place: int) -> StatsTable | Grid:
+        ...
 
     @overload
-    def __getitem__(self, place: slice) -> list[StatsTable | Grid]: ...
+    def __getitem__(self, place: slice) -> list[StatsTable | Grid]:
+        ...
 
     def __getitem__(self, place: int | slice) -> StatsTable | Grid | list[StatsTable | Grid]:
         return self._outputs[place]
@@ -96,7 +98,11 @@ class _Run:
     @cached_property
     def made(self) -> dict[str, Statement]:
         """The statements that make maps, by their names."""
-        return {statement.made: statement for statement in planned(self.script, self.sources) if statement.made}
+        return {
+            statement.made: statement
+            for statement in planned(self.script, self.sources)
+            if statement.made
+        }
 
     def outputs(self, wanted: Sequence[str] = ()) -> list[StatsTable | Grid]:
         """Run the script and return its outputs; after them the cells of the maps that are wanted."""
@@ -142,7 +148,9 @@ class _Run:
         )
 
 
-def run(script: str, maps: Mapping[str, Any] | None = None, /, *, crs: Any = None, **named: Any) -> Result:
+def run(
+    script: str, maps: Mapping[str, Any] | None = None, /, *, crs: Any = None, **named: Any
+) -> Result:
     """Run a script over maps of one region.
 
     Parameters
@@ -246,8 +254,14 @@ def table_of(of: _Run, area: str | None, percent: bool, pivot: bool) -> StatsTab
     """Return the only table of a run, with the requested columns."""
     outputs = of.outputs()
     if len(outputs) != 1 or not isinstance(outputs[0], StatsTable):
-        told = ", ".join(f"{output.command} in line {output.line}" for output in outputs) or "no r.stats"
-        raise Refused(f"one table is asked for, and the script has {told}: rcell.run returns all outputs", "script")
+        told = (
+            ", ".join(f"{output.command} in line {output.line}" for output in outputs)
+            or "no r.stats"
+        )
+        raise Refused(
+            f"one table is asked for, and the script has {told}: rcell.run returns all outputs",
+            "script",
+        )
     answer = outputs[0]
     if pivot and len(answer.maps) != 2:
         answer.pivot()
@@ -256,7 +270,15 @@ def table_of(of: _Run, area: str | None, percent: bool, pivot: bool) -> StatsTab
     return answer.with_percent() if percent else answer
 
 
-def grid(script: str, name: str, maps: Mapping[str, Any] | None = None, /, *, crs: Any = None, **named: Any) -> Grid:
+def grid(
+    script: str,
+    name: str,
+    maps: Mapping[str, Any] | None = None,
+    /,
+    *,
+    crs: Any = None,
+    **named: Any,
+) -> Grid:
     """Run a script and return one of its maps.
 
     Parameters
@@ -301,5 +323,7 @@ def outputs_with(of: _Run, names: Sequence[str]) -> list[StatsTable | Grid]:
     """Return the outputs of a run, and after them some of its maps."""
     for name in names:
         if name not in of.sources and name not in of.made:
-            raise Refused(f"no map {name}: there are {', '.join([*of.sources, *of.made])}", status=2)
+            raise Refused(
+                f"no map {name}: there are {', '.join([*of.sources, *of.made])}", status=2
+            )
     return of.outputs(wanted=names)

@@ -39,12 +39,14 @@ class Change:
     >>> found = rcell.change(np.array([[1, 1, 2]]), np.array([[1, 2, 2]]), area="m2")
     >>> found.matrix
     to      1    2
-    from          
+    from
     1     1.0  1.0
     2     0.0  1.0
     """
 
-    def __init__(self, tables: Mapping[str, Table], keys: int, classes: list[int] | None = None) -> None:
+    def __init__(
+        self, tables: Mapping[str, Table], keys: int, classes: list[int] | None = None
+    ) -> None:
         self.tables, self._keys, self._classes = tables, keys, classes
 
     @property
@@ -96,7 +98,14 @@ class Change:
 class _Pairs:
     """The counts of each pair of years, arranged as tables."""
 
-    def __init__(self, pairs: list[Counts], years: list[int] | None, labels: list[Mapping[int, str]], is_legend: bool, measure: Measure) -> None:
+    def __init__(
+        self,
+        pairs: list[Counts],
+        years: list[int] | None,
+        labels: list[Mapping[int, str]],
+        is_legend: bool,
+        measure: Measure,
+    ) -> None:
         self.pairs, self.labels, self._measure = pairs, labels, measure
         self._years, self._is_legend, self._by_row = years, is_legend, measure.by_row is not None
 
@@ -105,9 +114,16 @@ class _Pairs:
         classes = np.concatenate([pair.classes for pair in self.pairs])
         columns = self._years_of([pair.cells.size for pair in self.pairs])
         for place, name in enumerate(("from", "to")):
-            texts = [self._texts(f"{name}_label", pair.classes[:, place], self.labels[at + place]) for at, pair in enumerate(self.pairs)]
+            texts = [
+                self._texts(f"{name}_label", pair.classes[:, place], self.labels[at + place])
+                for at, pair in enumerate(self.pairs)
+            ]
             columns += [Column(name, "class", classes[:, place]), *_joined(texts)]
-        area = None if self._measure.unit is None else np.concatenate([pair.measured() for pair in self.pairs])
+        area = (
+            None
+            if self._measure.unit is None
+            else np.concatenate([pair.measured() for pair in self.pairs])
+        )
         together = Counts(classes, np.concatenate([pair.cells for pair in self.pairs]), area)
         percent = [pair.cells * 100.0 / max(int(pair.cells.sum()), 1) for pair in self.pairs]
         return Table(columns + together.columns(self._measure, np.concatenate(percent)))
@@ -120,31 +136,64 @@ class _Pairs:
             before, at = np.unique(pair.classes[:, 0], return_inverse=True)
             values = np.zeros((before.size, after.size), pair.measured().dtype)
             values[at, np.searchsorted(after, pair.classes[:, 1])] = pair.measured()
-            first, blocks, names = [*first, before], [*blocks, values], [*names, *_names(before, labels)]
+            first, blocks, names = (
+                [*first, before],
+                [*blocks, values],
+                [*names, *_names(before, labels)],
+            )
         kind: Any = "count" if self._measure.unit is None else "measure"
-        head = Column("from", "label", names) if any(self.labels) else Column("from", "class", np.concatenate(first))
-        titles = _names(after, {code: text for labels in self.labels[1:] for code, text in labels.items()})
-        rest = [Column(title, kind, values) for title, values in zip(titles, np.concatenate(blocks).T)]
-        return Table([*self._years_of([before.size for before in first]), head, *rest]), after.tolist()
+        head = (
+            Column("from", "label", names)
+            if any(self.labels)
+            else Column("from", "class", np.concatenate(first))
+        )
+        titles = _names(
+            after, {code: text for labels in self.labels[1:] for code, text in labels.items()}
+        )
+        rest = [
+            Column(title, kind, values) for title, values in zip(titles, np.concatenate(blocks).T)
+        ]
+        return (
+            Table([*self._years_of([before.size for before in first]), head, *rest]),
+            after.tolist(),
+        )
 
     def summary(self) -> Table:
         """Return a table with a row for each class."""
-        summed = [_summed(pair, pair.measured() if self._by_row else pair.cells) for pair in self.pairs]
-        texts = [self._texts("label", found, {**self.labels[at], **self.labels[at + 1]}) for at, (found, _) in enumerate(summed)]
+        summed = [
+            _summed(pair, pair.measured() if self._by_row else pair.cells) for pair in self.pairs
+        ]
+        texts = [
+            self._texts("label", found, {**self.labels[at], **self.labels[at + 1]})
+            for at, (found, _) in enumerate(summed)
+        ]
         classes = Column("class", "class", np.concatenate([found for found, _ in summed]))
         values = np.concatenate([numbers for _, numbers in summed], axis=1)
         kind: Any = "count" if self._measure.unit is None else "measure"
         if self._measure.unit is not None and not self._by_row:
             values = self._measure.area(values)
-        measures = [Column(f"{part}_{self._measure.column}", kind, values[at]) for at, part in enumerate(_PARTS)]
-        return Table([*self._years_of([found.size for found, _ in summed]), classes, *_joined(texts), *measures])
+        measures = [
+            Column(f"{part}_{self._measure.column}", kind, values[at])
+            for at, part in enumerate(_PARTS)
+        ]
+        return Table(
+            [
+                *self._years_of([found.size for found, _ in summed]),
+                classes,
+                *_joined(texts),
+                *measures,
+            ]
+        )
 
     def _years_of(self, often: list[int]) -> list[Column]:
         """Return the columns of years; `often` has the number of rows of each pair."""
         if self._years is None:
             return []
         years = np.array(self._years, np.int64)
-        return [Column("year_from", "class", np.repeat(years[:-1], often)), Column("year_to", "class", np.repeat(years[1:], often))]
+        return [
+            Column("year_from", "class", np.repeat(years[:-1], often)),
+            Column("year_to", "class", np.repeat(years[1:], often)),
+        ]
 
     def _texts(self, title: str, classes: Numbers, labels: Mapping[int, str]) -> list[Column]:
         """Return the column of labels of a pair of years, if any map has labels."""
@@ -155,12 +204,18 @@ class _Pairs:
 def _names(classes: Numbers, labels: Mapping[int, str]) -> list[str]:
     """Return the labels of classes; a class without a label, or with another class's label, gets its number."""
     texts = [labels.get(code, "") for code in classes.tolist()]
-    return [text if text and texts.count(text) == 1 else str(code) for text, code in zip(texts, classes.tolist())]
+    return [
+        text if text and texts.count(text) == 1 else str(code)
+        for text, code in zip(texts, classes.tolist())
+    ]
 
 
 def _joined(blocks: list[list[Column]]) -> list[Column]:
     """Return the columns of labels of all pairs, one below the other."""
-    return [Column(columns[0].name, "label", [text for column in columns for text in column.values]) for columns in zip(*blocks)]
+    return [
+        Column(columns[0].name, "label", [text for column in columns for text in column.values])
+        for columns in zip(*blocks)
+    ]
 
 
 def _summed(pair: Counts, measured: Numbers) -> tuple[Numbers, Numbers]:
@@ -173,7 +228,9 @@ def _summed(pair: Counts, measured: Numbers) -> tuple[Numbers, Numbers]:
     np.add.at(ended, after, measured)
     np.add.at(same, before[kept], measured[kept])
     gain, loss = ended - same, begun - same
-    return classes, np.stack([begun, ended, gain, loss, ended - begun, 2 * np.minimum(gain, loss), same])
+    return classes, np.stack(
+        [begun, ended, gain, loss, ended - begun, 2 * np.minimum(gain, loss), same]
+    )
 
 
 def change(
@@ -221,7 +278,11 @@ def change(
     if after is not None:
         given = {"before": before, "after": after}
     elif isinstance(before, (list, tuple)) and len(before) > 1:
-        names = ("before", "after") if len(before) == 2 else [f"map_{at + 1}" for at in range(len(before))]
+        names = (
+            ("before", "after")
+            if len(before) == 2
+            else [f"map_{at + 1}" for at in range(len(before))]
+        )
         given = dict(zip(names, before))
     else:
         raise Refused("change= is between two maps, or a list of maps", status=2)
@@ -232,7 +293,9 @@ def change(
     own = [maps.sources[name].labels if labels is None else labels_of(labels) for name in names]
     shared: Mapping[int, str] = next(filter(None, own), {})
     own = [found or shared for found in own]
-    pairs = _Pairs(maps.counts(list(zip(names, names[1:])), measure), told, own, labels is not None, measure)
+    pairs = _Pairs(
+        maps.counts(list(zip(names, names[1:])), measure), told, own, labels is not None, measure
+    )
     matrix, classes = pairs.matrix()
     tables = {"table": pairs.table(), "matrix": matrix, "summary": pairs.summary()}
     return Change(tables, 1 if told is None else 3, None if any(own) else classes)
@@ -249,5 +312,8 @@ def _checked(years: Iterable[int] | None, maps: int) -> list[int] | None:
         if told.count(year) > 1:
             raise Refused(f"years= has {year} twice", status=2)
     if len(told) != maps:
-        raise Refused(f"years= has one year for each map: {maps} maps, and {len(told) or 'no'} years", status=2)
+        raise Refused(
+            f"years= has one year for each map: {maps} maps, and {len(told) or 'no'} years",
+            status=2,
+        )
     return [int(year) for year in told]

@@ -143,7 +143,10 @@ def cross(
     given = named_once(maps, named)
     legends = {} if labels is None else labels
     if not isinstance(legends, Mapping) or set(legends) - set(given):
-        raise Refused(f"labels= of a cross table are by the names of its maps, as {{{next(iter(given), 'a')!r}: \"legend.csv\"}}", status=2)
+        raise Refused(
+            f"labels= of a cross table are by the names of its maps, as {{{next(iter(given), 'a')!r}: \"legend.csv\"}}",
+            status=2,
+        )
     crossed = Maps(given, crs)
     measure = crossed.measure(area)
     found = crossed.counts([list(given)], measure, null)[0]

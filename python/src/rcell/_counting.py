@@ -48,7 +48,9 @@ class Counts:
 
     def where(self, kept: NDArray[np.bool_]) -> Counts:
         """Return some of the entries."""
-        return Counts(self.classes[kept], self.cells[kept], None if self.area is None else self.area[kept])
+        return Counts(
+            self.classes[kept], self.cells[kept], None if self.area is None else self.area[kept]
+        )
 
     def measured(self) -> NDArray[Any]:
         """Return the areas, or the cells if no areas are asked for."""
@@ -74,13 +76,21 @@ class Maps:
         The field of the polygons that has their ids or names.
     """
 
-    def __init__(self, maps: Mapping[str, Any], crs: Any = None, zones: Any = None, zone_field: str | None = None) -> None:
+    def __init__(
+        self,
+        maps: Mapping[str, Any],
+        crs: Any = None,
+        zones: Any = None,
+        zone_field: str | None = None,
+    ) -> None:
         given = {name: source_of(name, map) for name, map in maps.items()}
         if zones is not None:
             first = next(iter(given.values()))
             given["zones"] = source_of("zones", zones_of(zones, zone_field, first, crs))
         elif zone_field is not None:
-            raise Refused("zone_field= names a field of polygons, and zones= is not given", status=2)
+            raise Refused(
+                "zone_field= names a field of polygons, and zones= is not given", status=2
+            )
         self.sources: dict[str, Source]
         self.sources, self.crs = sources_of(given, crs, {**maps, "zones": zones})
         self.first = next(iter(self.sources.values()))
@@ -93,20 +103,30 @@ class Maps:
         """Return the tables of a script as they are."""
         return [output.values for output in execute(script, self.sources)]
 
-    def counts(self, tables: Sequence[Sequence[str]], measure: Measure, null: bool = False) -> list[Counts]:
+    def counts(
+        self, tables: Sequence[Sequence[str]], measure: Measure, null: bool = False
+    ) -> list[Counts]:
         """Return how often classes of some maps occur together, for each list of maps."""
         flags, rows = "-c" if null else "-c -n", [] if measure.by_row is None else ["row"]
         lines = ["r.mapcalc row = row()"] if rows else []
         for names in tables:
             if len(names) + len(rows) > MOST_MAPS:
-                raise Refused(f"{len(names)} maps, and a table has at most {MOST_MAPS - len(rows)}{' in degrees' if rows else ''}", status=2)
+                raise Refused(
+                    f"{len(names)} maps, and a table has at most {MOST_MAPS - len(rows)}{' in degrees' if rows else ''}",
+                    status=2,
+                )
             lines.append(f"r.stats {flags} input={','.join([*rows, *names])}")
         return [counts_of(values, measure) for values in self.tables("\n".join(lines))]
 
-    def columns(self, title: str, classes: Integers, name: str, legend: Any = None, label: str = "{}_label") -> list[Column]:
+    def columns(
+        self, title: str, classes: Integers, name: str, legend: Any = None, label: str = "{}_label"
+    ) -> list[Column]:
         """Return the column of classes of a map, and the column of their labels if there are some: a legend, or its own."""
         labels = self.sources[name].labels if legend is None else labels_of(legend)
-        return [Column(title, "class", classes), *label_columns(label.format(title), classes, labels, legend is not None, name)]
+        return [
+            Column(title, "class", classes),
+            *label_columns(label.format(title), classes, labels, legend is not None, name),
+        ]
 
 
 def counts_of(values: Integers, measure: Measure) -> Counts:
@@ -121,7 +141,11 @@ def counts_of(values: Integers, measure: Measure) -> Counts:
     if not first.size:
         return Counts(classes, cells, np.empty(0))
     area = cells[order] * measure.by_row[values[order, 0] - 1]
-    return Counts(classes[order[first]], np.add.reduceat(cells[order], first), np.add.reduceat(area, first) / measure.divisor)
+    return Counts(
+        classes[order[first]],
+        np.add.reduceat(cells[order], first),
+        np.add.reduceat(area, first) / measure.divisor,
+    )
 
 
 def places_of(ordered: Integers) -> NDArray[np.intp]:
@@ -133,12 +157,17 @@ def places_of(ordered: Integers) -> NDArray[np.intp]:
     return np.concatenate([[0], np.flatnonzero(differs) + 1])
 
 
-def label_columns(title: str, classes: Integers, labels: Mapping[int, str], is_legend: bool, name: str) -> list[Column]:
+def label_columns(
+    title: str, classes: Integers, labels: Mapping[int, str], is_legend: bool, name: str
+) -> list[Column]:
     """Return the column of the labels of classes, if there are labels; warn if a legend lacks some."""
     if not labels:
         return []
     lacking = sorted(set(np.unique(classes).tolist()) - set(labels) - {NULL}) if is_legend else []
     if lacking:
         more = f", and {len(lacking) - _SHOWN} more" if len(lacking) > _SHOWN else ""
-        warnings.warn(f"labels: no label for {', '.join(map(str, lacking[:_SHOWN]))}{more} of {name}", stacklevel=5)
+        warnings.warn(
+            f"labels: no label for {', '.join(map(str, lacking[:_SHOWN]))}{more} of {name}",
+            stacklevel=5,
+        )
     return [Column(title, "label", [labels.get(code, "") for code in classes.tolist()])]

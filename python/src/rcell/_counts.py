@@ -35,7 +35,9 @@ class TooManyCells(RcellError, ArithmeticError):
     @classmethod
     def of(cls, combination: Integers) -> TooManyCells:
         """Return the error of a combination with `NULL` for null."""
-        return cls(tuple(None if category == NULL else category for category in combination.tolist()))
+        return cls(
+            tuple(None if category == NULL else category for category in combination.tolist())
+        )
 
     def __str__(self) -> str:
         shown = " ".join("*" if part is None else str(part) for part in self.combination)

@@ -9,7 +9,15 @@ from typing import Any, Mapping
 from ._errors import BadMap, OtherCrs, Refused
 from ._libraries import has, need
 
-__all__ = ["UNITS_OF_AREA", "are_same_crs", "cell_area", "common_crs", "is_geographic", "metres_of_unit", "wkt_of"]
+__all__ = [
+    "UNITS_OF_AREA",
+    "are_same_crs",
+    "cell_area",
+    "common_crs",
+    "is_geographic",
+    "metres_of_unit",
+    "wkt_of",
+]
 
 UNITS_OF_AREA = {"m2": 1.0, "ha": 1e4, "km2": 1e6}
 _NAME = re.compile(r'\s*\w+\s*\[\s*"([^"]*)"')
@@ -64,7 +72,9 @@ def _checked(name: str, crs: Any) -> Any:
     try:
         return None if _known(crs) is None else crs
     except need("rasterio.errors", "gis", "to understand a reference system").CRSError:
-        raise BadMap(name, f"its coordinate reference system is not understood: {str(crs)[:_SHOWN]!r}") from None
+        raise BadMap(
+            name, f"its coordinate reference system is not understood: {str(crs)[:_SHOWN]!r}"
+        ) from None
 
 
 def common_crs(maps: Mapping[str, Any], stated: Any = None, warp: str = "gdalwarp") -> Any:
@@ -94,7 +104,9 @@ def common_crs(maps: Mapping[str, Any], stated: Any = None, warp: str = "gdalwar
     try:
         common = _checked("arguments", stated)
     except BadMap:
-        raise Refused(f"crs= is no coordinate reference system: {str(stated)[:_SHOWN]!r}", status=2) from None
+        raise Refused(
+            f"crs= is no coordinate reference system: {str(stated)[:_SHOWN]!r}", status=2
+        ) from None
     known = {name: _checked(name, crs) for name, crs in maps.items()}
     first = next((name for name, crs in known.items() if crs is not None), None)
     if first is None:
@@ -102,18 +114,28 @@ def common_crs(maps: Mapping[str, Any], stated: Any = None, warp: str = "gdalwar
     common = known[first] if common is None else common
     for name, crs in known.items():
         if crs is None and stated is None:
-            text = f"it has no coordinate reference system, and `{first}` has {_shown(common)}: state it with crs=\"{_code(common)}\""
+            text = f'it has no coordinate reference system, and `{first}` has {_shown(common)}: state it with crs="{_code(common)}"'
             raise OtherCrs(name, text)
         if crs is not None and not are_same_crs(crs, common):
-            other = f"that of `{first}` is {_shown(common)}" if stated is None else f"crs= is {_shown(common)}"
+            other = (
+                f"that of `{first}` is {_shown(common)}"
+                if stated is None
+                else f"crs= is {_shown(common)}"
+            )
             hint = f"reproject one of them first, as with {warp} -t_srs {_code(common)}"
-            raise OtherCrs(name, f"its coordinate reference system is {_shown(crs)}, and {other}: {hint}")
+            raise OtherCrs(
+                name, f"its coordinate reference system is {_shown(crs)}, and {other}: {hint}"
+            )
     return common
 
 
 def are_same_crs(one: Any, other: Any) -> bool:
     """Return whether two reference systems are the same."""
-    return one is other or (type(one) is type(other) and bool(one == other)) or bool(_known(one) == _known(other))
+    return (
+        one is other
+        or (type(one) is type(other) and bool(one == other))
+        or bool(_known(one) == _known(other))
+    )
 
 
 def is_geographic(crs: Any) -> bool:
@@ -134,7 +156,9 @@ def metres_of_unit(crs: Any) -> float:
     if known is None:
         return 1.0
     if not known.is_projected:
-        raise Refused(f"area= needs a map in metres or feet, and the unit of {_shown(crs)} is not known")
+        raise Refused(
+            f"area= needs a map in metres or feet, and the unit of {_shown(crs)} is not known"
+        )
     return float(known.linear_units_factor[1])
 
 

@@ -114,7 +114,14 @@ class BadMap(Refused, ValueError):
     lc: not a map of whole numbers: the cell at row 1, column 2 is 1.5 | 1 | 2 | 1.5
     """
 
-    def __init__(self, name: str, text: str, row: int | None = None, col: int | None = None, value: Any = None) -> None:
+    def __init__(
+        self,
+        name: str,
+        text: str,
+        row: int | None = None,
+        col: int | None = None,
+        value: Any = None,
+    ) -> None:
         super().__init__(text, name)
         self.args = (name, text, row, col, value)
         self.row = row

@@ -37,7 +37,9 @@ def smallest_type(least: int, greatest: int) -> tuple[str, int]:
     return "int32", NULL
 
 
-def profile_of(rows: int, cols: int, transform: tuple[float, ...], crs: Any, dtype: str, nodata: int) -> dict[str, Any]:
+def profile_of(
+    rows: int, cols: int, transform: tuple[float, ...], crs: Any, dtype: str, nodata: int
+) -> dict[str, Any]:
     """Return rasterio's creation profile of a GeoTIFF.
 
     Examples
@@ -75,16 +77,29 @@ def write_geotiff(grid: Grid, path: str) -> None:
         It cannot hold a label.
     """
     rasterio = need("rasterio", "gis", "to write a GeoTIFF")
-    labels = checked_labels(grid.name, grid.labels)  # labels of rules may have bytes that are not text
+    labels = checked_labels(
+        grid.name, grid.labels
+    )  # labels of rules may have bytes that are not text
     kept = compressed(grid.array)
-    dtype, nodata = smallest_type(int(kept.min()), int(kept.max())) if kept.size else smallest_type(0, 0)
+    dtype, nodata = (
+        smallest_type(int(kept.min()), int(kept.max())) if kept.size else smallest_type(0, 0)
+    )
     cells = filled(grid.array, nodata).astype(dtype)
     profile = profile_of(*grid.region.shape, grid.transform, grid.crs, dtype, nodata)
     with replacing(path) as beside, told_of(path, rasterio.errors.RasterioError):
         with need("rasterio.io", "gis", "to write a GeoTIFF").MemoryFile() as memory:
             with memory.open(**profile) as dataset:
-                if grid.colors and dtype == "uint8":  # the only one of the three types with a colour table
-                    dataset.write_colormap(1, {code: tuple(bytes.fromhex(color[1:])) for code, color in grid.colors.items() if 0 <= code < nodata})
+                if (
+                    grid.colors and dtype == "uint8"
+                ):  # the only one of the three types with a colour table
+                    dataset.write_colormap(
+                        1,
+                        {
+                            code: tuple(bytes.fromhex(color[1:]))
+                            for code, color in grid.colors.items()
+                            if 0 <= code < nodata
+                        },
+                    )
                 dataset.write(cells, 1)
             with open(beside, "wb") as file:
                 file.write(memory.getbuffer())

@@ -225,7 +225,9 @@ class Grid:
         """
         from ._xarray import data_array_of
 
-        return data_array_of(self.array, self.region, self.transform, self.crs, self.labels, self.name)
+        return data_array_of(
+            self.array, self.region, self.transform, self.crs, self.labels, self.name
+        )
 
     def plot(self, ax: Any = None, *, legend: bool = True) -> Any:
         """Draw the map with matplotlib, with a legend of its labels.
@@ -281,7 +283,11 @@ class Grid:
         places = np.searchsorted(categories, filled(self.array, categories[0]))
         shown = masked(places, mask_of(self.array))
         colors = colors_of.ListedColormap(palette)
-        return shown, colors, colors_of.BoundaryNorm(np.arange(len(categories) + 1) - 0.5, len(categories))
+        return (
+            shown,
+            colors,
+            colors_of.BoundaryNorm(np.arange(len(categories) + 1) - 0.5, len(categories)),
+        )
 
     def _add_legend(self, ax: Any, categories: list[int], colors: Any) -> None:
         patches = need("matplotlib.patches", "plot", "to draw a map")
@@ -289,7 +295,13 @@ class Grid:
             patches.Patch(color=colors(place), label=self.labels.get(category, str(category)))
             for place, category in enumerate(categories)
         ]
-        ax.legend(handles=handles, loc="upper left", bbox_to_anchor=(1.02, 1.0), borderaxespad=0.0, frameon=False)
+        ax.legend(
+            handles=handles,
+            loc="upper left",
+            bbox_to_anchor=(1.02, 1.0),
+            borderaxespad=0.0,
+            frameon=False,
+        )
 
     def picture(self) -> bytes:
         """Return the map as a PNG with one pixel per cell and null transparent; large maps are drawn with fewer cells.
@@ -314,12 +326,20 @@ class Grid:
 
     def _picture(self, longest: int) -> bytes:
         step = -(-max(self.region.shape) // longest)
-        small = Grid(self.name, self.array[::step, ::step], self.region, self.transform, colors=self.colors)
+        small = Grid(
+            self.name, self.array[::step, ::step], self.region, self.transform, colors=self.colors
+        )
         places, colors, norm = small._colored(self.categories())
-        image = need("matplotlib.cm", "plot", "to draw a map").ScalarMappable(norm, colors).to_rgba(places, bytes=True)
+        image = (
+            need("matplotlib.cm", "plot", "to draw a map")
+            .ScalarMappable(norm, colors)
+            .to_rgba(places, bytes=True)
+        )
         times = max(1, min(longest, THUMBNAIL) // max(places.shape))
         png = io.BytesIO()
-        need("matplotlib.image", "plot", "to draw a map").imsave(png, image.repeat(times, 0).repeat(times, 1), format="png")
+        need("matplotlib.image", "plot", "to draw a map").imsave(
+            png, image.repeat(times, 0).repeat(times, 1), format="png"
+        )
         return png.getvalue()
 
     def _repr_html_(self) -> str:

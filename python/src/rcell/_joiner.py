@@ -51,10 +51,15 @@ def find_joiner(program: str | os.PathLike[str] | None = None) -> str:
 
 
 _PROBE_MAP = b"north: 1\nsouth: 0\neast: 2\nwest: 0\nrows: 1\ncols: 2\n8 9\n"
-_PROBE_BORDER = b"north: 1\nsouth: 0\neast: 2\nwest: 0\nrows: 10\ncols: 4\n" + (b"8 9 * *\n1 2 * *\n" * 2
-                + b"8 * * *\n1 * * *\n9 * * *\n2 * * *\n1 2 2 8\n2 * * *\n")
+_PROBE_BORDER = b"north: 1\nsouth: 0\neast: 2\nwest: 0\nrows: 10\ncols: 4\n" + (
+    b"8 9 * *\n1 2 * *\n" * 2 + b"8 * * *\n1 * * *\n9 * * *\n2 * * *\n1 2 2 8\n2 * * *\n"
+)
 _PROBES: list[tuple[list[str], list[bytes], bytes]] = [
-    (["tables"], [b"1 * 2\n2 1 1\n", b"-1 7 1\n1 * 3\n* 4 5\n", b""], b"-1 7 1\n1 * 5\n2 1 1\n* 4 5\n"),
+    (
+        ["tables"],
+        [b"1 * 2\n2 1 1\n", b"-1 7 1\n1 * 3\n* 4 5\n", b""],
+        b"-1 7 1\n1 * 5\n2 1 1\n* 4 5\n",
+    ),
     (["border", "-d"], [_PROBE_MAP], _PROBE_BORDER),
     (["clumps", "-d"], [_PROBE_BORDER], b"1 1 2 1\n"),
     (["sizes"], [b"1 1 2 1\n", b"1 7\n2 8\n* 9\n"], b"1 7\n2 8\n"),
@@ -64,11 +69,18 @@ _PROBES: list[tuple[list[str], list[bytes], bytes]] = [
 def _probe(path: str) -> None:
     """Run each command of the program once."""
     try:
-        is_known = all(_run(path, words, texts, PROBE_SECONDS)[:2] == (0, answer) for words, texts, answer in _PROBES)
+        is_known = all(
+            _run(path, words, texts, PROBE_SECONDS)[:2] == (0, answer)
+            for words, texts, answer in _PROBES
+        )
     except TimeoutError:
-        raise WrongProgram(f"{path} does not end within {PROBE_SECONDS} seconds: it is no program rcell-join") from None
+        raise WrongProgram(
+            f"{path} does not end within {PROBE_SECONDS} seconds: it is no program rcell-join"
+        ) from None
     if not is_known:
-        raise WrongProgram(f"{path} is not a program rcell-join of a version that this package knows")
+        raise WrongProgram(
+            f"{path} is not a program rcell-join of a version that this package knows"
+        )
 
 
 def joined(texts: Sequence[bytes], program: str | os.PathLike[str] | None = None) -> bytes:
@@ -96,7 +108,9 @@ def joined(texts: Sequence[bytes], program: str | os.PathLike[str] | None = None
     return _answer(["tables"], texts, program)
 
 
-def border_of(tile: Source, diagonal: bool = False, program: str | os.PathLike[str] | None = None) -> bytes:
+def border_of(
+    tile: Source, diagonal: bool = False, program: str | os.PathLike[str] | None = None
+) -> bytes:
     """Return the border of a tile: its outermost cells with the numbers that `r.clump` gives them, and where its clumps begin.
 
     Parameters
@@ -133,7 +147,9 @@ def border_of(tile: Source, diagonal: bool = False, program: str | os.PathLike[s
     return _checked(path, *ended)
 
 
-def numbering_of(borders: Sequence[bytes], diagonal: bool = False, program: str | os.PathLike[str] | None = None) -> bytes:
+def numbering_of(
+    borders: Sequence[bytes], diagonal: bool = False, program: str | os.PathLike[str] | None = None
+) -> bytes:
     """Join the clumps of tiles by their borders, which come row by row of tiles from the top left.
 
     Returns
@@ -158,7 +174,9 @@ def numbering_of(borders: Sequence[bytes], diagonal: bool = False, program: str 
     return _answer(["clumps", *["-d"] * diagonal], borders, program)
 
 
-def joined_sizes(numbering: bytes, tables: Sequence[bytes], program: str | os.PathLike[str] | None = None) -> bytes:
+def joined_sizes(
+    numbering: bytes, tables: Sequence[bytes], program: str | os.PathLike[str] | None = None
+) -> bytes:
     """Add up the sizes of the clumps of tiles, by their numbering, to the sizes of the clumps of the map.
 
     Parameters
@@ -185,10 +203,14 @@ def check_files(count: int) -> None:
     """Raise WriteFailed if the system does not let a process open so many texts at once."""
     needed, most = FILES_EACH * count + OTHER_FILES, resource.getrlimit(resource.RLIMIT_NOFILE)[1]
     if most != resource.RLIM_INFINITY and most < needed:
-        raise WriteFailed(f"to join {count:,} tiles, {needed:,} files are open at once, and this system allows {most:,}: take larger tiles")
+        raise WriteFailed(
+            f"to join {count:,} tiles, {needed:,} files are open at once, and this system allows {most:,}: take larger tiles"
+        )
 
 
-def _answer(words: list[str], texts: Sequence[bytes], program: str | os.PathLike[str] | None) -> bytes:
+def _answer(
+    words: list[str], texts: Sequence[bytes], program: str | os.PathLike[str] | None
+) -> bytes:
     path = find_joiner(program)
     check_files(len(texts))
     return _checked(path, *_run(path, words, texts))
@@ -210,7 +232,9 @@ def _checked(path: str, status: int, output: bytes, told: str) -> bytes:
     raise WrongProgram(f"{path} ended in status {status} and said: {told or 'nothing'}")
 
 
-def _run(path: str, words: list[str], texts: Sequence[bytes], seconds: float | None = None) -> tuple[int, bytes, str]:
+def _run(
+    path: str, words: list[str], texts: Sequence[bytes], seconds: float | None = None
+) -> tuple[int, bytes, str]:
     """Return the status, the output and the message."""
     with ExitStack() as opened:
         opened.enter_context(_files_allowed(len(texts)))
@@ -222,7 +246,9 @@ def _run(path: str, words: list[str], texts: Sequence[bytes], seconds: float | N
     return ended
 
 
-def _started(path: str, words: list[str], files: Sequence[int], seconds: float | None = None) -> Started:
+def _started(
+    path: str, words: list[str], files: Sequence[int], seconds: float | None = None
+) -> Started:
     try:
         return Started([path, *words, *(f"/dev/fd/{file}" for file in files)], files, seconds)
     except OSError as error:
@@ -247,7 +273,10 @@ def _files_allowed(count: int) -> Iterator[None]:
         return
     with _limit_lock:
         soft, hard = resource.getrlimit(resource.RLIMIT_NOFILE)
-        resource.setrlimit(resource.RLIMIT_NOFILE, (needed if hard == resource.RLIM_INFINITY else min(needed, hard), hard))
+        resource.setrlimit(
+            resource.RLIMIT_NOFILE,
+            (needed if hard == resource.RLIM_INFINITY else min(needed, hard), hard),
+        )
         try:
             yield
         finally:
@@ -273,6 +302,8 @@ def _held(text: bytes) -> int:
     except BaseException as error:
         os.close(file)
         if isinstance(error, OSError):
-            raise WriteFailed(f"a text for rcell-join cannot be written: {error.strerror}") from None
+            raise WriteFailed(
+                f"a text for rcell-join cannot be written: {error.strerror}"
+            ) from None
         raise
     return file

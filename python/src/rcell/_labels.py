@@ -46,15 +46,22 @@ def checked_labels(name: str, labels: Any) -> dict[int, str]:
     rcell.BadMap: land: a label of '1': labels are of whole numbers from -2147483647 to 2147483647, as {1: 'wood'}
     """
     if not isinstance(labels, Mapping):
-        raise BadMap(name, f"labels are a dict, as {{1: 'wood'}}, and not a {type(labels).__name__}")
+        raise BadMap(
+            name, f"labels are a dict, as {{1: 'wood'}}, and not a {type(labels).__name__}"
+        )
     for category, label in labels.items():
         if not (isinstance(category, numbers.Integral) and abs(int(category)) < -NULL):
-            raise BadMap(name, f"a label of {category!r}: labels are of whole numbers from -2147483647 to 2147483647, as {{1: 'wood'}}")
+            raise BadMap(
+                name,
+                f"a label of {category!r}: labels are of whole numbers from -2147483647 to 2147483647, as {{1: 'wood'}}",
+            )
         if not isinstance(label, str):
             raise BadMap(name, f"the label of {category} is {label!r}, which is no text")
         bad = _UNWRITABLE.search(label)
         if bad:
-            raise BadMap(name, f"the label of {category} has a character that no file can hold: {bad[0]!r}")
+            raise BadMap(
+                name, f"the label of {category} has a character that no file can hold: {bad[0]!r}"
+            )
     return {int(category): label for category, label in labels.items()}
 
 
@@ -81,8 +88,14 @@ def read_legend(path: str, dataset: Any, band: int) -> Legend:
         with contextlib.suppress(RcellError):  # a style of another kind is no legend
             style = legend_of_qml(beside)
     tags = dataset.tags(band)
-    labels = read_labels(path, band) or flags_of(tags.get("flag_values"), tags.get("flag_meanings")) or style.labels
-    return Legend(labels, _color_table(dataset, band, labels) or _attribute_colors(path, band) or style.colors)
+    labels = (
+        read_labels(path, band)
+        or flags_of(tags.get("flag_values"), tags.get("flag_meanings"))
+        or style.labels
+    )
+    return Legend(
+        labels, _color_table(dataset, band, labels) or _attribute_colors(path, band) or style.colors
+    )
 
 
 def flags_of(values: Any, meanings: Any) -> dict[int, str]:
@@ -93,7 +106,13 @@ def flags_of(values: Any, meanings: Any) -> dict[int, str]:
     >>> flags_of("{1,2}", "wood water")
     {1: 'wood', 2: 'water'}
     """
-    codes = re.findall(r"[+-]?[0-9]+", str(values)) if isinstance(values, str) else [] if values is None else list(values)
+    codes = (
+        re.findall(r"[+-]?[0-9]+", str(values))
+        if isinstance(values, str)
+        else []
+        if values is None
+        else list(values)
+    )
     words = str(meanings).split() if meanings else []
     return maps.labels_of_rows(zip(codes, words)) if len(codes) == len(words) else {}
 
@@ -104,7 +123,11 @@ def _color_table(dataset: Any, band: int, labels: Mapping[int, str]) -> dict[int
         table = dataset.colormap(band)
     except ValueError:
         return {}
-    return {code: "#%02x%02x%02x" % rgba[:3] for code, rgba in table.items() if code in labels or any(rgba[:3])}
+    return {
+        code: "#%02x%02x%02x" % rgba[:3]
+        for code, rgba in table.items()
+        if code in labels or any(rgba[:3])
+    }
 
 
 def _attribute_colors(path: str, band: int) -> dict[int, str]:
@@ -126,7 +149,13 @@ def _attribute_colors(path: str, band: int) -> dict[int, str]:
     if value is None or not set(_USAGES_RGB) <= set(usages):
         return {}
     columns = [usages.index(usage) for usage in _USAGES_RGB]
-    rows = ([table.GetValueAsString(row, value), "#" + bytes(table.GetValueAsInt(row, at) & 255 for at in columns).hex()] for row in range(table.GetRowCount()))
+    rows = (
+        [
+            table.GetValueAsString(row, value),
+            "#" + bytes(table.GetValueAsInt(row, at) & 255 for at in columns).hex(),
+        ]
+        for row in range(table.GetRowCount())
+    )
     return maps.labels_of_rows(rows)
 
 
@@ -239,7 +268,9 @@ def _labels_of_element(table: ElementTree.Element) -> dict[int, str]:
     if value is None or name is None:
         return {}
     rows = [[cell.text or "" for cell in row.findall("F")] for row in table.findall("Row")]
-    return maps.labels_of_rows((row[value], row[name]) for row in rows if max(value, name) < len(row))
+    return maps.labels_of_rows(
+        (row[value], row[name]) for row in rows if max(value, name) < len(row)
+    )
 
 
 def _write_beside(path: str, labels: Mapping[int, str]) -> None:
@@ -253,7 +284,9 @@ def _write_beside(path: str, labels: Mapping[int, str]) -> None:
             ElementTree.SubElement(names, "Category").text = name
     else:
         table = ElementTree.SubElement(band, "GDALRasterAttributeTable", tableType="thematic")
-        for at, (title, kind, usage) in enumerate([("Value", maps.INTEGER, maps.USAGE_VALUE), ("Class_Name", maps.TEXT, maps.USAGE_NAME)]):
+        for at, (title, kind, usage) in enumerate(
+            [("Value", maps.INTEGER, maps.USAGE_VALUE), ("Class_Name", maps.TEXT, maps.USAGE_NAME)]
+        ):
             field = ElementTree.SubElement(table, "FieldDefn", index=str(at))
             for tag, text in (("Name", title), ("Type", str(kind)), ("Usage", str(usage))):
                 ElementTree.SubElement(field, tag).text = text
@@ -262,4 +295,7 @@ def _write_beside(path: str, labels: Mapping[int, str]) -> None:
             ElementTree.SubElement(row, "F").text = str(category)
             ElementTree.SubElement(row, "F").text = label
     ElementTree.ElementTree(root).write(path + ".aux.xml", encoding="utf-8")
-    warnings.warn(f"GDAL's Python is not installed: the labels are in {path}.aux.xml, which GDAL reads", stacklevel=4)
+    warnings.warn(
+        f"GDAL's Python is not installed: the labels are in {path}.aux.xml, which GDAL reads",
+        stacklevel=4,
+    )

@@ -93,9 +93,13 @@ def _of_csv(path: str) -> Legend:
                 raise _refused(f"{path} is empty")
             at = _columns_of(header, f"the first line is {','.join(header)!r}")
             rows = ((f"line {lines.line_num}", row) for row in lines if row)
-            return _of_rows((place, _picked(_narrow(place, row, len(header)), at)) for place, row in rows)
+            return _of_rows(
+                (place, _picked(_narrow(place, row, len(header)), at)) for place, row in rows
+            )
     except (OSError, ValueError, csv.Error) as error:
-        raise ReadFailed("labels", f"cannot open: {path}: {getattr(error, 'strerror', None) or error}") from None
+        raise ReadFailed(
+            "labels", f"cannot open: {path}: {getattr(error, 'strerror', None) or error}"
+        ) from None
 
 
 def _columns_of(names: list[str], told: str) -> tuple[int, int, int | None]:
@@ -110,12 +114,16 @@ def _columns_of(names: list[str], told: str) -> tuple[int, int, int | None]:
 def _narrow(place: str, row: list[str], most: int) -> list[str]:
     """Return a row of a CSV, after checking that no label is cut at a comma."""
     if any(map(str.strip, row[most:])):
-        raise _refused(f"{place}: {len(row)} fields under a header of {most}: put a label with a comma in quotes")
+        raise _refused(
+            f"{place}: {len(row)} fields under a header of {most}: put a label with a comma in quotes"
+        )
     return row
 
 
 def _picked(row: Any, at: tuple[int, int, int | None]) -> tuple[Any, Any, Any]:
-    value, label, color = (row[place] if place is not None and place < len(row) else "" for place in at)
+    value, label, color = (
+        row[place] if place is not None and place < len(row) else "" for place in at
+    )
     return value, label, color
 
 
@@ -147,14 +155,22 @@ def legend_of_qml(path: str) -> Legend:
     try:
         root = ElementTree.parse(path).getroot()
     except (OSError, ValueError) as error:
-        raise ReadFailed("labels", f"cannot open: {path}: {getattr(error, 'strerror', None) or error}") from None
+        raise ReadFailed(
+            "labels", f"cannot open: {path}: {getattr(error, 'strerror', None) or error}"
+        ) from None
     except ElementTree.ParseError as error:
         raise _refused(f"{path} is no style of QGIS: {error}") from None
     entries = root.findall(".//paletteEntry") or root.findall(".//colorrampshader/item")
     if not entries:
         raise _refused(f"{path} has no entries of a palette")
     kept = (entry for entry in entries if _is_whole(entry.get("value", "")))
-    return _of_rows((f"value {entry.get('value')}", (float(entry.get("value", "")), entry.get("label", ""), entry.get("color", ""))) for entry in kept)
+    return _of_rows(
+        (
+            f"value {entry.get('value')}",
+            (float(entry.get("value", "")), entry.get("label", ""), entry.get("color", "")),
+        )
+        for entry in kept
+    )
 
 
 def _is_whole(text: str) -> bool:

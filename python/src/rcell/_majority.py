@@ -52,7 +52,9 @@ def majority(map: Any, size: int = 3, fill: bool = False, *, crs: Any = None) ->
     if not isinstance(size, numbers.Integral) or size not in SIZES:
         raise Refused(f"size= is odd, {SIZES[0]} to {SIZES[-1]}, not {size!r}", status=2)
     source = source_of("map", map)
-    [found] = grids_of(run_of(majority_script(int(size), fill), {"map": source}, crs=crs), ["majority"])
+    [found] = grids_of(
+        run_of(majority_script(int(size), fill), {"map": source}, crs=crs), ["majority"]
+    )
     return dataclasses.replace(found, labels=source.labels, colors=source.colors)
 
 
@@ -71,7 +73,10 @@ def majority_script(size: int, fill: bool) -> str:
     offsets = [(row, col) for row in reach for col in reach]
     terms = {place: "map[{},{}]".format(*place) if any(place) else "map" for place in offsets}
     # A term and its comma: map [ row , col ] and a sign for each negative offset.
-    tokens = {place: 7 + (place[0] < 0) + (place[1] < 0) if any(place) else _TOKENS_OF_NAME for place in offsets}
+    tokens = {
+        place: 7 + (place[0] < 0) + (place[1] < 0) if any(place) else _TOKENS_OF_NAME
+        for place in offsets
+    }
     lines: list[str] = []
     for place in sorted(offsets, key=lambda place: -tokens[place]):
         if sum(tokens.values()) + _TOKENS_AROUND <= _MOST_TOKENS:
@@ -80,4 +85,6 @@ def majority_script(size: int, fill: bool) -> str:
         lines.append(f"r.mapcalc {name} = {terms[place]}")
         terms[place], tokens[place] = name, _TOKENS_OF_NAME
     mode = f"nmode({','.join(terms.values())})"
-    return "\n".join([*lines, f"r.mapcalc majority = {mode if fill else f'if(isnull(map), null(), {mode})'}"])
+    return "\n".join(
+        [*lines, f"r.mapcalc majority = {mode if fill else f'if(isnull(map), null(), {mode})'}"]
+    )

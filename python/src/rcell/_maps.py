@@ -25,8 +25,21 @@ from ._masked import as_bools, data_of, is_masked_array, mask_of
 from ._region import Region, Shift, Transform, six_numbers
 
 __all__ = [
-    "MAX_CATEGORY", "Aligned", "ArrayMap", "Block", "Cells", "Map", "Mask", "Source", "check_array", "check_computed", "check_names", "checked", "is_converted",
-    "nodata_of", "type_of",
+    "MAX_CATEGORY",
+    "Aligned",
+    "ArrayMap",
+    "Block",
+    "Cells",
+    "Map",
+    "Mask",
+    "Source",
+    "check_array",
+    "check_computed",
+    "check_names",
+    "checked",
+    "is_converted",
+    "nodata_of",
+    "type_of",
 ]
 
 MAX_CATEGORY = 2_147_483_647
@@ -109,7 +122,13 @@ def type_of(dtype: np.dtype[Any]) -> np.dtype[Any]:
     >>> [str(type_of(np.dtype(name))) for name in ("uint8", "int64", "float32", "bool")]
     ['uint8', 'int64', 'int32', 'uint8']
     """
-    return np.dtype(np.int32) if is_converted(dtype) else np.dtype(np.uint8) if dtype.kind == "b" else dtype.newbyteorder("=")
+    return (
+        np.dtype(np.int32)
+        if is_converted(dtype)
+        else np.dtype(np.uint8)
+        if dtype.kind == "b"
+        else dtype.newbyteorder("=")
+    )
 
 
 def nodata_of(dtype: np.dtype[Any], value: float | None) -> int | None:
@@ -142,10 +161,20 @@ def check_computed(name: str, cells: Cells, dtype: np.dtype[Any], shape: tuple[i
         told = f"its cells are of the type {cells.dtype}, but Dask expected {dtype}: state it, as in map_blocks(.., dtype='{cells.dtype}')"
         raise BadMap(name, told)
     if cells.shape != shape:
-        raise BadMap(name, f"a part of {' x '.join(map(str, shape))} cells has the shape {cells.shape}: state the chunks, as in map_blocks(.., chunks=..)")
+        raise BadMap(
+            name,
+            f"a part of {' x '.join(map(str, shape))} cells has the shape {cells.shape}: state the chunks, as in map_blocks(.., chunks=..)",
+        )
 
 
-def checked(name: str, cells: Cells, null: Mask | None, nodata: float | None, first_row: int = 0, first_col: int = 0) -> Block:
+def checked(
+    name: str,
+    cells: Cells,
+    null: Mask | None,
+    nodata: float | None,
+    first_row: int = 0,
+    first_col: int = 0,
+) -> Block:
     """Return cells of any type of whole numbers as a block of the type in which they are sent.
 
     Parameters
@@ -164,10 +193,15 @@ def checked(name: str, cells: Cells, null: Mask | None, nodata: float | None, fi
     BadMap
         With the first cell that is neither null nor a whole number from -2147483647 to 2147483647.
     """
-    cells = np.ascontiguousarray(as_bools(cells).view(np.uint8) if cells.dtype.kind == "b" else cells, cells.dtype.newbyteorder("="))
+    cells = np.ascontiguousarray(
+        as_bools(cells).view(np.uint8) if cells.dtype.kind == "b" else cells,
+        cells.dtype.newbyteorder("="),
+    )
     null = None if null is None else np.ascontiguousarray(null)
     is_kept = not is_converted(cells.dtype)
-    if is_kept and (cells.itemsize <= 2 or (cells.min() >= -MAX_CATEGORY and cells.max() <= MAX_CATEGORY)):
+    if is_kept and (
+        cells.itemsize <= 2 or (cells.min() >= -MAX_CATEGORY and cells.max() <= MAX_CATEGORY)
+    ):
         return Block(cells, null)
     is_null = _with_nodata(cells, null, nodata)
     bad = ~(_good(cells) | is_null)
@@ -178,7 +212,10 @@ def checked(name: str, cells: Cells, null: Mask | None, nodata: float | None, fi
         return Block(cells, null)
     kept = np.where(is_null, cells.dtype.type(0), cells)
     if cells.dtype == np.float32 and np.abs(kept).max() > _EXACT_FLOAT32:
-        warnings.warn(f"{name}: floats of 32 bits are not exact beyond {_EXACT_FLOAT32}, and the map has larger values", stacklevel=2)
+        warnings.warn(
+            f"{name}: floats of 32 bits are not exact beyond {_EXACT_FLOAT32}, and the map has larger values",
+            stacklevel=2,
+        )
     return Block(np.where(is_null, np.int32(NULL), kept.astype(np.int32)), None)
 
 
@@ -192,10 +229,18 @@ def _with_nodata(cells: Cells, null: Mask | None, nodata: float | None) -> Mask:
     if cells.dtype.kind == "f":
         with np.errstate(over="ignore"):
             value = cells.dtype.type(nodata)
-        return np.logical_or(is_null, cells == value) if np.isinf(value) == math.isinf(nodata) else is_null
+        return (
+            np.logical_or(is_null, cells == value)
+            if np.isinf(value) == math.isinf(nodata)
+            else is_null
+        )
     limits = np.iinfo(cells.dtype)
-    is_value = math.isfinite(nodata) and nodata == int(nodata) and limits.min <= int(nodata) <= limits.max
-    return np.logical_or(is_null, cells == cells.dtype.type(int(nodata))) if is_value else is_null  # by whole numbers: floats do not have all of 64 bits
+    is_value = (
+        math.isfinite(nodata) and nodata == int(nodata) and limits.min <= int(nodata) <= limits.max
+    )
+    return (
+        np.logical_or(is_null, cells == cells.dtype.type(int(nodata))) if is_value else is_null
+    )  # by whole numbers: floats do not have all of 64 bits
 
 
 def _good(cells: Cells) -> Mask:
@@ -209,8 +254,16 @@ def _good(cells: Cells) -> Mask:
 
 def _bad_cell(name: str, row: int, col: int, value: float) -> BadMap:
     number = f"{value:.15g}" if isinstance(value, float) else str(value)
-    beyond = ", beyond 2147483647 either way" if value == value and abs(value) > MAX_CATEGORY else ""
-    return BadMap(name, f"not a map of whole numbers: the cell at row {row}, column {col} is {number}{beyond}", row, col, value)
+    beyond = (
+        ", beyond 2147483647 either way" if value == value and abs(value) > MAX_CATEGORY else ""
+    )
+    return BadMap(
+        name,
+        f"not a map of whole numbers: the cell at row {row}, column {col} is {number}{beyond}",
+        row,
+        col,
+        value,
+    )
 
 
 # Maps in memory
@@ -258,7 +311,10 @@ class ArrayMap:
             raise BadMap(self.name, f"nodata is a number, not {self.nodata_value!r}")
         if self.array.shape != self.region.shape:
             rows, cols = self.array.shape
-            raise BadMap(self.name, f"an array of {rows} x {cols} cells, and a region of {self.region.rows} x {self.region.cols}")
+            raise BadMap(
+                self.name,
+                f"an array of {rows} x {cols} cells, and a region of {self.region.rows} x {self.region.cols}",
+            )
 
     @property
     def transform(self) -> Transform:
@@ -295,7 +351,10 @@ def check_array(name: str, array: Any) -> None:
         raise BadMap(name, f"not a map of whole numbers: its cells are of the type {array.dtype}")
     if array.ndim != 2:
         shape = " x ".join(map(str, array.shape)) or "one number"
-        raise BadMap(name, f"an array of {array.ndim} dimensions ({shape}), and a map has two; of a raster's bands give one, as read(1)")
+        raise BadMap(
+            name,
+            f"an array of {array.ndim} dimensions ({shape}), and a map has two; of a raster's bands give one, as read(1)",
+        )
     if array.size == 0:
         raise BadMap(name, f"an array without cells ({array.shape[0]} x {array.shape[1]})")
 
@@ -390,10 +449,22 @@ class Map:
         null = mask_of(given) if is_masked_array(given) else None
         check_array(name, array)
         array, null, region, transform = _placed(name, array, null, self.region)
-        return ArrayMap(name, array, region, null, self.nodata, checked_labels(name, self.labels), self.crs or None, transform, self.colors)
+        return ArrayMap(
+            name,
+            array,
+            region,
+            null,
+            self.nodata,
+            checked_labels(name, self.labels),
+            self.crs or None,
+            transform,
+            self.colors,
+        )
 
 
-def _placed(name: str, array: Cells, null: Mask | None, place: Any) -> tuple[Cells, Mask | None, Region, Transform]:
+def _placed(
+    name: str, array: Cells, null: Mask | None, place: Any
+) -> tuple[Cells, Mask | None, Region, Transform]:
     """Return an array with its rows from north to south, its region and its transform."""
     rows, cols = array.shape
     if isinstance(place, Region):
@@ -484,7 +555,9 @@ def named_once(maps: Any, named: Mapping[str, Any]) -> dict[str, Any]:
     return {**(maps or {}), **named}
 
 
-def sources_of(maps: Mapping[str, Any], crs: Any = None, given: Mapping[str, Any] | None = None) -> tuple[dict[str, Source], Any]:
+def sources_of(
+    maps: Mapping[str, Any], crs: Any = None, given: Mapping[str, Any] | None = None
+) -> tuple[dict[str, Source], Any]:
     """Return the maps of a call, and the coordinate reference system that they have in common.
 
     Parameters
@@ -503,7 +576,7 @@ def sources_of(maps: Mapping[str, Any], crs: Any = None, given: Mapping[str, Any
         The region of a map differs from the first; the text says which edges differ, by how much, and how to align it.
     """
     if not maps:
-        raise Refused("no map is given: name them, as lc=\"landcover.tif\"", status=2)
+        raise Refused('no map is given: name them, as lc="landcover.tif"', status=2)
     check_names(maps)
     sources = {name: source_of(name, given) for name, given in maps.items()}
     common = common_crs({name: source.crs for name, source in sources.items()}, crs)
@@ -512,8 +585,14 @@ def sources_of(maps: Mapping[str, Any], crs: Any = None, given: Mapping[str, Any
         if source.region != first.region:
             told = "; ".join(first.region.differences(source.region))
             text = f"not of the region of `{first_name}`, and nothing is resampled: {told}"
-            fault = OtherRegion(name, f"{text}\n  {first_name}: {first.region}\n  {name}: {source.region}")
-            nearest = "" if Shift.between(source.transform, first.transform, first.region.shape).is_whole else ', resample="nearest"'
+            fault = OtherRegion(
+                name, f"{text}\n  {first_name}: {first.region}\n  {name}: {source.region}"
+            )
+            nearest = (
+                ""
+                if Shift.between(source.transform, first.transform, first.region.shape).is_whole
+                else ', resample="nearest"'
+            )
             mine, its = (_written(of, (given or maps)[of]) for of in (name, first_name))
             fault.advice = f"{name}=rcell.align({mine}, to={its}{nearest})"
             raise fault
@@ -522,4 +601,8 @@ def sources_of(maps: Mapping[str, Any], crs: Any = None, given: Mapping[str, Any
 
 def _written(name: str, given: Any) -> str:
     """Return a map as a caller would write it: its path, or its name."""
-    return json.dumps(os.fspath(given), ensure_ascii=False) if isinstance(given, (str, os.PathLike)) else name
+    return (
+        json.dumps(os.fspath(given), ensure_ascii=False)
+        if isinstance(given, (str, os.PathLike))
+        else name
+    )

@@ -9,7 +9,17 @@ import numpy as np
 
 from ._arrays import NDArray
 
-__all__ = ["MaskedCells", "as_bools", "compressed", "data_of", "filled", "is_masked_array", "mask_of", "masked", "unmasked"]
+__all__ = [
+    "MaskedCells",
+    "as_bools",
+    "compressed",
+    "data_of",
+    "filled",
+    "is_masked_array",
+    "mask_of",
+    "masked",
+    "unmasked",
+]
 
 MaskedCells = np.ma.MaskedArray[Any, Any]
 _ma: Any = np.ma

@@ -18,7 +18,9 @@ from ._maps import Source
 __all__ = ["Measure", "measure_of", "row_areas"]
 
 
-def row_areas(north: float, height: float, width: float, rows: int, ellipsoid: tuple[float, float]) -> NDArray[np.float64]:
+def row_areas(
+    north: float, height: float, width: float, rows: int, ellipsoid: tuple[float, float]
+) -> NDArray[np.float64]:
     """Return the area of a cell of each row in square metres: a part of the ellipsoid between two parallels.
 
     Parameters
@@ -47,7 +49,12 @@ def row_areas(north: float, height: float, width: float, rows: int, ellipsoid: t
     squared = flattening * (2 - flattening)
     e, s1, s2 = math.sqrt(squared), np.sin(upper), np.sin(lower)
     middle = risen * (1 + squared * s1 * s2) / ((1 - squared * s1**2) * (1 - squared * s2**2))
-    return np.asarray(width / 2 * (axis * (1 - flattening)) ** 2 * (middle + np.arctanh(e * risen / (1 - squared * s1 * s2)) / e))
+    return np.asarray(
+        width
+        / 2
+        * (axis * (1 - flattening)) ** 2
+        * (middle + np.arctanh(e * risen / (1 - squared * s1 * s2)) / e)
+    )
 
 
 @dataclass(frozen=True)
@@ -101,11 +108,19 @@ def measure_of(unit: str | None, source: Source, crs: Any) -> Measure:
 
 def _by_row(source: Source, crs: Any) -> NDArray[np.float64]:
     """Return the area of a cell of each row, on the ellipsoid of a reference system."""
-    system = need("pyproj", "gis", "to compute areas of a map in degrees").CRS.from_user_input(_plain(crs))
+    system = need("pyproj", "gis", "to compute areas of a map in degrees").CRS.from_user_input(
+        _plain(crs)
+    )
     ellipsoid = system.get_geod()
     radians = system.axis_info[0].unit_conversion_factor if system.axis_info else math.radians(1)
     width, _, _, _, height, north = source.transform
-    return row_areas(north * radians, -height * radians, width * radians, source.region.rows, (ellipsoid.a, ellipsoid.f))
+    return row_areas(
+        north * radians,
+        -height * radians,
+        width * radians,
+        source.region.rows,
+        (ellipsoid.a, ellipsoid.f),
+    )
 
 
 def _plain(crs: Any) -> Any:

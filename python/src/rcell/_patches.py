@@ -91,7 +91,9 @@ def patches(
     if not (isinstance(core_depth, numbers.Integral) and 1 <= core_depth <= MOST_CORE_DEPTH):
         raise Refused(f"core_depth= is from 1 to {MOST_CORE_DEPTH}, not {core_depth!r}", status=2)
     if isinstance(classes, (str, bytes)):
-        raise Refused(f"classes= is a list of whole numbers, as [31, 32], not {classes!r}", status=2)
+        raise Refused(
+            f"classes= is a list of whole numbers, as [31, 32], not {classes!r}", status=2
+        )
     listed = None if classes is None else [_class_of(one) for one in classes]
     maps = Maps({"map": map}, crs, zones, zone_field)
     measure = maps.measure(area)
@@ -101,9 +103,16 @@ def patches(
     tables = maps.tables(_script(connectivity, listed, core_depth, zones is not None, by_row))
     sides, core, by_rows, by_cols = tables[:4]
     found = _Patches(sides, least or 0)
-    columns = [Column("patch", "class", found.numbers), *maps.columns("class", found.classes, "map", labels, "label"), Column("cells", "count", found.cells)]
+    columns = [
+        Column("patch", "class", found.numbers),
+        *maps.columns("class", found.classes, "map", labels, "label"),
+        Column("cells", "count", found.cells),
+    ]
     columns += _areas(found, measure, by_rows if by_row else None, core)
-    columns.insert(-1, Column("perimeter_m", "measure", found.perimeter(maps.first.transform, metres(maps.crs))))
+    columns.insert(
+        -1,
+        Column("perimeter_m", "measure", found.perimeter(maps.first.transform, metres(maps.crs))),
+    )
     columns += found.extents(by_rows, by_cols, maps.first.transform)
     if zones is not None:
         columns += maps.columns("zone", found.zones(tables[4]), "zones", zone_labels)
@@ -116,23 +125,39 @@ def check_connectivity(connectivity: Any) -> None:
         raise Refused(f"connectivity= is 4 or 8, not {connectivity!r}", status=2)
 
 
-def _script(connectivity: int, classes: list[int] | None, core_depth: int, has_zones: bool, by_row: bool) -> str:
+def _script(
+    connectivity: int, classes: list[int] | None, core_depth: int, has_zones: bool, by_row: bool
+) -> str:
     """Return a script whose tables have the sides, cores, rows, columns and zones of patches."""
     leaves = "(isnull(patch[{0}]) ||| patch[{0}] != patch)"
     north, south, west, east = (leaves.format(place) for place in ("-1,0", "1,0", "0,-1", "0,1"))
     core = "if({0}[-1,0] == {0} && {0}[1,0] == {0} && {0}[0,-1] == {0} && {0}[0,1] == {0}, {0}, null())"
     lines = [f"r.clump {'-d ' if connectivity == 8 else ''}input=map output=patch"]
-    lines += [f"r.mapcalc side = if(isnull(patch), null(), {north} + {south} + {_FLANK} * ({west} + {east}))"]
-    lines += [f"r.mapcalc core{depth + 1} = {core.format(f'core{depth}' if depth else 'patch')}" for depth in range(core_depth)]
+    lines += [
+        f"r.mapcalc side = if(isnull(patch), null(), {north} + {south} + {_FLANK} * ({west} + {east}))"
+    ]
+    lines += [
+        f"r.mapcalc core{depth + 1} = {core.format(f'core{depth}' if depth else 'patch')}"
+        for depth in range(core_depth)
+    ]
     lines += ["r.mapcalc row = row()", "r.mapcalc col = col()"]
     kept, inner = "patch", f"core{core_depth}"
     if classes is not None:
         rules = "\n".join(f"{one} = {one}" for one in classes)
-        lines += [f"r.reclass input=map output=listed\n{rules}\nend", "r.mapcalc kept = if(isnull(listed), null(), patch)"]
+        lines += [
+            f"r.reclass input=map output=listed\n{rules}\nend",
+            "r.mapcalc kept = if(isnull(listed), null(), patch)",
+        ]
         lines += [f"r.mapcalc inner = if(isnull(listed), null(), {inner})"]
         kept, inner = "kept", "inner"
-    lines += [f"r.stats -c -n input={kept},map,side", f"r.stats -c -n input={inner}{',row' if by_row else ''}"]
-    lines += [f"r.stats {'-c ' if by_row else ''}-n input={kept},row", f"r.stats -n input={kept},col"]
+    lines += [
+        f"r.stats -c -n input={kept},map,side",
+        f"r.stats -c -n input={inner}{',row' if by_row else ''}",
+    ]
+    lines += [
+        f"r.stats {'-c ' if by_row else ''}-n input={kept},row",
+        f"r.stats -n input={kept},col",
+    ]
     return "\n".join(lines + ([f"r.stats -c -n input={kept},zones"] if has_zones else []))
 
 
@@ -150,8 +175,15 @@ class _Patches:
         first = places_of(sides[:, 0])
         cells = np.add.reduceat(sides[:, 3], first) if first.size else np.empty(0, np.int64)
         kept = cells >= least
-        self.numbers, self.classes, self.cells = sides[first[kept], 0], sides[first[kept], 1], cells[kept]
-        self._ends, self._flanks = (self.summed(sides[:, 0], sides[:, 3] * part) for part in (sides[:, 2] % _FLANK, sides[:, 2] // _FLANK))
+        self.numbers, self.classes, self.cells = (
+            sides[first[kept], 0],
+            sides[first[kept], 1],
+            cells[kept],
+        )
+        self._ends, self._flanks = (
+            self.summed(sides[:, 0], sides[:, 3] * part)
+            for part in (sides[:, 2] % _FLANK, sides[:, 2] // _FLANK)
+        )
 
     def summed(self, numbers: Integers, values: NDArray[Any]) -> NDArray[Any]:
         """Return the sum of the values of each patch; equal numbers must be consecutive."""
@@ -165,7 +197,9 @@ class _Patches:
     def _found(self, numbers: Integers) -> tuple[NDArray[np.intp], NDArray[np.bool_]]:
         """Return the indices of the numbers that are kept, and which numbers these are."""
         at = np.minimum(np.searchsorted(self.numbers, numbers), max(self.numbers.size - 1, 0))
-        kept = self.numbers[at] == numbers if self.numbers.size else np.zeros(numbers.size, np.bool_)
+        kept = (
+            self.numbers[at] == numbers if self.numbers.size else np.zeros(numbers.size, np.bool_)
+        )
         return at[kept], kept
 
     def perimeter(self, transform: tuple[float, ...], unit: float) -> NDArray[np.float64]:
@@ -176,13 +210,20 @@ class _Patches:
         """Return the bounding box of each patch."""
         width, _, west, _, height, north = transform
         (top, bottom), (left, right) = (self._ends_of(table) for table in (rows, cols))
-        edges = {"west": west + width * (left - 1), "south": north + height * bottom, "east": west + width * right, "north": north + height * (top - 1)}
+        edges = {
+            "west": west + width * (left - 1),
+            "south": north + height * bottom,
+            "east": west + width * right,
+            "north": north + height * (top - 1),
+        }
         return [Column(name, "measure", values) for name, values in edges.items()]
 
     def _ends_of(self, table: Integers) -> tuple[Integers, Integers]:
         """Return the first and last row, or column, of each patch."""
         first = places_of(table[:, 0])
-        last = np.concatenate([first[1:], [len(table)]]).astype(np.intp) - 1 if first.size else first
+        last = (
+            np.concatenate([first[1:], [len(table)]]).astype(np.intp) - 1 if first.size else first
+        )
         kept = self._found(table[first, 0])[1]
         return table[first[kept], 1], table[last[kept], 1]
 
@@ -196,15 +237,26 @@ class _Patches:
         return found
 
 
-def _areas(found: _Patches, measure: Measure, rows: Integers | None, core: Integers) -> list[Column]:
+def _areas(
+    found: _Patches, measure: Measure, rows: Integers | None, core: Integers
+) -> list[Column]:
     """Return the areas of patches and of their cores; without a unit, the number of core cells."""
     if rows is None or measure.by_row is None:
         inner = found.summed(core[:, 0], core[:, -1])
         if measure.unit is None:
             return [Column("core_cells", "count", inner)]
-        return [Column(f"area_{measure.unit}", "measure", measure.area(found.cells)), Column(f"core_{measure.unit}", "measure", measure.area(inner))]
-    areas = (found.summed(table[:, 0], table[:, 2] * measure.by_row[table[:, 1] - 1]) / measure.divisor for table in (rows, core))
-    return [Column(f"{name}_{measure.unit}", "measure", values) for name, values in zip(("area", "core"), areas)]
+        return [
+            Column(f"area_{measure.unit}", "measure", measure.area(found.cells)),
+            Column(f"core_{measure.unit}", "measure", measure.area(inner)),
+        ]
+    areas = (
+        found.summed(table[:, 0], table[:, 2] * measure.by_row[table[:, 1] - 1]) / measure.divisor
+        for table in (rows, core)
+    )
+    return [
+        Column(f"{name}_{measure.unit}", "measure", values)
+        for name, values in zip(("area", "core"), areas)
+    ]
 
 
 def _class_of(given: Any) -> int:

@@ -24,7 +24,20 @@ from ._arrays import NDArray
 from ._errors import Killed, MissingProgram, OutOfMemory, Refused, WrongProgram
 from ._maps import ArrayMap, Source
 
-__all__ = ["Output", "candidates", "execute", "find_beside", "find_pipe", "find_program", "grid_text", "grids", "known_after", "planned", "printed", "program_errors"]
+__all__ = [
+    "Output",
+    "candidates",
+    "execute",
+    "find_beside",
+    "find_pipe",
+    "find_program",
+    "grid_text",
+    "grids",
+    "known_after",
+    "planned",
+    "printed",
+    "program_errors",
+]
 
 PROBE_SECONDS = 60
 """So long a program may take for a map of three cells, on a machine that has much else to do."""
@@ -61,7 +74,10 @@ class Output:
 
 def candidates(name: str) -> Iterator[str]:
     """Yield where a program of this name is: among the scripts of this installation of Python, next to it, on the path."""
-    folders = [sysconfig.get_path("scripts", scheme) for scheme in (sysconfig.get_default_scheme(), sysconfig.get_preferred_scheme("user"))]
+    folders = [
+        sysconfig.get_path("scripts", scheme)
+        for scheme in (sysconfig.get_default_scheme(), sysconfig.get_preferred_scheme("user"))
+    ]
     for folder in (*folders, os.path.dirname(sys.executable or "")):
         path = os.path.join(folder, name)
         if os.path.isabs(folder) and os.path.isfile(path):
@@ -85,7 +101,11 @@ def find_program(program: str | os.PathLike[str] | None = None) -> str:
     WrongProgram
         It does not work as this package needs it.
     """
-    path = os.fspath(program) if program is not None else os.environ.get("RCELL") or next(candidates("rcell"), "")
+    path = (
+        os.fspath(program)
+        if program is not None
+        else os.environ.get("RCELL") or next(candidates("rcell"), "")
+    )
     if not path:
         raise MissingProgram(
             "the program rcell was not found: neither in the environment variable RCELL, nor next to this Python, nor on the path"
@@ -98,7 +118,9 @@ def find_pipe(program: str | os.PathLike[str] | None = None) -> str:
     return find_beside("rcell-pipe", "RCELL_PIPE", _probe_pipe, program)
 
 
-def find_beside(name: str, variable: str, probe: Callable[[str], None], program: str | os.PathLike[str] | None) -> str:
+def find_beside(
+    name: str, variable: str, probe: Callable[[str], None], program: str | os.PathLike[str] | None
+) -> str:
     """Return the path of a program that belongs to rcell.
 
     Looked for in this order: the argument, an environment variable, next to the program rcell that is used, the scripts of this
@@ -109,7 +131,9 @@ def find_beside(name: str, variable: str, probe: Callable[[str], None], program:
         beside = os.path.join(os.path.dirname(find_program()), name)
         path = beside if os.path.isfile(beside) else next(candidates(name), "")
     if not path:
-        raise MissingProgram(f"the program {name} was not found: neither in the environment variable {variable}, nor next to rcell, nor on the path")
+        raise MissingProgram(
+            f"the program {name} was not found: neither in the environment variable {variable}, nor next to rcell, nor on the path"
+        )
     return known_after(probe, os.path.abspath(path))
 
 
@@ -197,24 +221,44 @@ def execute(
     return [_output(frame, at < len(frames) - len(wanted)) for at, frame in enumerate(frames)]
 
 
-def planned(script: str, names: Iterable[str], *, program: str | os.PathLike[str] | None = None) -> list[front.Statement]:
+def planned(
+    script: str, names: Iterable[str], *, program: str | os.PathLike[str] | None = None
+) -> list[front.Statement]:
     """Return what each statement of a script reads, makes and needs, over maps of some names; the errors are the same as in `execute`."""
     known = list(names)
     with program_errors(script, known, path := find_pipe(program)):
         return front.plan(path, known, front.script_bytes(script))
 
 
-def printed(script: str, maps: Mapping[str, Source], *, program: str | os.PathLike[str] | None = None) -> bytes:
+def printed(
+    script: str, maps: Mapping[str, Source], *, program: str | os.PathLike[str] | None = None
+) -> bytes:
     """Return what rcell prints for a script; arguments and errors are the same as in `execute`."""
     with program_errors(script, list(maps), path := find_pipe(program)):
-        return b"".join(front.text(path, [_sent(name, source) for name, source in maps.items()], front.script_bytes(script)))
+        return b"".join(
+            front.text(
+                path,
+                [_sent(name, source) for name, source in maps.items()],
+                front.script_bytes(script),
+            )
+        )
 
 
 def grids(script: str, maps: Mapping[str, Source], wanted: Sequence[str]) -> list[ArrayMap]:
     """Return maps of a script that writes nothing, of the type in which the program sends them; all else is as in `execute`."""
     region = next(iter(maps.values())).region
-    frames = (frame for frame in _frames(script, maps, wanted) if isinstance(frame, front.GridFrame))
-    return [ArrayMap(frame.name, np.asarray(frame.cells).reshape(region.shape), region, nodata_value=frame.null) for frame in frames]
+    frames = (
+        frame for frame in _frames(script, maps, wanted) if isinstance(frame, front.GridFrame)
+    )
+    return [
+        ArrayMap(
+            frame.name,
+            np.asarray(frame.cells).reshape(region.shape),
+            region,
+            nodata_value=frame.null,
+        )
+        for frame in frames
+    ]
 
 
 def grid_text(source: Source) -> bytes:
@@ -223,12 +267,19 @@ def grid_text(source: Source) -> bytes:
 
 
 def _frames(
-    script: str, maps: Mapping[str, Source], wanted: Sequence[str] = (), program: str | os.PathLike[str] | None = None
+    script: str,
+    maps: Mapping[str, Source],
+    wanted: Sequence[str] = (),
+    program: str | os.PathLike[str] | None = None,
 ) -> list[front.Frame]:
     """Return the frames of a script, and then the frames of some of its maps."""
     lines = [script, *(f"r.out.ascii input={name}" for name in wanted)]
     with program_errors(script, list(maps), path := find_pipe(program)):
-        return front.run(path, [_sent(name, source) for name, source in maps.items()], front.script_bytes("\n".join(lines)))
+        return front.run(
+            path,
+            [_sent(name, source) for name, source in maps.items()],
+            front.script_bytes("\n".join(lines)),
+        )
 
 
 @contextlib.contextmanager
@@ -237,7 +288,9 @@ def program_errors(script: str, names: list[str], path: str) -> Iterator[None]:
     try:
         yield
     except front.Rejected as end:
-        raise (OutOfMemory if end.status == 3 else Refused)(**end.parts(path, script, names)) from None
+        raise (OutOfMemory if end.status == 3 else Refused)(
+            **end.parts(path, script, names)
+        ) from None
     except front.Killed as error:
         raise Killed(int(error.args[0])) from None
     except front.NoAnswer as error:
@@ -249,15 +302,35 @@ def program_errors(script: str, names: list[str], path: str) -> Iterator[None]:
 def _sent(name: str, source: Source) -> front.Map:
     """Return a map for the program; its blocks are sent unchanged, one after another."""
     kind = source.dtype.kind + str(8 * source.dtype.itemsize)
-    blocks = (front.Block(block.cells.data, None if block.null is None else block.null.view(np.uint8).data) for block in source.blocks())
-    return front.Map(name, source.region.edges, *source.region.shape, kind, blocks, source.nodata, source.is_masked)
+    blocks = (
+        front.Block(
+            block.cells.data, None if block.null is None else block.null.view(np.uint8).data
+        )
+        for block in source.blocks()
+    )
+    return front.Map(
+        name,
+        source.region.edges,
+        *source.region.shape,
+        kind,
+        blocks,
+        source.nodata,
+        source.is_masked,
+    )
 
 
 def _output(frame: front.Frame, is_own: bool) -> Output:
     line = frame.line if is_own else 0
     if isinstance(frame, front.GridFrame):
         return Output("r.out.ascii", line, (frame.name,), _cells(frame))
-    return Output("r.stats", line, frame.names, _entries(frame), frame.counts is not None, frame.labels is not None)
+    return Output(
+        "r.stats",
+        line,
+        frame.names,
+        _entries(frame),
+        frame.counts is not None,
+        frame.labels is not None,
+    )
 
 
 def _entries(frame: front.TableFrame) -> NDArray[np.int64]:

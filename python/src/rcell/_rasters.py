@@ -17,10 +17,28 @@ from ._errors import BadMap, RcellError, ReadFailed
 from ._labels import read_legend
 from ._legends import Legend
 from ._libraries import need
-from ._maps import BLOCK_CELLS, Block, Cells, Mask, checked, in_region, is_converted, nodata_of, type_of
+from ._maps import (
+    BLOCK_CELLS,
+    Block,
+    Cells,
+    Mask,
+    checked,
+    in_region,
+    is_converted,
+    nodata_of,
+    type_of,
+)
 from ._region import Region, Transform, check_upright, six_numbers
 
-__all__ = ["Layer", "RasterMap", "only_band", "open_dataset", "open_raster", "told_of_reading", "upright"]
+__all__ = [
+    "Layer",
+    "RasterMap",
+    "only_band",
+    "open_dataset",
+    "open_raster",
+    "told_of_reading",
+    "upright",
+]
 
 _PURPOSE = "to read a raster"
 _IDENTITY: Transform = (1.0, 0.0, 0.0, 0.0, 1.0, 0.0)
@@ -48,7 +66,9 @@ def open_raster(name: str, given: Any) -> RasterMap:
     with told_of_reading(name, "cannot open"):
         if isinstance(given, rasterio.Band):
             return RasterMap.of_dataset(name, given.ds, int(given.bidx))
-        dataset = open_dataset(name, os.fspath(given)) if isinstance(given, (str, os.PathLike)) else given
+        dataset = (
+            open_dataset(name, os.fspath(given)) if isinstance(given, (str, os.PathLike)) else given
+        )
         return RasterMap.of_dataset(name, dataset, None)
 
 
@@ -56,11 +76,15 @@ def open_raster(name: str, given: Any) -> RasterMap:
 def told_of_reading(name: str, told: str) -> Iterator[None]:
     """Raise errors of rasterio and the system about a broken raster as ReadFailed."""
     rasterio = need("rasterio", "gis", _PURPOSE)
-    gdal_error = need("rasterio._err", "gis", _PURPOSE).CPLE_BaseError  # some properties of a dataset raise it unchanged
+    gdal_error = need(
+        "rasterio._err", "gis", _PURPOSE
+    ).CPLE_BaseError  # some properties of a dataset raise it unchanged
     try:
         yield
     except UnicodeEncodeError:
-        raise ReadFailed(name, f"{told}: rasterio takes no path that is not UTF-8: rename the file") from None
+        raise ReadFailed(
+            name, f"{told}: rasterio takes no path that is not UTF-8: rename the file"
+        ) from None
     except (rasterio.errors.RasterioError, gdal_error, OSError, ValueError, TypeError) as error:
         if isinstance(error, RcellError):
             raise
@@ -114,10 +138,14 @@ class Layer:
             dtype, nodata = _of_64_bits(dataset, band)
         flags = dataset.mask_flag_enums[band - 1]
         alpha = next((at for at in alphas(dataset, enums) if at != band), None)
-        has_mask = (not flags or enums.MaskFlags.per_dataset in flags) and enums.MaskFlags.alpha not in flags
+        has_mask = (
+            not flags or enums.MaskFlags.per_dataset in flags
+        ) and enums.MaskFlags.alpha not in flags
         return cls(band, dtype, nodata, has_mask, alpha)
 
-    def read(self, name: str, dataset: Any, place: tuple[int, int, int, int], told: str) -> tuple[Cells, Mask | None]:
+    def read(
+        self, name: str, dataset: Any, place: tuple[int, int, int, int], told: str
+    ) -> tuple[Cells, Mask | None]:
         """Return the cells of a window, and which of them a mask or transparency makes null.
 
         Raises
@@ -129,10 +157,15 @@ class Layer:
         window = need("rasterio.windows", "gis", _PURPOSE).Window(left, top, cols, rows)
         with told_of_reading(name, f"{told} cannot be read"):
             cells: Cells = dataset.read(self.band, window=window)
-            masks: list[Mask] = [dataset.read_masks(self.band, window=window) == 0] if self.has_mask else []
+            masks: list[Mask] = (
+                [dataset.read_masks(self.band, window=window) == 0] if self.has_mask else []
+            )
             masks += [] if self.alpha is None else [dataset.read(self.alpha, window=window) == 0]
         # rasterio before 1.4 swaps the names of the two 64-bit types, not the bits.
-        return cells.view(self.dtype) if cells.dtype.itemsize == 8 else cells, np.logical_or.reduce(masks) if masks else None
+        return (
+            cells.view(self.dtype) if cells.dtype.itemsize == 8 else cells,
+            np.logical_or.reduce(masks) if masks else None,
+        )
 
 
 def _of_64_bits(dataset: Any, band: int) -> tuple[str, int | None]:
@@ -207,7 +240,9 @@ class RasterMap:
     @property
     def is_masked(self) -> bool:
         """Whether its blocks have masks."""
-        return (self.layer.has_mask or self.layer.alpha is not None) and not is_converted(np.dtype(self.layer.dtype))
+        return (self.layer.has_mask or self.layer.alpha is not None) and not is_converted(
+            np.dtype(self.layer.dtype)
+        )
 
     @property
     def labels(self) -> Mapping[int, str]:
@@ -243,7 +278,9 @@ class RasterMap:
             A cell is not a whole number in range.
         """
         top = self.region.rows - row - rows if self.is_upside_down else row
-        cells, null = self.layer.read(self.name, self.dataset, (top, col, rows, cols), f"rows {row + 1} to {row + rows}")
+        cells, null = self.layer.read(
+            self.name, self.dataset, (top, col, rows, cols), f"rows {row + 1} to {row + rows}"
+        )
         if self.is_upside_down:
             cells, null = cells[::-1], None if null is None else null[::-1]
         return checked(self.name, cells, null, self.layer.nodata, row, col)
@@ -251,7 +288,11 @@ class RasterMap:
 
 def alphas(dataset: Any, enums: Any) -> list[int]:
     """Return the alpha bands. Reading `colorinterp` once matters: rasterio looks at all bands, 65,535 in a broken file."""
-    return [band for band, kind in zip(dataset.indexes, dataset.colorinterp) if kind == enums.ColorInterp.alpha]
+    return [
+        band
+        for band, kind in zip(dataset.indexes, dataset.colorinterp)
+        if kind == enums.ColorInterp.alpha
+    ]
 
 
 def only_band(name: str, dataset: Any, enums: Any) -> int:
@@ -266,7 +307,10 @@ def check_scale(name: str, dataset: Any, band: int) -> None:
     """Raise BadMap if the values of a band are scaled."""
     scale, offset = dataset.scales[band - 1], dataset.offsets[band - 1]
     if (scale, offset) != (1, 0):
-        raise BadMap(name, f"its values are scaled: each cell times {scale:g}, plus {offset:g}; write them out as whole numbers first")
+        raise BadMap(
+            name,
+            f"its values are scaled: each cell times {scale:g}, plus {offset:g}; write them out as whole numbers first",
+        )
 
 
 def upright(name: str, dataset: Any) -> tuple[Transform, bool]:

@@ -17,7 +17,15 @@ from rcell_front.maps import DECIMALS, UNITS, differences_of, edge_text
 from ._arrays import NDArray
 from ._errors import BadMap
 
-__all__ = ["Region", "Shift", "Transform", "check_upright", "edges_of_transform", "six_numbers", "units_of"]
+__all__ = [
+    "Region",
+    "Shift",
+    "Transform",
+    "check_upright",
+    "edges_of_transform",
+    "six_numbers",
+    "units_of",
+]
 
 # a, b, c, d, e, f of x = a * column + b * row + c and y = d * column + e * row + f, as in rasterio's Affine.
 Transform = tuple[float, float, float, float, float, float]
@@ -55,12 +63,18 @@ def check_upright(name: str, transform: Transform) -> None:
     if not all(map(math.isfinite, transform)):
         raise BadMap(name, f"a transform with a number that is not finite: {transform}")
     if b or d:
-        raise BadMap(name, f"a rotated transform {transform}: warp the map to rows from west to east first")
+        raise BadMap(
+            name, f"a rotated transform {transform}: warp the map to rows from west to east first"
+        )
     if a <= 0 or e >= 0:
-        raise BadMap(name, f"a transform {transform} whose rows are not from north to south, west to east")
+        raise BadMap(
+            name, f"a transform {transform} whose rows are not from north to south, west to east"
+        )
 
 
-def edges_of_transform(transform: Transform, rows: int, cols: int) -> tuple[Fraction, Fraction, Fraction, Fraction]:
+def edges_of_transform(
+    transform: Transform, rows: int, cols: int
+) -> tuple[Fraction, Fraction, Fraction, Fraction]:
     """Return north, south, east and west of an upright map, exactly."""
     width, _, west, _, height, north = map(Fraction, transform)
     return north, north + height * rows, west + width * cols, west
@@ -108,20 +122,37 @@ class Region:
             if not _is_number(edge):
                 raise BadMap("region", f"an edge that is no number: {name} is {edge!r}")
             if not math.isfinite(edge) or abs(units_of(edge)) >= EDGE_LIMIT:
-                raise BadMap("region", f"an edge of more than ten digits: {name} is {float(edge):g}")
+                raise BadMap(
+                    "region", f"an edge of more than ten digits: {name} is {float(edge):g}"
+                )
         self._check_sizes()
         north, south, east, west = self.units
         if north <= south or east <= west:
             low, high = ("south", "north") if north <= south else ("west", "east")
-            raise BadMap("region", f"{high} is not above {low} once they are rounded to {DECIMALS} decimals: {self}")
+            raise BadMap(
+                "region",
+                f"{high} is not above {low} once they are rounded to {DECIMALS} decimals: {self}",
+            )
 
     def _check_sizes(self) -> None:
-        if not (isinstance(self.rows, numbers.Integral) and isinstance(self.cols, numbers.Integral)):
-            raise BadMap("region", f"rows and columns that are no whole numbers: {self.rows!r} and {self.cols!r}")
-        if not (1 <= self.rows <= SIDE_LIMIT and 1 <= self.cols <= SIDE_LIMIT and self.rows * self.cols <= CELL_LIMIT):
+        if not (
+            isinstance(self.rows, numbers.Integral) and isinstance(self.cols, numbers.Integral)
+        ):
+            raise BadMap(
+                "region",
+                f"rows and columns that are no whole numbers: {self.rows!r} and {self.cols!r}",
+            )
+        if not (
+            1 <= self.rows <= SIDE_LIMIT
+            and 1 <= self.cols <= SIDE_LIMIT
+            and self.rows * self.cols <= CELL_LIMIT
+        ):
             size = f"{self.rows:,} rows and {self.cols:,} columns"
             limits = f"1 to {SIDE_LIMIT:,} each, and {CELL_LIMIT:,} cells in all"
-            raise BadMap("region", f"{size}, where the program takes {limits}; for larger maps there is rcell.tiles")
+            raise BadMap(
+                "region",
+                f"{size}, where the program takes {limits}; for larger maps there is rcell.tiles",
+            )
 
     @classmethod
     def from_transform(cls, transform: Sequence[float], rows: int, cols: int) -> Region:
@@ -365,19 +396,29 @@ class Shift:
     @property
     def has_other_cells(self) -> bool:
         """Whether the sizes of cells differ so much that the last cell is off."""
-        return any(abs(size - 1) * count > NEARLY_WHOLE for size, count in zip((self.height, self.width), self.shape))
+        return any(
+            abs(size - 1) * count > NEARLY_WHOLE
+            for size, count in zip((self.height, self.width), self.shape)
+        )
 
     @property
     def is_whole(self) -> bool:
         """Whether each cell coincides with a cell of the other grid."""
-        return isinstance(self.rows, int) and isinstance(self.cols, int) and not self.has_other_cells
+        return (
+            isinstance(self.rows, int) and isinstance(self.cols, int) and not self.has_other_cells
+        )
 
     def centres(self) -> tuple[NDArray[np.float64], NDArray[np.float64]]:
         """Return the centres of the rows and columns, in rows and columns of the other grid."""
         if self.is_whole:
-            return self.rows + np.arange(self.shape[0]) + 0.5, self.cols + np.arange(self.shape[1]) + 0.5
+            return (
+                self.rows + np.arange(self.shape[0]) + 0.5,
+                self.cols + np.arange(self.shape[1]) + 0.5,
+            )
         (rows, cols) = self.shape
-        return self.rows + self.height * (np.arange(rows) + 0.5), self.cols + self.width * (np.arange(cols) + 0.5)
+        return self.rows + self.height * (np.arange(rows) + 0.5), self.cols + self.width * (
+            np.arange(cols) + 0.5
+        )
 
     def told(self, name: str) -> str:
         """Return the reason why whole cells cannot be taken."""

@@ -74,7 +74,11 @@ class Column:
         values: list[Value] = self.values.tolist()
         if self.kind == "class":
             return [None if value == NULL else value for value in values]
-        return [None if value != value else value for value in values] if self.kind == "measure" else values
+        return (
+            [None if value != value else value for value in values]
+            if self.kind == "measure"
+            else values
+        )
 
     def series(self, pandas: Any) -> Any:
         """Return the values for a column of a DataFrame."""
@@ -194,7 +198,9 @@ class Table:
         [{"lc": 1, "cells": 2},
          {"lc": 2, "cells": 1}]
         """
-        objects = (json.dumps(dict(zip(self.columns, row)), ensure_ascii=False) for row in self.rows)
+        objects = (
+            json.dumps(dict(zip(self.columns, row)), ensure_ascii=False) for row in self.rows
+        )
         return "[" + ",\n ".join(objects) + "]\n"
 
     def markdown(self) -> str:
@@ -215,14 +221,23 @@ class Table:
         | 2 | 1 |
         """
         sides = ["---" if column.kind == "label" else "---:" for column in self._all()]
-        lines = [" | ".join(map(_escaped, self.columns)), *(" | ".join(_escaped(_plain(value)) for value in row) for row in self.rows)]
+        lines = [
+            " | ".join(map(_escaped, self.columns)),
+            *(" | ".join(_escaped(_plain(value)) for value in row) for row in self.rows),
+        ]
         head, *rest = (f"| {line} |" for line in lines)
         return "\n".join([head, f"|{'|'.join(sides)}|", *rest]) + "\n"
 
     def __str__(self) -> str:
         shown = [[_plain(value) for value in row] for row in self.rows[:SHOWN_ROWS]]
-        widths = [max(len(name), *(len(row[at]) for row in shown), 0) if shown else len(name) for at, name in enumerate(self.columns)]
-        lines = ["  ".join(text.rjust(width) for text, width in zip(row, widths)) for row in [list(self.columns), *shown]]
+        widths = [
+            max(len(name), *(len(row[at]) for row in shown), 0) if shown else len(name)
+            for at, name in enumerate(self.columns)
+        ]
+        lines = [
+            "  ".join(text.rjust(width) for text, width in zip(row, widths))
+            for row in [list(self.columns), *shown]
+        ]
         return "\n".join(lines + ([f"({len(self):,} rows)"] if len(self) > SHOWN_ROWS else []))
 
     def _repr_html_(self) -> str:
@@ -282,7 +297,13 @@ class StatsTable(Table):
             codes = self.categories[:, place]
             found.append(Column(name, "class", codes))
             if self.labels is not None and name in self.labels:
-                found.append(Column(f"{name}_label", "label", [self.labels[name].get(code) for code in codes.tolist()]))
+                found.append(
+                    Column(
+                        f"{name}_label",
+                        "label",
+                        [self.labels[name].get(code) for code in codes.tolist()],
+                    )
+                )
         found += [] if self.cells is None else [Column("cells", "count", self.cells)]
         found += [] if self.area is None else [Column(f"area_{self.unit}", "measure", self.area)]
         found += [] if self.percent is None else [Column("percent", "measure", self.percent)]
@@ -367,9 +388,19 @@ class StatsTable(Table):
         [7, 8]
         """
         if len(self.maps) != 2:
-            raise Refused(f"pivot= needs a table of two maps, and this one has {len(self.maps)}", "script", self.line)
+            raise Refused(
+                f"pivot= needs a table of two maps, and this one has {len(self.maps)}",
+                "script",
+                self.line,
+            )
         counted = self._counted("pivot=")
-        numbers = self.percent if self.percent is not None else self.area if self.area is not None else counted
+        numbers = (
+            self.percent
+            if self.percent is not None
+            else self.area
+            if self.area is not None
+            else counted
+        )
         (rows, at), (columns, across) = (self._sides(place) for place in (0, 1))
         values = np.zeros((len(rows), len(columns)), numbers.dtype)
         values[at, across] = numbers
@@ -377,16 +408,24 @@ class StatsTable(Table):
 
     def _sides(self, place: int) -> tuple[NDArray[np.int64], NDArray[np.intp]]:
         """Return the categories of a map, null last, and the index of each row among them."""
-        ordered = np.where(self.categories[:, place] == NULL, np.iinfo(np.int64).max, self.categories[:, place])
+        ordered = np.where(
+            self.categories[:, place] == NULL, np.iinfo(np.int64).max, self.categories[:, place]
+        )
         categories, at = np.unique(ordered, return_inverse=True)
         return np.where(categories == np.iinfo(np.int64).max, NULL, categories), at
 
     def _named(self, categories: NDArray[np.int64], place: int) -> list[int | str | None]:
         """Return the labels of categories; a label that occurs twice, or reads as null, is followed by its category."""
         labels = (self.labels or {}).get(self.maps[place], {})
-        names = [None if category == NULL else labels.get(category, category) for category in categories.tolist()]
+        names = [
+            None if category == NULL else labels.get(category, category)
+            for category in categories.tolist()
+        ]
         often = Counter("null" if name is None else str(name) for name in names)
-        return [f"{name} ({category})" if isinstance(name, str) and often[name] > 1 else name for name, category in zip(names, categories.tolist())]
+        return [
+            f"{name} ({category})" if isinstance(name, str) and often[name] > 1 else name
+            for name, category in zip(names, categories.tolist())
+        ]
 
     def pivot_frame(self) -> Any:
         """Return the matrix as a DataFrame, with the names of the maps above its rows and columns.
@@ -402,14 +441,16 @@ class StatsTable(Table):
         >>> a, b = np.array([[1, 1, 2]]), np.array([[7, 8, 8]])
         >>> rcell.run("r.stats -c input=a,b", a=a, b=b).tables[0].pivot_frame()
         b  7  8
-        a      
+        a
         1  1  1
         2  0  1
         """
         import pandas
 
         matrix = self.pivot()
-        first, second = (pandas.Index(_axis(names), name=name) for names, name in zip(matrix[:2], self.maps))
+        first, second = (
+            pandas.Index(_axis(names), name=name) for names, name in zip(matrix[:2], self.maps)
+        )
         return pandas.DataFrame(matrix.values, first, second)
 
 
@@ -442,7 +483,13 @@ def shortest(value: Value) -> str:
     >>> shortest(2.0), shortest(0.1), shortest(None)
     ('2', '0.1', '')
     """
-    return "" if value is None else repr(value).removesuffix(".0") if isinstance(value, float) else str(value)
+    return (
+        ""
+        if value is None
+        else repr(value).removesuffix(".0")
+        if isinstance(value, float)
+        else str(value)
+    )
 
 
 def _plain(value: Value) -> str:

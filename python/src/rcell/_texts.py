@@ -74,7 +74,9 @@ class TextMap:
         from ._program import find_program, program_errors
 
         path = find_program()
-        with program_errors("", [self.name], path), printed_grid(path, self.name, self._pieces()) as grid:
+        with program_errors("", [self.name], path), printed_grid(
+            path, self.name, self._pieces()
+        ) as grid:
             for rows in grid.blocks:
                 yield Block(rows, None)
 
@@ -125,7 +127,9 @@ def open_path(name: str, path: str | os.PathLike[str]) -> Source:
         return TextMap(name, text, region) if is_file else TextMap(name, text, region, head, stream)
     stream.close()
     if not is_file:
-        raise BadMap(name, f"{text} is no file, and its text is no grid: a raster is read from a file")
+        raise BadMap(
+            name, f"{text} is no file, and its text is no grid: a raster is read from a file"
+        )
     return _raster(name, text)
 
 
@@ -163,7 +167,9 @@ def _region_of(name: str, head: bytes) -> Region | None:
     """Return the region of a header, or None if it is invalid, which rcell then reports."""
     fields = _fields(head + b"\n")[0]
     try:
-        north, south, east, west = (_edge_of(fields[key]) for key in ("north", "south", "east", "west"))
+        north, south, east, west = (
+            _edge_of(fields[key]) for key in ("north", "south", "east", "west")
+        )
         rows, cols = int(fields["rows"]), int(fields["cols"])
     except (KeyError, ValueError, OverflowError):
         return None

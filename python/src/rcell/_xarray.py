@@ -15,16 +15,61 @@ from ._crs import wkt_of
 from ._errors import BadMap
 from ._labels import flags_of
 from ._libraries import need
-from ._maps import BLOCK_CELLS, Block, check_array, check_computed, checked, in_region, is_converted, nodata_of, type_of
+from ._maps import (
+    BLOCK_CELLS,
+    Block,
+    check_array,
+    check_computed,
+    checked,
+    in_region,
+    is_converted,
+    nodata_of,
+    type_of,
+)
 from ._masked import MaskedCells, filled, is_masked_array, unmasked
 from ._region import Region, Transform, six_numbers
 
-__all__ = ["Flat", "data_array", "data_array_of", "flat_of", "is_lazy", "layers_of", "source_of_data_array", "variables_of"]
+__all__ = [
+    "Flat",
+    "data_array",
+    "data_array_of",
+    "flat_of",
+    "is_lazy",
+    "layers_of",
+    "source_of_data_array",
+    "variables_of",
+]
 
 # Names, CF's standard names and axes, and its units, which alone make a coordinate a latitude or longitude.
 _AXES = {
-    "Y": {"Y", "y", "lat", "latitude", "rlat", "grid_latitude", "northing", "projection_y_coordinate", "degrees_north", "degree_north", "degrees_N", "degree_N"},
-    "X": {"X", "x", "lon", "longitude", "rlon", "grid_longitude", "easting", "projection_x_coordinate", "degrees_east", "degree_east", "degrees_E", "degree_E"},
+    "Y": {
+        "Y",
+        "y",
+        "lat",
+        "latitude",
+        "rlat",
+        "grid_latitude",
+        "northing",
+        "projection_y_coordinate",
+        "degrees_north",
+        "degree_north",
+        "degrees_N",
+        "degree_N",
+    },
+    "X": {
+        "X",
+        "x",
+        "lon",
+        "longitude",
+        "rlon",
+        "grid_longitude",
+        "easting",
+        "projection_x_coordinate",
+        "degrees_east",
+        "degree_east",
+        "degrees_E",
+        "degree_E",
+    },
 }
 # By how much of a cell coordinates may be off the grid that they are taken for.
 _TOLERANCE = 1e-4
@@ -56,7 +101,9 @@ class DataArrayMap:
     @property
     def is_masked(self) -> bool:
         """Whether its blocks have masks: each block of Dask may have one."""
-        return not is_converted(self.array.dtype) and (is_lazy(self.array) or is_masked_array(self.array.data))
+        return not is_converted(self.array.dtype) and (
+            is_lazy(self.array) or is_masked_array(self.array.data)
+        )
 
     def blocks(self) -> Iterator[Block]:
         """Yield the rows from north to south."""
@@ -99,9 +146,15 @@ def flat_of(name: str, array: Any) -> Flat:
         It can't be a map, or its coordinates are not evenly spaced.
     """
     if not hasattr(array, "ndim"):
-        raise BadMap(name, f"a {type(array).__name__} of several variables: give it alone, or one of them, as dataset[{next(iter(array), 'name')!r}]")
+        raise BadMap(
+            name,
+            f"a {type(array).__name__} of several variables: give it alone, or one of them, as dataset[{next(iter(array), 'name')!r}]",
+        )
     if any(size != size for size in array.shape):
-        raise BadMap(name, "Dask does not know the sizes of its chunks: call .data.compute_chunk_sizes() first")
+        raise BadMap(
+            name,
+            "Dask does not know the sizes of its chunks: call .data.compute_chunk_sizes() first",
+        )
     _check_scale(name, array)
     flat = _flat(name, array)
     check_array(name, flat)
@@ -133,15 +186,25 @@ def variables_of(dataset: Any) -> dict[str, Any]:
     if not hasattr(dataset, "data_vars"):
         raise BadMap("maps", "a DataArray that is no map of a name: give it one, as lc=array")
     described = {name: dataset[name] for name in dataset.data_vars}
-    places = {of.get("grid_mapping") for array in described.values() for of in (array.attrs, array.encoding)}
-    return {str(name): array.assign_coords({at: dataset[at] for at in places & set(described)})
-            for name, array in described.items() if name not in places and array.ndim > 1}
+    places = {
+        of.get("grid_mapping")
+        for array in described.values()
+        for of in (array.attrs, array.encoding)
+    }
+    return {
+        str(name): array.assign_coords({at: dataset[at] for at in places & set(described)})
+        for name, array in described.items()
+        if name not in places and array.ndim > 1
+    }
 
 
 def layers_of(array: Any) -> list[Any]:
     """Return the maps that a DataArray of three dimensions has along the one that is neither rows nor columns."""
     if getattr(array, "ndim", 0) != 3:
-        raise BadMap("raster", f"bands are of a DataArray of three dimensions, not of {getattr(array, 'ndim', 'several variables')}")
+        raise BadMap(
+            "raster",
+            f"bands are of a DataArray of three dimensions, not of {getattr(array, 'ndim', 'several variables')}",
+        )
     axes = [_axis_of(array, dim) for dim in array.dims]
     across = array.dims[axes.index(None) if {"X", "Y"} <= set(axes) else 0]
     return [array.isel({across: at}) for at in range(array.sizes[across])]
@@ -157,12 +220,17 @@ def _flat(name: str, array: Any) -> Any:
     axes = {dim: _axis_of(array, dim) for dim in array.dims}
     named = [next((dim for dim, axis in axes.items() if axis == wanted), None) for wanted in "YX"]
     if len(set(axes.values()) - {None}) < len([axis for axis in axes.values() if axis]):
-        raise BadMap(name, f"a DataArray with two dimensions of one axis: {', '.join(map(str, array.dims))}")
+        raise BadMap(
+            name, f"a DataArray with two dimensions of one axis: {', '.join(map(str, array.dims))}"
+        )
     kept = named if None not in named else _by_place(array, named)
     others = [dim for dim in array.dims if dim not in kept]
     if len(kept) != 2 or any(array.sizes[dim] != 1 for dim in others):
         sizes = ", ".join(f"{dim} {array.sizes[dim]}" for dim in array.dims)
-        raise BadMap(name, f"a DataArray of {array.ndim} dimensions ({sizes}), and a map has two: select one, as .isel(band=0)")
+        raise BadMap(
+            name,
+            f"a DataArray of {array.ndim} dimensions ({sizes}), and a map has two: select one, as .isel(band=0)",
+        )
     return array.isel({dim: 0 for dim in others}).transpose(*kept)
 
 
@@ -184,7 +252,10 @@ def _check_scale(name: str, array: Any) -> None:
     """Raise BadMap if the values of an array are scaled; decoded arrays have these attributes in their encoding."""
     scale, offset = array.attrs.get("scale_factor", 1), array.attrs.get("add_offset", 0)
     if (scale, offset) != (1, 0):
-        raise BadMap(name, f"its values are scaled: each cell times {scale}, plus {offset}; write them out as whole numbers first")
+        raise BadMap(
+            name,
+            f"its values are scaled: each cell times {scale}, plus {offset}; write them out as whole numbers first",
+        )
 
 
 def _transform_of(name: str, array: Any) -> Transform | None:
@@ -224,7 +295,10 @@ def _spacing(name: str, coordinate: Any, told: tuple[float, float] | None) -> tu
         if np.abs(edge + step * (np.arange(count) + 0.5) - centres).max() <= abs(step) * _TOLERANCE:
             return edge, step
     if count == 1:
-        raise BadMap(name, f"one cell along {coordinate.name}: its size is unknown; give rcell.Map(array.values, region)")
+        raise BadMap(
+            name,
+            f"one cell along {coordinate.name}: its size is unknown; give rcell.Map(array.values, region)",
+        )
     step = (centres[-1] - centres[0]) / (count - 1)
     off = np.abs(centres[0] + step * np.arange(count) - centres)
     if step == 0 or off.max() > abs(step) * _TOLERANCE:
@@ -236,34 +310,67 @@ def _crs_of(array: Any) -> Any:
     named = array.encoding.get("grid_mapping") or array.attrs.get("grid_mapping")
     reference = array.coords.get(named, array.coords.get("spatial_ref"))
     attributes = {} if reference is None else reference.attrs
-    return attributes.get("crs_wkt") or attributes.get("spatial_ref") or array.attrs.get("crs") or None
+    return (
+        attributes.get("crs_wkt") or attributes.get("spatial_ref") or array.attrs.get("crs") or None
+    )
 
 
 def _nodata_of(name: str, array: Any) -> float | None:
     """Return the number that is null; NaN is in any case, and the only one where xarray has scaled the cells."""
-    stored = array.encoding if (array.encoding.get("scale_factor", 1), array.encoding.get("add_offset", 0)) == (1, 0) else {}
-    told = [np.asarray(of[key]).reshape(-1) for of in (array.attrs, stored)
-            for key in ("_FillValue", "missing_value", "nodata") if of.get(key) is not None]
+    stored = (
+        array.encoding
+        if (array.encoding.get("scale_factor", 1), array.encoding.get("add_offset", 0)) == (1, 0)
+        else {}
+    )
+    told = [
+        np.asarray(of[key]).reshape(-1)
+        for of in (array.attrs, stored)
+        for key in ("_FillValue", "missing_value", "nodata")
+        if of.get(key) is not None
+    ]
     values = [value.item() for values in told for value in values]
     if not all(isinstance(value, numbers.Real) for value in values):
         raise BadMap(name, f"a nodata value that is no number: {', '.join(map(repr, values))}")
     found = {value for value in values if value == value}
     if len(found) > 1:
-        raise BadMap(name, f"several nodata values: {', '.join(map(str, sorted(found)))}; keep one of _FillValue, missing_value and nodata")
+        raise BadMap(
+            name,
+            f"several nodata values: {', '.join(map(str, sorted(found)))}; keep one of _FillValue, missing_value and nodata",
+        )
     return next(iter(found), None)
 
 
 def _flags_of(array: Any) -> dict[int, str]:
     values = array.attrs.get("flag_values")
-    return flags_of(None if values is None else np.asarray(values).reshape(-1).tolist(), array.attrs.get("flag_meanings"))
+    return flags_of(
+        None if values is None else np.asarray(values).reshape(-1).tolist(),
+        array.attrs.get("flag_meanings"),
+    )
 
 
-def data_array_of(array: MaskedCells, region: Region, transform: Transform, crs: Any, labels: Mapping[int, str], name: str) -> Any:
+def data_array_of(
+    array: MaskedCells,
+    region: Region,
+    transform: Transform,
+    crs: Any,
+    labels: Mapping[int, str],
+    name: str,
+) -> Any:
     """Return a map in memory as a DataArray of int32."""
-    return data_array(filled(array, NULL).astype(np.int32, copy=False), transform, crs, labels, name)
+    return data_array(
+        filled(array, NULL).astype(np.int32, copy=False), transform, crs, labels, name
+    )
 
 
-def data_array(cells: Any, transform: Transform, crs: Any, labels: Mapping[int, str], name: str, null: int = NULL, like: Any = None) -> Any:
+def data_array(
+    cells: Any,
+    transform: Transform,
+    crs: Any,
+    labels: Mapping[int, str],
+    name: str,
+    null: int = NULL,
+    like: Any = None,
+) -> Any:
     """Return cells of numpy or Dask as a DataArray, with what xarray, rioxarray and CF know of rasters.
 
     Parameters
@@ -282,16 +389,24 @@ def data_array(cells: Any, transform: Transform, crs: Any, labels: Mapping[int, 
     attributes: dict[str, Any] = {"_FillValue": cells.dtype.type(null)}
     if labels:
         attributes["flag_values"] = np.array(sorted(labels), np.int32)
-        attributes["flag_meanings"] = " ".join("_".join(labels[category].split()) for category in sorted(labels))
+        attributes["flag_meanings"] = " ".join(
+            "_".join(labels[category].split()) for category in sorted(labels)
+        )
     a, _, c, _, e, f = transform
     reference = {"GeoTransform": " ".join(repr(number) for number in (c, a, 0.0, f, 0.0, e))}
     wkt = wkt_of(crs)
     if wkt:
         reference |= {"crs_wkt": wkt, "spatial_ref": wkt}
     if like is None:
-        centres = f + e * (np.arange(cells.shape[0]) + 0.5), c + a * (np.arange(cells.shape[1]) + 0.5)
+        centres = f + e * (np.arange(cells.shape[0]) + 0.5), c + a * (
+            np.arange(cells.shape[1]) + 0.5
+        )
         places, coordinates = ("y", "x"), dict(zip(("y", "x"), centres))
     else:
-        places, coordinates = like.dims, {dim: like.coords[dim] for dim in like.dims if dim in like.coords}
+        places, coordinates = like.dims, {
+            dim: like.coords[dim] for dim in like.dims if dim in like.coords
+        }
     coordinates["spatial_ref"] = xarray.Variable((), 0, reference)
-    return xarray.DataArray(cells, coordinates, places, name, attributes | {"grid_mapping": "spatial_ref"})
+    return xarray.DataArray(
+        cells, coordinates, places, name, attributes | {"grid_mapping": "spatial_ref"}
+    )

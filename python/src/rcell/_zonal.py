@@ -70,7 +70,11 @@ def zonal(
     entries = maps.tables("r.stats -c -n input=zones,values")[0]
     first = places_of(entries[:, 0])
     columns = maps.columns("zone", entries[first, 0], "zones", zone_labels)
-    return Table(columns + _moments(entries[:, 1], entries[:, 2], first) + _quantiles(entries[:, 1], entries[:, 2], first, asked))
+    return Table(
+        columns
+        + _moments(entries[:, 1], entries[:, 2], first)
+        + _quantiles(entries[:, 1], entries[:, 2], first, asked)
+    )
 
 
 def _title(quantile: Any) -> str:
@@ -100,13 +104,25 @@ def _moments(values: Integers, cells: Integers, first: NDArray[np.intp]) -> list
         squares = np.add.reduceat(exact * exact * cells, first)
     whole = list(zip(count.tolist(), sums.tolist(), squares.tolist()))
     mean = np.array([total / n for n, total, _ in whole], np.float64)
-    variance = np.array([(n * squared - total * total) / (n * n) for n, total, squared in whole], np.float64)
-    kept: list[tuple[str, Any, Any]] = [("cells", "count", count), ("sum", "count", sums), ("mean", "measure", mean)]
-    kept += [("minimum", "count", least), ("maximum", "count", most), ("variance", "measure", variance)]
+    variance = np.array(
+        [(n * squared - total * total) / (n * n) for n, total, squared in whole], np.float64
+    )
+    kept: list[tuple[str, Any, Any]] = [
+        ("cells", "count", count),
+        ("sum", "count", sums),
+        ("mean", "measure", mean),
+    ]
+    kept += [
+        ("minimum", "count", least),
+        ("maximum", "count", most),
+        ("variance", "measure", variance),
+    ]
     return [Column(*column) for column in kept]
 
 
-def _quantiles(values: Integers, cells: Integers, first: NDArray[np.intp], asked: list[tuple[str, float]]) -> list[Column]:
+def _quantiles(
+    values: Integers, cells: Integers, first: NDArray[np.intp], asked: list[tuple[str, float]]
+) -> list[Column]:
     """Return quantiles, interpolated between neighbouring cells of a zone like numpy's method `linear`."""
     if not first.size:
         return [Column(title, "measure", np.empty(0)) for title, _ in asked]
@@ -118,7 +134,14 @@ def _quantiles(values: Integers, cells: Integers, first: NDArray[np.intp], asked
         place = (count - 1) * quantile
         lower = np.floor(place).astype(np.int64)
         part = place - lower
-        low, high = (values[np.searchsorted(until, before + at, "right")] for at in (lower, np.minimum(lower + 1, count - 1)))
+        low, high = (
+            values[np.searchsorted(until, before + at, "right")]
+            for at in (lower, np.minimum(lower + 1, count - 1))
+        )
         step = (high - low).astype(np.float64)
-        columns.append(Column(title, "measure", np.where(part < 0.5, low + step * part, high - step * (1 - part))))
+        columns.append(
+            Column(
+                title, "measure", np.where(part < 0.5, low + step * part, high - step * (1 - part))
+            )
+        )
     return columns

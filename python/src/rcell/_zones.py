@@ -34,20 +34,34 @@ class _Polygons:
         names = list(features[0]["properties"]) if features else []
         if field is not None and field not in names:
             raise Refused(f"no field {field}: there are {', '.join(names) or 'none'}", "zones")
-        kept = [(number, feature) for number, feature in enumerate(features, 1) if feature["geometry"] is not None]
-        kept = [(number, feature) for number, feature in kept if field is None or feature["properties"][field] is not None]
+        kept = [
+            (number, feature)
+            for number, feature in enumerate(features, 1)
+            if feature["geometry"] is not None
+        ]
+        kept = [
+            (number, feature)
+            for number, feature in kept
+            if field is None or feature["properties"][field] is not None
+        ]
         for number, feature in kept:
             if feature["geometry"]["type"] not in ("Polygon", "MultiPolygon"):
-                raise Refused(f"not polygons: feature {number} is a {feature['geometry']['type']}", "zones")
+                raise Refused(
+                    f"not polygons: feature {number} is a {feature['geometry']['type']}", "zones"
+                )
         self.shapes = [feature["geometry"] for _, feature in kept]
-        self.values = [number if field is None else feature["properties"][field] for number, feature in kept]
+        self.values = [
+            number if field is None else feature["properties"][field] for number, feature in kept
+        ]
 
     def ids(self) -> tuple[list[int], dict[int, str]]:
         """Return the zone of each polygon, and the labels of the zones."""
         if all(_is_whole(value) for value in self.values):
             return [int(value) for value in self.values], {}
         numbers: dict[str, int] = {}
-        return [numbers.setdefault(str(value), len(numbers) + 1) for value in self.values], {number: text for text, number in numbers.items()}
+        return [numbers.setdefault(str(value), len(numbers) + 1) for value in self.values], {
+            number: text for text, number in numbers.items()
+        }
 
 
 def _is_whole(value: Any) -> bool:
@@ -91,15 +105,23 @@ def zones_of(given: Any, field: str | None, like: Source, crs: Any = None) -> An
     burnt = _burnt(polygons.shapes, like)
     _tell_of_lost(burnt, [labels.get(number, str(number)) for number in ids])
     of_polygon = np.array([0, *ids], np.int32)
-    return ArrayMap("zones", of_polygon[burnt], like.region, burnt == 0, None, labels, like.crs, like.transform)
+    return ArrayMap(
+        "zones", of_polygon[burnt], like.region, burnt == 0, None, labels, like.crs, like.transform
+    )
 
 
 def _burnt(shapes: list[Any], like: Source) -> NDArray[np.int32]:
     """Return for each cell the number, from 1, of the last polygon that contains its centre; 0 for none."""
     features = need("rasterio.features", "gis", _PURPOSE)
     add = need("rasterio.enums", "gis", _PURPOSE).MergeAlg.add
-    words = {"out_shape": like.region.shape, "transform": need("affine", "gis", _PURPOSE).Affine(*like.transform), "dtype": "int32"}
-    burnt: NDArray[np.int32] = features.rasterize(((shape, number) for number, shape in enumerate(shapes, 1)), fill=0, **words)
+    words = {
+        "out_shape": like.region.shape,
+        "transform": need("affine", "gis", _PURPOSE).Affine(*like.transform),
+        "dtype": "int32",
+    }
+    burnt: NDArray[np.int32] = features.rasterize(
+        ((shape, number) for number, shape in enumerate(shapes, 1)), fill=0, **words
+    )
     often = features.rasterize(((shape, 1) for shape in shapes), fill=0, merge_alg=add, **words) > 1
     if often.any():
         row, col = (int(place) + 1 for place in np.unravel_index(int(often.argmax()), often.shape))
@@ -116,7 +138,10 @@ def _tell_of_lost(burnt: NDArray[np.int32], names: list[str]) -> None:
         raise BadMap("zones", "no polygon contains the centre of a cell")
     if lost:
         told = ", ".join(lost[:_SHOWN]) + (", .." if len(lost) > _SHOWN else "")
-        warnings.warn(f"zones: {len(lost)} of {len(names)} polygons contain no centre of a cell: {told}", stacklevel=6)
+        warnings.warn(
+            f"zones: {len(lost)} of {len(names)} polygons contain no centre of a cell: {told}",
+            stacklevel=6,
+        )
 
 
 def _polygons(given: Any, field: str | None) -> _Polygons | None:
@@ -139,7 +164,10 @@ def _read(path: str, layer: str | None, field: str | None) -> _Polygons:
     try:
         layers = fiona.listlayers(path)
         if layer is None and len(layers) > 1:
-            raise Refused(f"has the layers {', '.join(layers)}: choose one, as {path}{_LAYER}{layers[0]}", "zones")
+            raise Refused(
+                f"has the layers {', '.join(layers)}: choose one, as {path}{_LAYER}{layers[0]}",
+                "zones",
+            )
         if layer is not None and layer not in layers:
             raise Refused(f"no layer {layer}: there are {', '.join(layers)}", "zones")
         with fiona.open(path, layer=layers[0] if layer is None else layer) as opened:

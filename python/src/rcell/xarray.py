@@ -49,10 +49,22 @@ class Accessor:
         if hasattr(given, "data_vars"):
             self._maps = variables_of(given)
         else:
-            self._maps = {given.name if _NAME.fullmatch(str(given.name)) and given.name is not None else "map": given}
+            self._maps = {
+                given.name
+                if _NAME.fullmatch(str(given.name)) and given.name is not None
+                else "map": given
+            }
         self._is_lazy = any(map(is_lazy, self._maps.values()))
 
-    def table(self, script: str, area: str | None = None, percent: bool = False, *, crs: Any = None, **more: Any) -> Any:
+    def table(
+        self,
+        script: str,
+        area: str | None = None,
+        percent: bool = False,
+        *,
+        crs: Any = None,
+        **more: Any,
+    ) -> Any:
         """Return the table of a script with one r.stats; see `rcell.table`.
 
         Parameters
@@ -156,7 +168,10 @@ class Accessor:
     def _only(self) -> str:
         names = list(self._maps)
         if len(names) != 1:
-            raise BadMap("dataset", f"{len(names)} maps ({', '.join(names)}), but one is needed: select it, as dataset[{names[0] if names else 'name'!r}]")
+            raise BadMap(
+                "dataset",
+                f"{len(names)} maps ({', '.join(names)}), but one is needed: select it, as dataset[{names[0] if names else 'name'!r}]",
+            )
         return names[0]
 
     def _mosaic(self, crs: Any = None, more: Any = None) -> Mosaic:

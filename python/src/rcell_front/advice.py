@@ -6,7 +6,9 @@ import re
 
 ROOM = 100  # characters of a line that are shown
 LONGEST_SHOWN = 300  # bytes of a line that an error repeats whole
-NO_BYTES = re.compile("[\ud800-\udc7f\udd00-\udfff]")  # lone surrogates that are not escapes of bytes
+NO_BYTES = re.compile(
+    "[\ud800-\udc7f\udd00-\udfff]"
+)  # lone surrogates that are not escapes of bytes
 FILLED = re.compile(r"\{([a-z_]+)\}")
 INDENT = "    "
 MOST_NAMES = 400  # map names that are compared to find the nearest
@@ -18,7 +20,14 @@ class Fault:
     """An error in a line of a script: its place in bytes, rcell's message, the cause, the part of the table, and the words to fill in."""
 
     def __init__(self, start, end, text, cause, part, values):
-        self.start, self.end, self.text, self.cause, self.part, self.values = start, end, text, cause, part, values
+        self.start, self.end, self.text, self.cause, self.part, self.values = (
+            start,
+            end,
+            text,
+            cause,
+            part,
+            values,
+        )
 
     def __repr__(self):
         return "Fault(%d, %d, %r, %r)" % (self.start, self.end, self.text, self.cause)
@@ -84,7 +93,9 @@ class Messages:
 def near_name(name, known, cutoff=0.6):
     """Return a list of the known name most similar to this one, or an empty list; of very many names, only some are compared."""
     names = list(known)
-    names = names if len(names) <= MOST_NAMES else names[: MOST_NAMES // 2] + names[-MOST_NAMES // 2 :]
+    names = (
+        names if len(names) <= MOST_NAMES else names[: MOST_NAMES // 2] + names[-MOST_NAMES // 2 :]
+    )
     import difflib  # only errors need it
 
     return difflib.get_close_matches(name[:LONGEST_NAME], names, n=1, cutoff=cutoff)
@@ -95,7 +106,9 @@ def nearest(name, known):
     near = near_name(name, known, 0.5)
     names = [shown(it) for it in list(known)[:MOST_NAMES] if it not in near]
     if near:
-        return "did you mean `%s`?" % shown(near[0]) + (" Also defined here: %s" % ", ".join(names[:12]) if names else "")
+        return "did you mean `%s`?" % shown(near[0]) + (
+            " Also defined here: %s" % ", ".join(names[:12]) if names else ""
+        )
     return "defined here: %s" % (", ".join(names[:12]) if names else "no maps")
 
 
@@ -111,7 +124,10 @@ def new_name(name, known):
 
 
 def printable(text):
-    return "".join(c if c.isprintable() else "\\x%02x" % ord(c) if ord(c) < 256 else "\\u%04x" % ord(c) for c in text)
+    return "".join(
+        c if c.isprintable() else "\\x%02x" % ord(c) if ord(c) < 256 else "\\u%04x" % ord(c)
+        for c in text
+    )
 
 
 def shown(text):
@@ -150,7 +166,10 @@ def lines_of_error(content: str, column: "int | None") -> "list[str]":
         text, mark = marked(raw, [(start, start)])
     else:
         before = raw[:start].decode("utf-8", "replace")
-        text, mark = raw.decode("utf-8", "surrogateescape"), "".join("\t" if letter == "\t" else " " for letter in before) + "^"
+        text, mark = (
+            raw.decode("utf-8", "surrogateescape"),
+            "".join("\t" if letter == "\t" else " " for letter in before) + "^",
+        )
     return [text] if column is None else [text, mark]
 
 

@@ -14,7 +14,18 @@ import stat
 import sys
 from types import TracebackType
 
-__all__ = ["SIDECARS", "Output", "end_on_signals", "is_same_file", "open_standard_streams", "private_folder", "read_all", "read_some", "remove_folder", "write_all"]
+__all__ = [
+    "SIDECARS",
+    "Output",
+    "end_on_signals",
+    "is_same_file",
+    "open_standard_streams",
+    "private_folder",
+    "read_all",
+    "read_some",
+    "remove_folder",
+    "write_all",
+]
 
 SIDECARS = (".aux.xml", ".msk", ".ovr")
 """The endings of GDAL's files next to a raster: a new raster must not get an old mask or old labels."""
@@ -195,7 +206,9 @@ class Output:
             raise OSError(error.errno, error.strerror, self._given) from None
         self._is_kept = True
 
-    def __exit__(self, kind: type[BaseException] | None, _: BaseException | None, __: TracebackType | None) -> None:
+    def __exit__(
+        self, kind: type[BaseException] | None, _: BaseException | None, __: TracebackType | None
+    ) -> None:
         try:
             if kind is None:
                 self.keep()

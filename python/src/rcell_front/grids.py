@@ -19,7 +19,22 @@ FORGOTTEN = (b"-9999", b"-32768", b"2147483647")
 SOUGHT = {b"-9999": b"-9999", b"-32768": b"-3276", b"2147483647": b"48364"}
 WORD = re.compile(rb"[^ \t\r\n]+")
 WHOLE = re.compile(rb"[+-]?[0-9]+")
-NULL_WORDS = (b"nan", b"na", b"n/a", b"null", b"nodata", b"none", b"no", b"nil", b"-", b"--", b"?", b".", b"nd", b"***")
+NULL_WORDS = (
+    b"nan",
+    b"na",
+    b"n/a",
+    b"null",
+    b"nodata",
+    b"none",
+    b"no",
+    b"nil",
+    b"-",
+    b"--",
+    b"?",
+    b".",
+    b"nd",
+    b"***",
+)
 
 
 class Kind:
@@ -30,19 +45,41 @@ class Kind:
 
 
 MAGIC = (
-    (b"II*\0", Kind("a TIFF", "raster")), (b"MM\0*", Kind("a TIFF", "raster")), (b"II+\0", Kind("a TIFF", "raster")),
-    (b"MM\0+", Kind("a TIFF", "raster")), (b"\x89PNG", Kind("a PNG", "raster")), (b"\x89HDF", Kind("an HDF5", "raster")),
-    (b"\x0e\x03\x13\x01", Kind("an HDF4", "raster")), (b"CDF\x01", Kind("a NetCDF", "raster")), (b"CDF\x02", Kind("a NetCDF", "raster")),
-    (b"CDF\x05", Kind("a NetCDF", "raster")), (b"\xff\xd8\xff", Kind("a JPEG", "raster")), (b"GRIB", Kind("a GRIB", "raster")),
-    (b"SQLite format 3", Kind("a GeoPackage or another SQLite file", "raster")), (b"EHFA_HEADER", Kind("an ERDAS IMG", "raster")),
-    (b"DSBB", Kind("a Surfer grid", "raster")), (b"DSRB", Kind("a Surfer grid", "raster")), (b"GIF8", Kind("a GIF", "raster")),
-    (b"\0\0\0\x0cjP  ", Kind("a JPEG 2000", "raster")), (b"PK\x03\x04", Kind("a zip archive", "archive")),
-    (b"\x1f\x8b", Kind("compressed by gzip", "gzip")), (b"BZh", Kind("compressed by bzip2", "archive")),
-    (b"\xfd7zXZ", Kind("compressed by xz", "archive")), (b"\x28\xb5\x2f\xfd", Kind("compressed by zstd", "archive")),
-    (b"7z\xbc\xaf", Kind("a 7z archive", "archive")), (b"Rar!", Kind("a rar archive", "archive")), (b"%PDF", Kind("a PDF", "no text")),
+    (b"II*\0", Kind("a TIFF", "raster")),
+    (b"MM\0*", Kind("a TIFF", "raster")),
+    (b"II+\0", Kind("a TIFF", "raster")),
+    (b"MM\0+", Kind("a TIFF", "raster")),
+    (b"\x89PNG", Kind("a PNG", "raster")),
+    (b"\x89HDF", Kind("an HDF5", "raster")),
+    (b"\x0e\x03\x13\x01", Kind("an HDF4", "raster")),
+    (b"CDF\x01", Kind("a NetCDF", "raster")),
+    (b"CDF\x02", Kind("a NetCDF", "raster")),
+    (b"CDF\x05", Kind("a NetCDF", "raster")),
+    (b"\xff\xd8\xff", Kind("a JPEG", "raster")),
+    (b"GRIB", Kind("a GRIB", "raster")),
+    (b"SQLite format 3", Kind("a GeoPackage or another SQLite file", "raster")),
+    (b"EHFA_HEADER", Kind("an ERDAS IMG", "raster")),
+    (b"DSBB", Kind("a Surfer grid", "raster")),
+    (b"DSRB", Kind("a Surfer grid", "raster")),
+    (b"GIF8", Kind("a GIF", "raster")),
+    (b"\0\0\0\x0cjP  ", Kind("a JPEG 2000", "raster")),
+    (b"PK\x03\x04", Kind("a zip archive", "archive")),
+    (b"\x1f\x8b", Kind("compressed by gzip", "gzip")),
+    (b"BZh", Kind("compressed by bzip2", "archive")),
+    (b"\xfd7zXZ", Kind("compressed by xz", "archive")),
+    (b"\x28\xb5\x2f\xfd", Kind("compressed by zstd", "archive")),
+    (b"7z\xbc\xaf", Kind("a 7z archive", "archive")),
+    (b"Rar!", Kind("a rar archive", "archive")),
+    (b"%PDF", Kind("a PDF", "no text")),
 )
-UNPACK = {"a zip archive": "unzip %s", "compressed by bzip2": "bunzip2 -k %s", "compressed by xz": "unxz -k %s",
-          "compressed by zstd": "unzstd %s", "a 7z archive": "7z x %s", "a rar archive": "unrar x %s"}
+UNPACK = {
+    "a zip archive": "unzip %s",
+    "compressed by bzip2": "bunzip2 -k %s",
+    "compressed by xz": "unxz -k %s",
+    "compressed by zstd": "unzstd %s",
+    "a 7z archive": "7z x %s",
+    "a rar archive": "unrar x %s",
+}
 
 
 def kind_of(start):
@@ -88,12 +125,18 @@ def table_kind(line, words):
     for separator, name in ((b",", "commas"), (b";", "semicolons")):
         if separator in line:
             return Kind("a table with %s" % name, "csv", False)
-    numbers = [re.fullmatch(rb"[+-]?[0-9]*\.?[0-9]+([eE][+-]?[0-9]+)?", word) is not None for word in words]
+    numbers = [
+        re.fullmatch(rb"[+-]?[0-9]*\.?[0-9]+([eE][+-]?[0-9]+)?", word) is not None for word in words
+    ]
     if len(words) == 3 and all(numbers) and b"." in line:
         return Kind("points", "points", False)
     if [word.lower() for word in words[:3]] == [b"x", b"y", b"z"]:
         return Kind("points", "points", False)
-    return Kind("cells without a header", "no header", False) if all(n or w == b"*" for n, w in zip(numbers, words)) else None
+    return (
+        Kind("cells without a header", "no header", False)
+        if all(n or w == b"*" for n, w in zip(numbers, words))
+        else None
+    )
 
 
 def header_of(start):
@@ -131,16 +174,31 @@ class GridFile:
 
 def cause_of(grid, line, text):
     """Return the cause of an error, values for its advice, and spans of the line to mark; None if the cause is not known."""
-    judges = {"missing key": missing_key, "bad header line": bad_header_line, "key given twice": key_twice, "bad number": bad_number,
-              "type not supported": bad_type, "bad region": bad_region, "bad cell": bad_cell, "cell out of range": out_of_range,
-              "token too long": long_token, "too many blanks": lambda *_: ("blanks", {}, []),
-              "name used twice": lambda *_: ("name twice", {"name": grid.name}, [])}
+    judges = {
+        "missing key": missing_key,
+        "bad header line": bad_header_line,
+        "key given twice": key_twice,
+        "bad number": bad_number,
+        "type not supported": bad_type,
+        "bad region": bad_region,
+        "bad cell": bad_cell,
+        "cell out of range": out_of_range,
+        "token too long": long_token,
+        "too many blanks": lambda *_: ("blanks", {}, []),
+        "name used twice": lambda *_: ("name twice", {"name": grid.name}, []),
+    }
     judge = judges.get(text)
     found = judge(grid, line, grid.lines(line) if line else b"") if judge else None
     if found is None:
         return None
     cause, values, spans = found
-    values = {"path": quoted(grid.path), "fixed": quoted(grid.new_path()), "line": line, "name": grid.name, **values}
+    values = {
+        "path": quoted(grid.path),
+        "fixed": quoted(grid.new_path()),
+        "line": line,
+        "name": grid.name,
+        **values,
+    }
     return cause, values, spans
 
 
@@ -196,7 +254,9 @@ def key_twice(grid, line, text):
 
 def degrees(value):
     """Return a value such as 48:30:15N in decimal degrees, or None."""
-    found = re.fullmatch(r"([0-9]{1,3}):([0-9]{1,2})(?::([0-9]{1,2}(?:\.[0-9]*)?))?([NSEW]?)", value, re.IGNORECASE)
+    found = re.fullmatch(
+        r"([0-9]{1,3}):([0-9]{1,2})(?::([0-9]{1,2}(?:\.[0-9]*)?))?([NSEW]?)", value, re.IGNORECASE
+    )
     if not found:
         found = re.fullmatch(r"([0-9]{1,3}(?:\.[0-9]+)?)()()([NSEW])", value, re.IGNORECASE)
     if not found:
@@ -224,7 +284,9 @@ def bad_number(grid, line, text):
         return found("not whole", whole[1] if whole else "a whole number")
     if degrees(value):
         return found("degrees", degrees(value))
-    if re.fullmatch(r"[+-]?[0-9]{1,3}(,[0-9]{3})+(\.[0-9]*)?", value) and (value.count(",") > 1 or "." in value):
+    if re.fullmatch(r"[+-]?[0-9]{1,3}(,[0-9]{3})+(\.[0-9]*)?", value) and (
+        value.count(",") > 1 or "." in value
+    ):
         return found("separators", value.replace(",", ""))
     if re.fullmatch(r"[+-]?[0-9]+,[0-9]*", value):
         return found("decimal comma", value.replace(",", "."))
@@ -232,7 +294,11 @@ def bad_number(grid, line, text):
         return found("exponent", plain(value))
     if re.fullmatch(r"[+-]?[0-9]{0,10}\.[0-9]{9,}", value) and plain(value) is not None:
         return found("decimals", plain(value))
-    return found("digits") if re.fullmatch(r"[+-]?[0-9]{11,}(\.[0-9]*)?", value) else found("no number")
+    return (
+        found("digits")
+        if re.fullmatch(r"[+-]?[0-9]{11,}(\.[0-9]*)?", value)
+        else found("no number")
+    )
 
 
 def plain(value):
@@ -264,15 +330,39 @@ def bad_region(grid, line, _):
     for high, low in (("north", "south"), ("east", "west")):
         if values[high] is not None and values[low] is not None and values[high] <= values[low]:
             high_value, low_value = grid.values[high], grid.values[low]
-            fixed = "%s: %s, %s: %s" % (high, low_value, low, high_value) if values[high] < values[low] else "mend one of the two"
-            return "sides swapped", {"high": high, "low": low, "high_value": shown(high_value), "low_value": shown(low_value),
-                                       "fixed": fixed}, []
-    return "too large", {"rows": shown(grid.values.get("rows", "?")), "cols": shown(grid.values.get("cols", "?"))}, []
+            fixed = (
+                "%s: %s, %s: %s" % (high, low_value, low, high_value)
+                if values[high] < values[low]
+                else "mend one of the two"
+            )
+            return (
+                "sides swapped",
+                {
+                    "high": high,
+                    "low": low,
+                    "high_value": shown(high_value),
+                    "low_value": shown(low_value),
+                    "fixed": fixed,
+                },
+                [],
+            )
+    return (
+        "too large",
+        {"rows": shown(grid.values.get("rows", "?")), "cols": shown(grid.values.get("cols", "?"))},
+        [],
+    )
 
 
 def first_word(grid, text, is_bad):
     """Return the start, end and bytes of the first bad word of a line, or None."""
-    return next(((found.start(), found.end(), found.group()) for found in WORD.finditer(text or b"") if is_bad(found.group())), None)
+    return next(
+        (
+            (found.start(), found.end(), found.group())
+            for found in WORD.finditer(text or b"")
+            if is_bad(found.group())
+        ),
+        None,
+    )
 
 
 def bad_cell(grid, line, text):
@@ -304,7 +394,15 @@ def out_of_range(grid, line, text):
     null = grid.null()
 
     def is_bad(word):
-        return word != null and WHOLE.fullmatch(word) and (len(word) > 40 or abs(int(word) * multiplier) > GREATEST or abs(int(word)) > GREATEST)
+        return (
+            word != null
+            and WHOLE.fullmatch(word)
+            and (
+                len(word) > 40
+                or abs(int(word) * multiplier) > GREATEST
+                or abs(int(word)) > GREATEST
+            )
+        )
 
     found = first_word(grid, text, is_bad)
     if found is None:

@@ -26,8 +26,12 @@ __all__ = ["PrintedGrid", "numbers_of", "printed_grid"]
 
 # The bytes of lines of numbers: each kind has a bit, and in the upper half the bits of the kinds that never follow it.
 _KINDS = {b"0123456789": 0x61, b"-": 0xE2, b"*": 0x74, b" \n": 0x88}
-_CODES = bytes(next((code for kind, code in _KINDS.items() if byte in kind), 0xFF) for byte in range(256))
-_HEADER = re.compile(rb"north: (.*)\nsouth: (.*)\neast: (.*)\nwest: (.*)\nrows: (\d+)\ncols: (\d+)\n")
+_CODES = bytes(
+    next((code for kind, code in _KINDS.items() if byte in kind), 0xFF) for byte in range(256)
+)
+_HEADER = re.compile(
+    rb"north: (.*)\nsouth: (.*)\neast: (.*)\nwest: (.*)\nrows: (\d+)\ncols: (\d+)\n"
+)
 _HEADER_BYTES = 1 << 8
 _MESSAGE = re.compile(r"rcell: [^:]*:(\d+): (.*)")
 
@@ -47,9 +51,16 @@ def numbers_of(text: bytes, width: int) -> NDArray[np.int64]:
     """
     codes = np.frombuffer((b"\n" + text).translate(_CODES), np.uint8)
     line = b" " * (width - 1) + b"\n"
-    if text.translate(None, b"0123456789-*") != line * text.count(b"\n") or (codes[:-1] >> 4 & codes[1:]).any():
+    if (
+        text.translate(None, b"0123456789-*") != line * text.count(b"\n")
+        or (codes[:-1] >> 4 & codes[1:]).any()
+    ):
         raise NoAnswer(f"not lines of {width} numbers: {text[:60]!r}")
-    return np.fromstring(text.replace(b"*", b"%d" % NULL), np.ulonglong, sep=" ").view(np.int64).reshape(-1, width)
+    return (
+        np.fromstring(text.replace(b"*", b"%d" % NULL), np.ulonglong, sep=" ")
+        .view(np.int64)
+        .reshape(-1, width)
+    )
 
 
 class PrintedGrid(NamedTuple):
@@ -63,7 +74,11 @@ class PrintedGrid(NamedTuple):
 
 @contextlib.contextmanager
 def printed_grid(
-    program: str, name: str, sent: Iterator[bytes], seconds: Optional[float] = None, watch: Optional[Callable[[], None]] = None
+    program: str,
+    name: str,
+    sent: Iterator[bytes],
+    seconds: Optional[float] = None,
+    watch: Optional[Callable[[], None]] = None,
 ) -> Iterator[PrintedGrid]:
     """Send the text of a grid to rcell, and read what it prints of it; parameters and errors are the same as in `pipe.run`.
 
@@ -81,20 +96,31 @@ def printed_grid(
     try:
         os.write(writer, b"r.out.ascii input=%s\n" % name.encode())
         close(writer)
-        with asked([program, f"/dev/fd/{script}", f"{name}=/dev/stdin"], sent, seconds, watch, [script]) as process:
+        with asked(
+            [program, f"/dev/fd/{script}", f"{name}=/dev/stdin"], sent, seconds, watch, [script]
+        ) as process:
             pieces, text, found = process.pieces(), b"", None
             while not found and len(text) < _HEADER_BYTES and (piece := next(pieces, b"")):
                 text += piece
                 found = _HEADER.match(text)
             if not found:
-                raise _failure(process) if len(text) < _HEADER_BYTES else NoAnswer(f"no grid: {text[:60]!r}")
+                raise _failure(process) if len(text) < _HEADER_BYTES else NoAnswer(
+                    f"no grid: {text[:60]!r}"
+                )
             *edges, rows, cols = map(bytes.decode, found.groups())
-            yield PrintedGrid(tuple(edges), int(rows), int(cols), _blocks(process, chain([text[found.end() :]], pieces), int(rows), int(cols)))
+            yield PrintedGrid(
+                tuple(edges),
+                int(rows),
+                int(cols),
+                _blocks(process, chain([text[found.end() :]], pieces), int(rows), int(cols)),
+            )
     finally:
         close(script)
 
 
-def _blocks(process: Started, pieces: Iterator[bytes], rows: int, cols: int) -> Iterator[NDArray[np.int32]]:
+def _blocks(
+    process: Started, pieces: Iterator[bytes], rows: int, cols: int
+) -> Iterator[NDArray[np.int32]]:
     """Yield so many rows, if the program ends well after them."""
     rest = b""
     for piece in pieces:
@@ -113,4 +139,8 @@ def _failure(process: Started) -> Exception:
     """Return the error of a program whose output has ended."""
     status, message = process.end()
     found = _MESSAGE.match(message.decode("utf-8", "surrogateescape"))
-    return Rejected(status, "request", 0, int(found[1]), 0, found[2]) if status > 0 and found else failure_of(status, message)
+    return (
+        Rejected(status, "request", 0, int(found[1]), 0, found[2])
+        if status > 0 and found
+        else failure_of(status, message)
+    )

@@ -7,7 +7,19 @@ import contextlib
 from collections.abc import Callable, Iterable, Mapping, Sequence
 from typing import Any, Optional
 
-__all__ = ["DECIMALS", "UNITS", "category_of", "columns_of", "differences_of", "edge_text", "fit_names", "labels_of_band", "labels_of_rows", "names_of", "put_labels"]
+__all__ = [
+    "DECIMALS",
+    "UNITS",
+    "category_of",
+    "columns_of",
+    "differences_of",
+    "edge_text",
+    "fit_names",
+    "labels_of_band",
+    "labels_of_rows",
+    "names_of",
+    "put_labels",
+]
 
 DECIMALS = 8
 UNITS = 10**DECIMALS
@@ -40,8 +52,13 @@ def differences_of(mine: Iterable[int], its: Iterable[int]) -> list[str]:
     ['north is 4, not 3 (1 more)', 'rows is 4, not 3 (1 more)']
     """
     texts: list[Callable[[int], str]] = [edge_text] * 4 + [str] * 2
-    return [f"{name} is {text(other)}, not {text(one)} ({text(abs(other - one))} {'more' if other > one else 'less'})"
-            for name, text, one, other in zip(("north", "south", "east", "west", "rows", "cols"), texts, mine, its) if one != other]
+    return [
+        f"{name} is {text(other)}, not {text(one)} ({text(abs(other - one))} {'more' if other > one else 'less'})"
+        for name, text, one, other in zip(
+            ("north", "south", "east", "west", "rows", "cols"), texts, mine, its
+        )
+        if one != other
+    ]
 
 
 def labels_of_band(band: Any) -> dict[int, str]:
@@ -57,10 +74,15 @@ def labels_of_band(band: Any) -> dict[int, str]:
 
 def _labels_of_table(table: Any) -> dict[int, str]:
     places = range(table.GetColumnCount())
-    value, name = columns_of([table.GetUsageOfCol(at) for at in places], [table.GetNameOfCol(at) for at in places])
+    value, name = columns_of(
+        [table.GetUsageOfCol(at) for at in places], [table.GetNameOfCol(at) for at in places]
+    )
     if value is None or name is None:
         return {}
-    return labels_of_rows([table.GetValueAsString(row, at) for at in (value, name)] for row in range(table.GetRowCount()))
+    return labels_of_rows(
+        [table.GetValueAsString(row, at) for at in (value, name)]
+        for row in range(table.GetRowCount())
+    )
 
 
 def labels_of_rows(rows: Iterable[Sequence[Any]]) -> dict[int, str]:
@@ -91,7 +113,9 @@ def columns_of(usages: Sequence[int], titles: Sequence[str]) -> tuple[Optional[i
         by_title = (at for at, title in enumerate(titles) if title.lower() in usual)
         return next(by_use, next(by_title, None))
 
-    return first(_VALUE_USAGES, ("value",)), first((USAGE_NAME,), ("class_name", "class_names", "name", "label", "category"))
+    return first(_VALUE_USAGES, ("value",)), first(
+        (USAGE_NAME,), ("class_name", "class_names", "name", "label", "category")
+    )
 
 
 def fit_names(labels: Mapping[int, str]) -> bool:

@@ -21,8 +21,30 @@ from .advice import lines_of_error
 from .programs import WATCH_SECONDS, Started, close, pipe
 
 __all__ = [
-    "COMMANDS", "NULL", "Block", "Buffer", "Call", "Fault", "Frame", "GridFrame", "Killed", "Map", "Margin", "NoAnswer", "NotStarted", "Rejected",
-    "Statement", "TableFrame", "asked", "failure_of", "is_known", "plan", "request", "run", "script_bytes", "text",
+    "COMMANDS",
+    "NULL",
+    "Block",
+    "Buffer",
+    "Call",
+    "Fault",
+    "Frame",
+    "GridFrame",
+    "Killed",
+    "Map",
+    "Margin",
+    "NoAnswer",
+    "NotStarted",
+    "Rejected",
+    "Statement",
+    "TableFrame",
+    "asked",
+    "failure_of",
+    "is_known",
+    "plan",
+    "request",
+    "run",
+    "script_bytes",
+    "text",
 ]
 
 NULL = -2_147_483_648
@@ -107,7 +129,9 @@ class Map:
             cells = memoryview(block.cells).cast("B")
             rows += len(cells) // row_bytes
             if self.is_masked:
-                yield from _interleaved(cells, memoryview(block.mask or b"").cast("B"), row_bytes, self.cols)
+                yield from _interleaved(
+                    cells, memoryview(block.mask or b"").cast("B"), row_bytes, self.cols
+                )
             else:
                 yield cells
             if len(cells) % row_bytes:
@@ -118,9 +142,24 @@ class Map:
     def _head(self) -> bytes:
         flags = (self.nodata is not None) + 2 * self.is_masked
         texts = b"".join(_short(text) for text in (self.name, *self.edges))
-        numbers = struct.pack("<IIBBqI", self.rows, self.cols, _CODES[self.type], flags, self.nodata or 0, len(self.labels))
-        labels = ((category, text.encode("utf-8", "surrogateescape")) for category, text in self.labels.items())
-        return texts + numbers + b"".join(struct.pack("<iH", category, len(text)) + text for category, text in labels)
+        numbers = struct.pack(
+            "<IIBBqI",
+            self.rows,
+            self.cols,
+            _CODES[self.type],
+            flags,
+            self.nodata or 0,
+            len(self.labels),
+        )
+        labels = (
+            (category, text.encode("utf-8", "surrogateescape"))
+            for category, text in self.labels.items()
+        )
+        return (
+            texts
+            + numbers
+            + b"".join(struct.pack("<iH", category, len(text)) + text for category, text in labels)
+        )
 
 
 def _short(text: str) -> bytes:
@@ -135,7 +174,10 @@ def _interleaved(cells: memoryview, mask: memoryview, row_bytes: int, cols: int)
     step = max(1, PIECE_BYTES // (row_bytes + cols))
     for first in range(0, rows, step):
         places = range(first, min(first + step, rows))
-        parts = ((cells[row * row_bytes : (row + 1) * row_bytes], mask[row * cols : (row + 1) * cols]) for row in places)
+        parts = (
+            (cells[row * row_bytes : (row + 1) * row_bytes], mask[row * cols : (row + 1) * cols])
+            for row in places
+        )
         yield b"".join(part for pair in parts for part in pair)
 
 
@@ -160,12 +202,21 @@ def script_bytes(script: str) -> bytes:
     except UnicodeEncodeError as error:
         before = script[: error.start].rpartition("\n")[2].encode("utf-8", "surrogateescape")
         line, column = script.count("\n", 0, error.start) + 1, len(before) + 1
-        raise Rejected(1, "script", 0, line, column, f"lone surrogate U+{ord(script[error.start]):04X} at column {column}") from None
+        raise Rejected(
+            1,
+            "script",
+            0,
+            line,
+            column,
+            f"lone surrogate U+{ord(script[error.start]):04X} at column {column}",
+        ) from None
 
 
 def _plan_request(names: Sequence[str], script: bytes) -> Iterator[Buffer]:
     """Yield the bytes of a request for a plan."""
-    yield b"RCELLP1\n" + struct.pack("<I", len(names)) + b"".join(map(_short, names)) + struct.pack("<I", len(script)) + script
+    yield b"RCELLP1\n" + struct.pack("<I", len(names)) + b"".join(map(_short, names)) + struct.pack(
+        "<I", len(script)
+    ) + script
 
 
 # The response
@@ -353,9 +404,18 @@ class Rejected(Exception):
         As rcell says it.
     """
 
-    def __init__(self, status: int, source: str, map: int, line: int, column: int, text: str) -> None:
+    def __init__(
+        self, status: int, source: str, map: int, line: int, column: int, text: str
+    ) -> None:
         super().__init__(status, source, map, line, column, text)
-        self.status, self.source, self.map, self.line, self.column, self.text = status, source, map, line, column, text
+        self.status, self.source, self.map, self.line, self.column, self.text = (
+            status,
+            source,
+            map,
+            line,
+            column,
+            text,
+        )
 
     def parts(self, program: str, script: str, names: Sequence[str]) -> dict[str, Any]:
         """Return the arguments of `Fault` for this error of a script over maps of some names; the program is asked for advice."""
@@ -368,8 +428,19 @@ class Rejected(Exception):
         column = advice = None
         with contextlib.suppress(Exception):  # an error of the advice must not hide the message
             mending: Any = importlib.import_module(".mending", __package__)
-            column, advice = mending.advice(program, script.encode("utf-8", "surrogateescape"), list(names), self.line, _AT_COLUMN.sub("", self.text))
-        return {**parts, "content": lines[self.line - 1].rstrip("\r"), "advice": advice, "column": column if self.text == "bad option" else None}
+            column, advice = mending.advice(
+                program,
+                script.encode("utf-8", "surrogateescape"),
+                list(names),
+                self.line,
+                _AT_COLUMN.sub("", self.text),
+            )
+        return {
+            **parts,
+            "content": lines[self.line - 1].rstrip("\r"),
+            "advice": advice,
+            "column": column if self.text == "bad option" else None,
+        }
 
 
 class NotStarted(OSError):
@@ -446,7 +517,9 @@ class _Response:
         line, null_text, name, edges = self.count(), bytes(self.text()), self.name(), self.names(4)
         rows, cols = self.numbers(2)
         kind, letter = {1: ("u8", "B"), 6: ("i32", "i")}.get(self.take(1)[0]) or self.unknown()
-        return GridFrame(line, name, null_text, edges, rows, cols, kind, self.cells(rows * cols, letter))
+        return GridFrame(
+            line, name, null_text, edges, rows, cols, kind, self.cells(rows * cols, letter)
+        )
 
     def statement(self) -> Statement:
         line, (command, _) = self.count(), self.take(2)
@@ -456,7 +529,11 @@ class _Response:
             made=self.name(),
             reads={self.name(): Margin(*self.numbers(4)) for _ in range(self.count())},
             needs={self.name(): self.need() for _ in range(self.count())},
-            options="".join(letter for bit, letter in zip(f"{self.take(1)[0]:05b}"[::-1], _OPTIONS) if bit == "1"),
+            options="".join(
+                letter
+                for bit, letter in zip(f"{self.take(1)[0]:05b}"[::-1], _OPTIONS)
+                if bit == "1"
+            ),
             inputs=self.names(self.count()),
             after=tuple(self.cells(self.count(), "i")),
             calls=tuple(self.call() for _ in range(self.count())),
@@ -465,7 +542,9 @@ class _Response:
 
     def call(self) -> Call:
         (first, last), [code] = self.numbers(2), self.take(1)
-        return Call(_CALLED[code - 1] if 0 < code <= len(_CALLED) else self.unknown(), first - 1, last)
+        return Call(
+            _CALLED[code - 1] if 0 < code <= len(_CALLED) else self.unknown(), first - 1, last
+        )
 
     def need(self) -> Optional[Margin]:
         margin = Margin(*self.numbers(4))
@@ -476,12 +555,24 @@ class _Response:
 
     def done(self) -> Rejected:
         status, source, map, line, column = self.numbers(5)
-        return Rejected(status, _SOURCES.get(source, ""), map, line, column, self.text().decode("utf-8", "surrogateescape"))
+        return Rejected(
+            status,
+            _SOURCES.get(source, ""),
+            map,
+            line,
+            column,
+            self.text().decode("utf-8", "surrogateescape"),
+        )
 
     def frames(self) -> tuple[list[_AnyFrame], Rejected]:
         """Return the frames, and how the run ended."""
         found: list[_AnyFrame] = []
-        kinds: dict[bytes, Callable[[], _AnyFrame]] = {b"TABL": self.table, b"CELL": self.table, b"GRID": self.grid, b"PLAN": self.statement}
+        kinds: dict[bytes, Callable[[], _AnyFrame]] = {
+            b"TABL": self.table,
+            b"CELL": self.table,
+            b"GRID": self.grid,
+            b"PLAN": self.statement,
+        }
         if self.take(8) != b"RCELLA1\n":
             raise _NotUnderstood
         while (kind := bytes(self.take(4))) != b"DONE":
@@ -526,7 +617,11 @@ def run(
     TimeoutError
         It takes too long.
     """
-    return [frame for frame in _answered(program, request(maps, script), seconds, watch) if not isinstance(frame, Statement)]
+    return [
+        frame
+        for frame in _answered(program, request(maps, script), seconds, watch)
+        if not isinstance(frame, Statement)
+    ]
 
 
 _REJECTION = b"RCELLA1\nDONE"
@@ -587,14 +682,26 @@ def plan(
     watch: Optional[Callable[[], None]] = None,
 ) -> list[Statement]:
     """Return what each statement of a script does, over maps of these names; no map is needed. The rest is as in `run`."""
-    found = [frame for frame in _answered(program, _plan_request(names, script), seconds, watch) if isinstance(frame, Statement)]
+    found = [
+        frame
+        for frame in _answered(program, _plan_request(names, script), seconds, watch)
+        if isinstance(frame, Statement)
+    ]
     lines = script.decode("utf-8", "surrogateescape").split("\n")
     ends = [*(each.line - 1 for each in found[1:]), len(lines)]
-    texts = (lines[each.line - 1 : end if each.command == "r.reclass" else each.line] for each, end in zip(found, ends))
+    texts = (
+        lines[each.line - 1 : end if each.command == "r.reclass" else each.line]
+        for each, end in zip(found, ends)
+    )
     return [replace(each, text="\n".join(text)) for each, text in zip(found, texts)]
 
 
-def _answered(program: str, sent: Iterator[Buffer], seconds: Optional[float], watch: Optional[Callable[[], None]]) -> list[_AnyFrame]:
+def _answered(
+    program: str,
+    sent: Iterator[Buffer],
+    seconds: Optional[float],
+    watch: Optional[Callable[[], None]],
+) -> list[_AnyFrame]:
     """Send a request, and return the frames of its response."""
     with asked([program], sent, seconds, watch) as process:
         response = _response(process.pieces())
@@ -606,10 +713,14 @@ def failure_of(status: int, message: bytes) -> Exception:
     """Return the error of a program whose output does not say why it ended so."""
     if status < 0:
         return Killed(-status)
-    return NoAnswer(f"the program ended in status {status} and said: {message.decode('utf-8', 'replace').strip() or 'nothing'}")
+    return NoAnswer(
+        f"the program ended in status {status} and said: {message.decode('utf-8', 'replace').strip() or 'nothing'}"
+    )
 
 
-def _check(response: Optional[tuple[list[_AnyFrame], Rejected]], status: int, message: bytes) -> list[_AnyFrame]:
+def _check(
+    response: Optional[tuple[list[_AnyFrame], Rejected]], status: int, message: bytes
+) -> list[_AnyFrame]:
     """Return the frames of a response, if the program ended well."""
     if response is None or status != response[1].status:
         raise failure_of(status, message)
@@ -621,7 +732,11 @@ def _check(response: Optional[tuple[list[_AnyFrame], Rejected]], status: int, me
 
 @contextlib.contextmanager
 def asked(
-    words: Sequence[str], sent: Iterator[Buffer], seconds: Optional[float], watch: Optional[Callable[[], None]], inherited: Sequence[int] = ()
+    words: Sequence[str],
+    sent: Iterator[Buffer],
+    seconds: Optional[float],
+    watch: Optional[Callable[[], None]],
+    inherited: Sequence[int] = (),
 ) -> Iterator[Started]:
     """Start a program, and send it what it reads on standard input."""
     try:

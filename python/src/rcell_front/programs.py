@@ -112,7 +112,14 @@ class Started:
         self._output, output = pipe()
         self._told, told = pipe()
         try:
-            self._process = subprocess.Popen(words, stdin=stdin, stdout=output, stderr=told, pass_fds=inherited, env={**LARGE_PAGES, **os.environ})
+            self._process = subprocess.Popen(
+                words,
+                stdin=stdin,
+                stdout=output,
+                stderr=told,
+                pass_fds=inherited,
+                env={**LARGE_PAGES, **os.environ},
+            )
         except BaseException:
             close(self._output)
             close(self._told)
@@ -124,7 +131,9 @@ class Started:
     def __enter__(self) -> Started:
         return self
 
-    def __exit__(self, kind: type[BaseException] | None, _: BaseException | None, __: TracebackType | None) -> None:
+    def __exit__(
+        self, kind: type[BaseException] | None, _: BaseException | None, __: TracebackType | None
+    ) -> None:
         if self._process.poll() is None:
             self._process.kill()
         self._process.wait()

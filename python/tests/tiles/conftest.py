@@ -57,21 +57,27 @@ def joined_by_both(texts: Sequence[bytes]) -> bytes:
 def clumps_joined_by_both(borders: Sequence[bytes], diagonal: bool = False) -> joining.Joined:
     """Clumps of tiles joined with rcell-join and with scipy, which must agree."""
     found, expected = joining.join(borders, diagonal), second.join(borders, diagonal)
-    assert found.clumps == max((int(numbers.max()) for numbers in expected if len(numbers)), default=0)
+    assert found.clumps == max(
+        (int(numbers.max()) for numbers in expected if len(numbers)), default=0
+    )
     for tile, numbers in zip(found.tiles, expected, strict=True):
         assert tile.clumps == len(numbers)
         assert joining.renumber(np.arange(tile.clumps + 1), tile).tolist() == [0, *numbers.tolist()]
     return found
 
 
-def sizes_added_by_both(whole: joining.Joined, tables: Sequence[bytes], categories: Sequence[Any]) -> tuple[Any, Any]:
+def sizes_added_by_both(
+    whole: joining.Joined, tables: Sequence[bytes], categories: Sequence[Any]
+) -> tuple[Any, Any]:
     """Sizes of clumps added up with rcell-join and with numpy, which must agree."""
     found = joining.sizes(whole, tables, categories)
     expected = np.zeros(whole.clumps, dtype=np.int64)
     for tile, table in zip(whole.tiles, tables, strict=True):
         counts = counts_of(table, 1)
         is_clump = counts.combinations[:, 0] > 0  # the others are of null
-        np.add.at(expected, tile.looked_up(counts.combinations[is_clump, 0]) - 1, counts.cells[is_clump])
+        np.add.at(
+            expected, tile.looked_up(counts.combinations[is_clump, 0]) - 1, counts.cells[is_clump]
+        )
     assert np.array_equal(found[1], expected)
     return found
 
@@ -87,14 +93,29 @@ def both_joiners_agree(monkeypatch: pytest.MonkeyPatch) -> None:
 @pytest.fixture(scope="session")
 def scheduler() -> Iterator[str]:
     """The address of a scheduler and a worker of two threads in this process: it starts at once."""
-    with distributed.LocalCluster(n_workers=1, threads_per_worker=2, processes=False, dashboard_address=None) as cluster:
+    with distributed.LocalCluster(
+        n_workers=1, threads_per_worker=2, processes=False, dashboard_address=None
+    ) as cluster:
         yield cluster.scheduler_address
 
 
-def write_tif(path: Path | str, cells: Any, nodata: float | None = None, transform: Any = None, **options: Any) -> str:
+def write_tif(
+    path: Path | str, cells: Any, nodata: float | None = None, transform: Any = None, **options: Any
+) -> str:
     transform = rasterio.Affine(25, 0, 1000, 0, -25, 5000) if transform is None else transform
-    profile = dict(driver="GTiff", count=1, width=cells.shape[1], height=cells.shape[0], dtype=cells.dtype, nodata=nodata,
-                   transform=transform, crs="EPSG:32633") | options
+    profile = (
+        dict(
+            driver="GTiff",
+            count=1,
+            width=cells.shape[1],
+            height=cells.shape[0],
+            dtype=cells.dtype,
+            nodata=nodata,
+            transform=transform,
+            crs="EPSG:32633",
+        )
+        | options
+    )
     with rasterio.open(path, "w", **profile) as dataset:
         dataset.write(np.asarray(cells), 1)
     return str(path)

@@ -48,8 +48,13 @@ def read_border(text: bytes, base: int) -> Tile:
     high, wide, clumps, _ = rows[SIZE_ROW][:4].tolist()
     begun = rows[COUNTS_ROW][:high]
     assert begun.sum() == clumps
-    sides = [Side(rows[at][:length], np.where(rows[at + 1][:length] == NULL, -1, rows[at + 1][:length] - 1 + base))
-             for at, length in zip(range(0, SIZE_ROW, 2), (wide, wide, high, high))]
+    sides = [
+        Side(
+            rows[at][:length],
+            np.where(rows[at + 1][:length] == NULL, -1, rows[at + 1][:length] - 1 + base),
+        )
+        for at, length in zip(range(0, SIZE_ROW, 2), (wide, wide, high, high))
+    ]
     return Tile(-north, west, base, np.repeat(np.arange(high), begun), *sides)
 
 
@@ -57,14 +62,23 @@ def _met(one: Side, other: Side, diagonal: bool) -> Integers:
     """The pairs of labels that meet over a seam."""
     found = []
     for step in (-1, 0, 1) if diagonal else (0,):
-        here, there = slice(max(0, -step), len(one.labels) - max(0, step)), slice(max(0, step), len(one.labels) + min(0, step))
-        alike = (one.categories[here] == other.categories[there]) & (one.labels[here] >= 0) & (other.labels[there] >= 0)
+        here, there = slice(max(0, -step), len(one.labels) - max(0, step)), slice(
+            max(0, step), len(one.labels) + min(0, step)
+        )
+        alike = (
+            (one.categories[here] == other.categories[there])
+            & (one.labels[here] >= 0)
+            & (other.labels[there] >= 0)
+        )
         found.append(np.stack([one.labels[here][alike], other.labels[there][alike]]))
     return np.concatenate(found, axis=1)
 
 
 def _line(sides: list[Side]) -> Side:
-    return Side(np.concatenate([side.categories for side in sides]), np.concatenate([side.labels for side in sides]))
+    return Side(
+        np.concatenate([side.categories for side in sides]),
+        np.concatenate([side.labels for side in sides]),
+    )
 
 
 def join(borders: Sequence[bytes], diagonal: bool) -> list[Integers]:
@@ -74,12 +88,19 @@ def join(borders: Sequence[bytes], diagonal: bool) -> list[Integers]:
         tiles.append(read_border(text, tiles[-1].base + len(tiles[-1].row_of) if tiles else 0))
     tops = sorted({tile.top for tile in tiles})
     rows = [[tile for tile in tiles if tile.top == top] for top in tops]
-    pairs = [_met(one.east, other.west, diagonal) for row in rows for one, other in zip(row, row[1:])]
-    pairs += [_met(_line([tile.last for tile in upper]), _line([tile.first for tile in lower]), diagonal) for upper, lower in zip(rows, rows[1:])]
+    pairs = [
+        _met(one.east, other.west, diagonal) for row in rows for one, other in zip(row, row[1:])
+    ]
+    pairs += [
+        _met(_line([tile.last for tile in upper]), _line([tile.first for tile in lower]), diagonal)
+        for upper, lower in zip(rows, rows[1:])
+    ]
     total = tiles[-1].base + len(tiles[-1].row_of)
     if not total:
         return [tile.row_of for tile in tiles]
-    ends = np.concatenate([np.zeros((2, 0), np.int64), *pairs], axis=1)  # a map of one tile has none
+    ends = np.concatenate(
+        [np.zeros((2, 0), np.int64), *pairs], axis=1
+    )  # a map of one tile has none
     links = coo_matrix((np.ones(ends.shape[1], np.int8), (ends[0], ends[1])), shape=(total, total))
     count, component = connected_components(links, directed=False)
     # By the row of the map in which a clump begins, then by the tile, then by the number in it.

@@ -32,33 +32,63 @@ def mosaic_of(scheduler: str, size: int = 16, **maps: Any) -> rcell.tiles.Mosaic
     return rcell.tiles.open(size=size, scheduler=scheduler, **maps)
 
 
-@pytest.mark.parametrize("script, text, line", [
-    ("r.stats -c input=nowhere", "unknown map", 1),
-    ("# x\nr.mapcalc x = lc +", "unexpected token at column 19", 2),
-    ("r.mapcalc x = lc", "0 lines of r.stats, but exactly one is needed", 0),
-    ("r.stats -c input=lc\nr.stats -c input=lc", "2 lines of r.stats, but exactly one is needed", 0),
-    ("r.stats -1 input=lc", "-1 lists cells, of which there is no table to merge", 1),
-    ("r.clump input=lc output=p\nr.stats -c input=p",
-     "patches continue outside a tile: Mosaic.clump writes them, Mosaic.patches counts them", 1),
-])
-def test_scripts_of_tables_are_refused(tif: MakeTif, scheduler: str, script: str, text: str, line: int) -> None:
-    with mosaic_of(scheduler, lc=tif("lc", CELLS)) as mosaic, pytest.raises(rcell.Refused) as refusal:
+@pytest.mark.parametrize(
+    "script, text, line",
+    [
+        ("r.stats -c input=nowhere", "unknown map", 1),
+        ("# x\nr.mapcalc x = lc +", "unexpected token at column 19", 2),
+        ("r.mapcalc x = lc", "0 lines of r.stats, but exactly one is needed", 0),
+        (
+            "r.stats -c input=lc\nr.stats -c input=lc",
+            "2 lines of r.stats, but exactly one is needed",
+            0,
+        ),
+        ("r.stats -1 input=lc", "-1 lists cells, of which there is no table to merge", 1),
+        (
+            "r.clump input=lc output=p\nr.stats -c input=p",
+            "patches continue outside a tile: Mosaic.clump writes them, Mosaic.patches counts them",
+            1,
+        ),
+    ],
+)
+def test_scripts_of_tables_are_refused(
+    tif: MakeTif, scheduler: str, script: str, text: str, line: int
+) -> None:
+    with mosaic_of(scheduler, lc=tif("lc", CELLS)) as mosaic, pytest.raises(
+        rcell.Refused
+    ) as refusal:
         mosaic.table(script)
     assert (refusal.value.text, refusal.value.source, refusal.value.line) == (text, "script", line)
     assert refusal.value.content == (script.split("\n")[line - 1] if line else None)
 
 
-@pytest.mark.parametrize("script, text", [
-    ("x = lc[256,0]", "offset out of range at column 18"),
-    ("x lc", "unexpected token at column 13"),
-    ("", "unexpected token at column 11"),
-    ("lc = lc", "map exists"),
-    ("r.mapcalc x = lc\nr.stats -c input=x", "the last line does not make a map by r.mapcalc or r.reclass"),
-    ("r.clump input=lc output=x", "the last line does not make a map by r.mapcalc or r.reclass"),
-    ("r.clump input=lc output=p\nr.mapcalc x = p", "patches continue outside a tile: Mosaic.clump writes them, Mosaic.patches counts them"),
-])
-def test_scripts_of_grids_are_refused(tif: MakeTif, tmp_path: Path, scheduler: str, script: str, text: str) -> None:
-    with mosaic_of(scheduler, lc=tif("lc", CELLS)) as mosaic, pytest.raises(rcell.Refused) as refusal:
+@pytest.mark.parametrize(
+    "script, text",
+    [
+        ("x = lc[256,0]", "offset out of range at column 18"),
+        ("x lc", "unexpected token at column 13"),
+        ("", "unexpected token at column 11"),
+        ("lc = lc", "map exists"),
+        (
+            "r.mapcalc x = lc\nr.stats -c input=x",
+            "the last line does not make a map by r.mapcalc or r.reclass",
+        ),
+        (
+            "r.clump input=lc output=x",
+            "the last line does not make a map by r.mapcalc or r.reclass",
+        ),
+        (
+            "r.clump input=lc output=p\nr.mapcalc x = p",
+            "patches continue outside a tile: Mosaic.clump writes them, Mosaic.patches counts them",
+        ),
+    ],
+)
+def test_scripts_of_grids_are_refused(
+    tif: MakeTif, tmp_path: Path, scheduler: str, script: str, text: str
+) -> None:
+    with mosaic_of(scheduler, lc=tif("lc", CELLS)) as mosaic, pytest.raises(
+        rcell.Refused
+    ) as refusal:
         mosaic.grid(script, tmp_path / "x.tif")
     assert refusal.value.text == text
     assert os.listdir(tmp_path) == ["lc.tif"]
@@ -73,11 +103,20 @@ def test_maps_are_refused(tif: MakeTif, tmp_path: Path, scheduler: str) -> None:
     lc = tif("lc", CELLS)
     assert refusal().startswith("maps: no map is given")
     assert refusal(lc=str(tmp_path / "nowhere.tif")).startswith("lc: cannot open")
-    assert refusal(lc=CELLS) == "lc: a path that rasterio opens, a band of rasterio, a DataArray or an array of Dask is needed, not ndarray"
-    assert "rotated transform" in refusal(lc=tif("r", CELLS, transform=rasterio.Affine(1, 1, 0, 1, -1, 0)))
-    assert "not from north to south, west to east" in refusal(lc=tif("w", CELLS, transform=rasterio.Affine(-1, 0, 0, 0, -1, 0)))
+    assert (
+        refusal(lc=CELLS)
+        == "lc: a path that rasterio opens, a band of rasterio, a DataArray or an array of Dask is needed, not ndarray"
+    )
+    assert "rotated transform" in refusal(
+        lc=tif("r", CELLS, transform=rasterio.Affine(1, 1, 0, 1, -1, 0))
+    )
+    assert "not from north to south, west to east" in refusal(
+        lc=tif("w", CELLS, transform=rasterio.Affine(-1, 0, 0, 0, -1, 0))
+    )
     assert "complex64" in refusal(lc=tif("c", CELLS.astype(np.complex64)))
-    with rasterio.open(tmp_path / "b.tif", "w", driver="GTiff", count=2, width=2, height=2, dtype="uint8"):
+    with rasterio.open(
+        tmp_path / "b.tif", "w", driver="GTiff", count=2, width=2, height=2, dtype="uint8"
+    ):
         pass
     assert "2 bands" in refusal(lc=str(tmp_path / "b.tif"))
     with rasterio.open(lc, "r+") as dataset:
@@ -90,8 +129,10 @@ def test_maps_of_other_grids_are_refused(tif: MakeTif, scheduler: str) -> None:
     other = tif("ws", CELLS[:, :-1], transform=rasterio.Affine(25, 0, 1000.5, 0, -25, 5000))
     with pytest.raises(rcell.OtherRegion) as refusal:
         mosaic_of(scheduler, lc=lc, ws=other)
-    assert str(refusal.value) == ("ws: not of the region of `lc`, and nothing is resampled: east is 2475.5, not 2500 (24.5 less); "
-                                  "west is 1000.5, not 1000 (0.5 more); cols is 59, not 60 (1 less)")
+    assert str(refusal.value) == (
+        "ws: not of the region of `lc`, and nothing is resampled: east is 2475.5, not 2500 (24.5 less); "
+        "west is 1000.5, not 1000 (0.5 more); cols is 59, not 60 (1 less)"
+    )
     near = tif("near", CELLS, transform=rasterio.Affine(25, 0, 1000 + 1e-9, 0, -25, 5000))
     mosaic_of(scheduler, lc=lc, near=near)
 
@@ -112,7 +153,9 @@ def test_requests_are_refused(tif: MakeTif, tmp_path: Path, scheduler: str) -> N
             mosaic.table("r.stats -c input=size", area="acres")
 
 
-def test_a_cell_that_is_none_is_told_with_its_place_in_the_whole(tif: MakeTif, tmp_path: Path, scheduler: str) -> None:
+def test_a_cell_that_is_none_is_told_with_its_place_in_the_whole(
+    tif: MakeTif, tmp_path: Path, scheduler: str
+) -> None:
     cells = CELLS.astype(np.float32)
     cells[37, 51] = 0.5
     with mosaic_of(scheduler, lc=tif("lc", cells)) as mosaic:
@@ -124,19 +167,31 @@ def test_a_cell_that_is_none_is_told_with_its_place_in_the_whole(tif: MakeTif, t
 
 
 def test_a_broken_tile_is_told(tmp_path: Path, scheduler: str) -> None:
-    path = write_tif(tmp_path / "lc.tif", np.random.default_rng(1).integers(0, 255, (64, 64)).astype(np.uint8), tiled=True,
-                     blockxsize=16, blockysize=16, compress="deflate")
+    path = write_tif(
+        tmp_path / "lc.tif",
+        np.random.default_rng(1).integers(0, 255, (64, 64)).astype(np.uint8),
+        tiled=True,
+        blockxsize=16,
+        blockysize=16,
+        compress="deflate",
+    )
     with rasterio.open(path) as dataset:
         begin = int(dataset.get_tag_item("BLOCK_OFFSET_1_1", "TIFF", bidx=1))
     text = bytearray(Path(path).read_bytes())
-    text[begin:begin + 100] = bytes(100)
+    text[begin : begin + 100] = bytes(100)
     Path(path).write_bytes(text)
     with mosaic_of(scheduler, lc=path) as mosaic:
         works: list[Callable[[], Any]] = [
-            lambda: mosaic.table("r.stats -c input=lc"), lambda: mosaic.grid("x = lc", tmp_path / "x.tif"),
-            lambda: mosaic.clump("lc", tmp_path / "x.tif"), lambda: mosaic.patches("lc")]
+            lambda: mosaic.table("r.stats -c input=lc"),
+            lambda: mosaic.grid("x = lc", tmp_path / "x.tif"),
+            lambda: mosaic.clump("lc", tmp_path / "x.tif"),
+            lambda: mosaic.patches("lc"),
+        ]
         for work in works:
-            with pytest.raises(rcell.ReadFailed, match="lc: the tile of 16 x 16 cells at row 17, column 17 cannot be read"):
+            with pytest.raises(
+                rcell.ReadFailed,
+                match="lc: the tile of 16 x 16 cells at row 17, column 17 cannot be read",
+            ):
                 work()
         assert os.listdir(tmp_path) == ["lc.tif"]
 
@@ -149,21 +204,34 @@ def zombies() -> list[str]:
     """Programs that have ended and that nothing has waited for; a moment is given to tasks that are ending."""
     found: list[str] = []
     for _ in range(100):
-        found = [child.name() for child in psutil.Process().children() if child.status() == psutil.STATUS_ZOMBIE]
+        found = [
+            child.name()
+            for child in psutil.Process().children()
+            if child.status() == psutil.STATUS_ZOMBIE
+        ]
         if not found:
             break
         time.sleep(0.1)
     return found
 
 
-@pytest.mark.parametrize("body, kind", [
-    (None, rcell.MissingProgram),
-    ("echo rcell 0.0.1", rcell.WrongProgram),
-    (DIES + "kill -9 $$", rcell.Killed),
-    (DIES + f"printf '{done(3, 0, 0, 1, 0, 'no memory')}'\nexit 3", rcell.OutOfMemory),
-])
-def test_a_program_that_fails_is_told(tif: MakeTif, tmp_path: Path, scheduler: str, monkeypatch: pytest.MonkeyPatch, body: str | None,
-                                      kind: type[rcell.RcellError]) -> None:
+@pytest.mark.parametrize(
+    "body, kind",
+    [
+        (None, rcell.MissingProgram),
+        ("echo rcell 0.0.1", rcell.WrongProgram),
+        (DIES + "kill -9 $$", rcell.Killed),
+        (DIES + f"printf '{done(3, 0, 0, 1, 0, 'no memory')}'\nexit 3", rcell.OutOfMemory),
+    ],
+)
+def test_a_program_that_fails_is_told(
+    tif: MakeTif,
+    tmp_path: Path,
+    scheduler: str,
+    monkeypatch: pytest.MonkeyPatch,
+    body: str | None,
+    kind: type[rcell.RcellError],
+) -> None:
     lc = tif("lc", CELLS)
     (tmp_path / "out").mkdir()
     with mosaic_of(scheduler, lc=lc) as mosaic:
@@ -174,8 +242,11 @@ def test_a_program_that_fails_is_told(tif: MakeTif, tmp_path: Path, scheduler: s
             program.write_text(f"#!/bin/sh\n{body}\n")
             program.chmod(0o755)
         works: list[Callable[[], Any]] = [
-            lambda: mosaic.table("r.stats -c input=lc"), lambda: mosaic.grid("x = lc", tmp_path / "out" / "x.tif"),
-            lambda: mosaic.clump("lc", tmp_path / "out" / "x.tif"), lambda: mosaic.patches("lc")]
+            lambda: mosaic.table("r.stats -c input=lc"),
+            lambda: mosaic.grid("x = lc", tmp_path / "out" / "x.tif"),
+            lambda: mosaic.clump("lc", tmp_path / "out" / "x.tif"),
+            lambda: mosaic.patches("lc"),
+        ]
         for work in works:
             with pytest.raises(kind):
                 work()
@@ -195,7 +266,9 @@ def largest_file(size: int) -> Iterator[None]:
 
 
 @pytest.mark.parametrize("room", [100, 20_000, 60_000])
-def test_a_full_disk_leaves_nothing(tif: MakeTif, tmp_path: Path, scheduler: str, room: int) -> None:
+def test_a_full_disk_leaves_nothing(
+    tif: MakeTif, tmp_path: Path, scheduler: str, room: int
+) -> None:
     noise = np.random.default_rng(1).integers(0, 2**31 - 1, (200, 200)).astype(np.int32)
     lc = tif("lc", noise)
     final = tmp_path / "out" / "x.tif"
@@ -212,13 +285,17 @@ def test_a_full_disk_leaves_nothing(tif: MakeTif, tmp_path: Path, scheduler: str
 
 
 def test_a_missing_folder_is_told(tif: MakeTif, tmp_path: Path, scheduler: str) -> None:
-    with mosaic_of(scheduler, lc=tif("lc", CELLS)) as mosaic, pytest.raises(rcell.WriteFailed, match="cannot be written: No such file"):
+    with mosaic_of(scheduler, lc=tif("lc", CELLS)) as mosaic, pytest.raises(
+        rcell.WriteFailed, match="cannot be written: No such file"
+    ):
         mosaic.grid("x = lc", tmp_path / "nowhere" / "x.tif")
 
 
 def test_a_file_that_is_not_as_it_was_written_is_refused(tmp_path: Path) -> None:
     sheet = Sheet(300, 300, (1.0, 0.0, 0.0, 0.0, -1.0, 300.0))
-    with pytest.raises(rcell.WriteFailed, match="the tile at row 1, column 1 is not as it was written"):
+    with pytest.raises(
+        rcell.WriteFailed, match="the tile at row 1, column 1 is not as it was written"
+    ):
         with tile_writer(tmp_path / "x.tif", sheet, "int32", 0) as writer:
             writer.write(Rectangle(0, 0, 10, 10), np.ones((10, 10)))
             writer.write(Rectangle(0, 0, 10, 11), np.zeros((10, 11)))
@@ -227,7 +304,9 @@ def test_a_file_that_is_not_as_it_was_written_is_refused(tmp_path: Path) -> None
 
 def test_an_interrupt_leaves_nothing(tmp_path: Path) -> None:
     sheet = Sheet(300, 300, (1.0, 0.0, 0.0, 0.0, -1.0, 300.0))
-    with pytest.raises(KeyboardInterrupt), tile_writer(tmp_path / "x.tif", sheet, "int32", 0) as writer:
+    with pytest.raises(KeyboardInterrupt), tile_writer(
+        tmp_path / "x.tif", sheet, "int32", 0
+    ) as writer:
         writer.write(Rectangle(0, 0, 10, 10), np.ones((10, 10)))
         raise KeyboardInterrupt
     assert os.listdir(tmp_path) == []
@@ -244,7 +323,12 @@ def test_labels_of_what_was_there_before_go(tif: MakeTif, tmp_path: Path, schedu
 
 
 def test_faults_come_back_from_workers_whole() -> None:
-    for fault in (rcell.tiles.TooManyCells((1, None)), rcell.tiles.TooLittleMemory("x"), rcell.tiles.WorkerLost("x"),
-                  rcell.ReadFailed("lc", "x"), rcell.BadMap("lc", "x", 1, 2, 0.5)):
+    for fault in (
+        rcell.tiles.TooManyCells((1, None)),
+        rcell.tiles.TooLittleMemory("x"),
+        rcell.tiles.WorkerLost("x"),
+        rcell.ReadFailed("lc", "x"),
+        rcell.BadMap("lc", "x", 1, 2, 0.5),
+    ):
         again = pickle.loads(pickle.dumps(fault))
         assert (type(again), str(again)) == (type(fault), str(fault))

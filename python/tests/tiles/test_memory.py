@@ -39,7 +39,9 @@ def test_tiles_are_the_largest_that_fit(memory: int) -> None:
 
 
 def test_there_are_tiles_for_all_workers() -> None:
-    rows, cols = size_for(table_demand(1, 1, NO_REACH), Sheet(20_000, 20_000, TRANSFORM), 10**12, 100)
+    rows, cols = size_for(
+        table_demand(1, 1, NO_REACH), Sheet(20_000, 20_000, TRANSFORM), 10**12, 100
+    )
     assert len(places_of(cuts_of((20_000, 20_000), (rows, cols)))) >= 361
 
 
@@ -56,4 +58,6 @@ def test_tiles_cover_each_cell_once(rows: int, cols: int, high: int, wide: int) 
     tiles = places_of(cuts_of((rows, cols), (high, wide)))
     assert sum(tile.rows * tile.cols for tile in tiles) == rows * cols
     assert all(tile.top % high == 0 and tile.left % wide == 0 for tile in tiles)
-    assert [(tile.top, tile.left) for tile in tiles] == sorted({(tile.top, tile.left) for tile in tiles})
+    assert [(tile.top, tile.left) for tile in tiles] == sorted(
+        {(tile.top, tile.left) for tile in tiles}
+    )

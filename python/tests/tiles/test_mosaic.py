@@ -19,8 +19,15 @@ from tests.tiles import whole
 from tests.tiles.conftest import MakeTif, read_tif, write_tif
 
 # Two maps and an expression are many choices: how many examples are too large for hypothesis is a matter of chance.
-some = settings(max_examples=25, deadline=None,
-                suppress_health_check=[HealthCheck.function_scoped_fixture, HealthCheck.data_too_large, HealthCheck.too_slow])
+some = settings(
+    max_examples=25,
+    deadline=None,
+    suppress_health_check=[
+        HealthCheck.function_scoped_fixture,
+        HealthCheck.data_too_large,
+        HealthCheck.too_slow,
+    ],
+)
 
 NULL = whole.NULL_CELL
 
@@ -41,15 +48,28 @@ TERMS = st.one_of(
     st.builds("{}[{},{}]".format, st.sampled_from("ab"), OFFSETS, OFFSETS),
 )
 
-EXPRESSIONS = st.recursive(TERMS, lambda inner: st.one_of(
-    st.builds("({} {} {})".format, inner, st.sampled_from(["+", "-", "*", "/", "%", "==", "<", "&&&", "|||"]), inner),
-    st.builds("if({}, {}, {})".format, inner, inner, inner),
-    st.builds("{}({}, {})".format, st.sampled_from(["nmode", "nmax", "min", "eval"]), inner, inner),
-    st.builds("isnull({})".format, inner),
-), max_leaves=6)
+EXPRESSIONS = st.recursive(
+    TERMS,
+    lambda inner: st.one_of(
+        st.builds(
+            "({} {} {})".format,
+            inner,
+            st.sampled_from(["+", "-", "*", "/", "%", "==", "<", "&&&", "|||"]),
+            inner,
+        ),
+        st.builds("if({}, {}, {})".format, inner, inner, inner),
+        st.builds(
+            "{}({}, {})".format, st.sampled_from(["nmode", "nmax", "min", "eval"]), inner, inner
+        ),
+        st.builds("isnull({})".format, inner),
+    ),
+    max_leaves=6,
+)
 
 
-def opened(folder: Path, scheduler: str, first: Any, second: Any, size: tuple[int, int]) -> rcell.tiles.Mosaic:
+def opened(
+    folder: Path, scheduler: str, first: Any, second: Any, size: tuple[int, int]
+) -> rcell.tiles.Mosaic:
     a = write_tif(folder / "a.tif", first, NULL)
     b = write_tif(folder / "b.tif", second, NULL)
     return rcell.tiles.open(size=size, scheduler=scheduler, a=a, b=b)
@@ -66,7 +86,9 @@ def maps(first: Any, second: Any) -> dict[str, Any]:
 
 @some
 @given(case=cases(), expression=EXPRESSIONS)
-def test_grids(tmp_path: Path, scheduler: str, case: tuple[Any, Any, tuple[int, int]], expression: str) -> None:
+def test_grids(
+    tmp_path: Path, scheduler: str, case: tuple[Any, Any, tuple[int, int]], expression: str
+) -> None:
     first, second, size = case
     expected = cells_of(rcell.grid(f"r.mapcalc x = {expression}", "x", maps(first, second)))
     with opened(tmp_path, scheduler, first, second, size) as mosaic:
@@ -77,13 +99,27 @@ def test_grids(tmp_path: Path, scheduler: str, case: tuple[Any, Any, tuple[int, 
 
 
 @some
-@given(case=cases(), expression=EXPRESSIONS, flags=st.sampled_from(["-c", "-cn", "-cN", "-l", ""]),
-       after=st.sampled_from(["", " after=2,1", " after=1,*"]), inputs=st.sampled_from(["a,x", "y,b", "x,y", "a,b"]))
-def test_tables(tmp_path: Path, scheduler: str, case: tuple[Any, Any, tuple[int, int]], expression: str, flags: str, after: str,
-                inputs: str) -> None:
+@given(
+    case=cases(),
+    expression=EXPRESSIONS,
+    flags=st.sampled_from(["-c", "-cn", "-cN", "-l", ""]),
+    after=st.sampled_from(["", " after=2,1", " after=1,*"]),
+    inputs=st.sampled_from(["a,x", "y,b", "x,y", "a,b"]),
+)
+def test_tables(
+    tmp_path: Path,
+    scheduler: str,
+    case: tuple[Any, Any, tuple[int, int]],
+    expression: str,
+    flags: str,
+    after: str,
+    inputs: str,
+) -> None:
     first, second, size = case
-    script = (f"r.mapcalc x = {expression}\nr.reclass input=x output=y\n1 thru 3 = 1 few\n4 thru 9 = 2\n* = 3 many\nend\n"
-              f"r.stats {flags} input={inputs}{after}")
+    script = (
+        f"r.mapcalc x = {expression}\nr.reclass input=x output=y\n1 thru 3 = 1 few\n4 thru 9 = 2\n* = 3 many\nend\n"
+        f"r.stats {flags} input={inputs}{after}"
+    )
     expected = rcell.table(script, maps(first, second))
     with opened(tmp_path, scheduler, first, second, size) as mosaic:
         found = mosaic.table(script)
@@ -93,7 +129,9 @@ def test_tables(tmp_path: Path, scheduler: str, case: tuple[Any, Any, tuple[int,
 
 @some
 @given(case=cases(), diagonal=st.booleans())
-def test_patches(tmp_path: Path, scheduler: str, case: tuple[Any, Any, tuple[int, int]], diagonal: bool) -> None:
+def test_patches(
+    tmp_path: Path, scheduler: str, case: tuple[Any, Any, tuple[int, int]], diagonal: bool
+) -> None:
     first, second, size = case
     expected = whole.clump(first, diagonal)
     with opened(tmp_path, scheduler, first, second, size) as mosaic:
@@ -106,14 +144,22 @@ def test_patches(tmp_path: Path, scheduler: str, case: tuple[Any, Any, tuple[int
     assert patches["cells"].tolist() == np.bincount(expected.ravel())[1:].tolist()
 
 
-SHAPES = {"comb": whole.comb(23, 21), "comb on its side": whole.comb(23, 21).T, "spiral": whole.spiral(25),
-          "checkerboard": whole.checkerboard(20, 21), "diagonals": whole.diagonals(21, 20), "one row": whole.comb(1, 30),
-          "null alone": np.full((6, 7), NULL, np.int32)}
+SHAPES = {
+    "comb": whole.comb(23, 21),
+    "comb on its side": whole.comb(23, 21).T,
+    "spiral": whole.spiral(25),
+    "checkerboard": whole.checkerboard(20, 21),
+    "diagonals": whole.diagonals(21, 20),
+    "one row": whole.comb(1, 30),
+    "null alone": np.full((6, 7), NULL, np.int32),
+}
 
 
 @pytest.mark.parametrize("size", [(1, 99), (99, 1), (7, 5), (8, 8), (99, 99)], ids=str)
 @pytest.mark.parametrize("name", SHAPES)
-def test_hard_shapes(tif: MakeTif, tmp_path: Path, scheduler: str, name: str, size: tuple[int, int]) -> None:
+def test_hard_shapes(
+    tif: MakeTif, tmp_path: Path, scheduler: str, name: str, size: tuple[int, int]
+) -> None:
     cells = SHAPES[name]
     path = tif("lc", cells, NULL)
     for diagonal in (False, True):
@@ -130,7 +176,9 @@ def test_nine_offsets_and_nmode_over_bands(tif: MakeTif, tmp_path: Path, schedul
     cells = np.random.default_rng(7).integers(0, 4, (70, 40)).astype(np.uint8)
     around = [f"lc[{down},{right}]" for down in (-1, 0, 1) for right in (-1, 0, 1)]
     for expression in (" + ".join(around), f"nmode({', '.join(around)})"):
-        expected = cells_of(rcell.grid(f"r.mapcalc x = {expression}", "x", lc=rcell.Map(cells, nodata=0)))
+        expected = cells_of(
+            rcell.grid(f"r.mapcalc x = {expression}", "x", lc=rcell.Map(cells, nodata=0))
+        )
         for size in ((1, 40), (70, 1), (16, 16), (30, 7)):
             with rcell.tiles.open(size=size, scheduler=scheduler, lc=tif("lc", cells, 0)) as mosaic:
                 mosaic.grid(f"x = {expression}", tmp_path / "x.tif")
@@ -148,26 +196,53 @@ def test_offsets_of_255_reach_over_many_tiles(tif: MakeTif, tmp_path: Path, sche
 def test_tables_have_labels_areas_and_percentages(tif: MakeTif, scheduler: str) -> None:
     cells = np.random.default_rng(1).integers(1, 5, (30, 20)).astype(np.uint8)
     path = tif("lc", cells)
-    script = "r.reclass input=lc output=k\n1 2 = 1 built up, houses\n* = 2\nend\nr.stats -cl input=lc,k"
+    script = (
+        "r.reclass input=lc output=k\n1 2 = 1 built up, houses\n* = 2\nend\nr.stats -cl input=lc,k"
+    )
     expected = rcell.table(script, lc=path, area="ha", percent=True)
     with rcell.tiles.open(size=9, scheduler=scheduler, lc=path) as mosaic:
         found = mosaic.table(script, area="ha", percent=True)
     assert found.equals(expected)
-    assert list(found.columns) == ["lc", "lc_label", "k", "k_label", "cells", "area_ha", "percent"] or "k_label" in found.columns
+    assert (
+        list(found.columns) == ["lc", "lc_label", "k", "k_label", "cells", "area_ha", "percent"]
+        or "k_label" in found.columns
+    )
 
 
-HALO_MAKERS = ("r.mapcalc x = nmax(a[-1,0], a[1,2]) + row()\nr.reclass input=x output=y\n1 thru 9 = 1 few\n* = 2 many, or null\nend\n"
-               "r.mapcalc here = col() % 2\nr.mapcalc z = here[1,-1]\n")
+HALO_MAKERS = (
+    "r.mapcalc x = nmax(a[-1,0], a[1,2]) + row()\nr.reclass input=x output=y\n1 thru 9 = 1 few\n* = 2 many, or null\nend\n"
+    "r.mapcalc here = col() % 2\nr.mapcalc z = here[1,-1]\n"
+)
 
 
 @pytest.mark.parametrize("size", [(4, 5), (1, 99), (99, 3), (99, 99)], ids=str)
-@pytest.mark.parametrize("options", [
-    "input=x,a", "-l input=y,a", "-c input=y,x,a,y", "-cl input=b,y separator=comma null_value=1", "-cn input=y,a after=1,2", "-clN input=z,y,b",
-    "-c input=z", "-cN input=z,z after=*,*", f"-c input={','.join('xyzabyza' * 2)}", f"-cl input={','.join('y' * 16)} after={','.join('1' * 16)}",
-])
-def test_tables_of_maps_with_halos_equal_one_run(tmp_path: Path, scheduler: str, size: tuple[int, int], options: str) -> None:
+@pytest.mark.parametrize(
+    "options",
+    [
+        "input=x,a",
+        "-l input=y,a",
+        "-c input=y,x,a,y",
+        "-cl input=b,y separator=comma null_value=1",
+        "-cn input=y,a after=1,2",
+        "-clN input=z,y,b",
+        "-c input=z",
+        "-cN input=z,z after=*,*",
+        f"-c input={','.join('xyzabyza' * 2)}",
+        f"-cl input={','.join('y' * 16)} after={','.join('1' * 16)}",
+    ],
+)
+def test_tables_of_maps_with_halos_equal_one_run(
+    tmp_path: Path, scheduler: str, size: tuple[int, int], options: str
+) -> None:
     rng = np.random.default_rng(9)
-    a, b = (write_tif(tmp_path / f"{name}.tif", rng.choice([1, 1, 2, 3, NULL], (11, 13)).astype(np.int16), NULL) for name in "ab")
+    a, b = (
+        write_tif(
+            tmp_path / f"{name}.tif",
+            rng.choice([1, 1, 2, 3, NULL], (11, 13)).astype(np.int16),
+            NULL,
+        )
+        for name in "ab"
+    )
     write_labels(a, {1: "wood", 3: "lake, or sea"})
     script = f"{HALO_MAKERS}r.stats {options}"
     expected = rcell.table(script, a=a, b=b)
@@ -199,13 +274,26 @@ def test_a_reclass_writes_its_labels(tif: MakeTif, tmp_path: Path, scheduler: st
     assert grid.labels == {5: "wood", 6: "other"}
 
 
-@pytest.mark.parametrize("dtype, nodata", [("uint8", 255), ("int16", -9), ("uint16", None), ("int32", -2147483648), ("uint32", 7),
-                                           ("float32", float("nan")), ("float64", -9999.0), ("int64", None)])
+@pytest.mark.parametrize(
+    "dtype, nodata",
+    [
+        ("uint8", 255),
+        ("int16", -9),
+        ("uint16", None),
+        ("int32", -2147483648),
+        ("uint32", 7),
+        ("float32", float("nan")),
+        ("float64", -9999.0),
+        ("int64", None),
+    ],
+)
 def test_types_of_cells(tif: MakeTif, scheduler: str, dtype: str, nodata: float | None) -> None:
     cells = np.random.default_rng(2).integers(0, 9, (11, 13)).astype(dtype)
     path = tif("lc", cells, nodata)
     with rcell.tiles.open(size=(4, 5), scheduler=scheduler, lc=path) as mosaic:
-        assert mosaic.table("r.stats -c input=lc").equals(rcell.table("r.stats -c input=lc", lc=path))
+        assert mosaic.table("r.stats -c input=lc").equals(
+            rcell.table("r.stats -c input=lc", lc=path)
+        )
 
 
 def test_rows_from_south_to_north_and_masks(tif: MakeTif, tmp_path: Path, scheduler: str) -> None:
@@ -219,7 +307,9 @@ def test_rows_from_south_to_north_and_masks(tif: MakeTif, tmp_path: Path, schedu
     for path in (turned, masked):
         with rcell.tiles.open(size=(4, 5), scheduler=scheduler, lc=path) as mosaic:
             mosaic.grid("x = lc[1,0] + row()", tmp_path / "x.tif")
-            assert mosaic.table("r.stats -c input=lc").equals(rcell.table("r.stats -c input=lc", lc=path))
+            assert mosaic.table("r.stats -c input=lc").equals(
+                rcell.table("r.stats -c input=lc", lc=path)
+            )
         expected = rcell.grid("r.mapcalc x = lc[1,0] + row()", "x", lc=path)
         assert read_tif(tmp_path / "x.tif").tolist() == cells_of(expected).tolist()
 
@@ -231,7 +321,10 @@ def test_more_rows_than_the_program_takes(tmp_path: Path, scheduler: str) -> Non
         rcell.table("r.stats -c input=lc", lc=path)
     with rcell.tiles.open(size=20_000, scheduler=scheduler, lc=path) as mosaic:
         assert not mosaic.is_needless
-        assert mosaic.table("r.stats -c input=lc")["cells"].tolist() == np.bincount(cells.ravel()).tolist()
+        assert (
+            mosaic.table("r.stats -c input=lc")["cells"].tolist()
+            == np.bincount(cells.ravel()).tolist()
+        )
         mosaic.grid("x = row() * (lc[1,0] == lc) + nrows()", tmp_path / "x.tif")
         assert mosaic.clump("lc", tmp_path / "p.tif") == (70_000 + 8) // 9
     rows = np.arange(1, 70_001)
@@ -242,8 +335,13 @@ def test_more_rows_than_the_program_takes(tmp_path: Path, scheduler: str) -> Non
 
 def test_sizes_are_chosen_by_memory(tif: MakeTif, scheduler: str) -> None:
     cells = np.random.default_rng(4).integers(0, 9, (900, 800)).astype(np.uint8)
-    with rcell.tiles.open(scheduler=scheduler, lc=tif("lc", cells, tiled=True, blockxsize=256, blockysize=256)) as mosaic:
-        assert mosaic.table("r.stats -c input=lc")["cells"].tolist() == np.bincount(cells.ravel()).tolist()
+    with rcell.tiles.open(
+        scheduler=scheduler, lc=tif("lc", cells, tiled=True, blockxsize=256, blockysize=256)
+    ) as mosaic:
+        assert (
+            mosaic.table("r.stats -c input=lc")["cells"].tolist()
+            == np.bincount(cells.ravel()).tolist()
+        )
         assert repr(mosaic) == "<Mosaic of lc: 900 x 800 cells, tiles chosen by memory>"
         assert mosaic.shape == (900, 800) and mosaic.names == ["lc"]
 
@@ -261,4 +359,6 @@ def test_halos_end_where_the_map_does() -> None:
 
     sheet = Sheet(100, 50, (1.0, 0.0, 0.0, 0.0, -1.0, 100.0))
     assert with_halo(Rectangle(10, 10, 10, 10), Reach(1, 2, 3, 4), sheet) == Rectangle(9, 7, 13, 17)
-    assert with_halo(Rectangle(0, 0, 100, 50), Reach(255, 255, 255, 255), sheet) == Rectangle(0, 0, 100, 50)
+    assert with_halo(Rectangle(0, 0, 100, 50), Reach(255, 255, 255, 255), sheet) == Rectangle(
+        0, 0, 100, 50
+    )

@@ -45,11 +45,13 @@ def cut(heights: list[int], widths: list[int]) -> list[Rectangle]:
     """The rectangles that cuts between rows and columns make, row by row."""
     rows = list(pairwise(accumulate(heights, initial=0)))
     cols = list(pairwise(accumulate(widths, initial=0)))
-    return [Rectangle(top, left, low - top, right - left) for top, low in rows for left, right in cols]
+    return [
+        Rectangle(top, left, low - top, right - left) for top, low in rows for left, right in cols
+    ]
 
 
 def part(cells: Integers, place: Rectangle) -> Integers:
-    return cells[place.top:place.top + place.rows, place.left:place.left + place.cols]
+    return cells[place.top : place.top + place.rows, place.left : place.left + place.cols]
 
 
 @st.composite

@@ -10,5 +10,14 @@ from .reclass import ReclassAlgorithm
 from .script import ScriptAlgorithm
 from .tables import ChangeAlgorithm, CompositionAlgorithm, CrossAlgorithm, ZonalAlgorithm
 
-ALGORITHMS = (CompositionAlgorithm, CrossAlgorithm, ChangeAlgorithm, PatchesAlgorithm, ZonalAlgorithm, MajorityAlgorithm, AlignAlgorithm,
-              ReclassAlgorithm, ScriptAlgorithm)
+ALGORITHMS = (
+    CompositionAlgorithm,
+    CrossAlgorithm,
+    ChangeAlgorithm,
+    PatchesAlgorithm,
+    ZonalAlgorithm,
+    MajorityAlgorithm,
+    AlignAlgorithm,
+    ReclassAlgorithm,
+    ScriptAlgorithm,
+)

@@ -99,7 +99,10 @@ class RcellAlgorithm(QgsProcessingAlgorithm):
 
     def helpUrl(self) -> str:
         """Return the page of the plugin, which the Help button opens."""
-        paths = [os.path.normpath(os.path.join(os.path.dirname(os.path.abspath(__file__)), name)) for name in _HELP]
+        paths = [
+            os.path.normpath(os.path.join(os.path.dirname(os.path.abspath(__file__)), name))
+            for name in _HELP
+        ]
         path = next((path for path in paths if os.path.isfile(path)), "")
         return str(QUrl.fromLocalFile(path).toString()) if path else ""
 
@@ -119,7 +122,9 @@ class RcellAlgorithm(QgsProcessingAlgorithm):
             return False, str(error)
         return True, ""
 
-    def checkParameterValues(self, parameters: Parameters, context: QgsProcessingContext) -> tuple[bool, str]:
+    def checkParameterValues(
+        self, parameters: Parameters, context: QgsProcessingContext
+    ) -> tuple[bool, str]:
         """Check parameters and rasters before the run, so that the dialog stays open after an error."""
         try:
             if self.has_rasters(parameters):
@@ -139,7 +144,9 @@ class RcellAlgorithm(QgsProcessingAlgorithm):
             for raster in rasters:
                 release(raster)
 
-    def prepareAlgorithm(self, parameters: Parameters, context: QgsProcessingContext, feedback: QgsProcessingFeedback) -> bool:
+    def prepareAlgorithm(
+        self, parameters: Parameters, context: QgsProcessingContext, feedback: QgsProcessingFeedback
+    ) -> bool:
         """Read the layers in the main thread, the only one that may use them."""
         self.watch = Watch(warn=feedback.pushWarning)
         try:
@@ -151,7 +158,9 @@ class RcellAlgorithm(QgsProcessingAlgorithm):
             raise QgsProcessingException(str(error)) from None
         return True
 
-    def processAlgorithm(self, parameters: Parameters, context: QgsProcessingContext, feedback: QgsProcessingFeedback) -> dict[str, Any]:
+    def processAlgorithm(
+        self, parameters: Parameters, context: QgsProcessingContext, feedback: QgsProcessingFeedback
+    ) -> dict[str, Any]:
         """Run the program, in a thread of its own; errors have the program's message."""
         self.watch = Watch(
             is_cancelled=feedback.isCanceled,
@@ -161,7 +170,9 @@ class RcellAlgorithm(QgsProcessingAlgorithm):
         )
         try:
             self.check_targets(parameters, context)
-            return self.answer(find_program(program_setting()), parameters, context, feedback, self.watch)
+            return self.answer(
+                find_program(program_setting()), parameters, context, feedback, self.watch
+            )
         except RcellError as error:
             raise QgsProcessingException(message_of(error, feedback)) from None
         finally:
@@ -170,12 +181,20 @@ class RcellAlgorithm(QgsProcessingAlgorithm):
 
     # Methods that algorithms override
 
-    def answer(self, program: str, parameters: Parameters, context: QgsProcessingContext, feedback: QgsProcessingFeedback,
-               watch: Watch) -> dict[str, Any]:
+    def answer(
+        self,
+        program: str,
+        parameters: Parameters,
+        context: QgsProcessingContext,
+        feedback: QgsProcessingFeedback,
+        watch: Watch,
+    ) -> dict[str, Any]:
         """Return the results by the names of the outputs."""
         raise NotImplementedError
 
-    def checked_rasters(self, parameters: Parameters, context: QgsProcessingContext) -> list[Raster]:
+    def checked_rasters(
+        self, parameters: Parameters, context: QgsProcessingContext
+    ) -> list[Raster]:
         """Return the rasters after checking that they fit each other."""
         layer = self.raster_layer(parameters, context)
         return [raster_of(layer, layer.name(), self.band(parameters, context))]
@@ -190,7 +209,11 @@ class RcellAlgorithm(QgsProcessingAlgorithm):
     def add_band(self) -> None:
         """Add the parameter for the band of `INPUT`."""
         title = tr("Band (required if the raster has several)")
-        self.addParameter(QgsProcessingParameterBand("BAND", title, parentLayerParameterName="INPUT", optional=True))
+        self.addParameter(
+            QgsProcessingParameterBand(
+                "BAND", title, parentLayerParameterName="INPUT", optional=True
+            )
+        )
 
     def add_crs(self) -> None:
         """Add the parameter for the coordinate reference system of rasters that have none."""
@@ -201,44 +224,87 @@ class RcellAlgorithm(QgsProcessingAlgorithm):
 
     def add_rasters(self, title: str) -> None:
         """Add the parameter for several rasters."""
-        self.addParameter(QgsProcessingParameterMultipleLayers("INPUT", title, QgsProcessing.TypeRaster))
+        self.addParameter(
+            QgsProcessingParameterMultipleLayers("INPUT", title, QgsProcessing.TypeRaster)
+        )
 
     def add_area(self) -> None:
         """Add the parameter for the unit of areas."""
-        self.addParameter(QgsProcessingParameterEnum("AREA", tr("Unit of areas"), AREAS, False, "ha", False, True))
+        self.addParameter(
+            QgsProcessingParameterEnum("AREA", tr("Unit of areas"), AREAS, False, "ha", False, True)
+        )
 
     def add_labels(self) -> None:
         """Add the parameter for a legend in a file."""
-        title = tr("Labels of classes: a CSV file with value,label, or a style (empty: the labels of the layer)")
-        self.addParameter(QgsProcessingParameterFile("LABELS", title, optional=True, fileFilter="Legends (*.csv *.qml)"))
+        title = tr(
+            "Labels of classes: a CSV file with value,label, or a style (empty: the labels of the layer)"
+        )
+        self.addParameter(
+            QgsProcessingParameterFile(
+                "LABELS", title, optional=True, fileFilter="Legends (*.csv *.qml)"
+            )
+        )
 
     def add_zones(self, is_optional: bool = True) -> None:
         """Add the parameters for zones and their labels."""
         kinds = [QgsProcessing.TypeRaster, QgsProcessing.TypeVectorPolygon]
-        self.addParameter(QgsProcessingParameterMapLayer("ZONES", tr("Zones: a raster, or polygons"), None, is_optional, kinds))
-        self.addParameter(QgsProcessingParameterString("ZONE_FIELD", tr("Field of the polygons with the zones"), optional=True))
-        title = tr("Labels of zones: a CSV file with value,label, or a style (empty: the labels of the layer)")
-        self.addParameter(QgsProcessingParameterFile("ZONE_LABELS", title, optional=True, fileFilter="Legends (*.csv *.qml)"))
+        self.addParameter(
+            QgsProcessingParameterMapLayer(
+                "ZONES", tr("Zones: a raster, or polygons"), None, is_optional, kinds
+            )
+        )
+        self.addParameter(
+            QgsProcessingParameterString(
+                "ZONE_FIELD", tr("Field of the polygons with the zones"), optional=True
+            )
+        )
+        title = tr(
+            "Labels of zones: a CSV file with value,label, or a style (empty: the labels of the layer)"
+        )
+        self.addParameter(
+            QgsProcessingParameterFile(
+                "ZONE_LABELS", title, optional=True, fileFilter="Legends (*.csv *.qml)"
+            )
+        )
 
     def add_table(self, title: str = "", name: str = "OUTPUT", is_optional: bool = False) -> None:
         """Add the parameter for an output table."""
-        self.addParameter(QgsProcessingParameterFeatureSink(name, title or tr("Table"), QgsProcessing.TypeVector, None, is_optional, not is_optional))
+        self.addParameter(
+            QgsProcessingParameterFeatureSink(
+                name,
+                title or tr("Table"),
+                QgsProcessing.TypeVector,
+                None,
+                is_optional,
+                not is_optional,
+            )
+        )
 
     def area(self, parameters: Parameters, context: QgsProcessingContext) -> str:
         """Return the unit of areas, or an empty text for none."""
         unit: str = self.parameterAsEnumString(parameters, "AREA", context)
         return "" if unit == AREAS[0] else unit
 
-    def labelled(self, raster: Raster, parameters: Parameters, name: str, context: QgsProcessingContext) -> Raster:
+    def labelled(
+        self, raster: Raster, parameters: Parameters, name: str, context: QgsProcessingContext
+    ) -> Raster:
         """Return a map with the labels of the file that a parameter names, if it names one."""
         path: str = self.parameterAsFile(parameters, name, context)
         return replace(raster, labels=legend_of(path, name.lower())) if path else raster
 
-    def warn_of_lacking(self, parameters: Parameters, name: str, table: Answer, column: str, raster: Raster) -> None:
+    def warn_of_lacking(
+        self, parameters: Parameters, name: str, table: Answer, column: str, raster: Raster
+    ) -> None:
         """Warn of classes that have no label in the file that a parameter names."""
         values = next((each.values for each in table.columns() if each.title == column), [])
         if parameters.get(name):
-            warn_of_lacking(raster.labels, [int(value) for value in values if value is not None], name.lower(), raster.name, self.watch)
+            warn_of_lacking(
+                raster.labels,
+                [int(value) for value in values if value is not None],
+                name.lower(),
+                raster.name,
+                self.watch,
+            )
 
     def zoned_rasters(self, parameters: Parameters, context: QgsProcessingContext) -> list[Raster]:
         """Return the raster of `INPUT` and its zones, if there are zones."""
@@ -249,17 +315,23 @@ class RcellAlgorithm(QgsProcessingAlgorithm):
             zones = self.parameterAsLayer(parameters, "ZONES", context)
             if zones is None or not zones.isValid():
                 raise_unreadable(parameters["ZONES"])
-            drawn = zones_of(zones, self.parameterAsString(parameters, "ZONE_FIELD", context), raster, self.watch)
+            drawn = zones_of(
+                zones, self.parameterAsString(parameters, "ZONE_FIELD", context), raster, self.watch
+            )
             found.append(drawn)
         try:
-            found[1:] = [self.labelled(drawn, parameters, "ZONE_LABELS", context) for drawn in found[1:]]
+            found[1:] = [
+                self.labelled(drawn, parameters, "ZONE_LABELS", context) for drawn in found[1:]
+            ]
             return fitted(found, self.crs(parameters, context))
         except RcellError:
             for raster in found:
                 release(raster)
             raise
 
-    def raster_layers(self, parameters: Parameters, context: QgsProcessingContext, names: Sequence[str] = ()) -> list[Any]:
+    def raster_layers(
+        self, parameters: Parameters, context: QgsProcessingContext, names: Sequence[str] = ()
+    ) -> list[Any]:
         """Return the layers of a list of rasters.
 
         Raises
@@ -267,7 +339,11 @@ class RcellAlgorithm(QgsProcessingAlgorithm):
         RcellError
             A layer cannot be read, or there are too many.
         """
-        given = parameters["INPUT"] if isinstance(parameters["INPUT"], (list, tuple)) else [parameters["INPUT"]]
+        given = (
+            parameters["INPUT"]
+            if isinstance(parameters["INPUT"], (list, tuple))
+            else [parameters["INPUT"]]
+        )
         if not given:
             raise Refused("no raster is given", status=2)
         layers = self.parameterAsLayerList(parameters, "INPUT", context)
@@ -275,7 +351,9 @@ class RcellAlgorithm(QgsProcessingAlgorithm):
             if not self.parameterAsLayerList({"INPUT": [value]}, "INPUT", context):
                 raise_unreadable(value, names[place] if place < len(names) else "")
         if len(layers) > MOST_RASTERS:
-            raise Refused(f"{len(layers)} rasters, and a table has at most {MOST_RASTERS}", status=2)
+            raise Refused(
+                f"{len(layers)} rasters, and a table has at most {MOST_RASTERS}", status=2
+            )
         return list(layers)
 
     def crs(self, parameters: Parameters, context: QgsProcessingContext) -> str:
@@ -305,7 +383,11 @@ class RcellAlgorithm(QgsProcessingAlgorithm):
 
     def band(self, parameters: Parameters, context: QgsProcessingContext) -> int | None:
         """Return the band of `BAND`, or None."""
-        return self.parameterAsInt(parameters, "BAND", context) if parameters.get("BAND") not in (None, "", -1, 0) else None
+        return (
+            self.parameterAsInt(parameters, "BAND", context)
+            if parameters.get("BAND") not in (None, "", -1, 0)
+            else None
+        )
 
     def check_targets(self, parameters: Parameters, context: QgsProcessingContext) -> None:
         """Check that all outputs can be written, before any work is done."""
@@ -314,27 +396,47 @@ class RcellAlgorithm(QgsProcessingAlgorithm):
             if path and definition.type() != "folderDestination":
                 check_target(path, [raster.path for raster in self.rasters])
 
-    def put_map(self, parameters: Parameters, context: QgsProcessingContext, grid: Grid, classes: Sequence[tuple[int, str]],
-                feedback: QgsProcessingFeedback, name: str = "OUTPUT", like: Raster | None = None) -> str:
+    def put_map(
+        self,
+        parameters: Parameters,
+        context: QgsProcessingContext,
+        grid: Grid,
+        classes: Sequence[tuple[int, str]],
+        feedback: QgsProcessingFeedback,
+        name: str = "OUTPUT",
+        like: Raster | None = None,
+    ) -> str:
         """Write a map with its legend and return its path."""
         path: str = self.parameterAsOutputLayer(parameters, name, context)
         put_raster(path, grid, like or self.rasters[0], self.watch.check)
         if not put_legend(path, classes, self.colours, context):
-            feedback.pushInfo(f"The map has {len(classes):,} classes. With more than {MOST_CLASSES:,} it has no legend and stays grey.")
+            feedback.pushInfo(
+                f"The map has {len(classes):,} classes. With more than {MOST_CLASSES:,} it has no legend and stays grey."
+            )
         return path
 
-    def put_table(self, parameters: Parameters, context: QgsProcessingContext, name: str, table: Table | Answer) -> str:
+    def put_table(
+        self,
+        parameters: Parameters,
+        context: QgsProcessingContext,
+        name: str,
+        table: Table | Answer,
+    ) -> str:
         """Write a table to an output: a file, or another sink of QGIS such as a layer in memory."""
         if not table.columns()[0].values:
             self.watch.warn(tr("The table is empty: all cells are without data or left out."))
         path = plain_path(parameters.get(name))
         if path and is_file_of_table(path):
-            target: str = QgsProcessingParameters.parameterAsOutputLayer(self.parameterDefinition(name), parameters[name], context)
+            target: str = QgsProcessingParameters.parameterAsOutputLayer(
+                self.parameterDefinition(name), parameters[name], context
+            )
             write_table(target, table, self.watch.check)
             return target
         self.watch.check()
         nowhere = QgsCoordinateReferenceSystem()
-        sink, target = self.parameterAsSink(parameters, name, context, fields_of(table), QgsWkbTypes.NoGeometry, nowhere)
+        sink, target = self.parameterAsSink(
+            parameters, name, context, fields_of(table), QgsWkbTypes.NoGeometry, nowhere
+        )
         if sink is None:
             raise QgsProcessingException(self.invalidSinkError(parameters, name))
         put_features(sink, table, target)
@@ -346,13 +448,20 @@ def as_log(text: str) -> str:
     if qgis.utils.iface is None:
         return text
     lines = (line.replace("\t", "    ") for line in text.split("\n"))
-    return "\n".join(_NO_BREAK * (len(line) - len(line.lstrip(" "))) + line.lstrip(" ") for line in lines)
+    return "\n".join(
+        _NO_BREAK * (len(line) - len(line.lstrip(" "))) + line.lstrip(" ") for line in lines
+    )
 
 
 def message_of(error: RcellError, feedback: QgsProcessingFeedback) -> str:
     """Return the message of an error; in a window, which has no fixed-width font for it, the mark goes to the log."""
     text = str(error)
-    if qgis.utils.iface is None or not isinstance(error, Refused) or error.content is None or error.column is None:
+    if (
+        qgis.utils.iface is None
+        or not isinstance(error, Refused)
+        or error.content is None
+        or error.column is None
+    ):
         return as_log(text)
     first, content, mark, *advice = text.split("\n")
     feedback.pushConsoleInfo(as_log(f"{content}\n{mark}"))
@@ -369,7 +478,9 @@ def plain_path(value: Any) -> str:
     if isinstance(value, QgsProcessingOutputLayerDefinition):
         value = value.sink.staticValue()
     text = str(value or "")
-    is_other = text in ("", QgsProcessing.TEMPORARY_OUTPUT) or text.startswith(("memory:", "ogr:", "postgis:", "postgres:", "spatialite:"))
+    is_other = text in ("", QgsProcessing.TEMPORARY_OUTPUT) or text.startswith(
+        ("memory:", "ogr:", "postgis:", "postgres:", "spatialite:")
+    )
     return "" if is_other else text
 
 

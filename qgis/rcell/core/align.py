@@ -44,7 +44,9 @@ class Aligned:
     cells_lost: int
 
 
-def align(program: str, raster: Raster, to: Raster, resample: str = "", watch: Watch | None = None) -> tuple[Grid, Aligned]:
+def align(
+    program: str, raster: Raster, to: Raster, resample: str = "", watch: Watch | None = None
+) -> tuple[Grid, Aligned]:
     """Return a map on the grid of another one, and the facts about it.
 
     Raises
@@ -52,7 +54,9 @@ def align(program: str, raster: Raster, to: Raster, resample: str = "", watch: W
     OtherCrs, OtherRegion
         The grids differ by part of a cell, and resampling is not requested.
     """
-    is_same = not (raster.crs or to.crs) or bool(raster.crs and to.crs and are_same(raster.crs, to.crs))
+    is_same = not (raster.crs or to.crs) or bool(
+        raster.crs and to.crs and are_same(raster.crs, to.crs)
+    )
     if not resample or not (raster.crs and to.crs):
         check_crs([to, raster])
     if not resample:
@@ -64,14 +68,20 @@ def align(program: str, raster: Raster, to: Raster, resample: str = "", watch: W
     found[places >= 0] = cells[places[places >= 0]]
     times = np.bincount(places[places >= 0], minlength=cells.size)[cells != NULL]
     facts = Aligned(*shift, int((times > 0).sum()), int((times > 1).sum()), int((times == 0).sum()))
-    return Grid("aligned", found.reshape(to.region.rows, to.region.cols), labels=raster.labels), facts
+    return (
+        Grid("aligned", found.reshape(to.region.rows, to.region.cols), labels=raster.labels),
+        facts,
+    )
 
 
 def shift_of(raster: Raster, to: Raster) -> tuple[float, float]:
     """Return the row and column of the map's grid at which the other grid begins; nearly whole numbers are rounded."""
     west, width, _, north, _, height = raster.geotransform
     shifts = ((to.geotransform[3] - north) / height, (to.geotransform[0] - west) / width)
-    rows, columns = (float(round(shift)) if abs(shift - round(shift)) <= _SHIFT_TOLERANCE else shift for shift in shifts)
+    rows, columns = (
+        float(round(shift)) if abs(shift - round(shift)) <= _SHIFT_TOLERANCE else shift
+        for shift in shifts
+    )
     return rows, columns
 
 
@@ -82,7 +92,9 @@ def is_of_whole_cells(raster: Raster, to: Raster) -> bool:
 
 def _has_cells_of(raster: Raster, to: Raster) -> bool:
     width, height = raster.geotransform[1], raster.geotransform[5]
-    along, down = (width - to.geotransform[1]) * raster.region.cols / width, (height - to.geotransform[5]) * raster.region.rows / height
+    along, down = (width - to.geotransform[1]) * raster.region.cols / width, (
+        height - to.geotransform[5]
+    ) * raster.region.rows / height
     return max(abs(along), abs(down)) <= _SHIFT_TOLERANCE
 
 
@@ -95,19 +107,31 @@ def check_alignment(raster: Raster, to: Raster) -> None:
     """
     hint = "RESAMPLE nearest takes the nearest cell"
     if not _has_cells_of(raster, to):
-        mine, other = (f"{one.geotransform[1]:.15g} x {-one.geotransform[5]:.15g}" for one in (raster, to))
-        raise OtherRegion(raster.name, f"cells of {mine}, and those of `{to.name}` are {other}: {hint}")
+        mine, other = (
+            f"{one.geotransform[1]:.15g} x {-one.geotransform[5]:.15g}" for one in (raster, to)
+        )
+        raise OtherRegion(
+            raster.name, f"cells of {mine}, and those of `{to.name}` are {other}: {hint}"
+        )
     rows, columns = shift_of(raster, to)
     if not (rows.is_integer() and columns.is_integer()):
-        raise OtherRegion(raster.name, f"shifted by {rows:.10g} rows and {columns:.10g} columns, not by whole cells: {hint}")
+        raise OtherRegion(
+            raster.name,
+            f"shifted by {rows:.10g} rows and {columns:.10g} columns, not by whole cells: {hint}",
+        )
 
 
 def _by_side(raster: Raster, to: Raster) -> Places:
     """Return for each cell of a grid the cell of the map that contains its centre, or -1."""
     shifts = shift_of(raster, to)
-    steps = (to.geotransform[5] / raster.geotransform[5], to.geotransform[1] / raster.geotransform[1])
-    along = [np.floor(shift + (np.arange(number) + 0.5) * step + _BORDER_TOLERANCE).astype(np.int64)
-             for shift, step, number in zip(shifts, steps, (to.region.rows, to.region.cols))]
+    steps = (
+        to.geotransform[5] / raster.geotransform[5],
+        to.geotransform[1] / raster.geotransform[1],
+    )
+    along = [
+        np.floor(shift + (np.arange(number) + 0.5) * step + _BORDER_TOLERANCE).astype(np.int64)
+        for shift, step, number in zip(shifts, steps, (to.region.rows, to.region.cols))
+    ]
     return _inside(along[0][:, np.newaxis], along[1][np.newaxis, :], raster).reshape(-1)
 
 
@@ -125,10 +149,18 @@ def _by_centre(raster: Raster, to: Raster) -> Places:
     step = max(1, _BLOCK_CELLS // to.region.cols)
     for row in range(0, to.region.rows, step):
         rows, cols = np.mgrid[row : min(row + step, to.region.rows), 0 : to.region.cols] + 0.5
-        centres = np.column_stack([(to.geotransform[0] + cols * to.geotransform[1]).ravel(), (to.geotransform[3] + rows * to.geotransform[5]).ravel()])
+        centres = np.column_stack(
+            [
+                (to.geotransform[0] + cols * to.geotransform[1]).ravel(),
+                (to.geotransform[3] + rows * to.geotransform[5]).ravel(),
+            ]
+        )
         found = np.array(transformation.TransformPoints(centres))[:, :2]
         found[~np.isfinite(found).all(axis=1)] = west - abs(width)
-        down, along = (np.floor(offset + _BORDER_TOLERANCE) for offset in ((found[:, 1] - north) / height, (found[:, 0] - west) / width))
+        down, along = (
+            np.floor(offset + _BORDER_TOLERANCE)
+            for offset in ((found[:, 1] - north) / height, (found[:, 0] - west) / width)
+        )
         blocks.append(_inside(down, along, raster))
     return np.concatenate(blocks)
 

@@ -72,9 +72,21 @@ class Table:
         if self.cells is not None:
             found.append(Column("cells", "whole", self.cells.tolist()))
             if self.unit:
-                found.append(Column(f"area_{self.unit}", "real", (self.cells * self.cell_area / UNITS[self.unit]).tolist()))
+                found.append(
+                    Column(
+                        f"area_{self.unit}",
+                        "real",
+                        (self.cells * self.cell_area / UNITS[self.unit]).tolist(),
+                    )
+                )
             if self.has_percent:
-                found.append(Column("percent", "real", (self.cells * 100.0 / max(int(self.cells.sum()), 1)).tolist()))
+                found.append(
+                    Column(
+                        "percent",
+                        "real",
+                        (self.cells * 100.0 / max(int(self.cells.sum()), 1)).tolist(),
+                    )
+                )
         titles = unique([column.title for column in found])
         return [replace(column, title=title) for column, title in zip(found, titles)]
 
@@ -120,7 +132,9 @@ class Grid:
         least = int(kept.min())
         if int(kept.max()) - least < _FEW_CATEGORIES:
             counted = np.bincount(kept - np.int32(least))
-            return {least + place: int(counted[place]) for place in np.flatnonzero(counted).tolist()}
+            return {
+                least + place: int(counted[place]) for place in np.flatnonzero(counted).tolist()
+            }
         categories, counts = np.unique(kept, return_counts=True)
         return dict(zip(categories.tolist(), counts.tolist()))
 
@@ -147,8 +161,10 @@ def check_area(first: Raster) -> None:
         The map is in degrees.
     """
     if first.is_geographic:
-        raise Refused("area= needs a map in metres or feet: in degrees the area of a cell differs from row to row; "
-                      "rcell:composition, rcell:cross, rcell:change and rcell:patches weigh each row")
+        raise Refused(
+            "area= needs a map in metres or feet: in degrees the area of a cell differs from row to row; "
+            "rcell:composition, rcell:cross, rcell:change and rcell:patches weigh each row"
+        )
 
 
 # Scripts
@@ -163,7 +179,13 @@ class Answers:
     outputs: list[Table | Grid]
 
 
-def run(program: str, script: str, maps: Mapping[str, Raster], wanted: Sequence[str] = (), watch: Watch | None = None) -> Answers:
+def run(
+    program: str,
+    script: str,
+    maps: Mapping[str, Raster],
+    wanted: Sequence[str] = (),
+    watch: Watch | None = None,
+) -> Answers:
     """Run a script over maps of one region.
 
     Parameters
@@ -189,11 +211,20 @@ def run(program: str, script: str, maps: Mapping[str, Raster], wanted: Sequence[
     for name in wanted:
         if name not in maps and name not in made:
             raise Refused(f"no map {name}: there are {', '.join([*maps, *made])}", status=2)
-    frames = frames_of(program, maps, script, "\n".join([script, *(f"r.out.ascii input={name}" for name in wanted)]), watch)
+    frames = frames_of(
+        program,
+        maps,
+        script,
+        "\n".join([script, *(f"r.out.ascii input={name}" for name in wanted)]),
+        watch,
+    )
     labels = {**{name: raster.labels for name, raster in maps.items()}, **made}
     outputs: list[Table | Grid] = [
-        Grid(frame.name, _cells_of(frame), labels=labels[frame.name]) if isinstance(frame, pipe.GridFrame) else _table(frame, maps)
-        for frame in frames]
+        Grid(frame.name, _cells_of(frame), labels=labels[frame.name])
+        if isinstance(frame, pipe.GridFrame)
+        else _table(frame, maps)
+        for frame in frames
+    ]
     tables = [output for output in outputs if isinstance(output, Table)]
     return Answers(tables, [output for output in outputs if isinstance(output, Grid)], outputs)
 
@@ -210,7 +241,14 @@ def _labels_of(frame: pipe.Frame) -> list[dict[int, str]]:
     width = len(frame.names)
     codes, texts = frame.cells.tolist(), frame.labels
     pairs = (zip(codes[place::width], texts[place::width]) for place in range(width))
-    return [{code: text.decode("utf-8", "surrogateescape") for code, text in each if text and code != NULL} for each in pairs]
+    return [
+        {
+            code: text.decode("utf-8", "surrogateescape")
+            for code, text in each
+            if text and code != NULL
+        }
+        for each in pairs
+    ]
 
 
 def _table(frame: pipe.TableFrame, maps: Mapping[str, Raster]) -> Table:
@@ -218,9 +256,14 @@ def _table(frame: pipe.TableFrame, maps: Mapping[str, Raster]) -> Table:
     labels = None if frame.labels is None else _labels_of(frame)
     return Table(
         titles=tuple(maps[name].name if name in maps else name for name in frame.names),
-        categories=np.asarray(frame.cells).reshape(frame.entries, len(frame.names)).astype(np.int64),
+        categories=np.asarray(frame.cells)
+        .reshape(frame.entries, len(frame.names))
+        .astype(np.int64),
         cells=None if frame.counts is None else np.asarray(frame.counts).astype(np.int64),
-        labels=tuple(None if labels is None else maps[name].labels if name in maps else labels[at] for at, name in enumerate(frame.names)),
+        labels=tuple(
+            None if labels is None else maps[name].labels if name in maps else labels[at]
+            for at, name in enumerate(frame.names)
+        ),
         line=frame.line,
     )
 
@@ -249,4 +292,11 @@ def reclass(program: str, raster: Raster, rules: str, watch: Watch | None = None
     except Refused as refusal:
         if refusal.source != "script" or not 2 <= refusal.line <= len(lines) + 1:
             raise
-        raise type(refusal)(refusal.text, "rules", refusal.line - 1, refusal.status, refusal.content, advice=refusal.advice) from None
+        raise type(refusal)(
+            refusal.text,
+            "rules",
+            refusal.line - 1,
+            refusal.status,
+            refusal.content,
+            advice=refusal.advice,
+        ) from None

@@ -39,15 +39,28 @@ class Counts:
 
     def where(self, is_kept: NDArray[np.bool_]) -> Counts:
         """Return some of the entries."""
-        return Counts(self.classes[is_kept], self.cells[is_kept], None if self.area is None else self.area[is_kept])
+        return Counts(
+            self.classes[is_kept],
+            self.cells[is_kept],
+            None if self.area is None else self.area[is_kept],
+        )
 
     def has_null(self) -> NDArray[np.bool_]:
         """Where a map is null."""
         return np.asarray((self.classes == NULL).any(axis=1))
 
 
-def count(program: str, maps: Mapping[str, Raster], combinations: Sequence[Sequence[str]], unit: str = "", before: Sequence[str] = (),
-          by_row: Sequence[bool] | None = None, nulls: bool = False, wanted: Sequence[str] = (), watch: Watch | None = None) -> tuple[list[Counts], Answers]:
+def count(
+    program: str,
+    maps: Mapping[str, Raster],
+    combinations: Sequence[Sequence[str]],
+    unit: str = "",
+    before: Sequence[str] = (),
+    by_row: Sequence[bool] | None = None,
+    nulls: bool = False,
+    wanted: Sequence[str] = (),
+    watch: Watch | None = None,
+) -> tuple[list[Counts], Answers]:
     """Count combinations of maps, and of maps that a script makes first.
 
     Parameters
@@ -70,13 +83,20 @@ def count(program: str, maps: Mapping[str, Raster], combinations: Sequence[Seque
     watch : Watch, optional
     """
     first = next(iter(maps.values()))
-    is_by_row = [first.is_geographic and bool(unit) and asked for asked in by_row or [True] * len(combinations)]
+    is_by_row = [
+        first.is_geographic and bool(unit) and asked
+        for asked in by_row or [True] * len(combinations)
+    ]
     sizes = cell_sizes(first) if unit else 1.0
     lines = [*before, *(["r.mapcalc rcell_row = row()"] if any(is_by_row) else [])]
     for names, adds in zip(combinations, is_by_row):
-        lines.append(f"r.stats -c{'' if nulls else 'n'} input={','.join([*names, *(['rcell_row'] if adds else [])])}")
+        lines.append(
+            f"r.stats -c{'' if nulls else 'n'} input={','.join([*names, *(['rcell_row'] if adds else [])])}"
+        )
     found = run(program, "\n".join(lines), maps, wanted, watch)
-    return [_measured(table, sizes, unit, adds) for table, adds in zip(found.tables, is_by_row)], found
+    return [
+        _measured(table, sizes, unit, adds) for table, adds in zip(found.tables, is_by_row)
+    ], found
 
 
 def _measured(table: Table, sizes: Any, unit: str, is_by_row: bool) -> Counts:
@@ -114,7 +134,9 @@ class Answer:
     def columns(self) -> list[Column]:
         """Return the columns."""
         titles = unique([column.title for column in self.found])
-        return [Column(title, column.kind, column.values) for title, column in zip(titles, self.found)]
+        return [
+            Column(title, column.kind, column.values) for title, column in zip(titles, self.found)
+        ]
 
     def __len__(self) -> int:
         return len(self.found[0].values)
@@ -122,15 +144,23 @@ class Answer:
 
 def whole(title: str, values: Any) -> Column:
     """Return a column of integers, in which NULL is null."""
-    return Column(title, "whole", [None if value == NULL else value for value in np.asarray(values).tolist()])
+    return Column(
+        title, "whole", [None if value == NULL else value for value in np.asarray(values).tolist()]
+    )
 
 
 def real(title: str, values: Any) -> Column:
     """Return a column of numbers, in which NaN is null."""
-    return Column(title, "real", [None if value != value else value for value in np.asarray(values, float).tolist()])
+    return Column(
+        title,
+        "real",
+        [None if value != value else value for value in np.asarray(values, float).tolist()],
+    )
 
 
-def coded(title: str, codes: Integers, labels: Mapping[int, str], label_title: str = "") -> list[Column]:
+def coded(
+    title: str, codes: Integers, labels: Mapping[int, str], label_title: str = ""
+) -> list[Column]:
     """Return a column of classes, and a column of labels if there are labels."""
     columns = [whole(title, codes)]
     return [*columns, text(label_title or f"{title}_label", codes, labels)] if labels else columns
@@ -147,13 +177,22 @@ def sized(counts: Counts, unit: str, group: Integers | None = None) -> list[Colu
     if counts.area is not None:
         columns.append(real(f"area_{unit}", counts.area))
     cells = np.where(counts.has_null(), 0, counts.cells)
-    places = np.zeros(len(cells), np.intp) if group is None else np.unique(group, return_inverse=True)[1].reshape(-1)
+    places = (
+        np.zeros(len(cells), np.intp)
+        if group is None
+        else np.unique(group, return_inverse=True)[1].reshape(-1)
+    )
     total = np.bincount(places, cells, 1)[places] if len(cells) else cells
     with np.errstate(invalid="ignore", divide="ignore"):
-        return [*columns, real("percent", np.where(counts.has_null(), np.nan, cells * 100.0 / total))]
+        return [
+            *columns,
+            real("percent", np.where(counts.has_null(), np.nan, cells * 100.0 / total)),
+        ]
 
 
-def warn_of_lacking(labels: Mapping[int, str], codes: Iterable[int], name: str, of: str, watch: Watch | None) -> None:
+def warn_of_lacking(
+    labels: Mapping[int, str], codes: Iterable[int], name: str, of: str, watch: Watch | None
+) -> None:
     """Warn of classes that have no label in a legend."""
     lacking = sorted({int(code) for code in codes} - set(labels) - {NULL})
     if lacking and watch is not None:

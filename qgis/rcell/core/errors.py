@@ -45,7 +45,14 @@ class OutOfMemory(Refused, MemoryError):
 class BadMap(Refused, ValueError):
     """A map is not a map of whole numbers, or has no grid; `row` and `col` count from 1 at the top left."""
 
-    def __init__(self, name: str, text: str, row: int | None = None, col: int | None = None, value: Any = None) -> None:
+    def __init__(
+        self,
+        name: str,
+        text: str,
+        row: int | None = None,
+        col: int | None = None,
+        value: Any = None,
+    ) -> None:
         super().__init__(text, name)
         self.row = row
         self.col = col
@@ -86,7 +93,10 @@ class Killed(RcellError):
 
     def __str__(self) -> str:
         name = next((f" ({known.name})" for known in signal.Signals if known == self.signal), "")
-        causes = {4: "the processor is older than x86-64-v2, which the program needs", 9: "too little memory, or someone ended it"}
+        causes = {
+            4: "the processor is older than x86-64-v2, which the program needs",
+            9: "too little memory, or someone ended it",
+        }
         cause = causes.get(self.signal, "someone ended it")
         return f"the program was killed by signal {self.signal}{name}: {cause}"
 

@@ -62,8 +62,15 @@ def check_target(path: str, inputs: Sequence[str] = ()) -> None:
         raise WriteFailed(path, f"the folder {folder} may not be written to")
 
 
-def write_raster(path: str, driver: str, cells: NDArray[np.int32], null: int, like: Raster, labels: Mapping[int, str],
-                 check: Check = _no_check) -> None:
+def write_raster(
+    path: str,
+    driver: str,
+    cells: NDArray[np.int32],
+    null: int,
+    like: Raster,
+    labels: Mapping[int, str],
+    check: Check = _no_check,
+) -> None:
     """Write a map as a raster of 32-bit integers.
 
     Parameters
@@ -88,7 +95,9 @@ def write_raster(path: str, driver: str, cells: NDArray[np.int32], null: int, li
     with partly(path) as part, quiet():
         gdal.ErrorReset()
         try:
-            made = _write(part, driver, lambda to: _write_tiff(to, cells, null, like, labels, check))
+            made = _write(
+                part, driver, lambda to: _write_tiff(to, cells, null, like, labels, check)
+            )
         except (RuntimeError, OSError) as error:
             raise WriteFailed(path, str(error)) from None
         if not made:
@@ -97,7 +106,11 @@ def write_raster(path: str, driver: str, cells: NDArray[np.int32], null: int, li
 
 # Tables
 
-_TYPES = {"whole": ("Integer64", ogr.OFTInteger64), "real": ("Real", ogr.OFTReal), "text": ("String", ogr.OFTString)}
+_TYPES = {
+    "whole": ("Integer64", ogr.OFTInteger64),
+    "real": ("Real", ogr.OFTReal),
+    "text": ("String", ogr.OFTString),
+}
 
 
 def is_file_of_table(path: str) -> bool:
@@ -158,14 +171,24 @@ def _write_geopackage(part: str, name: str, columns: list[Column], check: Check)
             raise OSError(gdal.GetLastErrorMsg() or "the disk may be full")
         try:
             with contextlib.closing(sqlite3.connect(part)) as connection, connection:
-                triggers = connection.execute("SELECT name, sql FROM sqlite_master WHERE type = 'trigger' AND tbl_name = ?", [name]).fetchall()
+                triggers = connection.execute(
+                    "SELECT name, sql FROM sqlite_master WHERE type = 'trigger' AND tbl_name = ?",
+                    [name],
+                ).fetchall()
                 for trigger, _ in triggers:
                     connection.execute(f"DROP TRIGGER {_quoted(trigger)}")
                 places = ",".join("?" * (1 + len(columns)))
-                rows = _checked(zip(range(1, count + 1), *(column.values for column in columns)), check)
-                connection.executemany(f"INSERT INTO {_quoted(name)} ({identifier}) VALUES ({places})", rows)
+                rows = _checked(
+                    zip(range(1, count + 1), *(column.values for column in columns)), check
+                )
+                connection.executemany(
+                    f"INSERT INTO {_quoted(name)} ({identifier}) VALUES ({places})", rows
+                )
                 # The triggers would have counted row by row.
-                connection.execute("UPDATE gpkg_ogr_contents SET feature_count = ? WHERE table_name = ?", [count, name])
+                connection.execute(
+                    "UPDATE gpkg_ogr_contents SET feature_count = ? WHERE table_name = ?",
+                    [count, name],
+                )
                 for _, text in triggers:
                     connection.execute(text)
         except sqlite3.Error as error:
@@ -222,7 +245,9 @@ def _removed_on_signals() -> Iterator[None]:
         raise SystemExit(128 + number)
 
     is_main = threading.current_thread() is threading.main_thread()
-    ending = [number for number in _ENDING if is_main and signal.getsignal(number) == signal.SIG_DFL]
+    ending = [
+        number for number in _ENDING if is_main and signal.getsignal(number) == signal.SIG_DFL
+    ]
     for number in ending:
         signal.signal(number, end)
     try:
@@ -267,7 +292,14 @@ def _copy_out(source: str, target: str) -> None:
         gdal.VSIFCloseL(memory)
 
 
-def _write_tiff(path: str, cells: NDArray[np.int32], null: int, like: Raster, labels: Mapping[int, str], check: Check) -> bool:
+def _write_tiff(
+    path: str,
+    cells: NDArray[np.int32],
+    null: int,
+    like: Raster,
+    labels: Mapping[int, str],
+    check: Check,
+) -> bool:
     rows, cols = cells.shape
     dataset = gdal.GetDriverByName("GTiff").Create(path, cols, rows, 1, gdal.GDT_Int32, _OPTIONS)
     if dataset is None:

@@ -23,8 +23,18 @@ _CLASSES_OF_AN_EXPRESSION = 100
 _STEPS = ("-1,0", "1,0", "0,-1", "0,1")
 
 
-def patches(program: str, raster: Raster, connectivity: int, unit: str, zones: Raster | None = None, classes: Iterable[int] | None = None,
-            least: int = 1, core_depth: int = 1, has_map: bool = False, watch: Watch | None = None) -> tuple[Answer, Grid | None]:
+def patches(
+    program: str,
+    raster: Raster,
+    connectivity: int,
+    unit: str,
+    zones: Raster | None = None,
+    classes: Iterable[int] | None = None,
+    least: int = 1,
+    core_depth: int = 1,
+    has_map: bool = False,
+    watch: Watch | None = None,
+) -> tuple[Answer, Grid | None]:
     """Return the patches of a map as a table and, if requested, as a map of their numbers.
 
     Parameters
@@ -44,19 +54,36 @@ def patches(program: str, raster: Raster, connectivity: int, unit: str, zones: R
     has_map : bool
     watch : Watch, optional
     """
-    combinations = [["patch", "map"], ["patch", "core"], ["patch", "side"], ["patch", "rows"], ["patch", "cols"]]
+    combinations = [
+        ["patch", "map"],
+        ["patch", "core"],
+        ["patch", "side"],
+        ["patch", "rows"],
+        ["patch", "cols"],
+    ]
     maps = {"map": raster}
     if zones is not None:
         maps["zones"] = zones
         combinations.append(["patch", "zones"])
     if raster.is_geographic and watch is not None:
         watch.warn("perimeters are not computed in degrees")
-    tables, found = count(program, maps, combinations, unit, _lines(connectivity, core_depth), [True, True] + [False] * 4,
-                          wanted=["patch"] if has_map else [], watch=watch)
+    tables, found = count(
+        program,
+        maps,
+        combinations,
+        unit,
+        _lines(connectivity, core_depth),
+        [True, True] + [False] * 4,
+        wanted=["patch"] if has_map else [],
+        watch=watch,
+    )
     is_kept = tables[0].cells >= least
     if classes is not None:
         is_kept &= np.isin(tables[0].classes[:, 1], list(classes))
-    columns = [replace(column, values=[column.values[at] for at in np.flatnonzero(is_kept)]) for column in _columns(tables, raster, zones, unit)]
+    columns = [
+        replace(column, values=[column.values[at] for at in np.flatnonzero(is_kept)])
+        for column in _columns(tables, raster, zones, unit)
+    ]
     if not has_map:
         return Answer(columns), None
     numbers = found.grids[-1].cells
@@ -74,7 +101,10 @@ def _lines(connectivity: int, core_depth: int) -> list[str]:
     ends = [f"(isnull(patch[{step}]) ||| patch != patch[{step}])" for step in _STEPS]
     cores = [f"core_{depth}" for depth in range(1, core_depth)] + ["core"]
     same = " && ".join(f"patch == patch[{step}]" for step in _STEPS)
-    inner = [f"r.mapcalc {new} = {' && '.join([old, *(f'{old}[{step}]' for step in _STEPS)])}" for old, new in zip(cores, cores[1:])]
+    inner = [
+        f"r.mapcalc {new} = {' && '.join([old, *(f'{old}[{step}]' for step in _STEPS)])}"
+        for old, new in zip(cores, cores[1:])
+    ]
     return [
         f"r.clump{' -d' if connectivity == 8 else ''} input=map output=patch",
         f"r.mapcalc side = {ends[0]} + {ends[1]} + 3 * ({ends[2]} + {ends[3]})",
@@ -90,21 +120,40 @@ def _columns(tables: list[Counts], raster: Raster, zones: Raster | None, unit: s
     patch, classes = sizes.classes[:, 0], sizes.classes[:, 1]
 
     def sums(counts: Counts, values: Integers | Floats) -> Floats:
-        return np.asarray(np.bincount(counts.classes[:, 0], values.astype(np.float64), len(patch) + 1)[1:], np.float64)
+        return np.asarray(
+            np.bincount(counts.classes[:, 0], values.astype(np.float64), len(patch) + 1)[1:],
+            np.float64,
+        )
 
     west, width, _, north, _, height = raster.geotransform
-    columns = [whole("patch", patch), *coded("class", classes, raster.labels, "label"), whole("cells", sizes.cells)]
+    columns = [
+        whole("patch", patch),
+        *coded("class", classes, raster.labels, "label"),
+        whole("cells", sizes.cells),
+    ]
     if sizes.area is not None:
         columns.append(real(f"area_{unit}", sizes.area))
-    around = sums(side, side.cells * (side.classes[:, 1] % 3)) * width - sums(side, side.cells * (side.classes[:, 1] // 3)) * height
-    columns.append(real("perimeter_m", np.full(len(patch), np.nan) if raster.is_geographic else around * raster.metres))
+    around = (
+        sums(side, side.cells * (side.classes[:, 1] % 3)) * width
+        - sums(side, side.cells * (side.classes[:, 1] // 3)) * height
+    )
+    columns.append(
+        real(
+            "perimeter_m",
+            np.full(len(patch), np.nan) if raster.is_geographic else around * raster.metres,
+        )
+    )
     if core.area is None:
         columns.append(whole("core_cells", sums(core, core.cells).astype(np.int64)))
     else:
         columns.append(real(f"core_{unit}", sums(core, core.area)))
     (top, bottom), (left, right) = _ends(rows), _ends(cols)
-    columns += [real("west", west + (left - 1) * width), real("south", north + bottom * height), real("east", west + right * width),
-                real("north", north + (top - 1) * height)]
+    columns += [
+        real("west", west + (left - 1) * width),
+        real("south", north + bottom * height),
+        real("east", west + right * width),
+        real("north", north + (top - 1) * height),
+    ]
     if zones is not None:
         columns += coded("zone", _most_frequent(tables[5], len(patch)), zones.labels)
     return columns
@@ -130,7 +179,9 @@ def _most_frequent(counts: Counts, patches: int) -> Integers:
 # Majority
 
 
-def majority(program: str, raster: Raster, size: int, is_filled: bool = False, watch: Watch | None = None) -> Grid:
+def majority(
+    program: str, raster: Raster, size: int, is_filled: bool = False, watch: Watch | None = None
+) -> Grid:
     """Return the most frequent class of the square around each cell; nulls do not count, ties go to the smallest.
 
     A cell that is null stays null, unless `is_filled`.
@@ -145,14 +196,24 @@ def majority(program: str, raster: Raster, size: int, is_filled: bool = False, w
     if size <= _SIZE_OF_AN_EXPRESSION:
         lines = _window_lines(size)
     else:
-        lines = _class_lines(size, run(program, "r.stats -n input=map", {"map": raster}, watch=watch).tables[0].categories[:, 0].tolist())
-    lines.append(f"r.mapcalc majority = {'commonest' if is_filled else 'if(isnull(map), null(), commonest)'}")
+        lines = _class_lines(
+            size,
+            run(program, "r.stats -n input=map", {"map": raster}, watch=watch)
+            .tables[0]
+            .categories[:, 0]
+            .tolist(),
+        )
+    lines.append(
+        f"r.mapcalc majority = {'commonest' if is_filled else 'if(isnull(map), null(), commonest)'}"
+    )
     return replace(grid(program, "\n".join(lines), "majority", raster, watch), labels=raster.labels)
 
 
 def _window_lines(size: int) -> list[str]:
     steps = range(-(size // 2), size // 2 + 1)
-    return [f"r.mapcalc commonest = nmode({','.join(f'map[{row},{col}]' for row in steps for col in steps)})"]
+    return [
+        f"r.mapcalc commonest = nmode({','.join(f'map[{row},{col}]' for row in steps for col in steps)})"
+    ]
 
 
 def _class_lines(size: int, classes: list[int]) -> list[str]:
@@ -166,11 +227,18 @@ def _class_lines(size: int, classes: list[int]) -> list[str]:
     factor = number + 1
     lines = []
     for at, code in enumerate(classes, 1):
-        lines.append(f"r.mapcalc along_{at} = {' + '.join(f'nmax(map[0,{step}] == {code}, 0)' for step in steps)}")
-        lines.append(f"r.mapcalc count_{at} = {' + '.join(f'nmax(along_{at}[{step},0], 0)' for step in steps)}")
+        lines.append(
+            f"r.mapcalc along_{at} = {' + '.join(f'nmax(map[0,{step}] == {code}, 0)' for step in steps)}"
+        )
+        lines.append(
+            f"r.mapcalc count_{at} = {' + '.join(f'nmax(along_{at}[{step},0], 0)' for step in steps)}"
+        )
     best = "0"
     for chunk in range(0, number, _CLASSES_OF_AN_EXPRESSION):
-        counts = [f"count_{at} * {factor} + {number - at}" for at in range(chunk + 1, min(chunk + _CLASSES_OF_AN_EXPRESSION, number) + 1)]
+        counts = [
+            f"count_{at} * {factor} + {number - at}"
+            for at in range(chunk + 1, min(chunk + _CLASSES_OF_AN_EXPRESSION, number) + 1)
+        ]
         lines.append(f"r.mapcalc best_{chunk} = max({best}, {', '.join(counts)})")
         best = f"best_{chunk}"
     lines.append(f"r.mapcalc place = if({best} < {factor}, null(), {best} % {factor})")

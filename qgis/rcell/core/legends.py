@@ -44,8 +44,11 @@ def _fields(path: str, name: str, rows: list[list[str]]) -> Iterator[tuple[str, 
     """Yield the place, the value and the label of each row, after checking that no label is cut at a comma."""
     for line, row in enumerate(rows[1:], 2):
         place, color = f"{path}, line {line}: ", "".join(row[2:3]).strip()
-        if any(map(str.strip, row[len(rows[0]):])):
-            raise Refused(f"{place}{len(row)} fields under a header of {len(rows[0])}: put a label with a comma in quotes", name)
+        if any(map(str.strip, row[len(rows[0]) :])):
+            raise Refused(
+                f"{place}{len(row)} fields under a header of {len(rows[0])}: put a label with a comma in quotes",
+                name,
+            )
         if color and not _COLOUR.fullmatch(color):
             raise Refused(f"{place}{color} is no colour as #rrggbb", name)
         if row:
@@ -54,8 +57,15 @@ def _fields(path: str, name: str, rows: list[list[str]]) -> Iterator[tuple[str, 
 
 def _of_style(path: str) -> list[tuple[str, str, str]]:
     """Return the classes of a paletted style, or of a style with exact colours."""
-    entries = [entry for kind in ("paletteEntry", "item") for entry in ElementTree.parse(path).iter(kind) if "value" in entry.attrib]
-    return [(f"{path}: ", entry.attrib["value"], entry.attrib.get("label", "")) for entry in entries]
+    entries = [
+        entry
+        for kind in ("paletteEntry", "item")
+        for entry in ElementTree.parse(path).iter(kind)
+        if "value" in entry.attrib
+    ]
+    return [
+        (f"{path}: ", entry.attrib["value"], entry.attrib.get("label", "")) for entry in entries
+    ]
 
 
 def _checked(rows: Iterable[tuple[str, ...]], name: str) -> dict[int, str]:

@@ -67,17 +67,27 @@ def find_program(setting: str = "") -> str:
     """
     if sys.platform == "win32":
         raise MissingProgram("the program rcell-pipe runs on Linux alone")
-    named = _beside(setting) if os.path.basename(setting) == "rcell" else setting or os.environ.get("RCELL_PIPE", "")
+    named = (
+        _beside(setting)
+        if os.path.basename(setting) == "rcell"
+        else setting or os.environ.get("RCELL_PIPE", "")
+    )
     places = [_beside(os.environ["RCELL"])] if os.environ.get("RCELL") else []
-    path = named or next(filter(os.path.isfile, [*places, BUNDLED]), "") or found_on_path("rcell-pipe")
+    path = (
+        named or next(filter(os.path.isfile, [*places, BUNDLED]), "") or found_on_path("rcell-pipe")
+    )
     if not path:
-        raise MissingProgram("the program rcell-pipe was not found: install the plugin from its zip, which contains it; or set the path under "
-                             "Settings > Options > Processing > Providers > rcell, or in the environment variable RCELL_PIPE")
+        raise MissingProgram(
+            "the program rcell-pipe was not found: install the plugin from its zip, which contains it; or set the path under "
+            "Settings > Options > Processing > Providers > rcell, or in the environment variable RCELL_PIPE"
+        )
     if path == BUNDLED:
         _set_executable(path)
     if not os.path.isfile(path) or not os.access(path, os.X_OK):
-        raise MissingProgram(f"the program {path} is not there, or may not be executed: correct the path under "
-                             "Settings > Options > Processing > Providers > rcell, or leave it empty to use the plugin's own")
+        raise MissingProgram(
+            f"the program {path} is not there, or may not be executed: correct the path under "
+            "Settings > Options > Processing > Providers > rcell, or leave it empty to use the plugin's own"
+        )
     state = os.stat(path)
     stamp = (state.st_ino, state.st_size, state.st_mtime_ns)
     if _known.get(path) != stamp:
@@ -101,7 +111,9 @@ def _set_executable(path: str) -> None:
         try:
             os.chmod(path, 0o755)
         except OSError as error:
-            raise MissingProgram(f"the program {path} may not be executed, and that cannot be changed: {error.strerror}") from None
+            raise MissingProgram(
+                f"the program {path} may not be executed, and that cannot be changed: {error.strerror}"
+            ) from None
 
 
 def _probe(path: str) -> None:
@@ -113,13 +125,17 @@ def _probe(path: str) -> None:
     except OSError as error:
         raise MissingProgram(f"the program {path} cannot be executed: {error.strerror}") from None
     if not is_known:
-        raise WrongProgram(f"{path} is not a program rcell-pipe of a version that this plugin knows")
+        raise WrongProgram(
+            f"{path} is not a program rcell-pipe of a version that this plugin knows"
+        )
 
 
 # Runs
 
 
-def plan_of(program: str, script: str, names: Sequence[str], watch: Watch | None = None) -> list[pipe.Statement]:
+def plan_of(
+    program: str, script: str, names: Sequence[str], watch: Watch | None = None
+) -> list[pipe.Statement]:
     """Return what each statement of a script does, over maps of some names.
 
     Raises
@@ -128,11 +144,15 @@ def plan_of(program: str, script: str, names: Sequence[str], watch: Watch | None
         The program rejects the script.
     """
     with _errors_of(program, script, names):
-        plan: list[pipe.Statement] = pipe.plan(program, names, pipe.script_bytes(script), watch=(watch or Watch()).check)
+        plan: list[pipe.Statement] = pipe.plan(
+            program, names, pipe.script_bytes(script), watch=(watch or Watch()).check
+        )
     return plan
 
 
-def frames_of(program: str, maps: Mapping[str, Raster], script: str, sent: str, watch: Watch) -> list[pipe.Frame]:
+def frames_of(
+    program: str, maps: Mapping[str, Raster], script: str, sent: str, watch: Watch
+) -> list[pipe.Frame]:
     """Run a script over maps of one region, and return what its statements write.
 
     Parameters
@@ -156,11 +176,17 @@ def frames_of(program: str, maps: Mapping[str, Raster], script: str, sent: str, 
     OutOfMemory, Killed, WrongProgram, Cancelled
     """
     words = [f"{name}={shlex.quote(raster.path)}" for name, raster in maps.items()]
-    watch.command("\n".join([f"rcell script {' '.join(words)}", *(f"  {line}" for line in script.split("\n"))]))
+    watch.command(
+        "\n".join(
+            [f"rcell script {' '.join(words)}", *(f"  {line}" for line in script.split("\n"))]
+        )
+    )
     sender = _Sender(program, maps, watch)
     with _errors_of(program, script, list(maps)):
         sources = [sender.map_of(name, raster) for name, raster in maps.items()]
-        frames: list[pipe.Frame] = pipe.run(program, sources, pipe.script_bytes(sent), watch=watch.check)
+        frames: list[pipe.Frame] = pipe.run(
+            program, sources, pipe.script_bytes(sent), watch=watch.check
+        )
     watch.progress(1.0)
     return frames
 
@@ -171,7 +197,9 @@ def _errors_of(program: str, script: str, names: Sequence[str]) -> Iterator[None
     try:
         yield
     except pipe.Rejected as end:
-        raise (OutOfMemory if end.status == 3 else Refused)(**end.parts(program, script, names)) from None
+        raise (OutOfMemory if end.status == 3 else Refused)(
+            **end.parts(program, script, names)
+        ) from None
     except pipe.Killed as error:
         raise Killed(int(error.args[0])) from None
     except pipe.NoAnswer as error:
@@ -191,9 +219,26 @@ class _Sender:
         """Return a map whose blocks are read while the program takes them."""
         region = raster.region
         if raster.is_text:
-            return pipe.Map(name, region.edge_texts(), region.rows, region.cols, "i32", self._blocks(_text_blocks(self._program, name, raster, self._watch.check)), NULL)
+            return pipe.Map(
+                name,
+                region.edge_texts(),
+                region.rows,
+                region.cols,
+                "i32",
+                self._blocks(_text_blocks(self._program, name, raster, self._watch.check)),
+                NULL,
+            )
         blocks = self._blocks(raster.blocks(self._warn))
-        return pipe.Map(name, region.edge_texts(), region.rows, region.cols, raster.cell_type, blocks, raster.nodata, raster.is_masked)
+        return pipe.Map(
+            name,
+            region.edge_texts(),
+            region.rows,
+            region.cols,
+            raster.cell_type,
+            blocks,
+            raster.nodata,
+            raster.is_masked,
+        )
 
     def _blocks(self, blocks: Iterator[tuple[Cells, Mask | None]]) -> Iterator[pipe.Block]:
         for cells, null in blocks:
@@ -207,14 +252,20 @@ class _Sender:
             self._watch.warn(text)
 
 
-def _text_blocks(program: str, name: str, raster: Raster, watch: Callable[[], None]) -> Iterator[tuple[Cells, Mask | None]]:
+def _text_blocks(
+    program: str, name: str, raster: Raster, watch: Callable[[], None]
+) -> Iterator[tuple[Cells, Mask | None]]:
     """Yield the rows of a text grid, as rcell reads them."""
     beside = os.path.join(os.path.dirname(program), "rcell")
     path = os.environ.get("RCELL") or (beside if os.path.isfile(beside) else found_on_path("rcell"))
     if path and os.path.dirname(path) == _FOLDER:
         _set_executable(path)
     if not path:
-        raise MissingProgram(f"{name} is a grid of rcell, and the program rcell, which reads it, is not next to {program}")
-    with _errors_of(path, "", [name]), open(raster.path, "rb") as file, printed_grid(path, name, iter(lambda: file.read(1 << 20), b""), watch=watch) as grid:
+        raise MissingProgram(
+            f"{name} is a grid of rcell, and the program rcell, which reads it, is not next to {program}"
+        )
+    with _errors_of(path, "", [name]), open(raster.path, "rb") as file, printed_grid(
+        path, name, iter(lambda: file.read(1 << 20), b""), watch=watch
+    ) as grid:
         for rows in grid.blocks:
             yield rows, None

@@ -118,8 +118,16 @@ class Raster:
     labels: Mapping[int, str] = field(default_factory=dict)
 
     @classmethod
-    def open(cls, name: str, path: str, band: int | None = None, labels: Mapping[int, str] | None = None,
-             null_ranges: NullRanges = (), use_nodata: bool = True, crs: str = "") -> Raster:
+    def open(
+        cls,
+        name: str,
+        path: str,
+        band: int | None = None,
+        labels: Mapping[int, str] | None = None,
+        null_ranges: NullRanges = (),
+        use_nodata: bool = True,
+        crs: str = "",
+    ) -> Raster:
         """Return a band of a raster as a map; without a band, the raster must have only one.
 
         Parameters
@@ -143,7 +151,9 @@ class Raster:
             layer = dataset.GetRasterBand(_only_band(name, dataset) if band is None else band)
             if layer is None:
                 count = dataset.RasterCount
-                raise BadMap(name, f"has {count} band{'' if count == 1 else 's'}, and no band {band}")
+                raise BadMap(
+                    name, f"has {count} band{'' if count == 1 else 's'}, and no band {band}"
+                )
             _check_values(name, layer)
             geotransform, is_upside_down = _place(name, dataset)
             system = Crs.of(dataset.GetSpatialRef())
@@ -155,14 +165,17 @@ class Raster:
                 name=name,
                 path=path,
                 band=layer.GetBand(),
-                region=Region.of_geotransform(name, geotransform, dataset.RasterYSize, dataset.RasterXSize),
+                region=Region.of_geotransform(
+                    name, geotransform, dataset.RasterYSize, dataset.RasterXSize
+                ),
                 geotransform=geotransform,
                 crs=system.wkt,
                 is_geographic=system.is_geographic,
                 metres=system.metres,
                 dtype=_dtype_of(layer),
                 null_ranges=(*_nodata_of(layer, use_nodata), *null_ranges),
-                has_mask=layer.GetMaskFlags() in (0, gdal.GMF_PER_DATASET, gdal.GMF_PER_DATASET | gdal.GMF_NODATA),
+                has_mask=layer.GetMaskFlags()
+                in (0, gdal.GMF_PER_DATASET, gdal.GMF_PER_DATASET | gdal.GMF_NODATA),
                 alpha=None if alpha == layer.GetBand() else alpha,
                 is_upside_down=is_upside_down,
                 block_shape=(height, width),
@@ -178,7 +191,13 @@ class Raster:
     def stated(self, crs: str) -> Raster:
         """Return the map with a stated reference system, if it has none."""
         system = Crs.of_wkt(crs)
-        return self if self.crs or not crs else replace(self, crs=system.wkt, is_geographic=system.is_geographic, metres=system.metres)
+        return (
+            self
+            if self.crs or not crs
+            else replace(
+                self, crs=system.wkt, is_geographic=system.is_geographic, metres=system.metres
+            )
+        )
 
     # As the program gets it
 
@@ -201,14 +220,21 @@ class Raster:
         if self.dtype.name not in _TYPES:
             return False
         numbers = self._null_numbers()
-        return self.has_mask or self.alpha is not None or len(numbers) > 1 or any(least < greatest for least, greatest in numbers)
+        return (
+            self.has_mask
+            or self.alpha is not None
+            or len(numbers) > 1
+            or any(least < greatest for least, greatest in numbers)
+        )
 
     def _null_numbers(self) -> list[tuple[int, int]]:
         """Return the ranges of integers of its type that are null."""
         ends = {_whole_bounds(least, greatest, self.dtype) for least, greatest in self.null_ranges}
         return sorted((least, greatest) for least, greatest in ends if least <= greatest)
 
-    def blocks(self, warn: Warn | None = None, most_rows: int | None = None) -> Iterator[tuple[Cells, Mask | None]]:
+    def blocks(
+        self, warn: Warn | None = None, most_rows: int | None = None
+    ) -> Iterator[tuple[Cells, Mask | None]]:
         """Yield its rows from north to south: cells of `cell_type` in which `nodata` is null, and masks if `is_masked`.
 
         Raises
@@ -225,29 +251,39 @@ class Raster:
         for row in range(0, rows, step):
             yield self._block(dataset, row, min(step, rows - row), warn)
 
-    def _block(self, dataset: Any, row: int, rows: int, warn: Warn | None) -> tuple[Cells, Mask | None]:
+    def _block(
+        self, dataset: Any, row: int, rows: int, warn: Warn | None
+    ) -> tuple[Cells, Mask | None]:
         band, cols = dataset.GetRasterBand(self.band), self.region.cols
         top = self.region.rows - row - rows if self.is_upside_down else row
         try:
             with quiet():
                 cells = band.ReadAsArray(0, top, cols, rows)
-                masks = [mask.ReadAsArray(0, top, cols, rows) for mask in self._mask_bands(dataset, band)]
+                masks = [
+                    mask.ReadAsArray(0, top, cols, rows) for mask in self._mask_bands(dataset, band)
+                ]
             text = gdal.GetLastErrorMsg()
         except RuntimeError as error:
             cells, masks, text = None, [], str(error)
         if cells is None or any(mask is None for mask in masks):
-            raise ReadFailed(self.name, f"rows {row + 1} to {row + rows} cannot be read: {text or self.path}")
+            raise ReadFailed(
+                self.name, f"rows {row + 1} to {row + rows} cannot be read: {text or self.path}"
+            )
         nulls = [mask == 0 for mask in masks]
         if self.is_upside_down:
             cells, nulls = cells[::-1], [null[::-1] for null in nulls]
-        return (self._plain if cells.dtype.name in _TYPES else self._converted)(np.ascontiguousarray(cells), nulls, row, warn)
+        return (self._plain if cells.dtype.name in _TYPES else self._converted)(
+            np.ascontiguousarray(cells), nulls, row, warn
+        )
 
     def _mask_bands(self, dataset: Any, band: Any) -> list[Any]:
         """Return the bands in which 0 is null. (GDAL's own mask uses an alpha band only if the file declares no nodata.)"""
         masks = [band.GetMaskBand()] if self.has_mask else []
         return masks if self.alpha is None else [*masks, dataset.GetRasterBand(self.alpha)]
 
-    def _plain(self, cells: Cells, nulls: list[Mask], row: int, _: Warn | None) -> tuple[Cells, Mask | None]:
+    def _plain(
+        self, cells: Cells, nulls: list[Mask], row: int, _: Warn | None
+    ) -> tuple[Cells, Mask | None]:
         """Return cells unchanged, and their mask if a nodata value does not describe it."""
         nulls = [*nulls, *within(cells, self.null_ranges)] if self.is_masked else []
         null = np.ascontiguousarray(np.logical_or.reduce(nulls)) if self.is_masked else None
@@ -255,14 +291,22 @@ class Raster:
             self._check(cells, cells == NULL, null, row)
         return cells, null
 
-    def _converted(self, cells: Cells, nulls: list[Mask], row: int, warn: Warn | None) -> tuple[Cells, Mask | None]:
+    def _converted(
+        self, cells: Cells, nulls: list[Mask], row: int, warn: Warn | None
+    ) -> tuple[Cells, Mask | None]:
         """Return floats and wider integers as 32-bit integers."""
-        nulls = [*nulls, *within(cells, self.null_ranges), *([np.isnan(cells)] if cells.dtype.kind == "f" else [])]
+        nulls = [
+            *nulls,
+            *within(cells, self.null_ranges),
+            *([np.isnan(cells)] if cells.dtype.kind == "f" else []),
+        ]
         null = np.logical_or.reduce(nulls) if nulls else None
         self._check(cells, _bad(cells), null, row)
         kept = cells if null is None else np.where(null, cells.dtype.type(0), cells)
         if warn is not None and cells.dtype == np.float32 and np.abs(kept).max() > _EXACT_FLOAT32:
-            warn(f"{self.name}: floats of 32 bits are not exact beyond {_EXACT_FLOAT32}, and the map has larger values")
+            warn(
+                f"{self.name}: floats of 32 bits are not exact beyond {_EXACT_FLOAT32}, and the map has larger values"
+            )
         found = kept.astype(np.int32)
         if null is not None:
             found[null] = NULL
@@ -282,7 +326,9 @@ def within(cells: Cells, ranges: NullRanges) -> list[Mask]:
     for least, greatest in ranges:
         if cells.dtype.kind in "iu":
             least, greatest = _whole_bounds(least, greatest, cells.dtype)
-        found.append(cells == least if least == greatest else (cells >= least) & (cells <= greatest))
+        found.append(
+            cells == least if least == greatest else (cells >= least) & (cells <= greatest)
+        )
     return found
 
 
@@ -342,9 +388,16 @@ def check_crs(rasters: Sequence[Raster], stated: str = "") -> None:
             hint = 'choose it as "Coordinate reference system of rasters that have none"'
             raise OtherCrs(raster.name, f"it has no coordinate reference system, and {has}: {hint}")
         if raster.crs and not are_same(raster.crs, common):
-            other = f"the chosen one is {shown(common)}" if stated else f"that of `{first.name}` is {shown(common)}"
+            other = (
+                f"the chosen one is {shown(common)}"
+                if stated
+                else f"that of `{first.name}` is {shown(common)}"
+            )
             hint = "reproject one of them first, as with Warp (reproject)"
-            raise OtherCrs(raster.name, f"its coordinate reference system is {shown(raster.crs)}, and {other}: {hint}")
+            raise OtherCrs(
+                raster.name,
+                f"its coordinate reference system is {shown(raster.crs)}, and {other}: {hint}",
+            )
 
 
 def check_regions(rasters: Sequence[Raster]) -> None:
@@ -360,7 +413,10 @@ def check_regions(rasters: Sequence[Raster]) -> None:
         if raster.region != first.region:
             told = "; ".join(first.region.differences(raster.region))
             text = f"not of the region of `{first.name}`, and nothing is resampled: {told}"
-            raise OtherRegion(raster.name, f"{text}\n  {first.name}: {first.region}\n  {raster.name}: {raster.region}\n  try: {_align_call(first, raster)}")
+            raise OtherRegion(
+                raster.name,
+                f"{text}\n  {first.name}: {first.region}\n  {raster.name}: {raster.region}\n  try: {_align_call(first, raster)}",
+            )
 
 
 def _align_call(first: Raster, raster: Raster) -> str:
@@ -381,21 +437,43 @@ def _bad(cells: Cells) -> Mask:
 
 def _bad_cell(name: str, row: int, col: int, value: float) -> BadMap:
     number = f"{value:.15g}" if isinstance(value, float) else str(value)
-    beyond = ", beyond 2147483647 either way" if value == value and abs(value) > MAX_CATEGORY else ""
-    return BadMap(name, f"not a map of whole numbers: the cell at row {row}, column {col} is {number}{beyond}", row, col, value)
+    beyond = (
+        ", beyond 2147483647 either way" if value == value and abs(value) > MAX_CATEGORY else ""
+    )
+    return BadMap(
+        name,
+        f"not a map of whole numbers: the cell at row {row}, column {col} is {number}{beyond}",
+        row,
+        col,
+        value,
+    )
 
 
 def _only_band(name: str, dataset: Any) -> int:
     numbers = range(1, dataset.RasterCount + 1)
-    bands = [number for number in numbers if dataset.GetRasterBand(number).GetColorInterpretation() != gdal.GCI_AlphaBand]
+    bands = [
+        number
+        for number in numbers
+        if dataset.GetRasterBand(number).GetColorInterpretation() != gdal.GCI_AlphaBand
+    ]
     if len(bands) != 1:
-        raise BadMap(name, f"has {len(bands)} bands: name one where a band can be named, or take one out first, as by Rearrange bands")
+        raise BadMap(
+            name,
+            f"has {len(bands)} bands: name one where a band can be named, or take one out first, as by Rearrange bands",
+        )
     return bands[0]
 
 
 def _alpha_of(dataset: Any) -> int | None:
     bands = range(1, dataset.RasterCount + 1)
-    return next((number for number in bands if dataset.GetRasterBand(number).GetColorInterpretation() == gdal.GCI_AlphaBand), None)
+    return next(
+        (
+            number
+            for number in bands
+            if dataset.GetRasterBand(number).GetColorInterpretation() == gdal.GCI_AlphaBand
+        ),
+        None,
+    )
 
 
 def _check_values(name: str, band: Any) -> None:
@@ -404,7 +482,10 @@ def _check_values(name: str, band: Any) -> None:
         told = f"each cell times {1.0 if scale is None else scale:g}, plus {offset or 0.0:g}"
         raise BadMap(name, f"its values are scaled: {told}; write them out as whole numbers first")
     if gdal.DataTypeIsComplex(band.DataType):
-        raise BadMap(name, f"not a map of whole numbers: its cells are of the type {gdal.GetDataTypeName(band.DataType)}")
+        raise BadMap(
+            name,
+            f"not a map of whole numbers: its cells are of the type {gdal.GetDataTypeName(band.DataType)}",
+        )
 
 
 def _dtype_of(band: Any) -> np.dtype[Any]:

@@ -46,13 +46,24 @@ class Region:
         """
         west, width, b, north, d, height = (float(number) for number in transform)
         if not all(map(math.isfinite, (west, width, b, north, d, height))):
-            raise BadMap(name, f"a transform with a number that is not finite: {(width, b, west, d, height, north)}")
+            raise BadMap(
+                name,
+                f"a transform with a number that is not finite: {(width, b, west, d, height, north)}",
+            )
         if b or d:
-            raise BadMap(name, f"a rotated transform {(width, b, west, d, height, north)}: warp the map to rows from west to east first")
+            raise BadMap(
+                name,
+                f"a rotated transform {(width, b, west, d, height, north)}: warp the map to rows from west to east first",
+            )
         if width <= 0 or height >= 0:
             turned = (width, b, west, d, height, north)
-            raise BadMap(name, f"a transform {turned} whose rows are not from north to south, west to east")
-        south, east = Fraction(north) + Fraction(height) * rows, Fraction(west) + Fraction(width) * cols
+            raise BadMap(
+                name, f"a transform {turned} whose rows are not from north to south, west to east"
+            )
+        south, east = (
+            Fraction(north) + Fraction(height) * rows,
+            Fraction(west) + Fraction(width) * cols,
+        )
         region = cls(_units(north), _units(south), _units(east), _units(west), rows, cols)
         region._check(name)
         return region
@@ -60,25 +71,49 @@ class Region:
     def _check(self, name: str) -> None:
         for edge in ("north", "south", "east", "west"):
             if abs(getattr(self, edge)) >= EDGE_LIMIT:
-                raise BadMap(name, f"an edge of more than ten digits: {edge} is {edge_text(getattr(self, edge))}")
-        if not (self.rows <= SIDE_LIMIT and self.cols <= SIDE_LIMIT and self.rows * self.cols <= CELL_LIMIT):
+                raise BadMap(
+                    name,
+                    f"an edge of more than ten digits: {edge} is {edge_text(getattr(self, edge))}",
+                )
+        if not (
+            self.rows <= SIDE_LIMIT
+            and self.cols <= SIDE_LIMIT
+            and self.rows * self.cols <= CELL_LIMIT
+        ):
             size = f"{self.rows:,} rows and {self.cols:,} columns"
             limits = f"1 to {SIDE_LIMIT:,} each, and {CELL_LIMIT:,} cells in all"
-            raise BadMap(name, f"{size}, where the program takes {limits}; for larger maps there is rcell.tiles of the Python package")
+            raise BadMap(
+                name,
+                f"{size}, where the program takes {limits}; for larger maps there is rcell.tiles of the Python package",
+            )
         if self.north <= self.south or self.east <= self.west:
             low, high = ("south", "north") if self.north <= self.south else ("west", "east")
-            raise BadMap(name, f"{high} is not above {low} once they are rounded to {DECIMALS} decimals: {self}")
+            raise BadMap(
+                name,
+                f"{high} is not above {low} once they are rounded to {DECIMALS} decimals: {self}",
+            )
 
     def edge_texts(self) -> tuple[str, str, str, str]:
         """Return north, south, east and west for the program."""
-        return edge_text(self.north), edge_text(self.south), edge_text(self.east), edge_text(self.west)
+        return (
+            edge_text(self.north),
+            edge_text(self.south),
+            edge_text(self.east),
+            edge_text(self.west),
+        )
 
     def differences(self, other: Region) -> list[str]:
         """Return the edges and sizes in which another region differs, with the difference; empty if they are equal."""
-        mine, its = ((each.north, each.south, each.east, each.west, each.rows, each.cols) for each in (self, other))
+        mine, its = (
+            (each.north, each.south, each.east, each.west, each.rows, each.cols)
+            for each in (self, other)
+        )
         found: list[str] = differences_of(mine, its)
         return found
 
     def __str__(self) -> str:
-        edges = ", ".join(f"{edge} {edge_text(getattr(self, edge))}" for edge in ("north", "south", "east", "west"))
+        edges = ", ".join(
+            f"{edge} {edge_text(getattr(self, edge))}"
+            for edge in ("north", "south", "east", "west")
+        )
         return f"{edges}, {self.rows} rows, {self.cols} columns"

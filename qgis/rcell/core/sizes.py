@@ -35,13 +35,19 @@ def cell_sizes(raster: Raster) -> Sizes:
     _, width, _, north, _, height = raster.geotransform
     edges = (north + np.arange(raster.region.rows + 1) * height) * angle
     if np.abs(edges).max() > np.pi / 2 + _POLE_TOLERANCE:
-        edge = f"north is {north:.15g}" if edges[0] > np.pi / 2 else f"south is {north + height * raster.region.rows:.15g}"
+        edge = (
+            f"north is {north:.15g}"
+            if edges[0] > np.pi / 2
+            else f"south is {north + height * raster.region.rows:.15g}"
+        )
         raise Refused(f"rows beyond the pole: {edge}", status=2)
     parallels = np.clip(edges, -np.pi / 2, np.pi / 2)
     flattening = 1 / reference.GetInvFlattening() if reference.GetInvFlattening() else 0.0
     minor = reference.GetSemiMajor() * (1 - flattening)
     eccentricity = float(np.sqrt(flattening * (2 - flattening)))
-    sizes: NDArray[np.float64] = zone_areas(parallels[:-1], parallels[1:], eccentricity) * (minor**2 / 2 * width * angle)
+    sizes: NDArray[np.float64] = zone_areas(parallels[:-1], parallels[1:], eccentricity) * (
+        minor**2 / 2 * width * angle
+    )
     return sizes
 
 
@@ -54,5 +60,9 @@ def zone_areas(north: NDArray[np.float64], south: NDArray[np.float64], e: float)
     difference = 2 * np.cos((north + south) / 2) * np.sin((north - south) / 2)
     if not e:
         return 2 * difference
-    rational = difference * (1 + e**2 * sines) / ((1 - (e * np.sin(north)) ** 2) * (1 - (e * np.sin(south)) ** 2))
+    rational = (
+        difference
+        * (1 + e**2 * sines)
+        / ((1 - (e * np.sin(north)) ** 2) * (1 - (e * np.sin(south)) ** 2))
+    )
     return rational + np.arctanh(e * difference / (1 - e**2 * sines)) / e

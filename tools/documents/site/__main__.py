@@ -25,9 +25,23 @@ def build(out):
         source = pathlib.Path(room)
         (source / "docs").mkdir()
         pages.lay_out(ROOT, source / "docs")
-        (source / "mkdocs.yml").write_text(pages.configuration(ROOT, source / "docs"), encoding="utf-8")
+        (source / "mkdocs.yml").write_text(
+            pages.configuration(ROOT, source / "docs"), encoding="utf-8"
+        )
         shutil.rmtree(out, ignore_errors=True)
-        subprocess.run(["mkdocs", "build", "--quiet", "--strict", "--config-file", str(source / "mkdocs.yml"), "--site-dir", str(out)], check=True)
+        subprocess.run(
+            [
+                "mkdocs",
+                "build",
+                "--quiet",
+                "--strict",
+                "--config-file",
+                str(source / "mkdocs.yml"),
+                "--site-dir",
+                str(out),
+            ],
+            check=True,
+        )
     pages.add_index(out)
 
 

@@ -6,8 +6,15 @@ import subprocess
 import tempfile
 
 WIDTHS = (400, 1400)
-CHROMIUM = ["chromium", "--headless=new", "--no-sandbox", "--disable-gpu", "--enable-logging=stderr", "--allow-file-access-from-files",
-            "--virtual-time-budget=4000"]
+CHROMIUM = [
+    "chromium",
+    "--headless=new",
+    "--no-sandbox",
+    "--disable-gpu",
+    "--enable-logging=stderr",
+    "--allow-file-access-from-files",
+    "--virtual-time-budget=4000",
+]
 NOTHING_ELSE = re.compile(r'(?:src|href)="(https?:)?//', re.IGNORECASE)
 # A page that opens others in a frame, and writes how wide each is.
 FRAMES = """<body><pre id="widths"></pre><script>
@@ -27,34 +34,50 @@ next();
 
 def opened(url, *words):
     """The page as the browser has it after its scripts, and the errors on its console."""
-    ran = subprocess.run([*CHROMIUM, *words, "--dump-dom", url], capture_output=True, text=True, timeout=180)
-    return ran.stdout, [line for line in ran.stderr.splitlines() if "CONSOLE" in line and "error" in line.lower()]
+    ran = subprocess.run(
+        [*CHROMIUM, *words, "--dump-dom", url], capture_output=True, text=True, timeout=180
+    )
+    return ran.stdout, [
+        line for line in ran.stderr.splitlines() if "CONSOLE" in line and "error" in line.lower()
+    ]
 
 
 def dead_links(out):
     """The links of the site that lead nowhere, as PAGE: LINK."""
     texts = {path: path.read_text(encoding="utf-8") for path in out.rglob("*.html")}
-    anchors = {path: set(re.findall(r'(?:id|name)="([^"]+)"', text)) for path, text in texts.items()}
+    anchors = {
+        path: set(re.findall(r'(?:id|name)="([^"]+)"', text)) for path, text in texts.items()
+    }
     for path, text in texts.items():
         for link in map(html.unescape, re.findall(r'(?:href|src)="([^"]+)"', text)):
             name, _, anchor = link.partition("#")
             target = (path.parent / name.partition("?")[0]).resolve() if name else path
             if re.match(r"\w+:", link) or path.name == "404.html":
                 continue
-            if not target.exists() or (anchor and target in anchors and anchor not in anchors[target]):
+            if not target.exists() or (
+                anchor and target in anchors and anchor not in anchors[target]
+            ):
                 yield f"{path.relative_to(out)}: {link}"
 
 
 def too_wide(out, width):
     """The pages that are wider than a window of this width."""
-    names = sorted(path.relative_to(out).as_posix() for path in out.rglob("*.html") if path.name != "404.html")
+    names = sorted(
+        path.relative_to(out).as_posix() for path in out.rglob("*.html") if path.name != "404.html"
+    )
     with tempfile.NamedTemporaryFile("w", dir=out, suffix=".frames.html", encoding="utf-8") as file:
         file.write(FRAMES % (names, width))
         file.flush()
-        shown, _ = opened(pathlib.Path(file.name).as_uri(), "--window-size=1500,900", "--virtual-time-budget=60000")
+        shown, _ = opened(
+            pathlib.Path(file.name).as_uri(),
+            "--window-size=1500,900",
+            "--virtual-time-budget=60000",
+        )
     widths = re.findall(r"([\w./-]+\.html) (\d+)", shown)
     missing = set(names) - {name for name, _ in widths}
-    return [f"{name}: {wide} pixels" for name, wide in widths if int(wide) > width] + [f"{name}: not opened" for name in sorted(missing)]
+    return [f"{name}: {wide} pixels" for name, wide in widths if int(wide) > width] + [
+        f"{name}: not opened" for name in sorted(missing)
+    ]
 
 
 def check(out):
@@ -62,10 +85,17 @@ def check(out):
     pages = sorted(path for path in out.rglob("*.html") if path.name != "404.html")
     for path in pages:
         _, errors = opened(path.as_uri())
-        outside = NOTHING_ELSE.findall(re.sub(r'<a [^>]*href="[^"]*"', "", path.read_text(encoding="utf-8")))
+        outside = NOTHING_ELSE.findall(
+            re.sub(r'<a [^>]*href="[^"]*"', "", path.read_text(encoding="utf-8"))
+        )
         passed += not errors and not outside
-        faults += [f"{path.relative_to(out)}: {error}" for error in errors] + [f"{path.relative_to(out)}: it loads from elsewhere"] * bool(outside)
-    for name, found in (("links", list(dead_links(out))), *((f"{width} pixels", too_wide(out, width)) for width in WIDTHS)):
+        faults += [f"{path.relative_to(out)}: {error}" for error in errors] + [
+            f"{path.relative_to(out)}: it loads from elsewhere"
+        ] * bool(outside)
+    for name, found in (
+        ("links", list(dead_links(out))),
+        *((f"{width} pixels", too_wide(out, width)) for width in WIDTHS),
+    ):
         passed += not found
         faults += [f"{name}: {fault}" for fault in found]
     results, _ = opened(f"{(out / 'search.html').as_uri()}?q=r.clump")

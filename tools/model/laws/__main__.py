@@ -30,14 +30,22 @@ def is_shown(sentence, show, runs):
         shown_on, holds = show(runs), True
     except BrokenError as broken:
         shown_on, holds = broken, False
-    print(f"{'holds' if holds else 'BROKEN'}: {sentence} ({shown_on}; {time.monotonic() - begun:.1f} s)", flush=True)
+    print(
+        f"{'holds' if holds else 'BROKEN'}: {sentence} ({shown_on}; {time.monotonic() - begun:.1f} s)",
+        flush=True,
+    )
     return holds
 
 
 def main():
     parser = argparse.ArgumentParser(description=__doc__.splitlines()[0])
     parser.add_argument("--program", default=f"{ROOT}/bin/rcell")
-    parser.add_argument("modules", nargs="*", metavar="MODULE", help=f"of {', '.join(modules())}; all where none is given")
+    parser.add_argument(
+        "modules",
+        nargs="*",
+        metavar="MODULE",
+        help=f"of {', '.join(modules())}; all where none is given",
+    )
     options = parser.parse_args()
     results = []
     with tempfile.TemporaryDirectory(prefix="rcell-laws-") as room:

@@ -45,7 +45,10 @@ def map_of(text):
     """The map of a grid text as r.out.ascii writes it: six lines of header, then a line for each row."""
     lines = text.splitlines()
     header = dict(line.split(":", 1) for line in lines[:6])
-    return Map(tuple(header[side].strip() for side in SIDES), tuple(tuple(line.split()) for line in lines[6:]))
+    return Map(
+        tuple(header[side].strip() for side in SIDES),
+        tuple(tuple(line.split()) for line in lines[6:]),
+    )
 
 
 def map_of_file(path):
@@ -70,7 +73,9 @@ def made(seed, categories=9, side=1000):
     rows = []
     for row in range(side):
         if row % 8 == 0:
-            squares = [cell for cell in chance.choices(words, k=side // 8 + 1) for _ in range(8)][:side]
+            squares = [cell for cell in chance.choices(words, k=side // 8 + 1) for _ in range(8)][
+                :side
+            ]
         cells = list(squares)
         for col in chance.sample(range(side), side // 10):
             cells[col] = chance.choice(words)
@@ -104,7 +109,9 @@ class Runs:
         path = os.path.join(self.room, "script")
         pathlib.Path(path).write_text(script + "\n", encoding="ascii")
         words = [f"{name}={self.path_of(grid)}" for name, grid in grids.items()]
-        done = subprocess.run([self.program, path, *words], capture_output=True, text=True, check=False)
+        done = subprocess.run(
+            [self.program, path, *words], capture_output=True, text=True, check=False
+        )
         if done.returncode != 0:
             raise BrokenError(f"the program refuses {script!r}: {done.stderr.strip()}")
         return done.stdout

@@ -36,7 +36,11 @@ class Written:
 def written(runs, script, name, null_text, **grids):
     """The grid text of a map after a script, without what the script itself writes."""
     before = runs.output(script, **grids)
-    return Written(runs.output(f"{script}\nr.out.ascii input={name} null_value={null_text}", **grids).removeprefix(before))
+    return Written(
+        runs.output(
+            f"{script}\nr.out.ascii input={name} null_value={null_text}", **grids
+        ).removeprefix(before)
+    )
 
 
 def read_again(runs):
@@ -68,9 +72,16 @@ def cut_in_two(runs):
         for cut in range(1, len(STATEMENTS)):
             first = "\n".join(words for words, _ in STATEMENTS[:cut])
             second = "\n".join(words for words, _ in STATEMENTS[cut:])
-            grids = {name: written(runs, first, name, "void", m=grid) for _, name in STATEMENTS[:cut] if name}
+            grids = {
+                name: written(runs, first, name, "void", m=grid)
+                for _, name in STATEMENTS[:cut]
+                if name
+            }
             both = runs.output(first, m=grid) + runs.output(second, m=grid, **grids)
-            expect(both == whole, f"{where}: cut after statement {cut}, the second part writes something else")
+            expect(
+                both == whole,
+                f"{where}: cut after statement {cut}, the second part writes something else",
+            )
     return f"{', '.join(shown_on())}; {len(STATEMENTS) - 1} cuts"
 
 

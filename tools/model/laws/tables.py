@@ -25,15 +25,28 @@ def pages_join(runs, grid):
     whole = runs.output(f"{areas}r.stats -c input=m,a", m=grid).splitlines(keepends=True)
     places = range(0, len(whole), len(whole) // PARTS + 1)
     afters = [",".join(whole[place].split()[:2]) for place in places]
-    rests = runs.output(areas + "\n".join(f"r.stats -c input=m,a after={after}" for after in afters), m=grid)
-    expect(rests == "".join("".join(whole[place + 1 :]) for place in places), "an entry is lost, or comes twice")
+    rests = runs.output(
+        areas + "\n".join(f"r.stats -c input=m,a after={after}" for after in afters), m=grid
+    )
+    expect(
+        rests == "".join("".join(whole[place + 1 :]) for place in places),
+        "an entry is lost, or comes twice",
+    )
     return f"{len(afters)} cuts through {len(whole)} entries"
 
 
 # ---- reclassing
 
 RULES = ("1 3 = 7 joined", "2 thru 4 = 8", "5 = NULL", "6 = 7", "9 thru 8 = 1")
-SENT = {"1": "7", "2": "8", "3": "8", "4": "8", "6": "7", "8": "1", "9": "1"}  # what RULES send elsewhere than to null
+SENT = {
+    "1": "7",
+    "2": "8",
+    "3": "8",
+    "4": "8",
+    "6": "7",
+    "8": "1",
+    "9": "1",
+}  # what RULES send elsewhere than to null
 
 
 def reclass(rules):
@@ -57,8 +70,13 @@ def renaming_keeps_counts(runs, grid):
     """Rules that give each category another name of its own."""
     old = runs.table("", "m", m=grid)
     name = {NULL: NULL} | {cell: str(1000 - int(cell)) for (cell,) in old if cell != NULL}
-    new = runs.table(reclass(f"{cell} = {name[cell]}" for (cell,) in old if cell != NULL), "r", m=grid)
-    expect(new == {(name[cell],): count for (cell,), count in old.items()}, "a count changed with its name")
+    new = runs.table(
+        reclass(f"{cell} = {name[cell]}" for (cell,) in old if cell != NULL), "r", m=grid
+    )
+    expect(
+        new == {(name[cell],): count for (cell,), count in old.items()},
+        "a count changed with its name",
+    )
     return f"{len(old)} categories"
 
 
@@ -71,7 +89,10 @@ def areas_divide_their_category(runs, grid):
     areas = "r.clump input=m output=a"
     both = runs.table(areas, "m,a", m=grid)
     expect(len({number for _, number in both}) == len(both), "a number stands with two categories")
-    expect({(number,): count for (_, number), count in both.items()} == runs.table(areas, "a", m=grid), "an area is not whole")
+    expect(
+        {(number,): count for (_, number), count in both.items()} == runs.table(areas, "a", m=grid),
+        "an area is not whole",
+    )
     numbers = sorted(int(number) for _, number in both if number != NULL)
     expect(numbers == list(range(1, len(numbers) + 1)), "an area is empty")
     sums = Counter()
@@ -91,23 +112,45 @@ def other_areas_stay(runs, grid):
     pairs = runs.table(less, "a,b", m=grid)
     now = {was: number for was, number in pairs if was != NULL}
     expect(len(now) == sum(was != NULL for was, _ in pairs), "an area is divided")
-    expected = {was: NULL if int(was) == gone else str(int(was) - (int(was) > gone)) for (was,) in sizes if was != NULL}
+    expected = {
+        was: NULL if int(was) == gone else str(int(was) - (int(was) > gone))
+        for (was,) in sizes
+        if was != NULL
+    }
     expect(now == expected, "a number changed by more than one")
-    expect(all(sizes[(was,)] == count for (was, _), count in pairs.items() if was != NULL), "an area lost a cell")
+    expect(
+        all(sizes[(was,)] == count for (was, _), count in pairs.items() if was != NULL),
+        "an area lost a cell",
+    )
     return f"without area {gone} of {len(expected)}"
 
 
 @on_maps
 def corners_only_join(runs, grid):
     """The table of both clump maps: one number by corners for each by edges, no larger, and all from 1 on."""
-    both = table_of(runs.output("r.clump input=m output=e\nr.clump -d input=m output=d\nr.stats -c input=e,d", m=grid))
+    both = table_of(
+        runs.output(
+            "r.clump input=m output=e\nr.clump -d input=m output=d\nr.stats -c input=e,d", m=grid
+        )
+    )
     joined = defaultdict(set)
     for edges, corners in both:
         joined[edges].add(corners)
-    expect(all(len(numbers) == 1 for numbers in joined.values()), "an area by edges lies in two by corners")
-    numbers = [(int(edges), int(corners)) for edges, corners in both if NULL not in (edges, corners)]
-    expect(len(numbers) == sum((edges, corners) != (NULL, NULL) for edges, corners in both), "a cell is null in one of them")
-    expect(all(corners <= edges for edges, corners in numbers), "a number by corners is greater than that by edges")
+    expect(
+        all(len(numbers) == 1 for numbers in joined.values()),
+        "an area by edges lies in two by corners",
+    )
+    numbers = [
+        (int(edges), int(corners)) for edges, corners in both if NULL not in (edges, corners)
+    ]
+    expect(
+        len(numbers) == sum((edges, corners) != (NULL, NULL) for edges, corners in both),
+        "a cell is null in one of them",
+    )
+    expect(
+        all(corners <= edges for edges, corners in numbers),
+        "a number by corners is greater than that by edges",
+    )
     by_corners = {corners for _, corners in numbers}
     expect(by_corners == set(range(1, len(by_corners) + 1)), "a number by corners is left out")
     return f"{len(numbers)} areas by edges, {len(by_corners)} by corners"

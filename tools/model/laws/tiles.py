@@ -9,7 +9,7 @@ RULES = "r.reclass input=g output=x\n1 thru 3 = 1\n4 5 = 2\nend"
 
 def cut_out(grid, top, left, side=SIDE):
     """The part of a map from a row and a column on, with at most so many rows and columns."""
-    rows = tuple(row[left:left + side] for row in grid.rows[top:top + side])
+    rows = tuple(row[left : left + side] for row in grid.rows[top : top + side])
     return Map((str(len(rows)), "0", str(len(rows[0])), "0"), rows)
 
 
@@ -28,8 +28,13 @@ def tables_add_up(runs):
             added = collections.Counter()
             for _, tile in tiles(grid, side):
                 added.update(runs.table(script, names, g=tile))
-            expect(dict(added) == whole, f"tables of tiles of {side} rows and columns add up to another for {names}")
-    return "16 tiles of a made map, the tiles of land-cover; one map, and it beside itself reclassed"
+            expect(
+                dict(added) == whole,
+                f"tables of tiles of {side} rows and columns add up to another for {names}",
+            )
+    return (
+        "16 tiles of a made map, the tiles of land-cover; one map, and it beside itself reclassed"
+    )
 
 
 def reclassed_parts(runs):
@@ -37,7 +42,10 @@ def reclassed_parts(runs):
     grid = made(1)
     whole = runs.map(RULES, "x", g=grid)
     for (top, left), tile in tiles(grid):
-        expect(runs.map(RULES, "x", g=tile).rows == cut_out(whole, top, left).rows, f"the tile at {(top, left)} differs")
+        expect(
+            runs.map(RULES, "x", g=tile).rows == cut_out(whole, top, left).rows,
+            f"the tile at {(top, left)} differs",
+        )
     return "16 tiles of a made map"
 
 
@@ -53,7 +61,9 @@ def labels_by_tiles(runs, grid, flag):
     labels = [[None] * len(row) for row in grid.rows]
     for (top, left), tile in tiles(grid):
         for down, row in enumerate(runs.map(f"r.clump {flag} input=g output=x", "x", g=tile).rows):
-            labels[top + down][left:left + len(row)] = [None if cell == NULL else (top, left, cell) for cell in row]
+            labels[top + down][left : left + len(row)] = [
+                None if cell == NULL else (top, left, cell) for cell in row
+            ]
     parents = {}
     steps = ((1, 0), (0, 1), (1, 1), (1, -1)) if flag else ((1, 0), (0, 1))
     last_row, last_col = len(grid.rows) - 1, len(grid.rows[0]) - 1
@@ -71,9 +81,15 @@ def join_beside(grid, labels, parents, place, steps):
     row, col = place
     for down, right in steps:
         to_row, to_col = row + down, col + right
-        if to_row < len(grid.rows) and 0 <= to_col < len(grid.rows[0]) and labels[row][col] is not None:
+        if (
+            to_row < len(grid.rows)
+            and 0 <= to_col < len(grid.rows[0])
+            and labels[row][col] is not None
+        ):
             if grid.rows[to_row][to_col] == grid.rows[row][col]:
-                parents[root_of(parents, labels[to_row][to_col])] = root_of(parents, labels[row][col])
+                parents[root_of(parents, labels[to_row][to_col])] = root_of(
+                    parents, labels[row][col]
+                )
 
 
 def areas_join(runs):
@@ -85,8 +101,15 @@ def areas_join(runs):
         numbers = {}
         for row, cells in zip(labels, whole.rows, strict=True):
             for label, cell in zip(row, cells, strict=True):
-                told = NULL if label is None else str(numbers.setdefault(root_of(parents, label), len(numbers) + 1))
-                expect(told == cell, f"with {flag or 'no flag'}: an area has the number {told} by tiles, and {cell} in the whole")
+                told = (
+                    NULL
+                    if label is None
+                    else str(numbers.setdefault(root_of(parents, label), len(numbers) + 1))
+                )
+                expect(
+                    told == cell,
+                    f"with {flag or 'no flag'}: an area has the number {told} by tiles, and {cell} in the whole",
+                )
         counts.append(len(numbers))
     return f"16 tiles of a made map of {counts[0]} areas by edges and {counts[1]} by corners"
 

@@ -5,7 +5,11 @@ from collections import Counter
 from runs import NULL, Map, expect, made, shown_on
 
 # Each reads a and b at the cell alone, and neither a row nor a column.
-LOCAL = ("a + 10 * b", "if(isnull(a), b, if(a > b, a - b, -nmin(a, b)))", "mode(a, b, 3) % 4 ||| a == 9")
+LOCAL = (
+    "a + 10 * b",
+    "if(isnull(a), b, if(a > b, a - b, -nmin(a, b)))",
+    "mode(a, b, 3) % 4 ||| a == 9",
+)
 # The shifts (a,b) and (c,d) of `x = g[a,b]` and `y = x[c,d]`.
 SHIFTS = ((1, -2, -3, 4), (0, 0, 255, 0), (-7, 5, 7, -5), (40, 0, 0, -90))
 # An expression of neighbours, and how far it reaches up, down, to the left and to the right.
@@ -24,7 +28,10 @@ def has_its_values(runs):
     for expression in LOCAL:
         without = runs.table("", "a,b", **pair())
         behind = runs.table(f"r.mapcalc x = {expression}", "a,b,x", **pair())
-        expect([key[:2] for key in behind] == list(without), f"{expression}: other combinations, or one with two values")
+        expect(
+            [key[:2] for key in behind] == list(without),
+            f"{expression}: other combinations, or one with two values",
+        )
         expect(list(behind.values()) == list(without.values()), f"{expression}: other counts")
         lines += len(without)
     return f"{len(LOCAL)} expressions, {lines} combinations of two maps of 1,000,000 cells"
@@ -34,9 +41,14 @@ def counts_follow(runs):
     """The counts of x are sums of the counts of a and b."""
     for expression in LOCAL:
         sums = Counter()
-        for (*_, value), count in runs.table(f"r.mapcalc x = {expression}", "a,b,x", **pair()).items():
+        for (*_, value), count in runs.table(
+            f"r.mapcalc x = {expression}", "a,b,x", **pair()
+        ).items():
             sums[value,] += count
-        expect(runs.table(f"r.mapcalc x = {expression}", "x", **pair()) == sums, f"{expression}: the counts are no sums")
+        expect(
+            runs.table(f"r.mapcalc x = {expression}", "x", **pair()) == sums,
+            f"{expression}: the counts are no sums",
+        )
     return f"{len(LOCAL)} expressions over two maps of 1,000,000 cells"
 
 
@@ -76,7 +88,11 @@ def null_beyond(runs):
             cells = [cell for row in x.rows[rows] for cell in row[cols]]
             beyond = Counter(x.cells) - Counter(cells)
             expect(set(beyond) <= {NULL}, f"{name}: a category beyond the edge, by {(a, b)}")
-            more = {cell for cell, count in Counter(x.cells).items() if cell != NULL and count > counts[cell]}
+            more = {
+                cell
+                for cell, count in Counter(x.cells).items()
+                if cell != NULL and count > counts[cell]
+            }
             expect(not more, f"{name}: more cells of {sorted(more)} after {(a, b)}")
     return f"{len(SHIFTS)} shifts of {', '.join(shown_on())}"
 
@@ -89,12 +105,17 @@ def tiles_make_the_map(runs):
     for top in range(0, len(grid.rows), side):
         for start in range(0, len(grid.rows[0]), side):
             first_row, first_col = max(0, top - up), max(0, start - left)
-            rows = tuple(row[first_col:start + side + right] for row in grid.rows[first_row:top + side + down])
+            rows = tuple(
+                row[first_col : start + side + right]
+                for row in grid.rows[first_row : top + side + down]
+            )
             tile = runs.map(script, "x", g=Map((str(len(rows)), "0", str(len(rows[0])), "0"), rows))
-            inner = [row[start - first_col:][:side] for row in tile.rows[top - first_row:][:side]]
-            there = [row[start:start + side] for row in whole.rows[top:top + side]]
+            inner = [row[start - first_col :][:side] for row in tile.rows[top - first_row :][:side]]
+            there = [row[start : start + side] for row in whole.rows[top : top + side]]
             expect(inner == there, f"the tile at {(top, start)} differs")
-    return f"{(len(grid.rows) // side) ** 2} tiles of {side} rows and columns, with {sum(REACH)} more"
+    return (
+        f"{(len(grid.rows) // side) ** 2} tiles of {side} rows and columns, with {sum(REACH)} more"
+    )
 
 
 LAWS = {

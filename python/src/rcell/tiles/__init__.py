@@ -18,4 +18,12 @@ from ._engine import WorkerLost  # noqa: E402
 from .mosaic import Mosaic, NeedlessTiles, TooLittleMemory  # noqa: E402
 from .mosaic import open_mosaic as open  # noqa: E402
 
-__all__ = ["ClusterFailed", "Mosaic", "NeedlessTiles", "TooLittleMemory", "TooManyCells", "WorkerLost", "open"]
+__all__ = [
+    "ClusterFailed",
+    "Mosaic",
+    "NeedlessTiles",
+    "TooLittleMemory",
+    "TooManyCells",
+    "WorkerLost",
+    "open",
+]

@@ -50,7 +50,14 @@ SHARE = 0.8
 
 
 ADDRESS = re.compile(r"tls://127\.0\.0\.1:\d+\n")
-KEYS = ("tls_ca_file", *(f"tls_{role}_{part}" for role in ("client", "scheduler", "worker") for part in ("key", "cert")))
+KEYS = (
+    "tls_ca_file",
+    *(
+        f"tls_{role}_{part}"
+        for role in ("client", "scheduler", "worker")
+        for part in ("key", "cert")
+    ),
+)
 
 
 class ClusterFailed(RcellError, RuntimeError):
@@ -116,9 +123,15 @@ class Cluster:
         if not self._is_own:
             return
         try:
-            address, security = (scheduler, None) if isinstance(scheduler, str) else self._start(scheduler or os.cpu_count() or 1, memory)
+            address, security = (
+                (scheduler, None)
+                if isinstance(scheduler, str)
+                else self._start(scheduler or os.cpu_count() or 1, memory)
+            )
             patience = CONNECT_SECONDS if self._parent is None else OWN_SECONDS
-            self.client = distributed.Client(address, security=security, set_as_default=False, timeout=patience)
+            self.client = distributed.Client(
+                address, security=security, set_as_default=False, timeout=patience
+            )
             self.client.loop.asyncio_loop.set_exception_handler(_forgotten)
         except OSError as fault:
             self.close()
@@ -136,12 +149,22 @@ class Cluster:
         self._ends = [keys, output]
         with tempfile.TemporaryFile("w+", errors="replace") as log:
             try:
-                self._parent = subprocess.Popen(command, stdin=given, stdout=printed, stderr=log, start_new_session=True, env=_environment())
+                self._parent = subprocess.Popen(
+                    command,
+                    stdin=given,
+                    stdout=printed,
+                    stderr=log,
+                    start_new_session=True,
+                    env=_environment(),
+                )
             finally:
                 close(given)
                 close(printed)
             with contextlib.suppress(BrokenPipeError):
-                write_all(keys, json.dumps({name: getattr(security, name) for name in KEYS}).encode() + b"\n")
+                write_all(
+                    keys,
+                    json.dumps({name: getattr(security, name) for name in KEYS}).encode() + b"\n",
+                )
             address = _line(output)
             if not ADDRESS.fullmatch(address):
                 log.seek(0)
@@ -156,7 +179,10 @@ class Cluster:
             raise ClusterFailed("the scheduler has no workers")
         threads = sum(worker["nthreads"] for worker in workers)
         told = all(RESOURCE in worker["resources"] for worker in workers)
-        whole = [worker["resources"][RESOURCE] if told else worker["memory_limit"] or free_memory() for worker in workers]
+        whole = [
+            worker["resources"][RESOURCE] if told else worker["memory_limit"] or free_memory()
+            for worker in workers
+        ]
         share = min(memory / worker["nthreads"] for memory, worker in zip(whole, workers))
         return Room(threads, int(share), int(min(whole)), told)
 
@@ -202,7 +228,9 @@ def _line(output: int) -> str:
 
 def _environment() -> dict[str, str]:
     """Return an environment in which Python imports nothing from the working folder, and Dask serves no pages."""
-    given = [] if sys.flags.ignore_environment else os.environ.get("PYTHONPATH", "").split(os.pathsep)
+    given = (
+        [] if sys.flags.ignore_environment else os.environ.get("PYTHONPATH", "").split(os.pathsep)
+    )
     paths = [str(Path(__file__).parents[2]), *filter(os.path.isabs, given)]
     no_pages = {f"DASK_DISTRIBUTED__{role}__HTTP__ROUTES": "[]" for role in ("SCHEDULER", "WORKER")}
     return {**os.environ, **no_pages, "PYTHONPATH": os.pathsep.join(paths), "PYTHONSAFEPATH": "1"}
@@ -212,11 +240,26 @@ def main(workers: int, memory: int) -> None:
     """Hold a cluster of so many workers, each of so many bytes, until standard input ends; its first line has the keys."""
     security = distributed.Security(require_encryption=True, **json.loads(sys.stdin.readline()))
     with tempfile.TemporaryDirectory(prefix="rcell-tiles-", ignore_cleanup_errors=True) as folder:
-        own = {"host": "127.0.0.1", "protocol": "tls://", "security": security, "dashboard": False, "dashboard_address": "127.0.0.1:0"}
-        worker = own | {"nthreads": 1, "memory_limit": 0, "resources": {RESOURCE: memory}, "local_directory": folder}
+        own = {
+            "host": "127.0.0.1",
+            "protocol": "tls://",
+            "security": security,
+            "dashboard": False,
+            "dashboard_address": "127.0.0.1:0",
+        }
+        worker = own | {
+            "nthreads": 1,
+            "memory_limit": 0,
+            "resources": {RESOURCE: memory},
+            "local_directory": folder,
+        }
         scheduler = {"cls": distributed.Scheduler, "options": own}
-        cluster = distributed.SpecCluster({at: {"cls": distributed.Nanny, "options": worker} for at in range(workers)}, scheduler,
-                                          security=security, silence_logs=logging.WARNING)
+        cluster = distributed.SpecCluster(
+            {at: {"cls": distributed.Nanny, "options": worker} for at in range(workers)},
+            scheduler,
+            security=security,
+            silence_logs=logging.WARNING,
+        )
         try:
             print(cluster.scheduler_address, flush=True)
             sys.stdin.read()

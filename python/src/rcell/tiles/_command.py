@@ -39,7 +39,12 @@ def main(argv: Sequence[str]) -> int:
         warnings.simplefilter("always", NeedlessTiles)
         warnings.showwarning = lambda message, *_, **__: print(f"rcell: {message}", file=sys.stderr)
         try:
-            with open_mosaic(dict(given.maps), size=given.size, scheduler=given.scheduler or given.workers, crs=given.crs) as mosaic:
+            with open_mosaic(
+                dict(given.maps),
+                size=given.size,
+                scheduler=given.scheduler or given.workers,
+                crs=given.crs,
+            ) as mosaic:
                 given.act(mosaic, given)
         except (RcellError, OSError) as fault:
             print(f"rcell: {fault}", file=sys.stderr)
@@ -56,34 +61,66 @@ def _status(fault: Exception) -> int:
 
 
 def _parser() -> argparse.ArgumentParser:
-    parser = argparse.ArgumentParser(prog="python3 -m rcell tiles", description="Maps of any size, by tiles.")
+    parser = argparse.ArgumentParser(
+        prog="python3 -m rcell tiles", description="Maps of any size, by tiles."
+    )
     commands = parser.add_subparsers(required=True, metavar="COMMAND")
     table = _command(commands, "table", _table, "the table of a script with one r.stats, as CSV")
-    table.add_argument("script", metavar="SCRIPT", help="a file, a line `r.stats ..`, or - for standard input")
+    table.add_argument(
+        "script", metavar="SCRIPT", help="a file, a line `r.stats ..`, or - for standard input"
+    )
     table.add_argument("--area", choices=["ha", "km2", "m2"], help="a column of areas")
     table.add_argument("--percent", action="store_true", help="a column of percentages")
     grid = _command(commands, "grid", _grid, "a map as a GeoTIFF")
-    grid.add_argument("script", metavar="EXPRESSION", help="NAME = EXPRESSION of r.mapcalc, or a file")
+    grid.add_argument(
+        "script", metavar="EXPRESSION", help="NAME = EXPRESSION of r.mapcalc, or a file"
+    )
     clump = _command(commands, "clump", _clump, "the patches of a map as a GeoTIFF")
-    patches = _command(commands, "patches", _patches, "the patches of a map with their sizes, as CSV")
+    patches = _command(
+        commands, "patches", _patches, "the patches of a map with their sizes, as CSV"
+    )
     for command in (grid, clump):
         command.add_argument("--out", required=True, metavar="PATH", help="the GeoTIFF to write")
     for command in (clump, patches):
-        command.add_argument("--connectivity", type=int, choices=[4, 8], default=4, help="8: cells that share a corner are connected as well")
+        command.add_argument(
+            "--connectivity",
+            type=int,
+            choices=[4, 8],
+            default=4,
+            help="8: cells that share a corner are connected as well",
+        )
     for command in (table, grid):
-        command.add_argument("maps", nargs="+", type=_named, metavar="NAME=PATH", help="maps, by their names")
+        command.add_argument(
+            "maps", nargs="+", type=_named, metavar="NAME=PATH", help="maps, by their names"
+        )
     for command in (clump, patches):
-        command.add_argument("maps", nargs=1, type=_named, metavar="NAME=PATH", help="a map, by its name")
+        command.add_argument(
+            "maps", nargs=1, type=_named, metavar="NAME=PATH", help="a map, by its name"
+        )
     return parser
 
 
 def _command(commands: Any, name: str, act: Any, text: str) -> argparse.ArgumentParser:
     command: argparse.ArgumentParser = commands.add_parser(name, help=text, description=text)
     command.set_defaults(act=act)
-    command.add_argument("--size", type=_positive, metavar="CELLS", help="rows and columns of a tile; chosen by memory if not given")
-    command.add_argument("--crs", metavar="EPSG:CODE", help="the coordinate reference system of the maps that have none")
+    command.add_argument(
+        "--size",
+        type=_positive,
+        metavar="CELLS",
+        help="rows and columns of a tile; chosen by memory if not given",
+    )
+    command.add_argument(
+        "--crs",
+        metavar="EPSG:CODE",
+        help="the coordinate reference system of the maps that have none",
+    )
     where = command.add_mutually_exclusive_group()
-    where.add_argument("--workers", type=_positive, metavar="N", help="processes on this machine; one a processor if not given")
+    where.add_argument(
+        "--workers",
+        type=_positive,
+        metavar="N",
+        help="processes on this machine; one a processor if not given",
+    )
     where.add_argument("--scheduler", metavar="ADDRESS", help="a Dask scheduler")
     return command
 

@@ -82,7 +82,9 @@ class Engine:
             while True:
                 if len(running) <= ahead // 2:
                     batch = list(islice(waiting, ahead - len(running)))
-                    running.update(zip(self._asked([one for _, one in batch]), (place for place, _ in batch)))
+                    running.update(
+                        zip(self._asked([one for _, one in batch]), (place for place, _ in batch))
+                    )
                 if not running:
                     return
                 for future in self._ended(running):
@@ -98,7 +100,9 @@ class Engine:
             while not self._ended([last]):
                 still = [leaf for leaf in open_leaves if not leaf.done()]
                 step(len(open_leaves) - len(still))
-                open_leaves = still  # drop the other results, which only other parts of the root need
+                open_leaves = (
+                    still  # drop the other results, which only other parts of the root need
+                )
             step(len(open_leaves))
             return last.result()
 
@@ -111,13 +115,17 @@ class Engine:
             with self.cluster.client.as_current():
                 return set(distributed.wait(list(futures), LOOK_SECONDS, "FIRST_COMPLETED").done)
         except distributed.TimeoutError:
-            self._lone_since = None if self.cluster.has_workers() else self._lone_since or time.monotonic()
+            self._lone_since = (
+                None if self.cluster.has_workers() else self._lone_since or time.monotonic()
+            )
             if self._lone_since is not None and time.monotonic() - self._lone_since >= LONE_SECONDS:
                 raise _NoWorker(f"no worker for {LONE_SECONDS:g} seconds") from None
             return set()
 
     @contextmanager
-    def _under_way(self, title: str, total: int) -> Iterator[tuple[dict[Any, int], Callable[[int], None]]]:
+    def _under_way(
+        self, title: str, total: int
+    ) -> Iterator[tuple[dict[Any, int], Callable[[int], None]]]:
         """Yield a dictionary for futures, which are cancelled if one of them fails, and a call for tiles that are done."""
         running: dict[Any, int] = {}
         self._lone_since = None
@@ -137,7 +145,13 @@ class Engine:
 def _reported(progress: Progress, title: str, total: int) -> Iterator[Callable[[int], None]]:
     """Yield a function to call for each finished tile, which shows the progress."""
     if progress is None or isinstance(progress, bool):
-        with tqdm(total=total, desc=title, unit="tile", disable=None if progress is None else not progress, file=sys.stderr) as bar:
+        with tqdm(
+            total=total,
+            desc=title,
+            unit="tile",
+            disable=None if progress is None else not progress,
+            file=sys.stderr,
+        ) as bar:
             yield bar.update
         return
     report, done = progress, 0

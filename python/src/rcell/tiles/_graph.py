@@ -36,25 +36,44 @@ class Run(Protocol):
 
 def cuts_of(shape: tuple[int, int], size: tuple[int, int]) -> Cuts:
     """Return the cuts of a map into tiles of one size, the last ones aside."""
-    rows, cols = (tuple(min(step, total - at) for at in range(0, total, step)) for total, step in zip(shape, size))
+    rows, cols = (
+        tuple(min(step, total - at) for at in range(0, total, step))
+        for total, step in zip(shape, size)
+    )
     return rows, cols
 
 
 def places_of(cuts: Cuts) -> list[Rectangle]:
     """Return the tiles row by row; each cell is in one (law `grids_cover`)."""
     rows, cols = (list(pairwise(accumulate(lengths, initial=0))) for lengths in cuts)
-    return [Rectangle(top, left, low - top, right - left) for top, low in rows for left, right in cols]
+    return [
+        Rectangle(top, left, low - top, right - left) for top, low in rows for left, right in cols
+    ]
 
 
 def cuts_for(cuts: Cuts, reach: Reach) -> Cuts:
     """Return cuts whose tiles are as large as the halo, so that Dask takes it from the tiles next to one."""
     needed = max(reach.up, reach.down), max(reach.left, reach.right)
-    rows, cols = ((sum(lengths),) if sum(lengths) <= most else ensure_minimum_chunksize(most, lengths) if most else lengths for lengths, most in zip(cuts, needed))
+    rows, cols = (
+        (sum(lengths),)
+        if sum(lengths) <= most
+        else ensure_minimum_chunksize(most, lengths)
+        if most
+        else lengths
+        for lengths, most in zip(cuts, needed)
+    )
     return tuple(rows), tuple(cols)
 
 
-def over_tiles(function: Callable[..., Any], run: Run, cuts: Cuts, arrays: Sequence[Any] = (), each: Sequence[Any] | None = None,
-               dtype: Any = object, once: Any = None) -> Any:
+def over_tiles(
+    function: Callable[..., Any],
+    run: Run,
+    cuts: Cuts,
+    arrays: Sequence[Any] = (),
+    each: Sequence[Any] | None = None,
+    dtype: Any = object,
+    once: Any = None,
+) -> Any:
     """Return an array of Dask whose blocks are what a function makes of tiles.
 
     Parameters
@@ -78,11 +97,21 @@ def over_tiles(function: Callable[..., Any], run: Run, cuts: Cuts, arrays: Seque
     shared = dask.delayed(run, traverse=False)
     name = f"{function.__name__}-{uuid4().hex}"
     keys = list(product(*(range(len(lengths)) for lengths in cuts)))
-    more: list[tuple[Any, ...]] = [()] * len(keys) if each is None else [(getattr(one, "key", one),) for one in each]
-    graph = {(name, *at): (function, shared.key, place, [(one.name, *at) for one in held], *own) for at, place, own in zip(keys, places_of(cuts), more)}
+    more: list[tuple[Any, ...]] = (
+        [()] * len(keys) if each is None else [(getattr(one, "key", one),) for one in each]
+    )
+    graph = {
+        (name, *at): (function, shared.key, place, [(one.name, *at) for one in held], *own)
+        for at, place, own in zip(keys, places_of(cuts), more)
+    }
     needed = [shared, *held, *(one for one in each or () if hasattr(one, "key"))]
     made = HighLevelGraph.from_collections(name, graph, dependencies=needed)
-    return dask.array.Array(made, name, cuts if dtype is not object else tuple((1,) * len(lengths) for lengths in cuts), dtype=dtype)
+    return dask.array.Array(
+        made,
+        name,
+        cuts if dtype is not object else tuple((1,) * len(lengths) for lengths in cuts),
+        dtype=dtype,
+    )
 
 
 def _with_halos(cells: Any, cuts: Cuts, reach: Reach) -> Any:

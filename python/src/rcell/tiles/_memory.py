@@ -79,10 +79,14 @@ class Demand:
         share : float, optional
             Clumps, as a fraction of the cells; by default as many as runs.
         """
-        cells = (rows + self.reach.up + self.reach.down) * (cols + self.reach.left + self.reach.right)
+        cells = (rows + self.reach.up + self.reach.down) * (
+            cols + self.reach.left + self.reach.right
+        )
         program = self.maps * min(CELL, RUN * runs)
         part = runs if share is None else share
-        beside = self.read + program + max(self.answer, self.clumps * CLUMP * runs, self.entry * part)
+        beside = (
+            self.read + program + max(self.answer, self.clumps * CLUMP * runs, self.entry * part)
+        )
         afterwards = self.after + self.per_clump * part
         return WORKER + math.ceil(cells * max(beside, afterwards))
 
@@ -99,7 +103,9 @@ def grid_demand(read: int, maps: int, reach: Reach) -> Demand:
 
 def clump_demand(read: int, number: int = 4) -> Demand:
     """Return the demand of clump numbers: int32, then the numbers of the full map with 4 bytes (in place) or 8."""
-    return Demand(read, maps=2, clumps=1, answer=4, after=read + (4 if number == 4 else 12), per_clump=number)
+    return Demand(
+        read, maps=2, clumps=1, answer=4, after=read + (4 if number == 4 else 12), per_clump=number
+    )
 
 
 def patches_demand(read: int) -> Demand:

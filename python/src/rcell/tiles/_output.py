@@ -56,12 +56,19 @@ class TileWriter:
         """Raise OSError if the file does not contain the tiles that were written."""
         with need("rasterio", "gis", PURPOSE).open(path) as dataset:
             for place, expected in self._sums.items():
-                if zlib.crc32(np.ascontiguousarray(dataset.read(1, window=_window(place))).data) != expected:
-                    raise OSError(f"the tile at row {place.top + 1}, column {place.left + 1} is not as it was written")
+                if (
+                    zlib.crc32(np.ascontiguousarray(dataset.read(1, window=_window(place))).data)
+                    != expected
+                ):
+                    raise OSError(
+                        f"the tile at row {place.top + 1}, column {place.left + 1} is not as it was written"
+                    )
 
 
 def _window(place: Rectangle) -> Any:
-    return need("rasterio.windows", "gis", PURPOSE).Window(place.left, place.top, place.cols, place.rows)
+    return need("rasterio.windows", "gis", PURPOSE).Window(
+        place.left, place.top, place.cols, place.rows
+    )
 
 
 def _told(path: str) -> AbstractContextManager[None]:
@@ -70,8 +77,13 @@ def _told(path: str) -> AbstractContextManager[None]:
 
 
 @contextmanager
-def tile_writer(path: str | os.PathLike[str], sheet: Sheet, dtype: str, nodata: int,
-                labels: Mapping[int, str] | None = None) -> Iterator[TileWriter]:
+def tile_writer(
+    path: str | os.PathLike[str],
+    sheet: Sheet,
+    dtype: str,
+    nodata: int,
+    labels: Mapping[int, str] | None = None,
+) -> Iterator[TileWriter]:
     """Yield a writer for a tiled, compressed GeoTIFF of a sheet under `path`.
 
     The file is written next to `path` and gets its name after it was read back. After an exception it is removed.
@@ -83,7 +95,9 @@ def tile_writer(path: str | os.PathLike[str], sheet: Sheet, dtype: str, nodata: 
     """
     rasterio = need("rasterio", "gis", PURPOSE)
     final = os.fspath(path)
-    profile = profile_of(sheet.rows, sheet.cols, sheet.transform, sheet.crs, dtype, nodata) | {"zlevel": 1}
+    profile = profile_of(sheet.rows, sheet.cols, sheet.transform, sheet.crs, dtype, nodata) | {
+        "zlevel": 1
+    }
     with replacing(final) as beside, rasterio.Env(GDAL_CACHEMAX=CACHE), _warnings_off():
         with _told(final):
             dataset = rasterio.open(beside, "w", **profile)
@@ -103,7 +117,9 @@ def tile_writer(path: str | os.PathLike[str], sheet: Sheet, dtype: str, nodata: 
 def _warnings_off() -> Iterator[None]:
     """Suppress rasterio's warning: maps without georeference have cells of side 1."""
     with warnings.catch_warnings():
-        warnings.simplefilter("ignore", need("rasterio.errors", "gis", PURPOSE).NotGeoreferencedWarning)
+        warnings.simplefilter(
+            "ignore", need("rasterio.errors", "gis", PURPOSE).NotGeoreferencedWarning
+        )
         yield
 
 

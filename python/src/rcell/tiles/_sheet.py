@@ -64,11 +64,15 @@ class Sheet:
 
     def differences(self, other: Sheet) -> list[str]:
         """Return the edges and sizes in which another sheet differs, with the difference."""
-        return differences_of((*self._units, self.rows, self.cols), (*other._units, other.rows, other.cols))
+        return differences_of(
+            (*self._units, self.rows, self.cols), (*other._units, other.rows, other.cols)
+        )
 
     @property
     def _units(self) -> tuple[int, int, int, int]:
-        north, south, east, west = map(units_of, edges_of_transform(self.transform, self.rows, self.cols))
+        north, south, east, west = map(
+            units_of, edges_of_transform(self.transform, self.rows, self.cols)
+        )
         return north, south, east, west
 
 
@@ -112,12 +116,22 @@ class MapFile:
         """
         top = sheet.rows - place.top - place.rows if self.is_upside_down else place.top
         where = f"the tile of {place.rows} x {place.cols} cells at row {place.top + 1}, column {place.left + 1}"
-        with need("rasterio", "gis", PURPOSE).Env(GDAL_CACHEMAX=READ_CACHE), open_dataset(self.name, self.path) as dataset:
-            cells, null = self.layer.read(self.name, dataset, (top, place.left, place.rows, place.cols), where)
+        with need("rasterio", "gis", PURPOSE).Env(GDAL_CACHEMAX=READ_CACHE), open_dataset(
+            self.name, self.path
+        ) as dataset:
+            cells, null = self.layer.read(
+                self.name, dataset, (top, place.left, place.rows, place.cols), where
+            )
         if self.is_upside_down:
             cells, null = cells[::-1], None if null is None else null[::-1]
         block = checked(self.name, cells, null, self.layer.nodata, place.top, place.left)
-        return ArrayMap(self.name, block.cells, Region.of_cells(place.rows, place.cols), block.null, nodata_of(np.dtype(self.layer.dtype), self.layer.nodata))
+        return ArrayMap(
+            self.name,
+            block.cells,
+            Region.of_cells(place.rows, place.cols),
+            block.null,
+            nodata_of(np.dtype(self.layer.dtype), self.layer.nodata),
+        )
 
 
 @dataclass(frozen=True)
@@ -148,7 +162,13 @@ class MapCells:
         cells, null = unmasked(cells)
         check_computed(self.name, cells, self.dtype, place[2:])
         block = checked(self.name, cells, null, self.nodata, place.top, place.left)
-        return ArrayMap(self.name, block.cells, Region.of_cells(place.rows, place.cols), block.null, nodata_of(self.dtype, self.nodata))
+        return ArrayMap(
+            self.name,
+            block.cells,
+            Region.of_cells(place.rows, place.cols),
+            block.null,
+            nodata_of(self.dtype, self.nodata),
+        )
 
 
 @dataclass(frozen=True)
@@ -180,7 +200,11 @@ class Maps:
     def labels_of(self, name: str) -> Mapping[int, str]:
         """Return the labels that a map has."""
         file = self.files[name]
-        return read_labels(file.path, file.layer.band) if isinstance(file, MapFile) else self.labels[name]
+        return (
+            read_labels(file.path, file.layer.band)
+            if isinstance(file, MapFile)
+            else self.labels[name]
+        )
 
 
 def open_maps(given: Mapping[str, Any], crs: Any = None) -> Maps:
@@ -206,7 +230,9 @@ def open_maps(given: Mapping[str, Any], crs: Any = None) -> Maps:
     for name, other in others:
         told = one.sheet.differences(other.sheet)
         if told:
-            raise OtherRegion(name, f"not of the region of `{first}`, and nothing is resampled: {'; '.join(told)}")
+            raise OtherRegion(
+                name, f"not of the region of `{first}`, and nothing is resampled: {'; '.join(told)}"
+            )
     found = Maps(replace(one.sheet, crs=wkt_of(common) or None), {}, {}, {})
     for each in opened.values():
         found.files.update(each.files)
@@ -218,14 +244,21 @@ def open_maps(given: Mapping[str, Any], crs: Any = None) -> Maps:
 def _opened(name: str, given: Any) -> Maps:
     """Return a map alone."""
     if isinstance(given, str | os.PathLike):
-        return _of_zarr(name, given) if os.fspath(given).rstrip("/").endswith(".zarr") else _of_file(name, given)
+        return (
+            _of_zarr(name, given)
+            if os.fspath(given).rstrip("/").endswith(".zarr")
+            else _of_file(name, given)
+        )
     module = type(given).__module__.partition(".")[0]
     if module == "rasterio" and hasattr(given, "bidx"):
         return _of_file(name, given.ds.name, given.bidx)
     if module == "dask" and hasattr(given, "ndim"):
         given, module = need("xarray", "xarray", "for arrays of Dask").DataArray(given), "xarray"
     if module != "xarray":
-        raise BadMap(name, f"a path that rasterio opens, a band of rasterio, a DataArray or an array of Dask is needed, not {type(given).__name__}")
+        raise BadMap(
+            name,
+            f"a path that rasterio opens, a band of rasterio, a DataArray or an array of Dask is needed, not {type(given).__name__}",
+        )
     return _of_array(name, given)
 
 
@@ -236,7 +269,10 @@ def _of_zarr(name: str, path: str | os.PathLike[str]) -> Maps:
     with told_of_reading(name, "cannot open"):
         found = variables_of(xarray.open_zarr(path, mask_and_scale=False))
     if len(found) != 1:
-        raise BadMap(name, f"a store of {len(found)} maps ({', '.join(found)}): give one, as xarray.open_zarr(path, mask_and_scale=False)[name]")
+        raise BadMap(
+            name,
+            f"a store of {len(found)} maps ({', '.join(found)}): give one, as xarray.open_zarr(path, mask_and_scale=False)[name]",
+        )
     return _of_array(name, *found.values())
 
 
@@ -245,8 +281,16 @@ def _of_array(name: str, given: Any) -> Maps:
     array = flat.array if is_lazy(flat.array) else flat.array.chunk()
     rows, cols = array.shape
     block = (max(array.chunks[0]), max(array.chunks[1]))
-    sheet = Sheet(rows, cols, flat.transform or (1.0, 0.0, 0.0, 0.0, -1.0, float(rows)), wkt_of(flat.crs) or None, block)
-    return Maps(sheet, {name: MapCells(name, array.dtype, flat.nodata)}, {name: array}, {name: flat.labels})
+    sheet = Sheet(
+        rows,
+        cols,
+        flat.transform or (1.0, 0.0, 0.0, 0.0, -1.0, float(rows)),
+        wkt_of(flat.crs) or None,
+        block,
+    )
+    return Maps(
+        sheet, {name: MapCells(name, array.dtype, flat.nodata)}, {name: array}, {name: flat.labels}
+    )
 
 
 def _of_file(name: str, path: str | os.PathLike[str], band: int | None = None) -> Maps:
@@ -256,5 +300,11 @@ def _of_file(name: str, path: str | os.PathLike[str], band: int | None = None) -
         layer = Layer.of(name, dataset, band or only_band(name, dataset, enums), enums)
         transform, is_upside_down = upright(name, dataset)
         rows, cols = dataset.block_shapes[layer.band - 1]
-        sheet = Sheet(dataset.height, dataset.width, transform, dataset.crs.to_wkt() if dataset.crs else None, (rows, cols))
+        sheet = Sheet(
+            dataset.height,
+            dataset.width,
+            transform,
+            dataset.crs.to_wkt() if dataset.crs else None,
+            (rows, cols),
+        )
         return Maps(sheet, {name: MapFile(name, file, layer, is_upside_down)}, {}, {})

@@ -22,8 +22,20 @@ from ._scripts import NO_REACH, Reach, Statement, TileScript
 from ._sheet import MapCells, MapFile, Sheet
 from .joining import Joined, Rectangle, TileNumbers, join, renumber, sizes
 
-__all__ = ["ClumpRun", "TableForm", "TileRun", "clumps_table", "grid_cells", "join_borders", "join_tables", "numbered_cells", "numbers_of_tile",
-           "patches_frame", "tile_border", "tile_table"]
+__all__ = [
+    "ClumpRun",
+    "TableForm",
+    "TileRun",
+    "clumps_table",
+    "grid_cells",
+    "join_borders",
+    "join_tables",
+    "numbered_cells",
+    "numbers_of_tile",
+    "patches_frame",
+    "tile_border",
+    "tile_table",
+]
 
 Integers = npt.NDArray[Any]
 
@@ -39,7 +51,9 @@ def with_halo(place: Rectangle, reach: Reach, sheet: Sheet) -> Rectangle:
     return Rectangle(top, left, low - top, right - left)
 
 
-def read(file: MapFile | MapCells, place: Rectangle, sheet: Sheet, given: Iterator[Any]) -> ArrayMap:
+def read(
+    file: MapFile | MapCells, place: Rectangle, sheet: Sheet, given: Iterator[Any]
+) -> ArrayMap:
     """Return the cells of a map in a rectangle: read from its file, or the next cells that Dask has passed on."""
     return file.read(place, sheet) if isinstance(file, MapFile) else file.of(next(given), place)
 
@@ -66,8 +80,14 @@ class TileRun:
         """Return the maps in a rectangle."""
         given = iter(cells)
         found = {file.name: read(file, outer, self.sheet, given) for file in self.files}
-        if not found:  # a script of row() and similar calls reads no map, but its region has to come from one
-            found[self.script.spare] = ArrayMap(self.script.spare, np.broadcast_to(np.uint8(0), outer[2:]), Region.of_cells(*outer[2:]))
+        if (
+            not found
+        ):  # a script of row() and similar calls reads no map, but its region has to come from one
+            found[self.script.spare] = ArrayMap(
+                self.script.spare,
+                np.broadcast_to(np.uint8(0), outer[2:]),
+                Region.of_cells(*outer[2:]),
+            )
         return found
 
 
@@ -99,7 +119,12 @@ def told_of_size(maps: Mapping[str, Source]) -> Iterator[None]:
         yield
     except OutOfMemory as fault:
         rows, cols = next(iter(maps.values())).region.shape
-        raise OutOfMemory(f"{fault.text} for a tile of {rows} x {cols} cells: give a smaller size", fault.source, 0, 3) from None
+        raise OutOfMemory(
+            f"{fault.text} for a tile of {rows} x {cols} cells: give a smaller size",
+            fault.source,
+            0,
+            3,
+        ) from None
 
 
 def made_cells(text: str, maps: Mapping[str, Source], name: str) -> Integers:
@@ -115,9 +140,19 @@ def tile_table(task: TileRun, place: Rectangle, cells: Sequence[Any]) -> bytes:
     outer = with_halo(place, task.reach, task.sheet)
     maps = task.maps(outer, cells)
     with told_of_size(maps):
-        if outer != place:  # other tiles count the cells of the halo, so it is cut off the maps that the table reads
-            made = grids(script.with_last().text(outer, task.sheet.rows, task.sheet.cols), maps, sorted({*stats.inputs} - {*maps}))
-            maps = {each.name: cut(each, place, outer) for each in (*maps.values(), *made) if each.name in stats.inputs}
+        if (
+            outer != place
+        ):  # other tiles count the cells of the halo, so it is cut off the maps that the table reads
+            made = grids(
+                script.with_last().text(outer, task.sheet.rows, task.sheet.cols),
+                maps,
+                sorted({*stats.inputs} - {*maps}),
+            )
+            maps = {
+                each.name: cut(each, place, outer)
+                for each in (*maps.values(), *made)
+                if each.name in stats.inputs
+            }
             script = replace(script, statements=(stats,))
         return printed(script.text(place, task.sheet.rows, task.sheet.cols), maps)
 
@@ -125,7 +160,12 @@ def tile_table(task: TileRun, place: Rectangle, cells: Sequence[Any]) -> bytes:
 def cut(given: ArrayMap, place: Rectangle, outer: Rectangle) -> ArrayMap:
     """Return a map of a tile from a map of the tile and its halo."""
     null = None if given.null is None else inner(given.null, place, outer)
-    return replace(given, array=inner(given.array, place, outer), region=Region.of_cells(place.rows, place.cols), null=null)
+    return replace(
+        given,
+        array=inner(given.array, place, outer),
+        region=Region.of_cells(place.rows, place.cols),
+        null=null,
+    )
 
 
 def inner(cells: Integers, place: Rectangle, outer: Rectangle) -> Integers:
@@ -134,7 +174,7 @@ def inner(cells: Integers, place: Rectangle, outer: Rectangle) -> Integers:
     They are the full map's, by the law `halo_is_enough`, or `reach_is_enough` if the script uses rows and columns.
     """
     top, left = place.top - outer.top, place.left - outer.left
-    return cells[top:top + place.rows, left:left + place.cols]
+    return cells[top : top + place.rows, left : left + place.cols]
 
 
 def join_tables(texts: list[bytes]) -> bytes:
@@ -159,7 +199,16 @@ class TableForm:
         """Return the table, like `rcell.table`."""
         counts = counts_of(text, len(self.stats.inputs))
         cells = counts.cells if "c" in self.stats.options else None
-        table = StatsTable("r.stats", self.stats.line, self.stats.inputs, counts.combinations, cells, self.labels, cell=self.sheet.cell, crs=self.sheet.crs)
+        table = StatsTable(
+            "r.stats",
+            self.stats.line,
+            self.stats.inputs,
+            counts.combinations,
+            cells,
+            self.labels,
+            cell=self.sheet.cell,
+            crs=self.sheet.crs,
+        )
         table = table if self.area is None else table.with_area(self.area)
         return (table.with_percent() if self.percent else table).frame()
 
@@ -176,7 +225,11 @@ def clumps_table(task: ClumpRun, place: Rectangle, cells: Sequence[Any]) -> tupl
     """Return the table of a tile's clump numbers, as the program prints it, and the category of each clump."""
     maps = {"cells": task.tile(place, cells)}
     with told_of_size(maps):
-        categories = execute(f"{task.line}\nr.stats -n input=clumps,cells", maps)[0].values[:, 1].astype(np.int32)
+        categories = (
+            execute(f"{task.line}\nr.stats -n input=clumps,cells", maps)[0]
+            .values[:, 1]
+            .astype(np.int32)
+        )
         return printed(f"{task.line}\nr.stats -c input=clumps", maps), categories
 
 
@@ -197,15 +250,23 @@ def numbers_of_tile(whole: Joined, tile: int) -> TileNumbers:
     return whole.tiles[tile]
 
 
-def numbered_cells(task: ClumpRun, place: Rectangle, cells: Sequence[Any], tile: TileNumbers) -> Integers:
+def numbered_cells(
+    task: ClumpRun, place: Rectangle, cells: Sequence[Any], tile: TileNumbers
+) -> Integers:
     """Return the cells of a tile with clump numbers of the full map, 0 for null."""
     numbers = made_cells(task.line, {"cells": task.tile(place, cells)}, "clumps")
     np.maximum(numbers, 0, out=numbers)
-    return renumber(numbers, tile, out=numbers if numbers.dtype == task.dtype else np.empty(numbers.shape, task.dtype))
+    return renumber(
+        numbers,
+        tile,
+        out=numbers if numbers.dtype == task.dtype else np.empty(numbers.shape, task.dtype),
+    )
 
 
 def patches_frame(whole: Joined, parts: Sequence[tuple[bytes, Integers]], sheet: Sheet) -> Any:
     """Return the patches of the full map with their classes and numbers of cells."""
     categories, cells = sizes(whole, [table for table, _ in parts], [own for _, own in parts])
     numbers = np.column_stack([np.arange(1, whole.clumps + 1), categories])
-    return StatsTable("r.clump", 0, ("patch", "class"), numbers, cells, cell=sheet.cell, crs=sheet.crs).frame()
+    return StatsTable(
+        "r.clump", 0, ("patch", "class"), numbers, cells, cell=sheet.cell, crs=sheet.crs
+    ).frame()

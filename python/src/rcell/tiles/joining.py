@@ -40,7 +40,9 @@ class Rectangle(NamedTuple):
     @property
     def region(self) -> Region:
         """The region of these cells in a map whose cells have sides of 1 and whose top left corner is at 0, 0."""
-        return Region(-self.top, -self.top - self.rows, self.left + self.cols, self.left, self.rows, self.cols)
+        return Region(
+            -self.top, -self.top - self.rows, self.left + self.cols, self.left, self.rows, self.cols
+        )
 
 
 @dataclass(frozen=True, eq=False)
@@ -100,11 +102,18 @@ def join(borders: Sequence[bytes], diagonal: bool = False) -> Joined:
     text = numbering_of(borders, diagonal)
     runs = numbers_of(text, FIELDS)
     ends = np.searchsorted(runs[:, 0], np.arange(1, len(borders) + 2))
-    tiles = [TileNumbers(int(runs[end - 1, 2]) if end > begin else 0, runs[begin:end, 1], runs[begin:end, 3]) for begin, end in zip(ends, ends[1:])]
+    tiles = [
+        TileNumbers(
+            int(runs[end - 1, 2]) if end > begin else 0, runs[begin:end, 1], runs[begin:end, 3]
+        )
+        for begin, end in zip(ends, ends[1:])
+    ]
     return Joined(int((runs[:, 3] + runs[:, 2] - runs[:, 1]).max(initial=0)), tiles, text)
 
 
-def sizes(whole: Joined, tables: Sequence[bytes], categories: Sequence[Integers]) -> tuple[Integers, Integers]:
+def sizes(
+    whole: Joined, tables: Sequence[bytes], categories: Sequence[Integers]
+) -> tuple[Integers, Integers]:
     """Return categories and cells of the clumps of the full map, in the order of their numbers.
 
     Parameters
@@ -159,6 +168,6 @@ def renumber(numbers: Integers, tile: TileNumbers, out: Integers | None = None) 
             table[piece] = tile.looked_up(piece)
     given, taken = numbers.reshape(-1), out.reshape(-1)
     for start in range(0, given.size, PIECE):
-        piece = given[start:start + PIECE]
-        taken[start:start + PIECE] = tile.looked_up(piece) if table is None else table[piece]
+        piece = given[start : start + PIECE]
+        taken[start : start + PIECE] = tile.looked_up(piece) if table is None else table[piece]
     return out

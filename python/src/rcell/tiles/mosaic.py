@@ -65,11 +65,20 @@ class TooLittleMemory(RcellError, MemoryError):
 
 def refused(script: str, statement: Statement, text: str) -> Refused:
     """Return an error of this package at the line of a statement."""
-    return Refused(text, "script", statement.line, 1, script.split("\n")[statement.line - 1].rstrip("\r"))
+    return Refused(
+        text, "script", statement.line, 1, script.split("\n")[statement.line - 1].rstrip("\r")
+    )
 
 
-def open_mosaic(maps: Any = None, /, size: None | int | tuple[int, int] = None, scheduler: Any = None, crs: Any = None,
-                progress: Progress = None, **named: Any) -> Mosaic:
+def open_mosaic(
+    maps: Any = None,
+    /,
+    size: None | int | tuple[int, int] = None,
+    scheduler: Any = None,
+    crs: Any = None,
+    progress: Progress = None,
+    **named: Any,
+) -> Mosaic:
     """Open maps of one grid, of any size, to be worked on by tiles.
 
     No cell is read before it is asked for. Tiles are for maps that do not fit into memory. If files do, a warning `NeedlessTiles` says so,
@@ -123,10 +132,17 @@ def open_mosaic(maps: Any = None, /, size: None | int | tuple[int, int] = None, 
     given = named_once(maps, named)
     if size is not None and min(np.atleast_1d(size)) < 1:
         raise Refused(f"a tile has at least one row and one column, not {size}", status=2)
-    mosaic = Mosaic(open_maps(given, crs), (size, size) if isinstance(size, int) else size, Engine(scheduler, progress))
+    mosaic = Mosaic(
+        open_maps(given, crs),
+        (size, size) if isinstance(size, int) else size,
+        Engine(scheduler, progress),
+    )
     if mosaic.is_needless:
-        warnings.warn("the maps fit into the memory of this machine: rcell.table and rcell.grid are as fast, without tiles",
-                      NeedlessTiles, stacklevel=2)
+        warnings.warn(
+            "the maps fit into the memory of this machine: rcell.table and rcell.grid are as fast, without tiles",
+            NeedlessTiles,
+            stacklevel=2,
+        )
     return mosaic
 
 
@@ -192,7 +208,13 @@ class Mosaic:
         self._engine.close()
 
     def __repr__(self) -> str:
-        size = "of {} x {} cells".format(*self._size) if self._size else "as the chunks" if self._maps.arrays else "chosen by memory"
+        size = (
+            "of {} x {} cells".format(*self._size)
+            if self._size
+            else "as the chunks"
+            if self._maps.arrays
+            else "chosen by memory"
+        )
         return f"<Mosaic of {', '.join(self._files)}: {self.sheet.rows} x {self.sheet.cols} cells, tiles {size}>"
 
     @property
@@ -229,12 +251,18 @@ class Mosaic:
         >>> rcell.tiles.open(lc="lc.tif").is_needless
         True
         """
-        if self._maps.arrays or max(self.shape) > SIDE_LIMIT or self.sheet.rows * self.sheet.cols >= 2**31:
+        if (
+            self._maps.arrays
+            or max(self.shape) > SIDE_LIMIT
+            or self.sheet.rows * self.sheet.cols >= 2**31
+        ):
             return False
         demand = Demand(read=0, maps=len(self._files) + 1)
         return demand.bytes(*self.shape) < free_memory() * SHARE
 
-    def table(self, script: str, area: str | None = None, percent: bool = False, compute: bool = True) -> Any:
+    def table(
+        self, script: str, area: str | None = None, percent: bool = False, compute: bool = True
+    ) -> Any:
         """Return the table of an r.stats over the full map; see `rcell.table`.
 
         Each tile's table comes from the program, with the statements before it in the script; the tables are joined in a tree by
@@ -276,11 +304,20 @@ class Mosaic:
         stats, run = self._table_run(script)
         labels = self._labels(run.script.statements) if "l" in stats.options else None
         form = _tasks.TableForm(stats, labels, self.sheet, area, percent)
-        tiles = self._tiles(table_demand(self._read(run), run.made, run.reach, len({*stats.inputs} - {*self._files})), compute)
+        tiles = self._tiles(
+            table_demand(
+                self._read(run), run.made, run.reach, len({*stats.inputs} - {*self._files})
+            ),
+            compute,
+        )
         find_joiner()  # it is needed at the end, and missed at the beginning
         parts = _parts(self._over(_tasks.tile_table, run, tiles))
         text = merged(_tasks.join_tables, parts)
-        return form.frame(self._engine.finish("table", text, parts)) if compute else dask.delayed(form.frame)(text)
+        return (
+            form.frame(self._engine.finish("table", text, parts))
+            if compute
+            else dask.delayed(form.frame)(text)
+        )
 
     def grid(self, script: str, path: str | os.PathLike[str] | None = None) -> Any:
         """Return the map of an expression as a DataArray of Dask, or write it as a GeoTIFF.
@@ -333,7 +370,9 @@ class Mosaic:
             for place, cells in self._engine.stream("grid", _parts(work), tiles.room):
                 writer.write(tiles.places[place], cells)
 
-    def clump(self, name: str, path: str | os.PathLike[str] | None = None, connectivity: int = 4) -> Any:
+    def clump(
+        self, name: str, path: str | os.PathLike[str] | None = None, connectivity: int = 4
+    ) -> Any:
         """Return the map of the patches of a map, its connected cells, as a DataArray of Dask, or write it as a GeoTIFF; null is 0.
 
         The numbers are the same as from `r.clump` over the full map: from 1, in the order of first cells. A file is of int32, or of int64 if there
@@ -372,10 +411,14 @@ class Mosaic:
         # Before they are joined, it is not known how many clumps there are: at most as many as cells.
         widest = "int32" if self.sheet.rows * self.sheet.cols < 2**31 else "int64"
         run = _tasks.ClumpRun(self.sheet, self._file(name), connectivity == 8, widest)
-        tiles = self._tiles(clump_demand(run.file.bytes, np.dtype(widest).itemsize), path is not None)
+        tiles = self._tiles(
+            clump_demand(run.file.bytes, np.dtype(widest).itemsize), path is not None
+        )
         borders, joined = self._joined(run, tiles)
         if path is None:
-            numbers = [dask.delayed(_tasks.numbers_of_tile)(joined, tile) for tile in range(len(borders))]
+            numbers = [
+                dask.delayed(_tasks.numbers_of_tile)(joined, tile) for tile in range(len(borders))
+            ]
             work = self._over(_tasks.numbered_cells, run, tiles, numbers, widest, joined)
             return self._data_array(work, f"{name}_patches", NO_CLUMP, {})
         whole: Joined = self._engine.finish("borders", joined, borders)
@@ -443,10 +486,14 @@ class Mosaic:
     def _refuse_inputs(self, path: str | os.PathLike[str] | None) -> None:
         files = [file.path for file in self._files.values() if isinstance(file, MapFile)]
         if path is not None and any(is_same_file(os.fspath(path), file) for file in files):
-            raise Refused(f"{path}: the output file is the input file: choose another name", status=2)
+            raise Refused(
+                f"{path}: the output file is the input file: choose another name", status=2
+            )
 
     def _data_array(self, cells: Any, name: str, null: int, labels: Mapping[int, str]) -> Any:
-        return data_array(cells, self.sheet.transform, self.sheet.crs, labels, name, null, self._maps.like)
+        return data_array(
+            cells, self.sheet.transform, self.sheet.crs, labels, name, null, self._maps.like
+        )
 
     # Scripts
 
@@ -464,7 +511,10 @@ class Mosaic:
     def _labels(self, script: Sequence[Statement]) -> dict[str, Mapping[int, str]]:
         """Return the labels of the maps that the last statement reads."""
         made = {statement.made: statement for statement in script}
-        return {name: self._maps.labels_of(name) if name in self._files else made[name].labels for name in script[-1].inputs}
+        return {
+            name: self._maps.labels_of(name) if name in self._files else made[name].labels
+            for name in script[-1].inputs
+        }
 
     def _grid_run(self, script: str) -> _tasks.TileRun:
         text, plan = self._planned(script)
@@ -488,7 +538,11 @@ class Mosaic:
         run = TileScript.of(plan, last, self._files)
         for statement in run.statements:
             if statement.command == "r.clump":
-                raise refused(script, statement, "patches continue outside a tile: Mosaic.clump writes them, Mosaic.patches counts them")
+                raise refused(
+                    script,
+                    statement,
+                    "patches continue outside a tile: Mosaic.clump writes them, Mosaic.patches counts them",
+                )
         files = tuple(file for name, file in self._files.items() if name in last.needs)
         return _tasks.TileRun(self.sheet, files, run)
 
@@ -502,27 +556,56 @@ class Mosaic:
         cuts = self._cuts(demand, room)
         rows, cols = (max(lengths) for lengths in cuts)
         memory = demand.bytes(rows, cols)
-        if is_eager and memory > room.most and (self._size or room.told):  # else the task would wait for such a worker for ever
-            raise TooLittleMemory(f"a tile of {rows} x {cols} cells may take {memory:,} bytes, and a worker has {room.most:,}: give a smaller size")
+        if (
+            is_eager and memory > room.most and (self._size or room.told)
+        ):  # else the task would wait for such a worker for ever
+            raise TooLittleMemory(
+                f"a tile of {rows} x {cols} cells may take {memory:,} bytes, and a worker has {room.most:,}: give a smaller size"
+            )
         return _Tiles(cuts, memory, room, is_eager)
 
     def _cuts(self, demand: Demand, room: Room) -> Cuts:
         like = self._maps.like
         if like is None:
-            return cuts_of(self.shape, self._size or size_for(demand, self.sheet, room.memory, room.tasks))
+            return cuts_of(
+                self.shape, self._size or size_for(demand, self.sheet, room.memory, room.tasks)
+            )
         rows, cols = (max(lengths) for lengths in like.chunks)
-        is_fit = max(rows, cols) + demand.halo <= SIDE_LIMIT and rows * cols <= CELL_LIMIT and demand.bytes(rows, cols) <= room.memory
+        is_fit = (
+            max(rows, cols) + demand.halo <= SIDE_LIMIT
+            and rows * cols <= CELL_LIMIT
+            and demand.bytes(rows, cols) <= room.memory
+        )
         if self._size is None and is_fit:
             return cuts_for(like.chunks, demand.reach)
-        return cuts_for(cuts_of(self.shape, self._size or size_for(demand, self.sheet, room.memory, room.tasks)), demand.reach)
+        return cuts_for(
+            cuts_of(
+                self.shape, self._size or size_for(demand, self.sheet, room.memory, room.tasks)
+            ),
+            demand.reach,
+        )
 
-    def _over(self, function: Any, run: _tasks.TileRun | _tasks.ClumpRun, tiles: _Tiles, each: Sequence[Any] | None = None, dtype: Any = object,
-              once: Any = None) -> Any:
+    def _over(
+        self,
+        function: Any,
+        run: _tasks.TileRun | _tasks.ClumpRun,
+        tiles: _Tiles,
+        each: Sequence[Any] | None = None,
+        dtype: Any = object,
+        once: Any = None,
+    ) -> Any:
         """Return the work of a function over tiles as an array of Dask; `over_tiles` says the rest."""
         files = run.files if isinstance(run, _tasks.TileRun) else (run.file,)
         arrays = [self._maps.arrays[file.name].data for file in files if isinstance(file, MapCells)]
         arrays = list(dask.optimize(*arrays)) if tiles.is_eager else arrays
         rows, cols = (max(lengths) for lengths in tiles.cuts)
-        _log.info("%s: %d tiles of up to %d x %d cells, %d bytes each", function.__name__, len(tiles.places), rows, cols, tiles.memory)
+        _log.info(
+            "%s: %d tiles of up to %d x %d cells, %d bytes each",
+            function.__name__,
+            len(tiles.places),
+            rows,
+            cols,
+            tiles.memory,
+        )
         with dask.annotate(**tiles.room.annotations(tiles.memory) if tiles.is_eager else {}):
             return over_tiles(function, run, tiles.cuts, arrays, each, dtype, once)

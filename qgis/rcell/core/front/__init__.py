@@ -3,6 +3,8 @@
 
 import os
 
-_SOURCES = os.path.join(os.path.dirname(os.path.abspath(__file__)), *[os.pardir] * 4, "python", "src", "rcell_front")
+_SOURCES = os.path.join(
+    os.path.dirname(os.path.abspath(__file__)), *[os.pardir] * 4, "python", "src", "rcell_front"
+)
 if os.path.isdir(_SOURCES):
     __path__.append(_SOURCES)
