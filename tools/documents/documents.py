@@ -18,7 +18,8 @@ docs/rcell-join.md and the manual pages name are tried (command_options.py). Wha
 alone, or what ends in a WORD, as in `--texts links`: docs/errors.md has the table of python/src/rcell_front/messages.json (messages.py), docs/crates.svg the crates of crates.txt
 (crate_graph.py), docs/proofs.md and README.md the numbers of lines that have to be believed (reading.py), README.md and docs/speed.md
 the figures of bench/RESULTS.md (figures.py), each link and anchor leads somewhere (links.py), the edits, clauses and laws that the
-documents cite exist (citations.py), and the manual pages pass the warnings of man if it is installed.
+documents cite exist (citations.py), the text before a block to be saved names its file (saved_blocks.py), the code of the site
+equals its source (site/spans.py), and the manual pages pass the warnings of man if it is installed.
 The last line is 'N passed, M failed'.
 """
 import argparse
@@ -42,6 +43,7 @@ import differences
 import figures
 import links
 import messages
+import saved_blocks
 
 DOCUMENTS = [
     "README.md",
@@ -380,6 +382,19 @@ def check_pages():
     return faults.count([]), [fault for found in faults for fault in found]
 
 
+def check_site_code():
+    """Whether the site would show the code of each page as it is, if python3-markdown is installed."""
+    if not is_installed("python3-markdown"):
+        print(
+            "skipped  documents: python3-markdown is not installed, for the code of the site; install: apt-get install python3-markdown"
+        )
+        return 0, []
+    words = ["/usr/bin/python3", f"{ROOT}/tools/documents/site", "--code"]
+    ran = subprocess.run(words, capture_output=True, text=True)
+    faults = (ran.stdout + ran.stderr).splitlines()
+    return int(ran.returncode == 0), faults
+
+
 def main():
     words = argparse.ArgumentParser(
         description=__doc__, formatter_class=argparse.RawDescriptionHelpFormatter
@@ -401,6 +416,8 @@ def main():
         ("the messages", lambda: messages.check(settings.write)),
         ("the links", links.check),
         ("the citations", citations.check),
+        ("the blocks to be saved", saved_blocks.check),
+        ("the code of the site", check_site_code),
         ("the picture of the crates", crate_graph.check),
         ("the manual pages", check_pages),
         ("the numbers of lines", lambda: check_reading(settings.write)),

@@ -1,10 +1,11 @@
 """Make the site of the documents, or try it in a browser.
 
-    python3 tools/documents/site [--check] [--out FOLDER]
+    python3 tools/documents/site [--check | --code] [--out FOLDER]
 
 The pages are made from the Markdown of the repository with mkdocs, the reference of Python from docstrings, R's from its Rd
 files, and the manual pages with groff. The site works from the file system and loads nothing from elsewhere. --check opens each page
-of it in headless Chromium. The last line is then 'N passed, M failed'.
+of it in headless Chromium. The last line is then 'N passed, M failed'. --code makes nothing: it prints what of the code of
+the pages would differ from its Markdown, and needs python3-markdown only.
 """
 import argparse
 import pathlib
@@ -45,14 +46,34 @@ def build(out):
     pages.add_index(out)
 
 
+def compare_code():
+    """Print the code that the site would show otherwise than its source has it."""
+    import markdown
+
+    names = pages.named(ROOT)
+    sources = {own: name for name, own in names.items()}
+
+    def shown(own):
+        return markdown.markdown(
+            pages.page_text(ROOT, sources[own], names), extensions=pages.EXTENSIONS
+        )
+
+    found = pages.code_faults(ROOT, shown)
+    print("".join(f"{fault}\n" for fault in found), end="")
+    return 1 if found else 0
+
+
 def main():
     words = argparse.ArgumentParser(prog="site", description=__doc__.splitlines()[0])
     words.add_argument("--check", action="store_true", help="try the site in headless Chromium")
+    words.add_argument("--code", action="store_true", help="compare code with its source")
     words.add_argument("--out", default=str(ROOT / "dist" / "site"))
     settings = words.parse_args()
     out = pathlib.Path(settings.out).resolve()
     if settings.check:
-        return checked.check(out)
+        return checked.check(ROOT, out)
+    if settings.code:
+        return compare_code()
     build(out)
     print(f"The site is {out}/index.html")
     return 0

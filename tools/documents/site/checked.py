@@ -1,9 +1,11 @@
-"""The site in a browser: each page opens without an error, no link is dead, search finds, and nothing is wider than a telephone."""
+"""The site in a browser: pages open without errors, links lead somewhere, code equals its source, search finds, nothing is too wide."""
 import html
 import pathlib
 import re
 import subprocess
 import tempfile
+
+import pages
 
 WIDTHS = (400, 1400)
 CHROMIUM = [
@@ -80,10 +82,17 @@ def too_wide(out, width):
     ]
 
 
-def check(out):
+def main_of(out, name):
+    """The part of a page that is its own."""
+    text = (out / name).with_suffix(".html").read_text(encoding="utf-8")
+    found = re.search(r'role="main">(.*?)<footer', text, re.DOTALL)
+    return found[1] if found else ""
+
+
+def check(root, out):
     passed, faults = 0, []
-    pages = sorted(path for path in out.rglob("*.html") if path.name != "404.html")
-    for path in pages:
+    names = sorted(path for path in out.rglob("*.html") if path.name != "404.html")
+    for path in names:
         _, errors = opened(path.as_uri())
         outside = NOTHING_ELSE.findall(
             re.sub(r'<a [^>]*href="[^"]*"', "", path.read_text(encoding="utf-8"))
@@ -94,6 +103,7 @@ def check(out):
         ] * bool(outside)
     for name, found in (
         ("links", list(dead_links(out))),
+        ("code", pages.code_faults(root, lambda name: main_of(out, name))),
         *((f"{width} pixels", too_wide(out, width)) for width in WIDTHS),
     ):
         passed += not found

@@ -9,6 +9,8 @@ import shutil
 import subprocess
 import sys
 
+import spans
+
 HERE = pathlib.Path(__file__).resolve().parent
 # The pages in the order of the menu: heading, then title and file of the repository.
 MENU = {
@@ -64,6 +66,8 @@ PICTURES = {
     "qgis-model.png": ("A model in QGIS", "qgis.html"),
     "speed.png": ("Compared with C++", "speed.html"),
 }
+EXTENSIONS = ["tables", "fenced_code"]
+FILE = re.compile(r"^```\w+ file=(\S+)", re.MULTILINE)
 LINK = re.compile(r"(!?\[[^\]]*\])\(([^)\s#]*)(#[^)\s]*)?\)")
 
 
@@ -101,6 +105,22 @@ def linked(text, name, root, names):
     return LINK.sub(target, text)
 
 
+def page_text(root, name, names):
+    """The Markdown of a page for mkdocs; a block to be saved has the name of its file above it."""
+    text = linked((root / name).read_text(encoding="utf-8"), name, root, names)
+    text = FILE.sub(r'<div class="file">\1</div>\n\n\g<0>', text)
+    return spans.as_html(re.sub(r"^```(\w+) [^\n]*$", r"```\1", text, flags=re.MULTILINE))
+
+
+def code_faults(root, shown):
+    """What of the code of the pages the site shows otherwise; `shown` returns the HTML of a page, by its name in the site."""
+    found = []
+    for name, own in named(root).items():
+        source = (root / name).read_text(encoding="utf-8")
+        found += [f"{name}: {fault}" for fault in spans.faults(source, shown(own))]
+    return found
+
+
 def picture_name(path):
     """The name in the site of a picture: the pictures of an example have its name before their own."""
     path = pathlib.Path(path)
@@ -111,9 +131,7 @@ def lay_out(root, folder):
     """Put the pages, pictures, references and manual pages into a folder."""
     names = named(root)
     for name, own in names.items():
-        text = (root / name).read_text(encoding="utf-8")
-        text = re.sub(r"^```(\w+) [^\n]*$", r"```\1", text, flags=re.MULTILINE)
-        (folder / own).write_text(linked(text, name, root, names), encoding="utf-8")
+        (folder / own).write_text(page_text(root, name, names), encoding="utf-8")
     for picture in [
         *(root / "docs").glob("*.png"),
         *(root / "docs").glob("*.svg"),
@@ -226,7 +244,7 @@ def configuration(root, folder):
             "use_directory_urls": False,
             "extra_css": ["site.css"],
             "theme": {"name": "mkdocs", "highlightjs": False, "custom_dir": str(HERE / "theme")},
-            "markdown_extensions": ["tables", "fenced_code"],
+            "markdown_extensions": EXTENSIONS,
         }
     )
 
