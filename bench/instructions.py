@@ -12,7 +12,7 @@ import sys
 from run import HEADER_LINES, OUT, ROOT, build, grid_file, instructions, print_table
 
 sys.path.insert(0, f"{ROOT}/python/src")
-from rcell_front.pipe import Block, Map, request  # noqa: E402
+from rcell.core.protocol import Block, Map, request  # noqa: E402
 
 SIDE = 2000
 CELLS = SIDE * SIDE

@@ -14,7 +14,7 @@ import sys
 import tempfile
 
 from cases import Case, cases
-from rcell_front import pipe
+from rcell.core import protocol
 
 HERE = pathlib.Path(__file__).resolve().parent
 REFUSED = re.compile(r"rcell: ([^:]*):(\d+): (.*)")
@@ -51,16 +51,16 @@ def plain(row: list[str], titles: list[str]) -> list[str]:
     return found
 
 
-def tables_of(case: Case) -> list[pipe.Statement]:
+def tables_of(case: Case) -> list[protocol.Statement]:
     """The statements of a script that print tables; none of a script that is rejected."""
     program = str(pathlib.Path(os.environ["RCELL"]).with_name("rcell-pipe"))
     try:
         return [
             it
-            for it in pipe.plan(program, list(case.maps), case.script.encode())
+            for it in protocol.plan(program, list(case.maps), case.script.encode())
             if it.command == "r.stats"
         ]
-    except pipe.Rejected:
+    except protocol.Rejected:
         return []
 
 

@@ -5,9 +5,9 @@ import os
 import re
 import sys
 
-from rcell_front.advice import INDENT, Messages, marked, shown
-from rcell_front.grids import EDGES, FORGOTTEN, GridFile, SIX, SOUGHT, cause_of, quoted
-from rcell_front.mending import asker, rejected_lines, warnings
+from rcell.core.advice import INDENT, Messages, marked, shown
+from rcell.core.grids import EDGES, FORGOTTEN, GridFile, SIX, SOUGHT, cause_of, quoted
+from rcell.core.mending import asker, rejected_lines, warnings
 from rcell_run import Missing, Run, found_program
 
 MESSAGE = re.compile(r"rcell: ([A-Za-z0-9_.]+):([0-9]+): (.*)")

@@ -10,8 +10,8 @@ import stat
 import subprocess
 import threading
 
-from rcell_front.files import write_all
-from rcell_front.programs import close, found_on_path, pipe
+from rcell.core.files import write_all
+from rcell.core.process import close, found_on_path, pipe
 
 MOST_START = 1 << 16  # bytes at the start of a file
 MOST_TAIL = (

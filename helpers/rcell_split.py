@@ -11,9 +11,9 @@ import shutil
 import subprocess
 import sys
 
-from rcell_front import pipe
-from rcell_front.files import private_folder, write_all
-from rcell_front.programs import above_standard
+from rcell.core import protocol
+from rcell.core.files import private_folder, write_all
+from rcell.core.process import above_standard
 from rcell_run import Missing, found_program
 
 LONGEST_SCRIPT = 1048576
@@ -145,13 +145,13 @@ def given_as_file(text):
 def plan_of(program, text, words):
     """Return the plan of a script, or None if rcell is to say what is wrong."""
     try:
-        return pipe.plan(program, [word.partition("=")[0] for word in words], text)
+        return protocol.plan(program, [word.partition("=")[0] for word in words], text)
     except (
-        pipe.Rejected,
+        protocol.Rejected,
         ValueError,
     ):  # a name of other letters, or of more than 255, fits no request
         return None
-    except (pipe.Killed, pipe.NoAnswer) as fault:
+    except (protocol.Killed, protocol.NoAnswer) as fault:
         raise Refused("%s failed: %s" % (program, fault)) from None
 
 

@@ -3,7 +3,7 @@
 
     Region.of_transform(..)             exact edges for rcell, from a geotransform
     write_grid(program, dataset, ..)    write a band of an open dataset as a grid; the program rcell-pipe gets it block by block
-    region_of(grid)                     the region of a grid that rcell prints (rcell_front.listing)
+    region_of(grid)                     the region of a grid that rcell prints (rcell.core.listing)
     write_tif(grid, path, ..)           write such a grid as a GeoTIFF
 
 If a raster cannot be a grid, `Refused` says why. GDAL's settings are not changed.
@@ -15,9 +15,9 @@ from fractions import Fraction
 
 import numpy as np
 
-from rcell_front import pipe
-from rcell_front.maps import DECIMALS, UNITS, edge_text
-from rcell_front.pipe import NULL
+from rcell.core import protocol
+from rcell.core.edges import DECIMALS, UNITS, edge_text
+from rcell.core.protocol import NULL
 
 GREATEST = 2147483647  # the limit of cells, above and below 0; NULL is below it
 GREATEST_SIDE, MOST_CELLS = 65535, 2147483647
@@ -244,10 +244,10 @@ def write_grid(program, dataset, number, write, nodata=None, like=None, like_nam
     blocks = sent_blocks(
         band, null_values_of(band, nodata), masks_of(dataset, number, nodata), is_turned
     )
-    source = pipe.Map(
+    source = protocol.Map(
         "map", tuple(region.texts.values()), region.rows, region.cols, "i32", blocks, NULL
     )
-    with contextlib.closing(pipe.text(program, [source], b"r.out.ascii input=map")) as pieces:
+    with contextlib.closing(protocol.text(program, [source], b"r.out.ascii input=map")) as pieces:
         for piece in pieces:
             write(piece)
 
@@ -268,7 +268,7 @@ def sent_blocks(band, values, masks, is_turned):
                 band.YSize - first - count if is_turned else first
             )  # rows count from the north, as in the grid
             raise BadCell(north + fault.row, fault.col, fault.fault) from None
-        yield pipe.Block(cells.data)
+        yield protocol.Block(cells.data)
 
 
 def checked_cells(block, values, null, is_turned):

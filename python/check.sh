@@ -16,7 +16,7 @@ types="python3 -m mypy --cache-dir $room/mypy --config-file"
 
 echo "python: the programs are $(python3 -c 'import rcell; print(rcell.program(), rcell.joiner(), rcell.__version__)')"
 add tests sh -c 'cd "$1" && python3 tests/gate.py --cov=rcell --cov-report=term --cov-fail-under=90 tests' sh "$room"
-check 'the programs of the wheel' test "$(python3 -c 'import rcell; from rcell._program import find_pipe; print(rcell.program(), find_pipe(), rcell.joiner())')" \
+check 'the programs of the wheel' test "$(python3 -c 'import rcell; from rcell.core.programs import find_pipe; print(rcell.program(), find_pipe(), rcell.joiner())')" \
     = "$room/venv/bin/rcell $room/venv/bin/rcell-pipe $room/venv/bin/rcell-join"
 check 'types of the package' $types python/pyproject.toml python/src python/tools
 check 'types of the benchmarks' env MYPYPATH=python/bench $types python/pyproject.toml python/bench/*.py

@@ -18,6 +18,19 @@ import zipfile
 
 HERE = pathlib.Path(__file__).resolve().parent
 REPOSITORY = HERE.parent
+SHARED = (
+    "advice.py",
+    "attributes.py",
+    "causes.py",
+    "edges.py",
+    "files.py",
+    "grids.py",
+    "listing.py",
+    "mending.py",
+    "messages.json",
+    "process.py",
+    "protocol.py",
+)
 KINDS = (".json", ".model3", ".py", ".svg", ".txt")
 
 
@@ -62,11 +75,9 @@ def files(programs: dict[str, pathlib.Path]) -> dict[str, tuple[bytes, int]]:
                 content = re.sub(rb"(?m)^version=.*$", b"version=" + version.encode(), content)
             found[path.relative_to(HERE).as_posix()] = content, 0o644
     # Modules shared with the package for Python are copied next to `core/front/__init__.py`.
-    for name in said_by("git", "ls-files", "python/src/rcell_front").splitlines():
-        if not name.endswith("__init__.py"):
-            found[f"rcell/core/front/{pathlib.PurePath(name).name}"] = (
-                REPOSITORY / name
-            ).read_bytes(), 0o644
+    for name in SHARED:
+        content = (REPOSITORY / "python/src/rcell/core" / name).read_bytes()
+        found[f"rcell/core/front/{name}"] = content, 0o644
     found |= {name: (content, 0o644) for name, content in licences().items()}
     found["rcell/help/qgis.html"] = page(), 0o644
     found |= {f"rcell/bin/{name}": (path.read_bytes(), 0o755) for name, path in programs.items()}

@@ -16,7 +16,8 @@ export RCELL="$PWD/bin/rcell-static" RCELL_PIPE="$PWD/bin/rcell-pipe-static" RCE
 check 'the zip is built' "$python" qgis/build.py "$room/again"
 check 'the zip has the same bytes when it is built again' cmp "$zip" "$room/again/$(basename "$zip")"
 if command -v mypy > /dev/null; then
-    check types sh -c "cd qgis && mypy --config-file mypy.ini --cache-dir '$room/mypy' rcell build.py"
+    check 'the zip is unpacked' "$python" -m zipfile -e "$zip" "$room/unpacked"
+    check types mypy --config-file qgis/mypy.ini --cache-dir "$room/mypy" "$room/unpacked/rcell" qgis/build.py
 else
     skip qgis/types 'mypy is not installed' mypy
 fi

@@ -130,7 +130,7 @@ def made_by(statements):
 
 def stopped(end, script, names):
     """What rcell says of a script or a map, with the line of the user's script beneath."""
-    from rcell_front.pipe import Fault
+    from rcell.core.protocol import Fault
 
     fault = Fault(**end.parts(program(), script, names))
     said, word, line = (
@@ -174,7 +174,7 @@ def edge_texts(region):
 
 def source_of(it, labels, region, progress):
     """A raster map as rcell-pipe gets it; its rows come by r.out.bin while they are read."""
-    from rcell_front.pipe import Map
+    from rcell.core.protocol import Map
 
     rows, cols = region["rows"], region["cols"]
     return Map(
@@ -191,7 +191,7 @@ def source_of(it, labels, region, progress):
 
 def blocks_of(raster, rows, cols, progress):
     """The rows of a raster map."""
-    from rcell_front.pipe import Block
+    from rcell.core.protocol import Block
 
     module = gs.pipe_command(
         "r.out.bin", flags="i", input=raster, output="-", bytes=4, null=NULL, quiet=True
@@ -325,14 +325,14 @@ def program():
 
 
 def find_front(path):
-    """Finds rcell_front: in the release of the program, in its sources, or installed."""
+    """Finds rcell.core: in the release of the program, in its sources, or installed."""
     folder = os.path.dirname(os.path.dirname(os.path.realpath(path)))
     for modules in ("share/rcell", "python/src"):
-        if os.path.isdir(os.path.join(folder, modules, "rcell_front")):
+        if os.path.isdir(os.path.join(folder, modules, "rcell", "core")):
             sys.path.insert(0, os.path.join(folder, modules))
             break
     try:
-        import rcell_front.pipe  # noqa: F401
+        import rcell.core.protocol  # noqa: F401
     except ImportError:
         raise Stopped(
             _("The Python modules of {} are not in ../share/rcell next to it").format(path)
@@ -341,16 +341,16 @@ def find_front(path):
 
 def judged(script, names):
     """The statements of a script, if rcell accepts it."""
-    from rcell_front import pipe
+    from rcell.core import protocol
 
     with told(script, names):
-        return pipe.plan(program(), names, script.encode("utf-8", "surrogateescape"))
+        return protocol.plan(program(), names, script.encode("utf-8", "surrogateescape"))
 
 
 @contextmanager
 def told(script, names):
     """What goes wrong in a run of rcell-pipe, as a sentence."""
-    from rcell_front.pipe import Killed, NoAnswer, Rejected
+    from rcell.core.protocol import Killed, NoAnswer, Rejected
 
     try:
         yield
@@ -362,18 +362,18 @@ def told(script, names):
 
 def tables_of(script, statements, sources):
     """Runs a script for what it writes, piece by piece; `sources()` are its maps."""
-    from rcell_front import pipe
+    from rcell.core import protocol
 
     if all(it.made for it in statements):
         return
     maps = sources()
     with told(script, [it.name for it in maps]):
-        yield from pipe.text(program(), maps, script.encode("utf-8", "surrogateescape"))
+        yield from protocol.text(program(), maps, script.encode("utf-8", "surrogateescape"))
 
 
 def maps_of(script, statements, sources, outputs, labels):
     """Runs a script for the cells of the outputs, and the labels of some, by their names."""
-    from rcell_front import pipe
+    from rcell.core import protocol
 
     if not outputs:
         return [], {}
@@ -386,7 +386,7 @@ def maps_of(script, statements, sources, outputs, labels):
         *("r.stats -l -n input=%s" % name for name in labelled),
     ]
     with told(script, [it.name for it in maps]):
-        frames = pipe.run(
+        frames = protocol.run(
             program(),
             maps,
             "\n".join([without_tables(script, statements), *lines]).encode(
@@ -478,7 +478,7 @@ def look_up_region():
 
 
 def read_script(path):
-    from rcell_front.files import read_all
+    from rcell.core.files import read_all
 
     try:
         if path == "-":
@@ -545,7 +545,7 @@ class Table:
             raise self.failed(fault) from None
 
     def copy(self):
-        from rcell_front.files import write_all
+        from rcell.core.files import write_all
 
         with open(self.file.name, "rb") as kept, open(
             self.target or 1, "ab", 0, closefd=bool(self.target)

@@ -160,7 +160,7 @@ class Scripts(Session):
         )
 
     def test_errors_of_other_places(self):
-        from rcell_front.pipe import Rejected
+        from rcell.core.protocol import Rejected
 
         for end, text in (
             (Rejected(3, "request", 0, 0, 0, "no memory"), "rcell: a:0: no memory"),

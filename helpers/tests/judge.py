@@ -150,7 +150,7 @@ def spoiled(text, pieces, chance):
 
 def first_error(model, script, names):
     """The statements by the model and no error, or its first error, as rcell-pipe plans a script."""
-    from rcell_front.pipe import Rejected
+    from rcell.core.protocol import Rejected
 
     try:
         statements = model.ScriptReader(
@@ -167,7 +167,7 @@ def first_error(model, script, names):
 
 def what_is_wrong(model, messages, script, names):
     """What is wrong with the explanation of a script, or None."""
-    from rcell_front import mending
+    from rcell.core import mending
 
     questions = []
 
@@ -217,7 +217,7 @@ def small_cases():
 def unexplained(text, messages):
     """What is wrong with the explanation of a grid, or None."""
     import model_grids
-    from rcell_front import grids as rcell_grids
+    from rcell.core import grids as rcell_grids
 
     try:
         model_grids.read_map(b"m", text)
@@ -241,7 +241,7 @@ def unexplained(text, messages):
 
 
 def test_grids(tally):
-    from rcell_front.advice import Messages
+    from rcell.core.advice import Messages
 
     chance, messages = random.Random(SEED), Messages()
     texts = (
@@ -260,11 +260,11 @@ def test(room, tally):
     folder = next(
         path
         for path in (f"{room.programs}/../share/rcell", f"{ROOT}/python/src")
-        if os.path.exists(f"{path}/rcell_front")
+        if os.path.exists(f"{path}/rcell/core")
     )
     sys.path[:0] = [folder, f"{ROOT}/tools/model"]
     import model
-    from rcell_front.advice import Messages
+    from rcell.core.advice import Messages
 
     test_grids(tally)
     chance, names, messages, wrong = random.Random(SEED), ["land", "zone"], Messages(), []

@@ -28,8 +28,8 @@ import rcell
 from made_maps import geotiff, land_and_zones
 from page import load, put
 from ten import majority
-from rcell import _program
-from rcell_front.pipe import request
+from rcell.core import programs
+from rcell.core.protocol import request
 
 DEGREES = (0.001, 0.0, 5.0, 0.0, -0.001, 50.0)
 SHARE = 2
@@ -65,7 +65,7 @@ class Recorder:
 
     def record(self, call: Task) -> None:
         """Run a call and keep its requests."""
-        asked = _program._frames
+        asked = programs._frames
 
         def recording(
             script: str, maps: Mapping[str, Any], wanted: Sequence[str] = (), *rest: Any
@@ -75,23 +75,23 @@ class Recorder:
             with open(self.requests[-1], "wb") as file:
                 file.writelines(
                     request(
-                        [_program._sent(*each) for each in maps.items()], "\n".join(lines).encode()
+                        [programs._sent(*each) for each in maps.items()], "\n".join(lines).encode()
                     )
                 )
             return asked(script, maps, wanted, *rest)
 
-        _program._frames = recording  # type: ignore[assignment]
+        programs._frames = recording  # type: ignore[assignment]
         try:
             call()
         finally:
-            _program._frames = asked
+            programs._frames = asked
 
     def program(self) -> None:
         """Run the program as the call did."""
         for path in self.requests:
             with open(path, "rb") as file:
                 subprocess.run(
-                    [_program.find_pipe()], stdin=file, check=True, stdout=subprocess.DEVNULL
+                    [programs.find_pipe()], stdin=file, check=True, stdout=subprocess.DEVNULL
                 )
 
 

@@ -14,8 +14,8 @@ from rasterio.windows import Window
 
 import rcell.tiles
 from made_maps import STRIP, land_cover_array
-from rcell._maps import source_of
-from rcell._program import execute
+from rcell.core.sources import source_of
+from rcell.core.programs import execute
 from watching import MILLION, Figures, Watch, measured, processor
 
 __all__ = ["ALL", "NMODE", "SUM", "TABLE", "answers", "answers_of_array", "grass_maps", "undivided"]

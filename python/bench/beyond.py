@@ -26,10 +26,10 @@ import numpy.typing as npt
 
 import rcell.tiles
 from page import load, put
-from rcell._maps import ArrayMap
-from rcell._region import CELL_LIMIT, Region
+from rcell.core.sources import ArrayMap
+from rcell.core.region import CELL_LIMIT, Region
 from rcell.tiles import Mosaic
-from rcell._rasters import Layer
+from rcell.readers.rasterio import Layer
 from rcell.tiles._engine import Engine
 from rcell.tiles._sheet import MapFile, Maps, Sheet
 from rcell.tiles.joining import Rectangle

@@ -13,7 +13,7 @@ import numpy.typing as npt
 import rasterio
 from rasterio.windows import Window
 
-from rcell._geotiff import profile_of
+from rcell.geotiff import profile_of
 
 __all__ = [
     "STRIP",

@@ -8,8 +8,8 @@ from typing import Any
 import numpy as np
 import numpy.typing as npt
 
-from rcell._counts import MOST_CELLS, Counts, TooManyCells
-from rcell_front.pipe import NULL
+from rcell.core.counts import MOST_CELLS, Counts, TooManyCells
+from rcell.core.protocol import NULL
 
 Integers = npt.NDArray[Any]
 

@@ -14,7 +14,7 @@ from hypothesis import given, settings
 from hypothesis import strategies as st
 
 import rcell
-from rcell import _labels
+from rcell.core import labels as labels_of_files
 
 from .conftest import LAND, TRANSFORM
 
@@ -151,7 +151,7 @@ def test_a_geotiff_has_all_that_the_map_has(tmp_path: pathlib.Path) -> None:
         assert (dataset.dtypes, dataset.nodata, dataset.crs.to_epsg()) == (("uint8",), 255, 32632)
         assert tuple(dataset.transform)[:6] == TRANSFORM
         assert dataset.read(1, masked=True).tolist() == grid.array.tolist()
-    assert _labels.read_labels(path, 1) == NAMES
+    assert labels_of_files.read_labels(path, 1) == NAMES
     again = rcell.grid("", "lc", lc=path)
     assert (again.array.tolist(), again.labels, again.transform) == (
         grid.array.tolist(),
@@ -200,20 +200,20 @@ def test_labels_with_and_without_gdal(
     raster: Write, monkeypatch: pytest.MonkeyPatch, labels: dict[int, str], with_gdal: bool
 ) -> None:
     if not with_gdal:
-        monkeypatch.setattr(_labels, "has", lambda library: False)
+        monkeypatch.setattr(labels_of_files, "has", lambda library: False)
     path = raster(LAND)
     if with_gdal:
         pytest.importorskip("osgeo")
-        _labels.write_labels(path, labels)
+        labels_of_files.write_labels(path, labels)
     else:
         with pytest.warns(UserWarning, match="labels are in .*map.tif.aux.xml"):
-            _labels.write_labels(path, labels)
-    assert _labels.read_labels(path, 1) == labels
+            labels_of_files.write_labels(path, labels)
+    assert labels_of_files.read_labels(path, 1) == labels
     monkeypatch.undo()
-    assert _labels.read_labels(path, 1) == labels, "as GDAL reads them"
-    assert _labels._read_beside(path, 1) == labels
-    assert _labels.write_labels(path, {}) is None
-    assert _labels._read_beside(path, 2) == {}
+    assert labels_of_files.read_labels(path, 1) == labels, "as GDAL reads them"
+    assert labels_of_files._read_beside(path, 1) == labels
+    assert labels_of_files.write_labels(path, {}) is None
+    assert labels_of_files._read_beside(path, 2) == {}
 
 
 def test_no_half_written_geotiff(tmp_path: pathlib.Path, monkeypatch: pytest.MonkeyPatch) -> None:
@@ -251,7 +251,7 @@ def test_an_interrupted_write_leaves_nothing(
     tmp_path: pathlib.Path, monkeypatch: pytest.MonkeyPatch
 ) -> None:
     monkeypatch.setattr(
-        "rcell._geotiff.write_labels", lambda *_: (_ for _ in ()).throw(KeyboardInterrupt())
+        "rcell.geotiff.write_labels", lambda *_: (_ for _ in ()).throw(KeyboardInterrupt())
     )
     with pytest.raises(KeyboardInterrupt):
         rcell.grid("", "lc", lc=land()).write(tmp_path / "lc.tif")

@@ -231,7 +231,7 @@ def test_labels_of_what_is_no_category_are_left_out(
     pathlib.Path(f"{path}.aux.xml").write_text(
         f"<PAMDataset><PAMRasterBand band='1'>{table}</PAMRasterBand></PAMDataset>"
     )
-    monkeypatch.setattr("rcell._labels.has", lambda name: name != "osgeo")
+    monkeypatch.setattr("rcell.core.labels.has", lambda name: name != "osgeo")
     assert rcell.grid("", "m", m=path).labels == {1: "1"}
 
 

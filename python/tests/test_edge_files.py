@@ -17,7 +17,8 @@ import numpy as np
 import pytest
 
 import rcell
-from rcell import _program, _shell
+from rcell.shell import script_of
+from rcell.core import programs
 
 from .conftest import LAND, TRANSFORM
 from .test_edge import cells, environment
@@ -194,7 +195,7 @@ def test_a_script_that_comes_late_is_read_whole(monkeypatch: pytest.MonkeyPatch)
     late.start()
     with open(reads) as pipe:
         monkeypatch.setattr("sys.stdin", pipe)
-        assert _shell.script_of("-") == "r.stats -c input=m\nr.stats input=m\n"
+        assert script_of("-") == "r.stats -c input=m\nr.stats input=m\n"
     late.join()
 
 
@@ -307,7 +308,7 @@ def test_programs_are_not_found_through_relative_folders(room: pathlib.Path) -> 
     stranger = room / "rcell"
     stranger.write_text("#!/bin/sh\necho stranger\n")
     stranger.chmod(0o755)
-    code = "import os, rcell._program as p; print([it for it in p.candidates('rcell') if os.path.realpath(os.path.dirname(it)) == os.getcwd()])"
+    code = "import os, rcell.core.programs as p; print([it for it in p.candidates('rcell') if os.path.realpath(os.path.dirname(it)) == os.getcwd()])"
     for path in (".:/nowhere", ":/nowhere", "/nowhere:"):
         assert shell(room, f"PATH={path} {sys.executable} -c {shlex.quote(code)}").stdout == "[]\n"
     ran = shell(room, TABLE, RCELL="rcell")
@@ -323,7 +324,7 @@ def test_a_program_that_does_not_end_is_told(
     stranger = room / "sleeper"
     stranger.write_text("#!/bin/sh\nexec sleep 60\n")
     stranger.chmod(0o755)
-    monkeypatch.setattr(_program, "PROBE_SECONDS", 0.5)
+    monkeypatch.setattr(programs, "PROBE_SECONDS", 0.5)
     with pytest.raises(rcell.WrongProgram, match="does not end within 0.5 seconds"):
         rcell.program(stranger)
 

@@ -13,8 +13,8 @@ import numpy as np
 import pytest
 
 import rcell
-from rcell._majority import majority_script
-from rcell._measure import row_areas
+from rcell.core.majority import majority_script
+from rcell.core.area import row_areas
 
 from .conftest import LAND, TRANSFORM
 

@@ -14,10 +14,10 @@ from typing import Any
 import numpy as np
 
 import rcell
-from rcell._grid import Grid
-from rcell._libraries import has
-from rcell._program import execute, find_pipe, planned
-from rcell_front import pipe
+from rcell.raster import Grid
+from rcell.core.libraries import has
+from rcell.core.programs import execute, find_pipe, planned
+from rcell.core import protocol
 
 
 def by_files(script: str, **grids: bytes) -> tuple[int, bytes, str]:
@@ -490,9 +490,13 @@ class Scripts(unittest.TestCase):
                     f"{left} = {random.choice([output, 1, 2])}{random.choice(['', f' label {at}'])}"
                 )
             script = "\n".join(["r.reclass input=lc output=k", *rules, "end"])
-            given = pipe.Map("lc", ("1", "0", "121", "0"), 1, 121, "i32", [pipe.Block(cells.data)])
-            [table] = pipe.run(find_pipe(), [given], f"{script}\nr.stats -l -n input=k".encode())
-            assert isinstance(table, pipe.TableFrame) and table.labels is not None
+            given = protocol.Map(
+                "lc", ("1", "0", "121", "0"), 1, 121, "i32", [protocol.Block(cells.data)]
+            )
+            [table] = protocol.run(
+                find_pipe(), [given], f"{script}\nr.stats -l -n input=k".encode()
+            )
+            assert isinstance(table, protocol.TableFrame) and table.labels is not None
             told = {
                 category: label.decode()
                 for category, label in zip(table.cells.tolist(), table.labels)
@@ -584,11 +588,11 @@ class Programs(unittest.TestCase):
 
     def run_with(self, body: str, script: str = "r.stats -c input=lc", given: Any = LAND) -> Any:
         """Run a script with a script in the place of rcell-pipe."""
-        from rcell import _program
+        from rcell.core import programs
 
         path = self.program(body, "rcell-pipe")
         state = os.stat(path)
-        _program._known[path] = (state.st_ino, state.st_size, state.st_mtime_ns)
+        programs._known[path] = (state.st_ino, state.st_size, state.st_mtime_ns)
         return execute(script, {"lc": rcell.Map(given).source("lc")}, program=path)
 
     def test_what_is_slow_to_import_waits_for_its_use(self) -> None:
@@ -618,7 +622,7 @@ class Programs(unittest.TestCase):
                 find(path)
 
     def test_nowhere(self) -> None:
-        code = "import os, rcell._program as p\np.sysconfig.get_path = lambda *_: '/nowhere'\np.sys.executable = '/nowhere/python'\n"
+        code = "import os, rcell.core.programs as p\np.sysconfig.get_path = lambda *_: '/nowhere'\np.sys.executable = '/nowhere/python'\n"
         tried = "for find in (p.find_program, p.find_pipe):\n    try: find()\n    except p.MissingProgram as e: print(e)\n    p.find_program = lambda: '/nowhere/rcell'"
         environment = {"PATH": "/nowhere", "PYTHONPATH": os.pathsep.join(sys.path)}
         ran = subprocess.run(

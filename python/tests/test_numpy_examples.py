@@ -13,7 +13,7 @@ from typing import Any
 import numpy as np
 
 import rcell
-from rcell._libraries import has
+from rcell.core.libraries import has
 
 # What an example says by which it needs a library.
 NEEDS = {
@@ -28,10 +28,11 @@ NEEDS = {
 
 def examples() -> list[doctest.DocTest]:
     found: list[doctest.DocTest] = []
-    for module in pkgutil.iter_modules(rcell.__path__):
-        if not module.ispkg and (module.name != "xarray" or has("xarray") and has("distributed")):
+    for module in pkgutil.walk_packages(rcell.__path__, "rcell."):
+        is_run = module.name != "rcell.xarray" or has("xarray") and has("distributed")
+        if is_run and not module.ispkg and not module.name.startswith("rcell.tiles"):
             found += doctest.DocTestFinder(exclude_empty=True).find(
-                importlib.import_module(f"rcell.{module.name}"), extraglobs={"np": np}
+                importlib.import_module(module.name), extraglobs={"np": np}
             )
     for name in rcell.__all__:
         named = getattr(rcell, name, None) if name != "tiles" else None

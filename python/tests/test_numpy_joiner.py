@@ -12,13 +12,13 @@ from typing import Any
 import numpy as np
 
 import rcell
-from rcell import _joiner
-from rcell._counts import Counts, TooManyCells, counts_of
-from rcell._joiner import border_of, joined, joined_sizes, numbering_of
-from rcell._maps import ArrayMap
-from rcell._program import execute, printed as printed_by_rcell
-from rcell._region import Region
-from rcell_front.pipe import NULL
+from rcell.core import joiner
+from rcell.core.counts import Counts, TooManyCells, counts_of
+from rcell.core.joiner import border_of, joined, joined_sizes, numbering_of
+from rcell.core.sources import ArrayMap
+from rcell.core.programs import execute, printed as printed_by_rcell
+from rcell.core.region import Region
+from rcell.core.protocol import NULL
 from tests.merging import merge
 
 NULL_CELL = 255
@@ -239,11 +239,11 @@ def program(test: unittest.TestCase, body: str) -> str:
 
 def known_program(test: unittest.TestCase, body: str) -> str:
     """One that is taken for right, without being tried."""
-    from rcell import _program
+    from rcell.core import programs
 
     path = program(test, body)
     state = os.stat(path)
-    _program._known[path] = (state.st_ino, state.st_size, state.st_mtime_ns)
+    programs._known[path] = (state.st_ino, state.st_size, state.st_mtime_ns)
     return path
 
 
@@ -312,7 +312,7 @@ class Programs(unittest.TestCase):
 
     def test_nowhere(self) -> None:
         code = (
-            "import rcell._program as p, rcell._joiner as j\np.sysconfig.get_path = lambda *_: '/nowhere'\np.sys.executable = '/nowhere/python'\n"
+            "import rcell.core.programs as p, rcell.core.joiner as j\np.sysconfig.get_path = lambda *_: '/nowhere'\np.sys.executable = '/nowhere/python'\n"
             "p.find_program = lambda: '/nowhere/rcell'\ntry: j.find_joiner()\nexcept p.MissingProgram as e: print(e)"
         )
         ran = subprocess.run(
@@ -366,7 +366,7 @@ class Programs(unittest.TestCase):
         del os.memfd_create
         try:
             self.assertEqual(joined(texts), b"1 5\n2 5\n")
-            self.assertEqual(_joiner.joined(texts * 40), b"1 200\n2 200\n")
+            self.assertEqual(joiner.joined(texts * 40), b"1 200\n2 200\n")
         finally:
             os.memfd_create = kept
 

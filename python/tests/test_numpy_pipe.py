@@ -16,25 +16,25 @@ from typing import Any, Iterator
 import numpy as np
 
 import rcell
-from rcell._program import find_pipe
-from rcell_front import pipe
+from rcell.core.programs import find_pipe
+from rcell.core import protocol
 
 EDGES = ("2", "0", "3.5", "-.5")
 LAND = bytes([1, 1, 2, 255, 2, 2])
 MAGIC = b"RCELLA1\n"
 
 
-def a_map(**words: Any) -> pipe.Map:
+def a_map(**words: Any) -> protocol.Map:
     given: dict[str, Any] = {
         "name": "lc",
         "edges": EDGES,
         "rows": 2,
         "cols": 3,
         "type": "u8",
-        "blocks": [pipe.Block(LAND)],
+        "blocks": [protocol.Block(LAND)],
         **words,
     }
-    return pipe.Map(**given)
+    return protocol.Map(**given)
 
 
 def text(given: bytes) -> bytes:
@@ -48,7 +48,7 @@ TABLE = (
     + b"\1\1;"
     + text(b"NA")
     + text(b"lc")
-    + struct.pack("<2Q2i", 5, 2**40, -7, pipe.NULL)
+    + struct.pack("<2Q2i", 5, 2**40, -7, protocol.NULL)
     + text(b"wood")
     + text(b"no data")
 )
@@ -58,7 +58,7 @@ GRID = (
     + b"".join(map(text, (b"*", b"k", b"2", b"0", b"3.5", b"-0.5")))
     + struct.pack("<2Q", 1, 2)
     + b"\6"
-    + struct.pack("<2i", 300, pipe.NULL)
+    + struct.pack("<2i", 300, protocol.NULL)
 )
 CELLS = (
     b"CELL"
@@ -66,7 +66,7 @@ CELLS = (
     + b"\0\0 "
     + text(b"*")
     + text(b"lc")
-    + struct.pack("<2i", 1, pipe.NULL)
+    + struct.pack("<2i", 1, protocol.NULL)
 )
 PLAN = (
     b"PLAN"
@@ -85,7 +85,7 @@ PLAN = (
     + struct.pack("<Q", 2)
     + text(b"k")
     + text(b"lc")
-    + struct.pack("<Q2i", 2, 9, pipe.NULL)
+    + struct.pack("<Q2i", 2, 9, protocol.NULL)
     + struct.pack("<Q2QB2QB", 2, 5, 9, 2, 12, 300, 4)
     + struct.pack("<Qi", 3, 2)
     + text(b"first")
@@ -123,9 +123,9 @@ class Asked(unittest.TestCase):
             file.write(answer)
         return self.program(f"cat > {self.folder}/request\ncat {self.folder}/answer\n{after}")
 
-    def asked(self, *maps: pipe.Map, script: bytes = b"") -> bytes:
+    def asked(self, *maps: protocol.Map, script: bytes = b"") -> bytes:
         """The request of a run."""
-        pipe.run(self.answering(MAGIC + DONE), maps, script)
+        protocol.run(self.answering(MAGIC + DONE), maps, script)
         with open(f"{self.folder}/request", "rb") as file:
             return file.read()
 
@@ -150,10 +150,10 @@ class Requests(Asked):
     def test_rows_and_masks(self) -> None:
         cells, mask = array("h", [1, -1, 300, 4, 5, 6]), bytes([0, 1, 0, 1, 1, 0])
         for blocks in (
-            [pipe.Block(memoryview(cells), mask)],
+            [protocol.Block(memoryview(cells), mask)],
             [
-                pipe.Block(memoryview(cells)[:3], mask[:3]),
-                pipe.Block(memoryview(cells)[3:], bytearray(mask[3:])),
+                protocol.Block(memoryview(cells)[:3], mask[:3]),
+                protocol.Block(memoryview(cells)[3:], bytearray(mask[3:])),
             ],
         ):
             found = self.asked(a_map(type="i16", blocks=blocks, is_masked=True))
@@ -176,13 +176,13 @@ class Requests(Asked):
         ):
             cells = np.arange(6).astype(dtype).reshape(2, 3)
             self.assertTrue(
-                self.asked(a_map(type=name, blocks=[pipe.Block(cells.data)])).endswith(
+                self.asked(a_map(type=name, blocks=[protocol.Block(cells.data)])).endswith(
                     cells.tobytes() + bytes(4)
                 )
             )
-            frames = pipe.run(
+            frames = protocol.run(
                 find_pipe(),
-                [a_map(type=name, blocks=[pipe.Block(cells.data)])],
+                [a_map(type=name, blocks=[protocol.Block(cells.data)])],
                 b"r.out.ascii input=lc\n",
             )
             self.assertEqual(np.asarray(frames[0].cells).tolist(), list(range(6)))
@@ -190,9 +190,9 @@ class Requests(Asked):
     def test_other_numbers_of_rows(self) -> None:
         for blocks in (
             [],
-            [pipe.Block(LAND[:3])],
-            [pipe.Block(LAND + LAND[:3])],
-            [pipe.Block(LAND[:4]), pipe.Block(LAND[4:])],
+            [protocol.Block(LAND[:3])],
+            [protocol.Block(LAND + LAND[:3])],
+            [protocol.Block(LAND[:4]), protocol.Block(LAND[4:])],
         ):
             with self.subTest(blocks=blocks), self.assertRaisesRegex(
                 ValueError, "rows of the map lc, which has 2"
@@ -204,13 +204,13 @@ class Requests(Asked):
 
 class Answers(Asked):
     def test_each_frame(self) -> None:
-        table, grid, cells = pipe.run(
+        table, grid, cells = protocol.run(
             self.answering(MAGIC + TABLE + GRID + CELLS + DONE), [a_map()], b""
         )
         assert (
-            isinstance(table, pipe.TableFrame)
-            and isinstance(grid, pipe.GridFrame)
-            and isinstance(cells, pipe.TableFrame)
+            isinstance(table, protocol.TableFrame)
+            and isinstance(grid, protocol.GridFrame)
+            and isinstance(cells, protocol.TableFrame)
         )
         self.assertEqual(
             (table.line, table.names, table.separator, table.null_text, table.entries),
@@ -219,36 +219,39 @@ class Answers(Asked):
         assert table.counts is not None
         self.assertEqual(
             (table.counts.tolist(), table.cells.tolist(), table.labels),
-            ([5, 2**40], [-7, pipe.NULL], [b"wood", b"no data"]),
+            ([5, 2**40], [-7, protocol.NULL], [b"wood", b"no data"]),
         )
         self.assertEqual(table.null_text, b"NA")
         self.assertEqual(
             (grid.line, grid.name, grid.null_text, grid.rows, grid.cols, grid.type, grid.null),
-            (5, "k", b"*", 1, 2, "i32", pipe.NULL),
+            (5, "k", b"*", 1, 2, "i32", protocol.NULL),
         )
         self.assertEqual(
             (grid.cells.tolist(), array("i", grid.cells).tolist()),
-            ([300, pipe.NULL], [300, pipe.NULL]),
+            ([300, protocol.NULL], [300, protocol.NULL]),
         )
         self.assertEqual(grid.edges, ("2", "0", "3.5", "-0.5"))
         self.assertEqual(
             (cells.line, cells.names, cells.counts, cells.cells.tolist(), cells.null_text),
-            (6, ("lc",), None, [1, pipe.NULL], b"*"),
+            (6, ("lc",), None, [1, protocol.NULL], b"*"),
         )
 
     def test_a_statement(self) -> None:
-        [found] = pipe.plan(self.answering(MAGIC + PLAN + DONE), ["lc", "ws"], b"x")
+        [found] = protocol.plan(self.answering(MAGIC + PLAN + DONE), ["lc", "ws"], b"x")
         self.assertEqual((found.line, found.command, found.made), (7, "r.mapcalc", "k"))
         self.assertEqual(
             (found.reads, found.needs), ({"lc": (1, 2, 3, 4)}, {"lc": (5, 6, 7, 8), "ws": None})
         )
         self.assertEqual(
             (found.options, found.inputs, found.after, found.text),
-            ("c1N", ("k", "lc"), (9, pipe.NULL), ""),
+            ("c1N", ("k", "lc"), (9, protocol.NULL), ""),
         )
         self.assertEqual(
             (found.calls, found.labels),
-            ((pipe.Call("col", 4, 9), pipe.Call("ncols", 11, 300)), {-7: "wood", 2: "last"}),
+            (
+                (protocol.Call("col", 4, 9), protocol.Call("ncols", 11, 300)),
+                {-7: "wood", 2: "last"},
+            ),
         )
         with open(f"{self.folder}/request", "rb") as file:
             self.assertEqual(
@@ -264,22 +267,22 @@ class Answers(Asked):
             b"RCELLA2\n" + DONE,
             MAGIC + b"TEXT" + DONE,
         ]:
-            with self.subTest(given=given), self.assertRaises(pipe.NoAnswer):
-                pipe.run(self.answering(given), [a_map()], b"")
-        with self.assertRaisesRegex(pipe.NoAnswer, "ended in status 4 and said: nothing"):
-            pipe.run(self.answering(answer, "exit 4"), [a_map()], b"")
+            with self.subTest(given=given), self.assertRaises(protocol.NoAnswer):
+                protocol.run(self.answering(given), [a_map()], b"")
+        with self.assertRaisesRegex(protocol.NoAnswer, "ended in status 4 and said: nothing"):
+            protocol.run(self.answering(answer, "exit 4"), [a_map()], b"")
 
     def test_a_program_that_stops_reading(self) -> None:
         end = b"DONE" + struct.pack("<5Q", 1, 1, 1, 9, 0) + text(b"cell out of range")
         large = a_map(
             rows=3_000,
             cols=3_000,
-            blocks=iter([pipe.Block(bytes(9_000_000))] + [pipe.Block(b"x")] * 3),
+            blocks=iter([protocol.Block(bytes(9_000_000))] + [protocol.Block(b"x")] * 3),
         )
         with open(f"{self.folder}/answer", "wb") as file:
             file.write(MAGIC + end)
-        with self.assertRaises(pipe.Rejected) as caught:
-            pipe.run(
+        with self.assertRaises(protocol.Rejected) as caught:
+            protocol.run(
                 self.program(f"head -c 100000 > /dev/null; cat {self.folder}/answer; exit 1"),
                 [large],
                 b"",
@@ -291,33 +294,33 @@ class Answers(Asked):
         )
 
     def test_endings(self) -> None:
-        with self.assertRaises(pipe.Killed) as caught:
-            pipe.run(self.program("kill -15 $$"), [a_map()], b"")
+        with self.assertRaises(protocol.Killed) as caught:
+            protocol.run(self.program("kill -15 $$"), [a_map()], b"")
         self.assertEqual(caught.exception.args, (15,))
         with self.assertRaises(TimeoutError):
-            pipe.run(self.program("exec sleep 60"), [a_map()], b"", seconds=0.3)
+            protocol.run(self.program("exec sleep 60"), [a_map()], b"", seconds=0.3)
         with self.assertRaisesRegex(
-            pipe.NotStarted, "No such file or directory: '/nowhere/rcell-pipe'"
+            protocol.NotStarted, "No such file or directory: '/nowhere/rcell-pipe'"
         ):
-            pipe.run("/nowhere/rcell-pipe", [a_map()], b"")
+            protocol.run("/nowhere/rcell-pipe", [a_map()], b"")
 
     def test_who_waits_may_end_it(self) -> None:
-        def raising() -> Iterator[pipe.Block]:
-            yield pipe.Block(LAND[:3])
+        def raising() -> Iterator[protocol.Block]:
+            yield protocol.Block(LAND[:3])
             raise KeyError("blocks")
 
         with self.assertRaises(KeyError):
-            pipe.run(self.answering(b""), [a_map(blocks=raising())], b"")
+            protocol.run(self.answering(b""), [a_map(blocks=raising())], b"")
         began = time.monotonic()
 
         def watch() -> None:
             if time.monotonic() > began + 0.5:
                 raise KeyError("watch")
 
-        large = a_map(rows=3_000, cols=3_000, blocks=[pipe.Block(bytes(9_000_000))])
+        large = a_map(rows=3_000, cols=3_000, blocks=[protocol.Block(bytes(9_000_000))])
         for given in (a_map(), large):
             with self.assertRaises(KeyError):
-                pipe.run(self.program("exec sleep 60"), [given], b"", watch=watch)
+                protocol.run(self.program("exec sleep 60"), [given], b"", watch=watch)
         self.assertLess(time.monotonic(), began + 30)
 
     def test_a_caller_that_has_many_files_open(self) -> None:
@@ -325,13 +328,15 @@ class Answers(Asked):
         resource.setrlimit(resource.RLIMIT_NOFILE, (min(2_048, limits[1]), limits[1]))
         held = [os.open("/dev/null", os.O_RDONLY) for _ in range(1_100)]
         try:
-            large = a_map(rows=3_000, cols=3_000, blocks=[pipe.Block(bytes(9_000_000))])
-            [table] = pipe.run(find_pipe(), [large], b"r.stats -c input=lc\n", watch=lambda: None)
+            large = a_map(rows=3_000, cols=3_000, blocks=[protocol.Block(bytes(9_000_000))])
+            [table] = protocol.run(
+                find_pipe(), [large], b"r.stats -c input=lc\n", watch=lambda: None
+            )
         finally:
             for descriptor in held:
                 os.close(descriptor)
             resource.setrlimit(resource.RLIMIT_NOFILE, limits)
-        assert isinstance(table, pipe.TableFrame) and table.counts is not None
+        assert isinstance(table, protocol.TableFrame) and table.counts is not None
         self.assertEqual(table.counts.tolist(), [9_000_000])
 
 
@@ -341,7 +346,7 @@ class Texts(Asked):
         for rows, cols in ((1, 1), (3, 5), (20, 20_000)):
             for kind, dtype, null, low, high in (
                 ("u8", "u1", 255, 0, 256),
-                ("i32", "i4", pipe.NULL, -3, 12),
+                ("i32", "i4", protocol.NULL, -3, 12),
                 ("i32", "i4", -9, -(2**31) + 1, 2**31),
             ):
                 cells = np.where(
@@ -349,13 +354,13 @@ class Texts(Asked):
                     null,
                     chance.integers(low, high, (rows, cols)),
                 ).astype(dtype)
-                land = pipe.Map(
+                land = protocol.Map(
                     "land",
                     (f"{rows}.5", "0.50", f"{cols}", "-0"),
                     rows,
                     cols,
                     kind,
-                    [pipe.Block(cells.data)],
+                    [protocol.Block(cells.data)],
                     null,
                 )
                 wanted = f"north: {rows}.5\nsouth: 0.5\neast: {cols}\nwest: 0\nrows: {rows}\ncols: {cols}\n"
@@ -364,13 +369,13 @@ class Texts(Asked):
                     for row in cells.tolist()
                 )
                 self.assertEqual(
-                    b"".join(pipe.text(find_pipe(), [land], b"r.out.ascii input=land")),
+                    b"".join(protocol.text(find_pipe(), [land], b"r.out.ascii input=land")),
                     wanted.encode(),
                 )
 
     def test_text_is_all_that_comes(self) -> None:
         for given in (b"", b"RCELLA1\nDON", MAGIC + DONE + b"7\n", b"7\n" * 300_000 + MAGIC + DONE):
-            self.assertEqual(b"".join(pipe.text(self.answering(given), [a_map()], b"")), given)
+            self.assertEqual(b"".join(protocol.text(self.answering(given), [a_map()], b"")), given)
 
     def test_rejections(self) -> None:
         rejection = MAGIC + b"DONE" + struct.pack("<5Q", 1, 2, 0, 3, 0) + text(b"unknown map")
@@ -379,28 +384,28 @@ class Texts(Asked):
             (rejection, 3, (3, "", 0, "no memory")),
             (b"7\n", 3, (3, "", 0, "no memory")),
         ):
-            with self.assertRaises(pipe.Rejected) as caught:
-                list(pipe.text(self.answering(given, f"exit {status}"), [a_map()], b""))
+            with self.assertRaises(protocol.Rejected) as caught:
+                list(protocol.text(self.answering(given, f"exit {status}"), [a_map()], b""))
             found = caught.exception
             self.assertEqual((found.status, found.source, found.line, found.text), wanted)
         for given, status in ((b"7\n", 1), (rejection, 4), (rejection[:-1], 1)):
-            with self.assertRaises(pipe.NoAnswer):
-                list(pipe.text(self.answering(given, f"exit {status}"), [a_map()], b""))
+            with self.assertRaises(protocol.NoAnswer):
+                list(protocol.text(self.answering(given, f"exit {status}"), [a_map()], b""))
 
 
 class Runs(unittest.TestCase):
     def test_tables_are_printed_as_rcell_prints_them(self) -> None:
         chance = random.Random(5)
         for _ in range(20):
-            cells = [chance.choice([1, 2, -30, 400, 2**31 - 1, pipe.NULL]) for _ in range(12)]
+            cells = [chance.choice([1, 2, -30, 400, 2**31 - 1, protocol.NULL]) for _ in range(12)]
             maps = [
                 a_map(
                     name=name,
                     rows=3,
                     cols=4,
                     type="i32",
-                    nodata=pipe.NULL,
-                    blocks=[pipe.Block(memoryview(array("i", part)))],
+                    nodata=protocol.NULL,
+                    blocks=[protocol.Block(memoryview(array("i", part)))],
                 )
                 for name, part in (("a", cells), ("b", cells[::-1]))
             ]
@@ -412,7 +417,7 @@ class Runs(unittest.TestCase):
             with tempfile.TemporaryDirectory() as folder:
                 words = []
                 for name, part in (("a", cells), ("b", cells[::-1])):
-                    rows = " ".join("*" if cell == pipe.NULL else str(cell) for cell in part)
+                    rows = " ".join("*" if cell == protocol.NULL else str(cell) for cell in part)
                     with open(f"{folder}/{name}", "w") as file:
                         file.write(
                             f"north: 2\nsouth: 0\neast: 3.5\nwest: -.5\nrows: 3\ncols: 4\n{rows}\n"
@@ -423,14 +428,14 @@ class Runs(unittest.TestCase):
                 wanted = subprocess.run(
                     [rcell.program(), f"{folder}/script", *words], capture_output=True, check=True
                 ).stdout
-            self.assertEqual(b"".join(pipe.text(find_pipe(), maps, script)), wanted)
+            self.assertEqual(b"".join(protocol.text(find_pipe(), maps, script)), wanted)
 
     def test_plans(self) -> None:
         script = (
             "r.mapcalc x = row()\n\tr.stats -c -n\tinput=a,b after=1,* \r\n# r.stats -1 input=z\nr.reclass input=a output=d\n1 = 1 wood\n2 = 1 grove\nend\n"
             "r.clump output=k -d input=c\n r.mapcalc y = d[1,0] + k\nr.stats -1N\tinput=b,a,b -l \r"
         )
-        found = pipe.plan(find_pipe(), ["a", "b", "c"], script.encode())
+        found = protocol.plan(find_pipe(), ["a", "b", "c"], script.encode())
         self.assertEqual(
             [
                 (one.line, one.command, one.made, one.inputs, one.options, [*one.calls])
@@ -449,7 +454,7 @@ class Runs(unittest.TestCase):
         self.assertEqual(
             (found[1].after, found[2].text, found[5].text),
             (
-                (1, pipe.NULL),
+                (1, protocol.NULL),
                 "r.reclass input=a output=d\n1 = 1 wood\n2 = 1 grove\nend",
                 "r.stats -1N\tinput=b,a,b -l \r",
             ),
@@ -463,7 +468,7 @@ class Runs(unittest.TestCase):
         numbers = a_map(
             name="n",
             type="i64",
-            blocks=[pipe.Block(memoryview(array("q", [1, 2, 3, 4, 2**31, 6])))],
+            blocks=[protocol.Block(memoryview(array("q", [1, 2, 3, 4, 2**31, 6])))],
         )
         for maps, script, told in (
             ([a_map(), numbers], b"", (1, "request", 1, 2, 0, "cell out of range")),
@@ -475,11 +480,11 @@ class Runs(unittest.TestCase):
             ([a_map()], b"r.stats -c", (1, "script", 0, 1, 0, "missing option")),
             ([a_map(), a_map()], b"", (1, "request", 1, 0, 0, "name used twice")),
         ):
-            with self.subTest(told=told), self.assertRaises(pipe.Rejected) as caught:
-                pipe.run(find_pipe(), maps, script)
+            with self.subTest(told=told), self.assertRaises(protocol.Rejected) as caught:
+                protocol.run(find_pipe(), maps, script)
             self.assertEqual(caught.exception.args, told)
-        with self.assertRaises(pipe.Rejected) as caught:
-            pipe.plan(find_pipe(), ["lc"], b"\nr.mapcalc x = lc * 0.5")
+        with self.assertRaises(protocol.Rejected) as caught:
+            protocol.plan(find_pipe(), ["lc"], b"\nr.mapcalc x = lc * 0.5")
         self.assertEqual(
             caught.exception.args, (1, "script", 0, 2, 20, "number not whole at column 20")
         )

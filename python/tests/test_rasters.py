@@ -16,7 +16,7 @@ from hypothesis import strategies as st
 from hypothesis.extra import numpy as arrays
 
 import rcell
-from rcell._rasters import open_raster
+from rcell.readers.rasterio import open_raster
 
 from .conftest import LAND, TRANSFORM
 

@@ -16,7 +16,8 @@ import numpy as np
 import pytest
 
 import rcell
-from rcell import _labels, _shell
+from rcell import shell
+from rcell.core import labels as labels_of_files
 from rcell.__main__ import main
 
 from .conftest import LAND
@@ -34,7 +35,7 @@ def said(capfdbinary: Any) -> tuple[str, str]:
 
 def test_composition(raster: Write, capfdbinary: Any, tmp_path: pathlib.Path) -> None:
     path = raster(LAND, nodata=0)
-    _labels.write_labels(path, NAMES)
+    labels_of_files.write_labels(path, NAMES)
     assert main(["composition", path]) == 0
     assert said(capfdbinary)[0].splitlines() == [
         "class,label,cells,area_ha,percent",
@@ -89,7 +90,7 @@ def test_every_argument_has_a_help_text() -> None:
             each for action in parsers for sub in action.choices.values() for each in without(sub)
         ]
 
-    assert without(_shell._words()) == []
+    assert without(shell._words()) == []
 
 
 def test_an_empty_table_says_so(raster: Write, capfdbinary: Any) -> None:

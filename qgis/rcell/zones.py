@@ -15,7 +15,7 @@ from qgis.core import QgsRasterLayer, QgsVectorLayer, QgsWkbTypes
 
 from .core.crs import are_same, shown
 from .core.errors import BadMap, OtherCrs
-from .core.front.pipe import NULL
+from .core.front.protocol import NULL
 from .core.program import Watch
 from .core.rasters import MAX_CATEGORY, Raster, quiet
 from .layers import raster_of, wkt_of

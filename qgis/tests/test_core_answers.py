@@ -11,7 +11,7 @@ import numpy as np
 from osgeo import gdal
 from rcell.core import answers
 from rcell.core.errors import Refused
-from rcell.core.front.pipe import NULL
+from rcell.core.front.protocol import NULL
 from rcell.core.program import find_program
 from rcell.core.rasters import Raster
 

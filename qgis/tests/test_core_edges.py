@@ -20,7 +20,7 @@ from osgeo import gdal
 from rcell.core import answers, landscape, program
 from rcell.core.errors import BadMap, OtherCrs, OtherRegion, Refused, WriteFailed
 from rcell.core.files import check_target, write_raster
-from rcell.core.front import pipe
+from rcell.core.front import protocol
 from rcell.core.rasters import Raster, fitted
 
 PROGRAM = program.find_program()
@@ -372,17 +372,17 @@ class StreamsTest(Room):
     def test_a_run_does_not_wait_for_processes_that_are_forked_meanwhile(self) -> None:
         children = []
 
-        def blocks() -> Iterator[pipe.Block]:
+        def blocks() -> Iterator[protocol.Block]:
             if not (child := os.fork()):
                 time.sleep(300)
                 os._exit(0)
             children.append(child)
-            yield pipe.Block(b"\1\2\3\2\2\1")
+            yield protocol.Block(b"\1\2\3\2\2\1")
 
         begun = time.monotonic()
-        [table] = pipe.run(
+        [table] = protocol.run(
             PROGRAM,
-            [pipe.Map("lc", ("2", "0", "3", "0"), 2, 3, "u8", blocks())],
+            [protocol.Map("lc", ("2", "0", "3", "0"), 2, 3, "u8", blocks())],
             b"r.stats -c input=lc",
         )
         self.assertEqual((table.cells.tolist(), table.counts.tolist()), ([1, 2, 3], [2, 3, 1]))

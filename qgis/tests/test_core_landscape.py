@@ -15,7 +15,7 @@ from rcell.core import composition, landscape
 from rcell.core.align import align
 from rcell.core.counting import Answer
 from rcell.core.errors import OtherCrs, OtherRegion, Refused
-from rcell.core.front.pipe import NULL
+from rcell.core.front.protocol import NULL
 from rcell.core.legends import legend_of
 from rcell.core.program import Watch, find_program
 from rcell.core.rasters import Raster, fitted

@@ -15,7 +15,7 @@ from osgeo import gdal
 from rcell.core import answers, files
 from rcell.core.composition import cross
 from rcell.core.errors import BadMap, Cancelled, OtherRegion, ReadFailed, Refused, WriteFailed
-from rcell.core.front.pipe import NULL
+from rcell.core.front.protocol import NULL
 from rcell.core.landscape import patches
 from rcell.core.program import find_program
 from rcell.core.rasters import Raster, check_regions

@@ -10,7 +10,7 @@ from unittest import mock
 import made
 from rcell.core import answers
 from rcell.core.errors import Refused
-from rcell.core.front.pipe import NULL
+from rcell.core.front.protocol import NULL
 from rcell.core.program import find_program, plan_of
 from rcell.core.rasters import Raster
 

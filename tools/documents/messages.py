@@ -1,4 +1,4 @@
-"""The table of messages in docs/errors.md, which is made from python/src/rcell_front/messages.json.
+"""The table of messages in docs/errors.md, which is made from python/src/rcell/core/messages.json.
 
 The table is the one that the file gives, and the file has each message of the program, and no other. rcell-explain says the same
 causes.
@@ -14,7 +14,7 @@ sys.path.insert(1, f"{ROOT}/tools/build")
 
 import build
 
-FILE, DOCUMENT = f"{ROOT}/python/src/rcell_front/messages.json", f"{ROOT}/docs/errors.md"
+FILE, DOCUMENT = f"{ROOT}/python/src/rcell/core/messages.json", f"{ROOT}/docs/errors.md"
 TABLES = re.compile(r"^## Of the command line .*", re.MULTILINE | re.DOTALL)
 # Kinds of an error that no run of the program reports.
 UNREPORTED = {"reader failed"}
@@ -96,23 +96,23 @@ def check(write=False):
         []
         if write or right == document
         else [
-            "docs/errors.md: the table is not that of python/src/rcell_front/messages.json (tools/documents/documents.py --texts --write)"
+            "docs/errors.md: the table is not that of python/src/rcell/core/messages.json (tools/documents/documents.py --texts --write)"
         ]
     )
     texts, code = {
         message["text"] for part in read_parts() for message in part["messages"]
     }, messages_of_the_code()
     faults += [
-        f"python/src/rcell_front/messages.json: no row for the message '{text}'"
+        f"python/src/rcell/core/messages.json: no row for the message '{text}'"
         for text in sorted(code - texts)
     ]
     faults += [
-        f"python/src/rcell_front/messages.json: no such message: '{text}'"
+        f"python/src/rcell/core/messages.json: no such message: '{text}'"
         for text in sorted(texts - code)
     ]
     for part in read_parts():
         faults += [
-            f"python/src/rcell_front/messages.json: {message['text']}: an example lacks a word: {cells}"
+            f"python/src/rcell/core/messages.json: {message['text']}: an example lacks a word: {cells}"
             for message in part["messages"]
             for cells in rows_of({**part, "messages": [message]})
             if re.search(r"\{[a-z_]+\}", "".join(cells))

@@ -3,7 +3,7 @@
 
     files.py [--count N] [--tiffs N] [--seed N]
 
-AAIGrids go through rcell-aaigrid, grids through rcell and rcell_front, TIFFs with changed or missing bytes through rcell-tif and the package. What is
+AAIGrids go through rcell-aaigrid, grids through rcell and rcell.core, TIFFs with changed or missing bytes through rcell-tif and the package. What is
 written is compared with a plain reading of the same text, or for TIFFs with what GDAL's own arrays say; what is rejected is rejected by the
 exceptions that end in one line. TIFFs of which GDAL alone reads other cells each time are left out, and counted. Each kind gets N files. Needs
 numpy and, for TIFFs, GDAL's Python. The last line is 'N passed, M failed'.
@@ -359,7 +359,7 @@ def main():
     resource.setrlimit(resource.RLIMIT_AS, (MEMORY, MEMORY))
     import model_grids
     import rcell_tif
-    from rcell_front import listing
+    from rcell.core import listing
 
     aaigrid = loaded("rcell-aaigrid")
     with tempfile.TemporaryDirectory(prefix="rcell-hostile-") as folder:

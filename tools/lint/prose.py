@@ -1,6 +1,6 @@
 """The English of the documents: retired words (retired.txt), and the lengths of sentences.
 
-A document for users has no retired word, nor has a message of the helpers and of rcell_front, a docstring or a comment. In a
+A document for users has no retired word, nor has a message of the helpers and of rcell.core, a docstring or a comment. In a
 page for users a sentence has at most 18 words on average, at most 10 % of the sentences have more than 25, and at most 1 % more
 than 45.
 """
@@ -30,8 +30,10 @@ FOR_DEVELOPERS = {
 PENDING = set((pathlib.Path(__file__).parent / "pending.txt").read_text(encoding="utf-8").split())
 # Folders whose messages are checked, and the table of causes that rcell-explain and the packages print.
 MESSAGES_OF, CAUSES = (
-    re.compile(r"(helpers|python/src/rcell_front)/.*\.py"),
-    "python/src/rcell_front/messages.json",
+    re.compile(
+        r"helpers/.*\.py|python/src/rcell/core/(advice|causes|files|grids|listing|mending|process|protocol)\.py"
+    ),
+    "python/src/rcell/core/messages.json",
 )
 FENCED = re.compile(r"^```.*?^```$", re.MULTILINE | re.DOTALL)
 # Phrases that neither a document nor a helper or package has, in code and tests of R included.

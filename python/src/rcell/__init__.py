@@ -11,30 +11,7 @@ A script is run over maps of one region, which are given by name: paths of GeoTI
 
 from __future__ import annotations
 
-import importlib
-import os
-from typing import TYPE_CHECKING, Any
-
-from ._answers import Result, grid, run, table
-from ._errors import (
-    BadMap,
-    Killed,
-    MissingLibrary,
-    MissingProgram,
-    OtherCrs,
-    OtherRegion,
-    OutOfMemory,
-    RcellError,
-    ReadFailed,
-    Refused,
-    WriteFailed,
-    WrongProgram,
-)
-from ._grid import Grid
-from ._maps import Aligned, Map
-from ._program import find_program
-from ._region import Region
-from ._table import Pivot, StatsTable, Table
+TYPE_CHECKING = False  # typing takes longer to import than all of this module
 
 __all__ = [
     "Aligned",
@@ -75,31 +52,71 @@ __all__ = [
 ]
 
 if TYPE_CHECKING:
+    import os
+    from typing import Any
+
     from . import tiles
-    from ._align import align
-    from ._bands import bands
-    from ._change import Change, change
-    from ._composition import composition, cross
-    from ._majority import majority
-    from ._patches import patches
     from ._version import __version__
-    from ._zonal import zonal
+    from .core.align import align
+    from .core.change import Change, change
+    from .core.columns import Pivot, StatsTable, Table
+    from .core.composition import composition, cross
+    from .core.errors import (
+        BadMap,
+        Killed,
+        MissingLibrary,
+        MissingProgram,
+        OtherCrs,
+        OtherRegion,
+        OutOfMemory,
+        RcellError,
+        ReadFailed,
+        Refused,
+        WriteFailed,
+        WrongProgram,
+    )
+    from .core.majority import majority
+    from .core.patches import patches
+    from .core.region import Region
+    from .core.scripts import Result, grid, run, table
+    from .core.sources import Aligned, Map
+    from .core.zonal import zonal
+    from .raster import Grid
+    from .readers.bands import bands
 
     __all__ += ["tiles"]
 
-# The modules that are imported when one of these is first used: a table needs none of them.
-_LATER = {
-    "Change": "_change",
-    "__version__": "_version",
-    "align": "_align",
-    "bands": "_bands",
-    "change": "_change",
-    "composition": "_composition",
-    "cross": "_composition",
-    "majority": "_majority",
-    "patches": "_patches",
-    "zonal": "_zonal",
+# Each name is imported when it is first used: the command line reads and explains files without numpy.
+_MODULES = {
+    "._version": ("__version__",),
+    ".core.align": ("align",),
+    ".core.change": ("Change", "change"),
+    ".core.columns": ("Pivot", "StatsTable", "Table"),
+    ".core.composition": ("composition", "cross"),
+    ".core.errors": (
+        "BadMap",
+        "Killed",
+        "MissingLibrary",
+        "MissingProgram",
+        "OtherCrs",
+        "OtherRegion",
+        "OutOfMemory",
+        "RcellError",
+        "ReadFailed",
+        "Refused",
+        "WriteFailed",
+        "WrongProgram",
+    ),
+    ".core.majority": ("majority",),
+    ".core.patches": ("patches",),
+    ".core.region": ("Region",),
+    ".core.scripts": ("Result", "grid", "run", "table"),
+    ".core.sources": ("Aligned", "Map"),
+    ".core.zonal": ("zonal",),
+    ".raster": ("Grid",),
+    ".readers.bands": ("bands",),
 }
+_MODULE_OF = {name: module for module, names in _MODULES.items() for name in names}
 
 
 def program(path: str | os.PathLike[str] | None = None) -> str:
@@ -128,6 +145,8 @@ def program(path: str | os.PathLike[str] | None = None) -> str:
     >>> os.path.basename(rcell.program())
     'rcell'
     """
+    from .core.programs import find_program
+
     return find_program(path)
 
 
@@ -157,21 +176,23 @@ def joiner(path: str | os.PathLike[str] | None = None) -> str:
     >>> os.path.basename(rcell.joiner())
     'rcell-join'
     """
-    from ._joiner import find_joiner
+    from .core.joiner import find_joiner
 
     return find_joiner(path)
 
 
 def __getattr__(name: str) -> Any:
-    """Import when first used: `rcell.tiles` needs Dask, and half of the modules are for some calls alone."""
+    """Import a name when it is first used."""
+    import importlib
+
     if name == "tiles":
         return importlib.import_module(".tiles", __name__)
-    if name not in _LATER:
+    if name not in _MODULE_OF:
         raise AttributeError(f"module {__name__!r} has no attribute {name!r}")
-    value = getattr(importlib.import_module(f".{_LATER[name]}", __name__), name)
+    value = getattr(importlib.import_module(_MODULE_OF[name], __name__), name)
     globals()[name] = value
     return value
 
 
 def __dir__() -> list[str]:
-    return sorted({*globals(), *_LATER, "tiles"})
+    return sorted({*globals(), *_MODULE_OF, "tiles"})

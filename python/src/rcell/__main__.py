@@ -5,7 +5,7 @@ from __future__ import annotations
 
 import sys
 
-from ._shell import emit, main, script_of
+from .shell import emit, main, script_of
 
 __all__ = ["emit", "main", "script_of"]
 

@@ -10,9 +10,9 @@ from __future__ import annotations
 import re
 from typing import Any
 
-from ._errors import BadMap, MissingLibrary
-from ._maps import named_once
-from ._xarray import is_lazy, variables_of
+from .core.errors import BadMap, MissingLibrary
+from .core.sources import named_once
+from .readers.xarray import is_lazy, variables_of
 from .tiles._engine import Engine
 from .tiles._sheet import open_maps
 from .tiles.mosaic import Mosaic

@@ -28,8 +28,8 @@ if "RCELL" not in os.environ and PROGRAM.exists():
 if not os.environ.get("RCELL") and not shutil.which("rcell"):
     pytest.skip("the program rcell is not built", allow_module_level=True)
 
-from rcell._counts import counts_of  # noqa: E402
-from rcell._joiner import joined  # noqa: E402
+from rcell.core.counts import counts_of  # noqa: E402
+from rcell.core.joiner import joined  # noqa: E402
 from rcell.tiles import NeedlessTiles, _tasks, joining  # noqa: E402
 from tests.merging import merge  # noqa: E402
 from tests.tiles import second  # noqa: E402

@@ -10,8 +10,8 @@ import numpy.typing as npt
 from scipy.sparse import coo_matrix
 from scipy.sparse.csgraph import connected_components
 
-from rcell._counts import numbers_of
-from rcell_front.pipe import NULL
+from rcell.core.counts import numbers_of
+from rcell.core.protocol import NULL
 
 Integers = npt.NDArray[Any]
 

@@ -21,7 +21,7 @@ import tornado.util
 
 import rcell
 import rcell.tiles
-from rcell._program import find_pipe
+from rcell.core.programs import find_pipe
 from rcell.tiles import _cluster, _engine
 from tests.tiles import whole
 from tests.tiles.conftest import MakeTif, read_tif, write_tif
@@ -335,7 +335,7 @@ def test_modules_of_the_working_folder_are_not_run(
     path = tif("lc", np.ones((4, 4), np.uint8))
     folder = tmp_path / "work"
     folder.mkdir()
-    for name in ("random", "numpy", "rcell", "rcell_front", "rasterio", "dask", "csv", "psutil"):
+    for name in ("random", "numpy", "rcell", "rasterio", "dask", "csv", "psutil"):
         (folder / f"{name}.py").write_text(
             f"open({str(tmp_path / 'hit')!r}, 'a').write({name!r}); print('stranger')\n"
         )

@@ -18,7 +18,7 @@ import rasterio
 
 import rcell
 import rcell.tiles
-from rcell._program import find_pipe
+from rcell.core.programs import find_pipe
 from rcell.tiles._output import tile_writer
 from rcell.tiles._sheet import Sheet
 from rcell.tiles.joining import Rectangle

@@ -12,14 +12,14 @@ from hypothesis import given
 from hypothesis import strategies as st
 
 import rcell
-from rcell import _joiner
-from rcell._counts import Counts, TooManyCells, counts_of
-from rcell._joiner import border_of
-from rcell._maps import ArrayMap
+from rcell.core import joiner
+from rcell.core.counts import Counts, TooManyCells, counts_of
+from rcell.core.joiner import border_of
+from rcell.core.sources import ArrayMap
 from rcell.tiles import mosaic
 from rcell.tiles._memory import Demand
 from rcell.tiles.joining import Rectangle, join, renumber
-from rcell_front.pipe import NULL
+from rcell.core.protocol import NULL
 from tests.merging import merge
 from tests.test_numpy_joiner import printed
 from tests.tiles import whole
@@ -144,7 +144,7 @@ def test_too_many_tiles_are_refused(
     tif: MakeTif, scheduler: str, monkeypatch: pytest.MonkeyPatch
 ) -> None:
     path = tif("map", np.ones((4, 4), np.uint8))
-    monkeypatch.setattr(_joiner, "OTHER_FILES", 10**9)
+    monkeypatch.setattr(joiner, "OTHER_FILES", 10**9)
     with rcell.tiles.open(size=1, scheduler=scheduler, map=path) as opened:
         with pytest.raises(
             rcell.WriteFailed,

@@ -13,7 +13,7 @@ from hypothesis.extra.numpy import arrays
 
 import rcell
 import rcell.tiles
-from rcell._labels import write_labels
+from rcell.core.labels import write_labels
 from rcell.tiles.joining import Rectangle
 from tests.tiles import whole
 from tests.tiles.conftest import MakeTif, read_tif, write_tif

@@ -23,7 +23,7 @@ from ..core import answers
 from ..core.answers import Answers, Table
 from ..core.errors import RcellError, Refused, WriteFailed
 from ..core.files import check_target, write_raster, write_table
-from ..core.front.pipe import Statement
+from ..core.front.protocol import Statement
 from ..core.program import Watch, find_program, plan_of
 from ..core.rasters import Raster, fitted
 from ..layers import names_of, raster_of

@@ -13,7 +13,7 @@ from osgeo import osr
 from .answers import Grid, run
 from .crs import are_same
 from .errors import OtherRegion
-from .front.pipe import NULL
+from .front.protocol import NULL
 from .program import Watch
 from .rasters import Raster, check_crs
 

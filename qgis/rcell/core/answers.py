@@ -10,8 +10,8 @@ import numpy as np
 from numpy.typing import NDArray
 
 from .errors import Refused
-from .front import pipe
-from .front.pipe import NULL
+from .front import protocol
+from .front.protocol import NULL
 from .program import Watch, frames_of, plan_of
 from .rasters import Raster, fitted
 from .sizes import UNITS
@@ -221,7 +221,7 @@ def run(
     labels = {**{name: raster.labels for name, raster in maps.items()}, **made}
     outputs: list[Table | Grid] = [
         Grid(frame.name, _cells_of(frame), labels=labels[frame.name])
-        if isinstance(frame, pipe.GridFrame)
+        if isinstance(frame, protocol.GridFrame)
         else _table(frame, maps)
         for frame in frames
     ]
@@ -229,15 +229,15 @@ def run(
     return Answers(tables, [output for output in outputs if isinstance(output, Grid)], outputs)
 
 
-def _cells_of(frame: pipe.GridFrame) -> NDArray[np.int32]:
+def _cells_of(frame: protocol.GridFrame) -> NDArray[np.int32]:
     """Return the cells of a map, with NULL for null."""
     cells = np.asarray(frame.cells).reshape(frame.rows, frame.cols)
     return cells if frame.null == NULL else np.where(cells == frame.null, np.int32(NULL), cells)
 
 
-def _labels_of(frame: pipe.Frame) -> list[dict[int, str]]:
+def _labels_of(frame: protocol.Frame) -> list[dict[int, str]]:
     """Return the labels of each map of a table."""
-    assert isinstance(frame, pipe.TableFrame) and frame.labels is not None
+    assert isinstance(frame, protocol.TableFrame) and frame.labels is not None
     width = len(frame.names)
     codes, texts = frame.cells.tolist(), frame.labels
     pairs = (zip(codes[place::width], texts[place::width]) for place in range(width))
@@ -251,7 +251,7 @@ def _labels_of(frame: pipe.Frame) -> list[dict[int, str]]:
     ]
 
 
-def _table(frame: pipe.TableFrame, maps: Mapping[str, Raster]) -> Table:
+def _table(frame: protocol.TableFrame, maps: Mapping[str, Raster]) -> Table:
     """Return a table; input maps have their own names and labels."""
     labels = None if frame.labels is None else _labels_of(frame)
     return Table(

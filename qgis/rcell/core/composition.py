@@ -22,7 +22,7 @@ from .counting import (
     whole,
 )
 from .errors import Refused
-from .front.pipe import NULL
+from .front.protocol import NULL
 from .program import Watch
 from .rasters import Raster
 from .sizes import UNITS

@@ -10,7 +10,7 @@ import numpy as np
 from numpy.typing import NDArray
 
 from .answers import Answers, Column, Table, run, unique
-from .front.pipe import NULL
+from .front.protocol import NULL
 from .program import Watch
 from .rasters import Raster
 from .sizes import UNITS, cell_sizes

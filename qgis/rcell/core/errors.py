@@ -4,12 +4,9 @@
 from __future__ import annotations
 
 import signal
-from typing import TYPE_CHECKING, Any
+from typing import Any
 
-if TYPE_CHECKING:
-    from rcell_front.pipe import Fault
-else:
-    from .front.pipe import Fault
+from .front.protocol import Fault
 
 
 class RcellError(Exception):

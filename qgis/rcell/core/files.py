@@ -19,7 +19,7 @@ from .answers import Column, Table
 from .counting import Answer
 from .errors import RcellError, Refused, WriteFailed
 from .front.files import Output, is_same_file
-from .front.maps import put_labels
+from .front.attributes import put_labels
 from .rasters import BLOCK_CELLS, Raster, quiet
 
 # Level 1 with differences of neighbours takes an eighth of the time of level 6 without, for files of the same size.

@@ -11,7 +11,7 @@ import numpy as np
 from .answers import Column, Grid, grid, run
 from .counting import Answer, Counts, Floats, Integers, coded, count, real, starts_of, whole
 from .errors import Refused
-from .front.pipe import NULL
+from .front.protocol import NULL
 from .program import Watch
 from .rasters import Raster
 

@@ -14,10 +14,10 @@ from typing import Callable, Iterator, Mapping, Sequence
 import numpy as np
 
 from .errors import Cancelled, Killed, MissingProgram, OutOfMemory, Refused, WrongProgram
-from .front import pipe
+from .front import protocol
 from .front.listing import printed_grid
-from .front.pipe import NULL
-from .front.programs import found_on_path
+from .front.protocol import NULL
+from .front.process import found_on_path
 from .rasters import Cells, Mask, Raster, Warn
 
 _PROBE_SECONDS = 60
@@ -119,7 +119,7 @@ def _set_executable(path: str) -> None:
 def _probe(path: str) -> None:
     """Run the program once."""
     try:
-        is_known = pipe.is_known(path, _PROBE_SECONDS)
+        is_known = protocol.is_known(path, _PROBE_SECONDS)
     except TimeoutError:
         is_known = False
     except OSError as error:
@@ -135,7 +135,7 @@ def _probe(path: str) -> None:
 
 def plan_of(
     program: str, script: str, names: Sequence[str], watch: Watch | None = None
-) -> list[pipe.Statement]:
+) -> list[protocol.Statement]:
     """Return what each statement of a script does, over maps of some names.
 
     Raises
@@ -144,15 +144,15 @@ def plan_of(
         The program rejects the script.
     """
     with _errors_of(program, script, names):
-        plan: list[pipe.Statement] = pipe.plan(
-            program, names, pipe.script_bytes(script), watch=(watch or Watch()).check
+        plan: list[protocol.Statement] = protocol.plan(
+            program, names, protocol.script_bytes(script), watch=(watch or Watch()).check
         )
     return plan
 
 
 def frames_of(
     program: str, maps: Mapping[str, Raster], script: str, sent: str, watch: Watch
-) -> list[pipe.Frame]:
+) -> list[protocol.Frame]:
     """Run a script over maps of one region, and return what its statements write.
 
     Parameters
@@ -184,8 +184,8 @@ def frames_of(
     sender = _Sender(program, maps, watch)
     with _errors_of(program, script, list(maps)):
         sources = [sender.map_of(name, raster) for name, raster in maps.items()]
-        frames: list[pipe.Frame] = pipe.run(
-            program, sources, pipe.script_bytes(sent), watch=watch.check
+        frames: list[protocol.Frame] = protocol.run(
+            program, sources, protocol.script_bytes(sent), watch=watch.check
         )
     watch.progress(1.0)
     return frames
@@ -196,13 +196,13 @@ def _errors_of(program: str, script: str, names: Sequence[str]) -> Iterator[None
     """Raise the errors of rcell-pipe as errors of this plugin."""
     try:
         yield
-    except pipe.Rejected as end:
+    except protocol.Rejected as end:
         raise (OutOfMemory if end.status == 3 else Refused)(
             **end.parts(program, script, names)
         ) from None
-    except pipe.Killed as error:
+    except protocol.Killed as error:
         raise Killed(int(error.args[0])) from None
-    except pipe.NoAnswer as error:
+    except protocol.NoAnswer as error:
         raise WrongProgram(str(error)) from None
 
 
@@ -215,11 +215,11 @@ class _Sender:
         self._all = sum(raster.region.rows * raster.region.cols for raster in maps.values())
         self._sent = 0
 
-    def map_of(self, name: str, raster: Raster) -> pipe.Map:
+    def map_of(self, name: str, raster: Raster) -> protocol.Map:
         """Return a map whose blocks are read while the program takes them."""
         region = raster.region
         if raster.is_text:
-            return pipe.Map(
+            return protocol.Map(
                 name,
                 region.edge_texts(),
                 region.rows,
@@ -229,7 +229,7 @@ class _Sender:
                 NULL,
             )
         blocks = self._blocks(raster.blocks(self._warn))
-        return pipe.Map(
+        return protocol.Map(
             name,
             region.edge_texts(),
             region.rows,
@@ -240,9 +240,9 @@ class _Sender:
             raster.is_masked,
         )
 
-    def _blocks(self, blocks: Iterator[tuple[Cells, Mask | None]]) -> Iterator[pipe.Block]:
+    def _blocks(self, blocks: Iterator[tuple[Cells, Mask | None]]) -> Iterator[protocol.Block]:
         for cells, null in blocks:
-            yield pipe.Block(cells.data, None if null is None else null.view(np.uint8).data)
+            yield protocol.Block(cells.data, None if null is None else null.view(np.uint8).data)
             self._sent += cells.size
             self._watch.progress(self._sent / self._all / 2)
 

@@ -16,8 +16,8 @@ from osgeo import gdal
 
 from .crs import Crs, are_same, shown
 from .errors import BadMap, OtherCrs, OtherRegion, ReadFailed
-from .front.maps import labels_of_band
-from .front.pipe import NULL
+from .front.attributes import labels_of_band
+from .front.protocol import NULL
 from .region import GeoTransform, Region
 
 # Cells of a block, about: large enough that a block costs more than its call, small enough for the cache of a processor.

@@ -9,7 +9,7 @@ from fractions import Fraction
 from typing import Sequence
 
 from .errors import BadMap
-from .front.maps import DECIMALS, UNITS, differences_of, edge_text
+from .front.edges import DECIMALS, UNITS, differences_of, edge_text
 
 EDGE_LIMIT = 10**10 * UNITS
 SIDE_LIMIT = 65_535

@@ -7,7 +7,7 @@ ADVICE_CODE <- "
 import sys
 code, program, path, line, text, *names = sys.argv[1:]
 sys.path[:0] = [code] if code else []
-from rcell_front.mending import advice
+from rcell.core.mending import advice
 with open(path, 'rb') as script:
     column, found = advice(program, script.read(), names, int(line), text)
 sys.stdout.buffer.write(('%d\\n%s' % (column or 0, found or '')).encode())

@@ -7,8 +7,8 @@ borders. Each step of this code names its law. rcell-join, which is proved itsel
 
 from __future__ import annotations
 
-from .._counts import TooManyCells
-from .._libraries import need
+from ..core.counts import TooManyCells
+from ..core.libraries import need
 
 for _library in ("dask.array", "distributed", "psutil", "tqdm"):
     need(_library, "tiles", "for maps by tiles")

@@ -25,16 +25,16 @@ from dataclasses import dataclass
 from pathlib import Path
 from typing import Any
 
-from rcell_front.files import write_all
-from rcell_front.programs import close, pipe
+from ..core.files import write_all
+from ..core.process import close, pipe
 
 import distributed
 import psutil
 import tornado.util
 from distributed.system import MEMORY_LIMIT
 
-from .._errors import RcellError
-from .._libraries import need
+from ..core.errors import RcellError
+from ..core.libraries import need
 
 __all__ = ["RESOURCE", "Cluster", "ClusterFailed"]
 

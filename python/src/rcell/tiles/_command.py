@@ -11,7 +11,7 @@ from collections.abc import Sequence
 from typing import Any
 
 from ..__main__ import emit, script_of
-from .._errors import MissingLibrary, OutOfMemory, RcellError, Refused
+from ..core.errors import MissingLibrary, OutOfMemory, RcellError, Refused
 from .mosaic import Mosaic, NeedlessTiles, TooLittleMemory, open_mosaic
 
 __all__ = ["main"]

@@ -14,7 +14,7 @@ import distributed
 from distributed.comm import CommClosedError
 from tqdm import tqdm
 
-from .._errors import RcellError
+from ..core.errors import RcellError
 from ._cluster import Cluster, Room
 
 __all__ = ["Engine", "Progress", "WorkerLost"]

@@ -6,7 +6,7 @@ from __future__ import annotations
 import math
 from dataclasses import dataclass
 
-from .._region import CELL_LIMIT, SIDE_LIMIT
+from ..core.region import CELL_LIMIT, SIDE_LIMIT
 from ._output import BLOCK
 from ._scripts import NO_REACH, Reach
 from ._sheet import Sheet

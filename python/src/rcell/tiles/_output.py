@@ -13,10 +13,10 @@ from typing import TYPE_CHECKING, Any
 import numpy as np
 import numpy.typing as npt
 
-from .._files import replacing, told_of
-from .._geotiff import TILE, profile_of
-from .._labels import write_labels
-from .._libraries import need
+from ..core.writing import replacing, told_of
+from ..geotiff import TILE, profile_of
+from ..core.labels import write_labels
+from ..core.libraries import need
 from .joining import Rectangle
 
 if TYPE_CHECKING:

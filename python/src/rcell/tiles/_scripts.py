@@ -8,8 +8,8 @@ from dataclasses import dataclass, replace
 from itertools import product
 from string import ascii_lowercase
 
-from rcell_front.pipe import NULL, Statement
-from rcell_front.pipe import Margin as Reach
+from ..core.protocol import NULL, Statement
+from ..core.protocol import Margin as Reach
 
 from .joining import Rectangle
 

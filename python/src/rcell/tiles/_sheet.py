@@ -11,17 +11,17 @@ from typing import Any
 
 import numpy as np
 
-from rcell_front.maps import differences_of
+from ..core.edges import differences_of
 
-from .._crs import common_crs, wkt_of
-from .._errors import BadMap, OtherRegion
-from .._labels import read_labels
-from .._libraries import need
-from .._maps import ArrayMap, check_computed, check_names, checked, nodata_of
-from .._masked import unmasked
-from .._rasters import Layer, only_band, open_dataset, told_of_reading, upright
-from .._region import Region, Transform, edges_of_transform, units_of
-from .._xarray import flat_of, is_lazy, variables_of
+from ..core.crs import common_crs, wkt_of
+from ..core.errors import BadMap, OtherRegion
+from ..core.labels import read_labels
+from ..core.libraries import need
+from ..core.sources import ArrayMap, check_computed, check_names, checked, nodata_of
+from ..core.masked import unmasked
+from ..readers.rasterio import Layer, only_band, open_dataset, told_of_reading, upright
+from ..core.region import Region, Transform, edges_of_transform, units_of
+from ..readers.xarray import flat_of, is_lazy, variables_of
 from .joining import Rectangle
 
 __all__ = ["MapCells", "MapFile", "Maps", "Sheet", "open_maps"]

@@ -11,13 +11,13 @@ from typing import Any
 import numpy as np
 import numpy.typing as npt
 
-from .._counts import counts_of
-from .._errors import OutOfMemory
-from .._joiner import border_of, joined
-from .._maps import ArrayMap, Source
-from .._program import execute, grids, printed
-from .._region import Region
-from .._table import StatsTable
+from ..core.counts import counts_of
+from ..core.errors import OutOfMemory
+from ..core.joiner import border_of, joined
+from ..core.sources import ArrayMap, Source
+from ..core.programs import execute, grids, printed
+from ..core.region import Region
+from ..core.columns import StatsTable
 from ._scripts import NO_REACH, Reach, Statement, TileScript
 from ._sheet import MapCells, MapFile, Sheet
 from .joining import Joined, Rectangle, TileNumbers, join, renumber, sizes

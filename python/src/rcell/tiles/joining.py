@@ -1,7 +1,7 @@
 # SPDX-License-Identifier: Apache-2.0 OR GPL-2.0-or-later
 """What tiles of a map say of the full map: their clumps joined and numbered, and the sizes of these added up.
 
-The proved program rcell-join does both (`rcell._joiner`). This module reads what it writes into numpy arrays, and makes no Python
+The proved program rcell-join does both (`rcell.core.joiner`). This module reads what it writes into numpy arrays, and makes no Python
 object for a clump.
 """
 
@@ -14,9 +14,9 @@ from typing import Any, NamedTuple
 import numpy as np
 import numpy.typing as npt
 
-from .._counts import counts_of, numbers_of
-from .._joiner import joined_sizes, numbering_of
-from .._region import Region
+from ..core.counts import counts_of, numbers_of
+from ..core.joiner import joined_sizes, numbering_of
+from ..core.region import Region
 
 __all__ = ["Joined", "Rectangle", "TileNumbers", "join", "renumber", "sizes"]
 
@@ -92,8 +92,8 @@ def join(borders: Sequence[bytes], diagonal: bool = False) -> Joined:
 
     Examples
     --------
-    >>> from rcell._joiner import border_of
-    >>> from rcell._maps import ArrayMap
+    >>> from rcell.core.joiner import border_of
+    >>> from rcell.core.sources import ArrayMap
     >>> row = np.array([[4, 4]])
     >>> whole = join([border_of(ArrayMap("tile", row, Rectangle(top, 0, 1, 2).region)) for top in (0, 1)])
     >>> whole.clumps, renumber(np.array([[1, 1]]), whole.tiles[1]).tolist()

@@ -14,16 +14,16 @@ from typing import Any, NamedTuple
 import dask
 import numpy as np
 
-from rcell_front.files import is_same_file
-from rcell_front.pipe import NULL
+from ..core.files import is_same_file
+from ..core.protocol import NULL
 
-from .._errors import RcellError, Refused
-from .._joiner import check_files, find_joiner
-from .._maps import named_once
-from .._patches import check_connectivity
-from .._program import planned
-from .._region import CELL_LIMIT, SIDE_LIMIT
-from .._xarray import data_array
+from ..core.errors import RcellError, Refused
+from ..core.joiner import check_files, find_joiner
+from ..core.sources import named_once
+from ..core.patches import check_connectivity
+from ..core.programs import planned
+from ..core.region import CELL_LIMIT, SIDE_LIMIT
+from ..readers.xarray import data_array
 from . import _tasks
 from ._cluster import SHARE, Room, free_memory
 from ._engine import Engine, Progress

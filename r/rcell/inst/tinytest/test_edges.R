@@ -129,7 +129,7 @@ expect_identical(conditionMessage(refusal(rcell_run("r.stats -cn lc", lc = plain
 # With Python, the word that is no option is named, and what to write instead.
 python <- Sys.which("python3")[[1]]
 folder <- system.file("python", package = "rcell")
-has_code <- nzchar(python) && processx::run(python, c("-c", "import sys; sys.path.append(sys.argv[1]); import rcell_front.mending", folder),
+has_code <- nzchar(python) && processx::run(python, c("-c", "import sys; sys.path.append(sys.argv[1]); import rcell.core.mending", folder),
   error_on_status = FALSE)$status == 0L
 options(rcell.python = if (has_code) python else "")
 for (case in if (has_code) list(c("r.stats -cn lc", "lc", 13, "r.stats -cn input=lc"), c("r.stats in=lc", "in=lc", 9, "r.stats input=lc"),

@@ -1,0 +1,132 @@
+# SPDX-License-Identifier: Apache-2.0 OR GPL-2.0-or-later
+"""The areas of cells: one area for all cells of a projected map, one for each row of a map in degrees."""
+
+from __future__ import annotations
+
+import math
+from dataclasses import dataclass
+from typing import Any
+
+import numpy as np
+
+from .arrays import NDArray
+from .crs import UNITS_OF_AREA, cell_area, is_geographic, metres_of_unit
+from .errors import Refused
+from .libraries import need
+from .sources import Source
+
+__all__ = ["Measure", "measure_of", "row_areas"]
+
+
+def row_areas(
+    north: float, height: float, width: float, rows: int, ellipsoid: tuple[float, float]
+) -> NDArray[np.float64]:
+    """Return the area of a cell of each row in square metres: a part of the ellipsoid between two parallels.
+
+    Parameters
+    ----------
+    north, height, width : float
+        The northern edge, and the size of a cell, in radians.
+    rows : int
+    ellipsoid : tuple of float
+        Its semi-major axis in metres, and its flattening.
+
+    Examples
+    --------
+    >>> float(row_areas(math.pi / 2, math.pi, 2 * math.pi, 1, (1.0, 0.0))[0] / math.pi)
+    4.0
+    """
+    axis, flattening = ellipsoid
+    edges = north - height * np.arange(rows + 1)
+    upper, lower = np.minimum(edges[:-1], math.pi / 2), np.maximum(edges[1:], -math.pi / 2)
+    if rows and (lower.max() >= math.pi / 2 or upper.min() <= -math.pi / 2):
+        raise Refused(f"rows beyond the pole: north is {math.degrees(north):g}", "map")
+    # The difference of the sines, computed without subtracting them: that would lose digits for thin rows.
+    step = np.where((upper < edges[:-1]) | (lower > edges[1:]), upper - lower, height)
+    risen = 2 * np.cos((upper + lower) / 2) * np.sin(step / 2)
+    if flattening == 0:
+        return np.asarray(width * axis**2 * risen)
+    squared = flattening * (2 - flattening)
+    e, s1, s2 = math.sqrt(squared), np.sin(upper), np.sin(lower)
+    middle = risen * (1 + squared * s1 * s2) / ((1 - squared * s1**2) * (1 - squared * s2**2))
+    return np.asarray(
+        width
+        / 2
+        * (axis * (1 - flattening)) ** 2
+        * (middle + np.arctanh(e * risen / (1 - squared * s1 * s2)) / e)
+    )
+
+
+@dataclass(frozen=True)
+class Measure:
+    """The areas of cells, in a unit.
+
+    Attributes
+    ----------
+    unit : str or None
+        None if no areas are requested.
+    divisor : float
+        The unit in square metres.
+    cell : float
+        The area of a cell of a projected map in square metres.
+    by_row : array of float64 or None
+        The area of a cell of each row of a map in degrees, in square metres, if areas are requested.
+    is_geographic : bool
+    """
+
+    unit: str | None
+    divisor: float
+    cell: float
+    by_row: NDArray[np.float64] | None
+    is_geographic: bool
+
+    @property
+    def column(self) -> str:
+        """The ending of the names of columns in this unit."""
+        return self.unit or "cells"
+
+    def area(self, cells: NDArray[np.int64]) -> NDArray[np.float64]:
+        """Return the area of each number of cells in a projected map."""
+        return cells * self.cell / self.divisor
+
+
+def measure_of(unit: str | None, source: Source, crs: Any) -> Measure:
+    """Return the areas of a map's cells.
+
+    Raises
+    ------
+    Refused
+        The unit of area, or the reference system's unit of length or angle, is unknown.
+    """
+    is_in_degrees = is_geographic(crs)
+    if unit is None or (is_in_degrees and unit in UNITS_OF_AREA):
+        by_row = None if unit is None else _by_row(source, crs)
+        return Measure(unit, UNITS_OF_AREA.get(unit or "", 1.0), 1.0, by_row, is_in_degrees)
+    square_metres, divisor = cell_area(unit, (-source.transform[4], source.transform[0]), crs)
+    return Measure(unit, divisor, square_metres, None, False)
+
+
+def _by_row(source: Source, crs: Any) -> NDArray[np.float64]:
+    """Return the area of a cell of each row, on the ellipsoid of a reference system."""
+    system = need("pyproj", "gis", "to compute areas of a map in degrees").CRS.from_user_input(
+        _plain(crs)
+    )
+    ellipsoid = system.get_geod()
+    radians = system.axis_info[0].unit_conversion_factor if system.axis_info else math.radians(1)
+    width, _, _, _, height, north = source.transform
+    return row_areas(
+        north * radians,
+        -height * radians,
+        width * radians,
+        source.region.rows,
+        (ellipsoid.a, ellipsoid.f),
+    )
+
+
+def _plain(crs: Any) -> Any:
+    return crs.to_wkt() if hasattr(crs, "to_wkt") else crs
+
+
+def metres(crs: Any) -> float:
+    """Return the length of a reference system's unit in metres; NaN in degrees."""
+    return math.nan if is_geographic(crs) else metres_of_unit(crs)

@@ -1,0 +1,156 @@
+# SPDX-License-Identifier: Apache-2.0 OR GPL-2.0-or-later
+"""The classes of a map, by zone, and the classes of several maps together."""
+
+from __future__ import annotations
+
+from typing import Any, Mapping
+
+import numpy as np
+
+from .protocol import NULL
+
+from .arrays import NDArray
+from .counting import Counts, Maps, places_of
+from .errors import Refused
+from .sources import named_once
+from .columns import Column, Table, framed
+
+__all__ = ["composition", "cross"]
+
+
+@framed
+def composition(
+    map: Any,
+    zones: Any = None,
+    area: str | None = "ha",
+    labels: Any = None,
+    zone_labels: Any = None,
+    *,
+    zone_field: str | None = None,
+    null: bool = False,
+    crs: Any = None,
+) -> Table:
+    """Count the cells of each class of a map, with areas and percentages, in total or by zone.
+
+    Parameters
+    ----------
+    map : path, array, .. as a map of `run`
+    zones : map, or path of polygons, or GeoDataFrame, optional
+        Polygons are rasterised with GDAL: a cell belongs to the polygon that contains its centre.
+    area : {"ha", "km2", "m2"} or None
+        The unit of areas; None leaves them out. In degrees, areas are on the ellipsoid of the reference system.
+    labels, zone_labels : path, dict or DataFrame, optional
+        A legend that replaces the labels of the map, or of the zones: a CSV `value,label`, a QML, or labels by value.
+    zone_field : str, optional
+        The field of the polygons with the ids or names of the zones.
+    null : bool
+        Whether to add the cells that are null.
+    crs : any, optional
+        The reference system of maps that have none.
+
+    Returns
+    -------
+    pandas.DataFrame
+        Columns `zone` and `zone_label` (with zones), `class`, `label` (if there are labels), `cells`, `area_ha`, and `percent` of the
+        non-null cells of the zone.
+
+    Raises
+    ------
+    Refused
+        As for `run`, and for invalid legends and polygons.
+
+    Examples
+    --------
+    >>> import numpy as np, rcell
+    >>> lc = rcell.Map(np.array([[1, 1, 2], [3, 2, 2]]), (100, 0, 0, 0, -100, 200), labels={1: "wood", 2: "water", 3: "town"})
+    >>> rcell.composition(lc)
+       class  label  cells  area_ha    percent
+    0      1   wood      2      2.0  33.333333
+    1      2  water      3      3.0  50.000000
+    2      3   town      1      1.0  16.666667
+    """
+    maps = Maps({"map": map}, crs, zones, zone_field)
+    measure = maps.measure(area)
+    names = ["map"] if zones is None else ["zones", "map"]
+    found = maps.counts([names], measure, null)[0]
+    if zones is not None:
+        found = found.where(found.classes[:, 0] != NULL)
+    columns = maps.columns("class", found.classes[:, -1], "map", labels, "label")
+    if zones is not None:
+        columns[:0] = maps.columns("zone", found.classes[:, 0], "zones", zone_labels)
+    return Table(columns + found.columns(measure, _percent(found, found.classes[:, :-1])))
+
+
+def _percent(found: Counts, groups: NDArray[np.int64]) -> NDArray[np.float64]:
+    """Return the percentages of the non-null cells of each group of consecutive rows, NaN for null."""
+    counted = np.where((found.classes == NULL).any(axis=1), 0, found.cells)
+    if not counted.size:
+        return np.empty(0)
+    first = places_of(groups)
+    totals = np.repeat(np.add.reduceat(counted, first), np.diff([*first, counted.size]))
+    return np.where(counted == 0, np.nan, found.cells * 100.0 / np.maximum(totals, 1))
+
+
+@framed
+def cross(
+    maps: Mapping[str, Any] | None = None,
+    /,
+    *,
+    area: str | None = "ha",
+    labels: Mapping[str, Any] | None = None,
+    null: bool = False,
+    crs: Any = None,
+    **named: Any,
+) -> Table:
+    """Count how often the classes of several maps occur together, with areas and percentages.
+
+    Parameters
+    ----------
+    maps : mapping, optional
+        Maps by name, as in `named`; for names that are parameters of this call.
+    area : {"ha", "km2", "m2"} or None
+        The unit of areas; None leaves them out.
+    labels : mapping, optional
+        Legends by the names of the maps, each as in `composition`.
+    null : bool
+        Whether to add combinations with null.
+    crs : any, optional
+        The reference system of maps that have none.
+    **named
+        Maps by name, up to 16, in degrees up to 15.
+
+    Returns
+    -------
+    pandas.DataFrame
+        For each map a column `NAME`, and `NAME_label` if it has labels; then `cells`, `area_ha`, and `percent` of the cells that are
+        null in no map.
+
+    Raises
+    ------
+    Refused
+        As for `run`, and for invalid legends.
+
+    Examples
+    --------
+    >>> import numpy as np, rcell
+    >>> a, b = np.array([[1, 1, 2]]), np.array([[7, 8, 8]])
+    >>> rcell.cross(a=a, b=b, area="m2")
+       a  b  cells  area_m2    percent
+    0  1  7      1      1.0  33.333333
+    1  1  8      1      1.0  33.333333
+    2  2  8      1      1.0  33.333333
+    """
+    given = named_once(maps, named)
+    legends = {} if labels is None else labels
+    if not isinstance(legends, Mapping) or set(legends) - set(given):
+        raise Refused(
+            f"labels= of a cross table are by the names of its maps, as {{{next(iter(given), 'a')!r}: \"legend.csv\"}}",
+            status=2,
+        )
+    crossed = Maps(given, crs)
+    measure = crossed.measure(area)
+    found = crossed.counts([list(given)], measure, null)[0]
+    columns: list[Column] = []
+    for place, name in enumerate(given):
+        columns += crossed.columns(name, found.classes[:, place], name, legends.get(name))
+    return Table(columns + found.columns(measure, _percent(found, found.classes[:, :0])))

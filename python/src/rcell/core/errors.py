@@ -1,0 +1,297 @@
+# SPDX-License-Identifier: Apache-2.0 OR GPL-2.0-or-later
+"""What goes wrong, each with a name of its own."""
+
+from __future__ import annotations
+
+from typing import Any
+
+from .protocol import Fault
+
+__all__ = [
+    "BadMap",
+    "Killed",
+    "MissingLibrary",
+    "MissingProgram",
+    "OtherCrs",
+    "OtherRegion",
+    "OutOfMemory",
+    "RcellError",
+    "ReadFailed",
+    "Refused",
+    "WriteFailed",
+    "WrongProgram",
+]
+
+_CAUSES = {
+    4: "the processor is older than x86-64-v2, which the program needs",
+    9: "too little memory, or someone ended it",
+    11: "too little room for its stack (ulimit -s), or a bug in the program",
+}
+
+
+class RcellError(Exception):
+    """The parent of all errors of this package.
+
+    Examples
+    --------
+    >>> import rcell
+    >>> issubclass(rcell.Refused, rcell.RcellError)
+    True
+    """
+
+
+class Refused(Fault, RcellError):
+    """A map, a script or a request is invalid, and nothing was returned.
+
+    Parameters
+    ----------
+    text : str
+        What is wrong; errors of the program have its own text.
+    source : str
+        The name of the map, or `script`, `output` or `arguments`.
+    line : int
+        The line of the source, from 1; 0 if the error belongs to no line.
+    status : int
+        The exit status of the program: 1 for a grid or the script, 2 for the command line, 3 out of memory, 4 for files.
+    content : str, optional
+        The line of the script itself.
+    advice : str, optional
+        What to write instead, as `rcell-explain` says it.
+    column : int, optional
+        The place in the line, in bytes from 1, unless `text` names it.
+
+    Examples
+    --------
+    >>> import numpy as np, rcell
+    >>> try:
+    ...     rcell.run("r.mapcalc half = lc * 0.5", lc=np.array([[1, 2]]))
+    ... except rcell.Refused as error:
+    ...     print(error)
+    script, line 1: number not whole at column 23
+      r.mapcalc half = lc * 0.5
+                            ^
+      try: r.mapcalc half = lc / 2  (`/` drops the remainder (7 / 2 is 3), so multiply counts of cells instead if fractions matter)
+    """
+
+
+class OutOfMemory(Refused, MemoryError):
+    """The program ran out of memory; `source` and `line` say where.
+
+    Parameters
+    ----------
+    text, source, line, status, content, advice, column
+        As in Refused.
+
+    Examples
+    --------
+    >>> import rcell
+    >>> issubclass(rcell.OutOfMemory, MemoryError)
+    True
+    """
+
+
+class BadMap(Refused, ValueError):
+    """A map that is no map of whole numbers, or has no grid of its own.
+
+    Parameters
+    ----------
+    name : str
+        The name of the map; it is the `source` of the error as well.
+    text : str
+        What is wrong.
+    row, col : int, optional
+        The first cell that is wrong, from 1 at the top left.
+    value : number, optional
+        The value of that cell.
+
+    Examples
+    --------
+    >>> import numpy as np, rcell
+    >>> try:
+    ...     rcell.table("r.stats -c input=lc", lc=np.array([[1.0, 1.5]]))
+    ... except rcell.BadMap as error:
+    ...     print(error, error.row, error.col, error.value, sep=" | ")
+    lc: not a map of whole numbers: the cell at row 1, column 2 is 1.5 | 1 | 2 | 1.5
+    """
+
+    def __init__(
+        self,
+        name: str,
+        text: str,
+        row: int | None = None,
+        col: int | None = None,
+        value: Any = None,
+    ) -> None:
+        super().__init__(text, name)
+        self.args = (name, text, row, col, value)
+        self.row = row
+        self.col = col
+        self.value = value
+        self.column = None
+
+
+class OtherRegion(BadMap):
+    """A map whose edges, rows or columns differ from the first; nothing is resampled.
+
+    Its last line is the call of `rcell.align` that brings the map onto the grid of the first.
+
+    Parameters
+    ----------
+    name, text, row, col, value
+        As in BadMap.
+
+    Examples
+    --------
+    >>> import numpy as np, rcell
+    >>> try:
+    ...     rcell.table("r.stats -c input=a,b", a=np.ones((2, 2), int), b=np.ones((2, 3), int))
+    ... except rcell.OtherRegion as error:
+    ...     print(error.text.splitlines()[0])
+    not of the region of `a`, and nothing is resampled: east is 3, not 2 (1 more); cols is 3, not 2 (1 more)
+    """
+
+
+class OtherCrs(BadMap):
+    """A map whose coordinate reference system differs from the others, or that has none if others have one.
+
+    Parameters
+    ----------
+    name, text, row, col, value
+        As in BadMap.
+
+    Examples
+    --------
+    >>> import rcell
+    >>> utm, arctic = (rcell.Map([[1]], crs=crs) for crs in ("EPSG:25832", "EPSG:3413"))
+    >>> try:
+    ...     rcell.table("r.stats -c input=a,b", a=utm, b=arctic)
+    ... except rcell.OtherCrs as error:
+    ...     print(error.source, error.text.partition(",")[0])
+    b its coordinate reference system is EPSG:3413 (WGS 84 / NSIDC Sea Ice Polar Stereographic North)
+    """
+
+
+class ReadFailed(BadMap):
+    """A file that cannot be opened, or a part of it that cannot be read.
+
+    Parameters
+    ----------
+    name, text
+        As in BadMap.
+
+    Examples
+    --------
+    >>> import rcell
+    >>> try:
+    ...     rcell.run("r.stats -c input=lc", lc="nowhere.tif")
+    ... except rcell.ReadFailed as error:
+    ...     print(error)
+    lc: cannot open: nowhere.tif: No such file or directory
+    """
+
+    def __init__(self, name: str, text: str) -> None:
+        super().__init__(name, text)
+        self.args = (name, text)
+        self.status = 4
+
+
+class MissingProgram(RcellError, FileNotFoundError):
+    """The program `rcell` was not found, or cannot be executed.
+
+    Examples
+    --------
+    >>> import rcell
+    >>> try:
+    ...     rcell.program("/nowhere/rcell")
+    ... except rcell.MissingProgram as error:
+    ...     print(error)
+    the program /nowhere/rcell is not there, or may not be executed
+    """
+
+
+class WrongProgram(RcellError):
+    """What was found under the name of the program is not `rcell`, or a version that this package does not know.
+
+    Examples
+    --------
+    >>> import rcell
+    >>> try:
+    ...     rcell.program("/bin/true")
+    ... except rcell.WrongProgram as error:
+    ...     print(error)
+    /bin/true is not a program rcell of a version that this package knows
+    """
+
+
+class Killed(RcellError):
+    """The program was ended by a signal; if a machine has too little memory, the kernel does that.
+
+    Parameters
+    ----------
+    signal : int
+        The number of the signal.
+
+    Examples
+    --------
+    >>> import rcell
+    >>> print(rcell.Killed(9))
+    the program was killed by signal 9 (SIGKILL): too little memory, or someone ended it
+    >>> print(rcell.Killed(4))
+    the program was killed by signal 4 (SIGILL): the processor is older than x86-64-v2, which the program needs
+    """
+
+    def __init__(self, signal: int) -> None:
+        super().__init__(signal)
+        self.signal = signal
+
+    def __str__(self) -> str:
+        from signal import Signals
+
+        name = next((f" ({known.name})" for known in Signals if known == self.signal), "")
+        return f"the program was killed by signal {self.signal}{name}: {_CAUSES.get(self.signal, 'someone ended it')}"
+
+
+class WriteFailed(RcellError, OSError):
+    """A file could not be written whole: a full disk, a folder that is missing. Nothing is left of it.
+
+    Examples
+    --------
+    >>> import rcell
+    >>> issubclass(rcell.WriteFailed, OSError)
+    True
+    """
+
+
+class MissingLibrary(RcellError, ImportError):
+    """A library that this call needs is not installed.
+
+    Parameters
+    ----------
+    library : str
+        Its name.
+    extra : str
+        The extra of the wheel that installs it.
+    purpose : str
+        The task that needs it.
+
+    Examples
+    --------
+    >>> import rcell
+    >>> print(rcell.MissingLibrary("rasterio", "gis", "to read GeoTIFF"))
+    to read GeoTIFF the library rasterio is needed: pip install 'rcell[gis]', or Debian's package python3-rasterio
+    """
+
+    def __init__(self, library: str, extra: str, purpose: str) -> None:
+        super().__init__(library, extra, purpose)
+        self.library = library
+        self.extra = extra
+        self.purpose = purpose
+
+    def __str__(self) -> str:
+        package = f"Debian's package python3-{self.library}"
+        return f"{self.purpose} the library {self.library} is needed: pip install 'rcell[{self.extra}]', or {package}"
+
+
+# They are named as in the package, in messages as well.
+for _name in __all__:
+    globals()[_name].__module__ = "rcell"

@@ -1,0 +1,37 @@
+# SPDX-License-Identifier: Apache-2.0 OR GPL-2.0-or-later
+"""Optional libraries, which only some calls need."""
+
+from __future__ import annotations
+
+import importlib
+import importlib.util
+from typing import Any
+
+from .errors import MissingLibrary
+
+__all__ = ["has", "need"]
+
+
+def has(library: str) -> bool:
+    """Return whether a library can be imported.
+
+    Examples
+    --------
+    >>> has("numpy")
+    True
+    """
+    return importlib.util.find_spec(library) is not None
+
+
+def need(library: str, extra: str, purpose: str) -> Any:
+    """Return a module by its full name; raise MissingLibrary if the module, or a library that it needs, is not installed.
+
+    Examples
+    --------
+    >>> need("numpy", "gis", "to count").__name__
+    'numpy'
+    """
+    try:
+        return importlib.import_module(library)
+    except ImportError as error:
+        raise MissingLibrary((error.name or library).partition(".")[0], extra, purpose) from None

@@ -1,0 +1,146 @@
+# SPDX-License-Identifier: Apache-2.0 OR GPL-2.0-or-later
+"""The only reader of what the programs print as text. Needs numpy.
+
+rcell-pipe takes and returns bytes. Two things are text: the grids of a user, which rcell alone reads, and prints again in one form;
+and what rcell-join prints, tables and numberings, whose formats are in docs/rcell-join.md.
+"""
+
+from __future__ import annotations
+
+import contextlib
+import os
+import re
+from collections.abc import Callable, Iterator
+from itertools import chain
+from typing import TYPE_CHECKING, NamedTuple, Optional
+
+import numpy as np
+
+from .protocol import NULL, NoAnswer, Rejected, asked, failure_of
+from .process import Started, close, pipe
+
+if TYPE_CHECKING:
+    from numpy.typing import NDArray
+
+__all__ = ["PrintedGrid", "numbers_of", "printed_grid"]
+
+# The bytes of lines of numbers: each kind has a bit, and in the upper half the bits of the kinds that never follow it.
+_KINDS = {b"0123456789": 0x61, b"-": 0xE2, b"*": 0x74, b" \n": 0x88}
+_CODES = bytes(
+    next((code for kind, code in _KINDS.items() if byte in kind), 0xFF) for byte in range(256)
+)
+_HEADER = re.compile(
+    rb"north: (.*)\nsouth: (.*)\neast: (.*)\nwest: (.*)\nrows: (\d+)\ncols: (\d+)\n"
+)
+_HEADER_BYTES = 1 << 8
+_MESSAGE = re.compile(r"rcell: [^:]*:(\d+): (.*)")
+
+
+def numbers_of(text: bytes, width: int) -> NDArray[np.int64]:
+    """Return lines of so many whole numbers, `NULL` for null; a number from 2^63 to 2^64 - 1 is returned less 2^64.
+
+    Raises
+    ------
+    NoAnswer
+        The text is anything else.
+
+    Examples
+    --------
+    >>> numbers_of(b"1 20\\n-3 *\\n", 2).tolist()
+    [[1, 20], [-3, -2147483648]]
+    """
+    codes = np.frombuffer((b"\n" + text).translate(_CODES), np.uint8)
+    line = b" " * (width - 1) + b"\n"
+    if (
+        text.translate(None, b"0123456789-*") != line * text.count(b"\n")
+        or (codes[:-1] >> 4 & codes[1:]).any()
+    ):
+        raise NoAnswer(f"not lines of {width} numbers: {text[:60]!r}")
+    return (
+        np.fromstring(text.replace(b"*", b"%d" % NULL), np.ulonglong, sep=" ")
+        .view(np.int64)
+        .reshape(-1, width)
+    )
+
+
+class PrintedGrid(NamedTuple):
+    """A grid as rcell prints it: north, south, east and west, its size, and its rows, in blocks with `NULL` for null."""
+
+    edges: tuple[str, ...]
+    rows: int
+    cols: int
+    blocks: Iterator[NDArray[np.int32]]
+
+
+@contextlib.contextmanager
+def printed_grid(
+    program: str,
+    name: str,
+    sent: Iterator[bytes],
+    seconds: Optional[float] = None,
+    watch: Optional[Callable[[], None]] = None,
+) -> Iterator[PrintedGrid]:
+    """Send the text of a grid to rcell, and read what it prints of it; parameters and errors are the same as in `pipe.run`.
+
+    Parameters
+    ----------
+    program : str
+        The path of rcell.
+    name : str
+        Of the map.
+    sent : iterator of bytes
+        The text. The program reads all of it before it prints anything.
+    seconds, watch
+    """
+    script, writer = pipe()
+    try:
+        os.write(writer, b"r.out.ascii input=%s\n" % name.encode())
+        close(writer)
+        with asked(
+            [program, f"/dev/fd/{script}", f"{name}=/dev/stdin"], sent, seconds, watch, [script]
+        ) as process:
+            pieces, text, found = process.pieces(), b"", None
+            while not found and len(text) < _HEADER_BYTES and (piece := next(pieces, b"")):
+                text += piece
+                found = _HEADER.match(text)
+            if not found:
+                raise _failure(process) if len(text) < _HEADER_BYTES else NoAnswer(
+                    f"no grid: {text[:60]!r}"
+                )
+            *edges, rows, cols = map(bytes.decode, found.groups())
+            yield PrintedGrid(
+                tuple(edges),
+                int(rows),
+                int(cols),
+                _blocks(process, chain([text[found.end() :]], pieces), int(rows), int(cols)),
+            )
+    finally:
+        close(script)
+
+
+def _blocks(
+    process: Started, pieces: Iterator[bytes], rows: int, cols: int
+) -> Iterator[NDArray[np.int32]]:
+    """Yield so many rows, if the program ends well after them."""
+    rest = b""
+    for piece in pieces:
+        lines, end, rest = (rest + piece).rpartition(b"\n")
+        block = numbers_of(lines + end, cols).astype(np.int32)
+        rows -= len(block)
+        if rows < 0:
+            raise NoAnswer(f"too many rows: {piece[:60]!r}")
+        if end:
+            yield block
+    if rows or rest or process.end()[0]:
+        raise _failure(process)
+
+
+def _failure(process: Started) -> Exception:
+    """Return the error of a program whose output has ended."""
+    status, message = process.end()
+    found = _MESSAGE.match(message.decode("utf-8", "surrogateescape"))
+    return (
+        Rejected(status, "request", 0, int(found[1]), 0, found[2])
+        if status > 0 and found
+        else failure_of(status, message)
+    )

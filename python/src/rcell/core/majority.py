@@ -1,0 +1,90 @@
+# SPDX-License-Identifier: Apache-2.0 OR GPL-2.0-or-later
+"""The majority filter: each cell gets the most frequent class of the square around it."""
+
+from __future__ import annotations
+
+import dataclasses
+import numbers
+from typing import Any
+
+from .scripts import grids_of, run_of
+from .errors import Refused
+from ..raster import Grid
+from .sources import source_of
+
+__all__ = ["majority", "majority_script"]
+
+SIZES = range(3, 16, 2)
+# The most tokens of an expression, less the tokens of `x = if(isnull(map), null(), nmode(..))`.
+_MOST_TOKENS, _TOKENS_AROUND = 1000, 25
+_TOKENS_OF_NAME = 2
+
+
+def majority(map: Any, size: int = 3, fill: bool = False, *, crs: Any = None) -> Grid:
+    """Give each cell the most frequent class of the square around it; ties go to the smallest class.
+
+    Parameters
+    ----------
+    map : path, array, .. as a map of `run`
+    size : int
+        Rows and columns of the square: odd, 3 to 15. Cells outside the map are null; nulls do not count.
+    fill : bool
+        Whether null cells also get a class; by default they stay null.
+    crs : any, optional
+        The reference system of a map that has none.
+
+    Returns
+    -------
+    Grid
+        With the labels and colours of the map.
+
+    Raises
+    ------
+    Refused
+        As for `run`, and if the size is even or out of range.
+
+    Examples
+    --------
+    >>> import numpy as np, rcell
+    >>> rcell.majority(np.array([[1, 1, 2], [3, 2, 2]])).array.tolist()
+    [[1, 2, 2], [1, 2, 2]]
+    """
+    if not isinstance(size, numbers.Integral) or size not in SIZES:
+        raise Refused(f"size= is odd, {SIZES[0]} to {SIZES[-1]}, not {size!r}", status=2)
+    source = source_of("map", map)
+    [found] = grids_of(
+        run_of(majority_script(int(size), fill), {"map": source}, crs=crs), ["majority"]
+    )
+    return dataclasses.replace(found, labels=source.labels, colors=source.colors)
+
+
+def majority_script(size: int, fill: bool) -> str:
+    """Return the script that makes the map `majority` of the map `map`.
+
+    Squares of 13 and 15 cells have too many tokens for one expression. So the cells with the longest offsets are first made into
+    maps; a map without an offset has fewer tokens.
+
+    Examples
+    --------
+    >>> print(majority_script(3, True))
+    r.mapcalc majority = nmode(map[-1,-1],map[-1,0],map[-1,1],map[0,-1],map,map[0,1],map[1,-1],map[1,0],map[1,1])
+    """
+    reach = range(-(size // 2), size // 2 + 1)
+    offsets = [(row, col) for row in reach for col in reach]
+    terms = {place: "map[{},{}]".format(*place) if any(place) else "map" for place in offsets}
+    # A term and its comma: map [ row , col ] and a sign for each negative offset.
+    tokens = {
+        place: 7 + (place[0] < 0) + (place[1] < 0) if any(place) else _TOKENS_OF_NAME
+        for place in offsets
+    }
+    lines: list[str] = []
+    for place in sorted(offsets, key=lambda place: -tokens[place]):
+        if sum(tokens.values()) + _TOKENS_AROUND <= _MOST_TOKENS:
+            break
+        name = f"c{len(lines)}"
+        lines.append(f"r.mapcalc {name} = {terms[place]}")
+        terms[place], tokens[place] = name, _TOKENS_OF_NAME
+    mode = f"nmode({','.join(terms.values())})"
+    return "\n".join(
+        [*lines, f"r.mapcalc majority = {mode if fill else f'if(isnull(map), null(), {mode})'}"]
+    )

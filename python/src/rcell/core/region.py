@@ -1,0 +1,432 @@
+# SPDX-License-Identifier: Apache-2.0 OR GPL-2.0-or-later
+"""The region of a map: its edges, as the program sees them, and its numbers of rows and columns."""
+
+from __future__ import annotations
+
+import math
+import numbers
+from dataclasses import dataclass
+from fractions import Fraction
+from functools import cached_property
+from typing import Any, Sequence
+
+import numpy as np
+
+from .edges import DECIMALS, UNITS, differences_of, edge_text
+
+from .arrays import NDArray
+from .errors import BadMap
+
+__all__ = [
+    "Region",
+    "Shift",
+    "Transform",
+    "check_upright",
+    "edges_of_transform",
+    "six_numbers",
+    "units_of",
+]
+
+# a, b, c, d, e, f of x = a * column + b * row + c and y = d * column + e * row + f, as in rasterio's Affine.
+Transform = tuple[float, float, float, float, float, float]
+# North, south, east and west in units of 10^-8.
+Units = tuple[int, int, int, int]
+
+EDGE_LIMIT = 10**10 * UNITS
+SIDE_LIMIT = 65_535
+CELL_LIMIT = 2_147_483_647
+# Two grids are a whole number of cells apart if the distance differs from it by at most this part of a cell.
+NEARLY_WHOLE = 1e-3
+
+
+def units_of(edge: float | Fraction) -> int:
+    """Return an edge in units of 10^-8, the precision of the program."""
+    return int(round(Fraction(edge) * UNITS))
+
+
+def _is_number(given: Any) -> bool:
+    return isinstance(given, numbers.Real)
+
+
+def six_numbers(name: str, given: Any) -> Transform:
+    """Return the six numbers of a transform of any kind."""
+    try:
+        a, b, c, d, e, f = (float(number) for number in tuple(given)[:6])
+    except (TypeError, ValueError):
+        raise BadMap(name, f"a transform is an Affine or six numbers, not {given!r}") from None
+    return a, b, c, d, e, f
+
+
+def check_upright(name: str, transform: Transform) -> None:
+    """Raise BadMap unless rows run from north to south and columns from west to east."""
+    a, b, _, d, e, _ = transform
+    if not all(map(math.isfinite, transform)):
+        raise BadMap(name, f"a transform with a number that is not finite: {transform}")
+    if b or d:
+        raise BadMap(
+            name, f"a rotated transform {transform}: warp the map to rows from west to east first"
+        )
+    if a <= 0 or e >= 0:
+        raise BadMap(
+            name, f"a transform {transform} whose rows are not from north to south, west to east"
+        )
+
+
+def edges_of_transform(
+    transform: Transform, rows: int, cols: int
+) -> tuple[Fraction, Fraction, Fraction, Fraction]:
+    """Return north, south, east and west of an upright map, exactly."""
+    width, _, west, _, height, north = map(Fraction, transform)
+    return north, north + height * rows, west + width * cols, west
+
+
+@dataclass(frozen=True, eq=False)
+class Region:
+    """Four edges, and the numbers of rows and columns.
+
+    The program keeps edges to 8 decimals, so two regions are equal if their edges, rounded to 8 decimals, are equal.
+
+    Parameters
+    ----------
+    north, south, east, west : float
+        The outer edges of the outer cells, in the units of the map.
+    rows, cols : int
+        The numbers of cells from north to south and from west to east, 1 to 65,535 each.
+
+    Raises
+    ------
+    BadMap
+        The region is not allowed: an edge has more than ten digits before the point, north is not above south or east
+        not above west after rounding, or there are too many rows, columns or cells.
+
+    Examples
+    --------
+    >>> import rcell
+    >>> region = rcell.Region(north=300, south=0, east=200, west=0, rows=3, cols=2)
+    >>> region.transform
+    (100.0, 0.0, 0.0, 0.0, -100.0, 300.0)
+    >>> region == rcell.Region(300.000000001, 0, 200, 0, 3, 2)
+    True
+    """
+
+    north: float | Fraction
+    south: float | Fraction
+    east: float | Fraction
+    west: float | Fraction
+    rows: int
+    cols: int
+
+    def __post_init__(self) -> None:
+        for name in ("north", "south", "east", "west"):
+            edge: Any = getattr(self, name)
+            if not _is_number(edge):
+                raise BadMap("region", f"an edge that is no number: {name} is {edge!r}")
+            if not math.isfinite(edge) or abs(units_of(edge)) >= EDGE_LIMIT:
+                raise BadMap(
+                    "region", f"an edge of more than ten digits: {name} is {float(edge):g}"
+                )
+        self._check_sizes()
+        north, south, east, west = self.units
+        if north <= south or east <= west:
+            low, high = ("south", "north") if north <= south else ("west", "east")
+            raise BadMap(
+                "region",
+                f"{high} is not above {low} once they are rounded to {DECIMALS} decimals: {self}",
+            )
+
+    def _check_sizes(self) -> None:
+        if not (
+            isinstance(self.rows, numbers.Integral) and isinstance(self.cols, numbers.Integral)
+        ):
+            raise BadMap(
+                "region",
+                f"rows and columns that are no whole numbers: {self.rows!r} and {self.cols!r}",
+            )
+        if not (
+            1 <= self.rows <= SIDE_LIMIT
+            and 1 <= self.cols <= SIDE_LIMIT
+            and self.rows * self.cols <= CELL_LIMIT
+        ):
+            size = f"{self.rows:,} rows and {self.cols:,} columns"
+            limits = f"1 to {SIDE_LIMIT:,} each, and {CELL_LIMIT:,} cells in all"
+            raise BadMap(
+                "region",
+                f"{size}, where the program takes {limits}; for larger maps there is rcell.tiles",
+            )
+
+    @classmethod
+    def from_transform(cls, transform: Sequence[float], rows: int, cols: int) -> Region:
+        """Return the region of a transform that is not rotated and has rows from north to south.
+
+        Parameters
+        ----------
+        transform : sequence of float
+            An Affine of rasterio, or its first six numbers.
+        rows, cols : int
+            The shape of the map.
+
+        Returns
+        -------
+        Region
+
+        Raises
+        ------
+        BadMap
+            The transform is rotated or upside down.
+
+        Examples
+        --------
+        >>> import rcell
+        >>> rcell.Region.from_transform((25, 0, 512300, 0, -25, 284450), 14, 22)
+        Region(north=284450.0, south=284100.0, east=512850.0, west=512300.0, rows=14, cols=22)
+        """
+        upright = six_numbers("region", transform)
+        check_upright("region", upright)
+        _, south, east, _ = edges_of_transform(upright, rows, cols)
+        return cls(upright[5], float(south), float(east), upright[2], rows, cols)
+
+    @classmethod
+    def of_cells(cls, rows: int, cols: int) -> Region:
+        """Return the region of an array without a position: cells of side 1, the bottom left corner at 0, 0.
+
+        Parameters
+        ----------
+        rows, cols : int
+            The shape of the array.
+
+        Returns
+        -------
+        Region
+            From 0 to the number of rows and of columns.
+
+        Examples
+        --------
+        >>> import rcell
+        >>> rcell.Region.of_cells(2, 3)
+        Region(north=2, south=0, east=3, west=0, rows=2, cols=3)
+        """
+        return cls(rows, 0, cols, 0, rows, cols)
+
+    @cached_property
+    def units(self) -> Units:
+        """North, south, east and west in units of 10^-8, as the program compares them.
+
+        Examples
+        --------
+        >>> import rcell
+        >>> rcell.Region(1, 0, 2, 0, 1, 2).units
+        (100000000, 0, 200000000, 0)
+        """
+        return units_of(self.north), units_of(self.south), units_of(self.east), units_of(self.west)
+
+    @property
+    def shape(self) -> tuple[int, int]:
+        """Rows and columns, as in numpy.
+
+        Examples
+        --------
+        >>> import rcell
+        >>> rcell.Region.of_cells(2, 3).shape
+        (2, 3)
+        """
+        return self.rows, self.cols
+
+    @property
+    def cell(self) -> tuple[float, float]:
+        """The height and the width of a cell, in the units of the map.
+
+        Examples
+        --------
+        >>> import rcell
+        >>> rcell.Region(300, 0, 100, 0, 3, 2).cell
+        (100.0, 50.0)
+        """
+        return float(self.north - self.south) / self.rows, float(self.east - self.west) / self.cols
+
+    @property
+    def transform(self) -> Transform:
+        """The six numbers of its transform, in the order of `rasterio.Affine`.
+
+        Examples
+        --------
+        >>> import rcell
+        >>> rcell.Region.of_cells(2, 3).transform
+        (1.0, 0.0, 0.0, 0.0, -1.0, 2.0)
+        """
+        height, width = self.cell
+        return width, 0.0, float(self.west), 0.0, -height, float(self.north)
+
+    @property
+    def edges(self) -> tuple[str, str, str, str]:
+        """North, south, east and west as the program reads them.
+
+        Examples
+        --------
+        >>> import rcell
+        >>> rcell.Region.of_cells(2, 3).edges
+        ('2', '0', '3', '0')
+        """
+        north, south, east, west = map(edge_text, self.units)
+        return north, south, east, west
+
+    def header(self) -> str:
+        """Return the six header lines of a grid of this region.
+
+        Returns
+        -------
+        str
+            The lines.
+
+        Examples
+        --------
+        >>> import rcell
+        >>> print(rcell.Region.of_cells(2, 3).header(), end="")
+        north: 2
+        south: 0
+        east: 3
+        west: 0
+        rows: 2
+        cols: 3
+        """
+        north, south, east, west = self.edges
+        return f"north: {north}\nsouth: {south}\neast: {east}\nwest: {west}\nrows: {self.rows}\ncols: {self.cols}\n"
+
+    def window(self, row: int, col: int, rows: int, cols: int) -> Region:
+        """Return the region of some of its cells.
+
+        Parameters
+        ----------
+        row, col : int
+            The first row and column, from 0.
+        rows, cols : int
+            How many.
+
+        Returns
+        -------
+        Region
+            With the edges of these cells.
+
+        Examples
+        --------
+        >>> import rcell
+        >>> rcell.Region.of_cells(10, 10).window(2, 3, 4, 5)
+        Region(north=8.0, south=4.0, east=8.0, west=3.0, rows=4, cols=5)
+        """
+        north, west = Fraction(self.north), Fraction(self.west)
+        height = (north - Fraction(self.south)) / self.rows
+        width = (Fraction(self.east) - west) / self.cols
+        return Region(
+            float(north - height * row),
+            float(north - height * (row + rows)),
+            float(west + width * (col + cols)),
+            float(west + width * col),
+            rows,
+            cols,
+        )
+
+    def differences(self, other: Region) -> list[str]:
+        """Return the edges and sizes in which another region differs from this one, with the difference.
+
+        Parameters
+        ----------
+        other : Region
+            The other region.
+
+        Returns
+        -------
+        list of str
+            A text for each difference; empty if they are equal.
+
+        Examples
+        --------
+        >>> import rcell
+        >>> rcell.Region.of_cells(2, 3).differences(rcell.Region(2, 0, 3.5, 0, 2, 3))
+        ['east is 3.5, not 3 (0.5 more)']
+        """
+        return differences_of(self.units + self.shape, other.units + other.shape)
+
+    def __eq__(self, other: object) -> bool:
+        return isinstance(other, Region) and self.units == other.units and self.shape == other.shape
+
+    def __hash__(self) -> int:
+        return hash((self.units, self.shape))
+
+    def __str__(self) -> str:
+        north, south, east, west = self.edges
+        return f"north {north}, south {south}, east {east}, west {west}, {self.rows} rows, {self.cols} columns"
+
+
+@dataclass(frozen=True)
+class Shift:
+    """The position of one grid in another.
+
+    Attributes
+    ----------
+    rows, cols : float
+        The row and column of the other grid, from 0, at which the first cell begins; integers if whole numbers of cells.
+    height, width : float
+        The size of a cell, in cells of the other grid.
+    shape : tuple of int
+    sizes : tuple of tuple of float
+        The height and width of a cell of the other grid, and of this one.
+    """
+
+    rows: float
+    cols: float
+    height: float
+    width: float
+    shape: tuple[int, int]
+    sizes: tuple[tuple[float, float], tuple[float, float]]
+
+    @classmethod
+    def between(cls, other: Transform, grid: Transform, shape: tuple[int, int]) -> Shift:
+        """Return the position of a grid in another one.
+
+        Examples
+        --------
+        >>> shift = Shift.between((10, 0, 0, 0, -10, 30), (10, 0, 20, 0, -10, 35), (3, 2))
+        >>> shift.rows, shift.cols, shift.is_whole
+        (-0.5, 2, False)
+        """
+        rows, cols = (other[5] - grid[5]) / -other[4], (grid[2] - other[2]) / other[0]
+        height, width = grid[4] / other[4], grid[0] / other[0]
+        sizes = ((-other[4], other[0]), (-grid[4], grid[0]))
+        return cls(_whole(rows), _whole(cols), height, width, shape, sizes)
+
+    @property
+    def has_other_cells(self) -> bool:
+        """Whether the sizes of cells differ so much that the last cell is off."""
+        return any(
+            abs(size - 1) * count > NEARLY_WHOLE
+            for size, count in zip((self.height, self.width), self.shape)
+        )
+
+    @property
+    def is_whole(self) -> bool:
+        """Whether each cell coincides with a cell of the other grid."""
+        return (
+            isinstance(self.rows, int) and isinstance(self.cols, int) and not self.has_other_cells
+        )
+
+    def centres(self) -> tuple[NDArray[np.float64], NDArray[np.float64]]:
+        """Return the centres of the rows and columns, in rows and columns of the other grid."""
+        if self.is_whole:
+            return (
+                self.rows + np.arange(self.shape[0]) + 0.5,
+                self.cols + np.arange(self.shape[1]) + 0.5,
+            )
+        (rows, cols) = self.shape
+        return self.rows + self.height * (np.arange(rows) + 0.5), self.cols + self.width * (
+            np.arange(cols) + 0.5
+        )
+
+    def told(self, name: str) -> str:
+        """Return the reason why whole cells cannot be taken."""
+        if self.has_other_cells:
+            mine, its = (f"{width:.10g} x {height:.10g}" for height, width in self.sizes)
+            return f"cells of {mine}, and those of `{name}` are {its}"
+        return f"shifted by {self.rows:.10g} rows and {self.cols:.10g} columns, not by whole cells"
+
+
+def _whole(shift: float) -> float | int:
+    return round(shift) if abs(shift - round(shift)) <= NEARLY_WHOLE else shift

@@ -1,0 +1,608 @@
+# SPDX-License-Identifier: Apache-2.0 OR GPL-2.0-or-later
+"""Maps in: what a caller gives, as cells that the program takes."""
+
+from __future__ import annotations
+
+import json
+import math
+import numbers
+import os
+import re
+import sys
+import warnings
+from dataclasses import dataclass, field
+from typing import Any, Iterable, Iterator, Mapping, NamedTuple, Protocol, Sequence
+
+import numpy as np
+
+from .protocol import NULL
+
+from .arrays import ArrayLike, NDArray
+from .crs import common_crs
+from .errors import BadMap, OtherRegion, Refused
+from .labels import checked_labels
+from .masked import as_bools, data_of, is_masked_array, mask_of
+from .region import Region, Shift, Transform, six_numbers
+
+__all__ = [
+    "MAX_CATEGORY",
+    "Aligned",
+    "ArrayMap",
+    "Block",
+    "Cells",
+    "Map",
+    "Mask",
+    "Source",
+    "check_array",
+    "check_computed",
+    "check_names",
+    "checked",
+    "is_converted",
+    "nodata_of",
+    "type_of",
+]
+
+MAX_CATEGORY = 2_147_483_647
+# Cells of a block, about: large enough that a block costs more than its call, small enough for the cache of a processor.
+BLOCK_CELLS = 1 << 20
+# Beyond it a float of 32 bits does not have every whole number.
+_EXACT_FLOAT32 = 1 << 24
+
+Cells = NDArray[Any]
+Mask = NDArray[np.bool_]
+
+
+@dataclass(frozen=True)
+class Block:
+    """Some whole rows of a map, or a window of it.
+
+    Attributes
+    ----------
+    cells : array of the type of its source, rows x cols, C-contiguous
+    null : array of bool or None
+        True where a cell is null, aside from the nodata of its source; None if the source is not masked.
+    """
+
+    cells: Cells
+    null: Mask | None
+
+
+class Source(Protocol):
+    """A map as the program needs it."""
+
+    @property
+    def region(self) -> Region:
+        """Its edges and its shape."""
+
+    @property
+    def transform(self) -> Transform:
+        """Its transform, which results get."""
+
+    @property
+    def dtype(self) -> np.dtype[Any]:
+        """The type of its blocks: any of 8, 16 or 32 bits, or int64."""
+
+    @property
+    def nodata(self) -> int | None:
+        """A value of the type that is null."""
+
+    @property
+    def is_masked(self) -> bool:
+        """Whether its blocks say which cells are null."""
+
+    @property
+    def labels(self) -> Mapping[int, str]:
+        """Labels of its categories."""
+
+    @property
+    def colors(self) -> Mapping[int, str]:
+        """Colours of its categories, as `#rrggbb`."""
+
+    @property
+    def crs(self) -> Any:
+        """Its coordinate reference system, or None."""
+
+    def blocks(self) -> Iterator[Block]:
+        """Yield the rows from north to south."""
+
+
+# Cells
+
+
+def is_converted(dtype: np.dtype[Any]) -> bool:
+    """Return whether cells of a type become int32, with -2147483648 for null: floats and uint64. The program takes all others as they are."""
+    return dtype.kind == "f" or (dtype.kind == "u" and dtype.itemsize == 8)
+
+
+def type_of(dtype: np.dtype[Any]) -> np.dtype[Any]:
+    """Return the type in which cells of a type are sent.
+
+    Examples
+    --------
+    >>> [str(type_of(np.dtype(name))) for name in ("uint8", "int64", "float32", "bool")]
+    ['uint8', 'int64', 'int32', 'uint8']
+    """
+    return (
+        np.dtype(np.int32)
+        if is_converted(dtype)
+        else np.dtype(np.uint8)
+        if dtype.kind == "b"
+        else dtype.newbyteorder("=")
+    )
+
+
+def nodata_of(dtype: np.dtype[Any], value: float | None) -> int | None:
+    """Return the value that is null in the type in which cells of a type are sent, if they came with a value that is null.
+
+    Examples
+    --------
+    >>> nodata_of(np.dtype("uint8"), 255.0), nodata_of(np.dtype("uint8"), -9999.0), nodata_of(np.dtype("float32"), -9999.0)
+    (255, None, -2147483648)
+    """
+    if is_converted(dtype):
+        return NULL
+    limits = np.iinfo(type_of(dtype))
+    if value is None or not -(2.0**63) <= value < 2.0**64 or value != int(value):
+        return None
+    return int(value) if limits.min <= int(value) <= limits.max else None
+
+
+def check_computed(name: str, cells: Cells, dtype: np.dtype[Any], shape: tuple[int, ...]) -> None:
+    """Refuse cells that Dask has computed in another type or shape than it announced, in which they would be other numbers.
+
+    Examples
+    --------
+    >>> check_computed("m", np.array([[-1]], np.int16), np.dtype(np.uint16), (1, 1))
+    Traceback (most recent call last):
+      ...
+    rcell.BadMap: m: its cells are of the type int16, but Dask expected uint16: state it, as in map_blocks(.., dtype='int16')
+    """
+    if (is_converted(cells.dtype), type_of(cells.dtype)) != (is_converted(dtype), type_of(dtype)):
+        told = f"its cells are of the type {cells.dtype}, but Dask expected {dtype}: state it, as in map_blocks(.., dtype='{cells.dtype}')"
+        raise BadMap(name, told)
+    if cells.shape != shape:
+        raise BadMap(
+            name,
+            f"a part of {' x '.join(map(str, shape))} cells has the shape {cells.shape}: state the chunks, as in map_blocks(.., chunks=..)",
+        )
+
+
+def checked(
+    name: str,
+    cells: Cells,
+    null: Mask | None,
+    nodata: float | None,
+    first_row: int = 0,
+    first_col: int = 0,
+) -> Block:
+    """Return cells of any type of whole numbers as a block of the type in which they are sent.
+
+    Parameters
+    ----------
+    name : str
+        The name of the map, for the error.
+    cells : array, rows x cols
+    null : array of bool or None
+    nodata : float or None
+        The value that is null, compared by value.
+    first_row, first_col : int
+        The place of the first cell in the map, for the error.
+
+    Raises
+    ------
+    BadMap
+        With the first cell that is neither null nor a whole number from -2147483647 to 2147483647.
+    """
+    cells = np.ascontiguousarray(
+        as_bools(cells).view(np.uint8) if cells.dtype.kind == "b" else cells,
+        cells.dtype.newbyteorder("="),
+    )
+    null = None if null is None else np.ascontiguousarray(null)
+    is_kept = not is_converted(cells.dtype)
+    if is_kept and (
+        cells.itemsize <= 2 or (cells.min() >= -MAX_CATEGORY and cells.max() <= MAX_CATEGORY)
+    ):
+        return Block(cells, null)
+    is_null = _with_nodata(cells, null, nodata)
+    bad = ~(_good(cells) | is_null)
+    if bad.any():
+        row, col = (int(place) for place in np.unravel_index(int(bad.argmax()), bad.shape))
+        raise _bad_cell(name, first_row + row + 1, first_col + col + 1, cells[row, col].item())
+    if is_kept:
+        return Block(cells, null)
+    kept = np.where(is_null, cells.dtype.type(0), cells)
+    if cells.dtype == np.float32 and np.abs(kept).max() > _EXACT_FLOAT32:
+        warnings.warn(
+            f"{name}: floats of 32 bits are not exact beyond {_EXACT_FLOAT32}, and the map has larger values",
+            stacklevel=2,
+        )
+    return Block(np.where(is_null, np.int32(NULL), kept.astype(np.int32)), None)
+
+
+def _with_nodata(cells: Cells, null: Mask | None, nodata: float | None) -> Mask:
+    """Return what is null, with the cells of nodata and those that are no number."""
+    is_null = np.isnan(cells) if cells.dtype.kind == "f" else np.zeros(cells.shape, np.bool_)
+    if null is not None:
+        is_null = is_null | null
+    if nodata is None or nodata != nodata or sys.float_info.max < abs(nodata) < math.inf:
+        return is_null
+    if cells.dtype.kind == "f":
+        with np.errstate(over="ignore"):
+            value = cells.dtype.type(nodata)
+        return (
+            np.logical_or(is_null, cells == value)
+            if np.isinf(value) == math.isinf(nodata)
+            else is_null
+        )
+    limits = np.iinfo(cells.dtype)
+    is_value = (
+        math.isfinite(nodata) and nodata == int(nodata) and limits.min <= int(nodata) <= limits.max
+    )
+    return (
+        np.logical_or(is_null, cells == cells.dtype.type(int(nodata))) if is_value else is_null
+    )  # by whole numbers: floats do not have all of 64 bits
+
+
+def _good(cells: Cells) -> Mask:
+    """Return where cells are whole numbers in range."""
+    if cells.dtype.kind == "f":
+        with np.errstate(invalid="ignore"):
+            return np.asarray((np.rint(cells) == cells) & (np.abs(cells) < MAX_CATEGORY + 1.0))
+    good = cells <= MAX_CATEGORY
+    return good & (cells >= -MAX_CATEGORY) if cells.dtype.kind == "i" else good
+
+
+def _bad_cell(name: str, row: int, col: int, value: float) -> BadMap:
+    number = f"{value:.15g}" if isinstance(value, float) else str(value)
+    beyond = (
+        ", beyond 2147483647 either way" if value == value and abs(value) > MAX_CATEGORY else ""
+    )
+    return BadMap(
+        name,
+        f"not a map of whole numbers: the cell at row {row}, column {col} is {number}{beyond}",
+        row,
+        col,
+        value,
+    )
+
+
+# Maps in memory
+
+
+@dataclass(frozen=True)
+class ArrayMap:
+    """An array in memory as a map.
+
+    Parameters
+    ----------
+    name : str
+        The name of the map, for errors.
+    array : array of whole numbers, rows x cols
+        Its type may be any integer, bool, or float where all cells are whole numbers; NaN is null.
+    region : Region
+    null : array of bool, optional
+        Of the same shape; True where a cell is null.
+    nodata_value : float, optional
+        A value that is null, compared by value.
+    labels : mapping, optional
+    crs : any, optional
+    exact_transform : tuple of six float, optional
+        The transform that results get; None: the transform of the region.
+
+    Raises
+    ------
+    BadMap
+        Where the array is no map; a cell that is wrong is found when it is sent.
+    """
+
+    name: str
+    array: Cells
+    region: Region
+    null: Mask | None = None
+    nodata_value: float | None = None
+    labels: Mapping[int, str] = field(default_factory=dict)
+    crs: Any = None
+    exact_transform: Transform | None = None
+    colors: Mapping[int, str] = field(default_factory=dict)
+
+    def __post_init__(self) -> None:
+        check_array(self.name, self.array)
+        if not (self.nodata_value is None or isinstance(self.nodata_value, numbers.Real)):
+            raise BadMap(self.name, f"nodata is a number, not {self.nodata_value!r}")
+        if self.array.shape != self.region.shape:
+            rows, cols = self.array.shape
+            raise BadMap(
+                self.name,
+                f"an array of {rows} x {cols} cells, and a region of {self.region.rows} x {self.region.cols}",
+            )
+
+    @property
+    def transform(self) -> Transform:
+        """The transform that results get."""
+        return self.exact_transform or self.region.transform
+
+    @property
+    def dtype(self) -> np.dtype[Any]:
+        """The type of its blocks."""
+        return type_of(self.array.dtype)
+
+    @property
+    def nodata(self) -> int | None:
+        """The value of its blocks that is null."""
+        return nodata_of(self.array.dtype, self.nodata_value)
+
+    @property
+    def is_masked(self) -> bool:
+        """Whether its blocks have masks."""
+        return self.null is not None and not is_converted(self.array.dtype)
+
+    def blocks(self) -> Iterator[Block]:
+        """Yield the rows from north to south."""
+        rows, cols = self.region.shape
+        step = max(1, BLOCK_CELLS // cols)
+        for row in range(0, rows, step):
+            null = None if self.null is None else self.null[row : row + step]
+            yield checked(self.name, self.array[row : row + step], null, self.nodata_value, row)
+
+
+def check_array(name: str, array: Any) -> None:
+    """Refuse an array that has no cells of numbers in rows and columns."""
+    if array.dtype.kind not in "iufb":
+        raise BadMap(name, f"not a map of whole numbers: its cells are of the type {array.dtype}")
+    if array.ndim != 2:
+        shape = " x ".join(map(str, array.shape)) or "one number"
+        raise BadMap(
+            name,
+            f"an array of {array.ndim} dimensions ({shape}), and a map has two; of a raster's bands give one, as read(1)",
+        )
+    if array.size == 0:
+        raise BadMap(name, f"an array without cells ({array.shape[0]} x {array.shape[1]})")
+
+
+class Aligned(NamedTuple):
+    """What `rcell.align` did to a map.
+
+    Parameters
+    ----------
+    shift_rows, shift_columns : float or None
+        The row and column of the map at which the new grid begins, from 0; None between two reference systems.
+    cells_used, cells_repeated, cells_lost : int
+        How many of its cells with a value are in the result, are there more than once, and are not there.
+
+    Examples
+    --------
+    >>> import numpy as np, rcell
+    >>> lc = rcell.Map(np.array([[1, 2, 3]]))
+    >>> rcell.align(lc, to=lc).aligned
+    Aligned(shift_rows=0, shift_columns=0, cells_used=3, cells_repeated=0, cells_lost=0)
+    """
+
+    shift_rows: float | None
+    shift_columns: float | None
+    cells_used: int
+    cells_repeated: int
+    cells_lost: int
+
+
+@dataclass(frozen=True)
+class Map:
+    """A map that is in memory, with all that an array can't say of itself.
+
+    Where an array alone is given to a call, it has cells of side 1; `(array, region)` and `(array, transform)` are short for
+    this class.
+
+    Parameters
+    ----------
+    array : array, masked array, or nested lists of whole numbers, rows x cols
+        Any integer type, bool, or floats that are whole numbers; what is masked, and NaN, is null.
+    region : Region, or a transform (rasterio's Affine or six numbers), optional
+    crs : any, optional
+        A reference system of rasterio or pyproj, or its well-known text.
+    nodata : float, optional
+        A value that is null.
+    labels : mapping of int to str, optional
+    colors : mapping of int to str, optional
+        As `#rrggbb`.
+    aligned : Aligned, optional
+        What `rcell.align` did to it.
+
+    Examples
+    --------
+    >>> import numpy as np, rcell
+    >>> land = rcell.Map(np.array([[1, 1], [2, 0]]), nodata=0, labels={1: "wood", 2: "water"})
+    >>> rcell.run("r.stats -c -l input=land", land=land)[0].rows
+    [(1, 'wood', 2), (2, 'water', 1), (None, None, 1)]
+    """
+
+    array: ArrayLike
+    region: Region | Sequence[float] | None = None
+    crs: Any = None
+    nodata: float | None = None
+    labels: Mapping[int, str] = field(default_factory=dict)
+    colors: Mapping[int, str] = field(default_factory=dict)
+    aligned: Aligned | None = None
+
+    def source(self, name: str) -> ArrayMap:
+        """Return the same under a name, as the program needs it.
+
+        Parameters
+        ----------
+        name : str
+            The name of the map, which errors have.
+
+        Returns
+        -------
+        ArrayMap
+            Its cells with their region.
+
+        Examples
+        --------
+        >>> import rcell
+        >>> rcell.Map([[1, 2]]).source("land").region
+        Region(north=1, south=0, east=2, west=0, rows=1, cols=2)
+        """
+        given: Any = self.array
+        try:
+            array = data_of(given) if is_masked_array(given) else np.asarray(given)
+        except ValueError as error:
+            raise BadMap(name, f"not an array of rows of one length: {error}") from None
+        null = mask_of(given) if is_masked_array(given) else None
+        check_array(name, array)
+        array, null, region, transform = _placed(name, array, null, self.region)
+        return ArrayMap(
+            name,
+            array,
+            region,
+            null,
+            self.nodata,
+            checked_labels(name, self.labels),
+            self.crs or None,
+            transform,
+            self.colors,
+        )
+
+
+def _placed(
+    name: str, array: Cells, null: Mask | None, place: Any
+) -> tuple[Cells, Mask | None, Region, Transform]:
+    """Return an array with its rows from north to south, its region and its transform."""
+    rows, cols = array.shape
+    if isinstance(place, Region):
+        return array, null, place, place.transform
+    if place is None:
+        region = in_region(name, Region.of_cells, rows, cols)
+        return array, null, region, region.transform
+    a, b, c, d, e, f = six_numbers(name, place)
+    if e > 0 and not b and not d:
+        array, null, e, f = array[::-1], None if null is None else null[::-1], -e, f + e * rows
+    transform = (a, b, c, d, e, f)
+    return array, null, in_region(name, Region.from_transform, transform, rows, cols), transform
+
+
+def in_region(name: str, make: Any, *words: Any) -> Region:
+    """Return a region; its errors name the map."""
+    try:
+        region: Region = make(*words)
+    except BadMap as refusal:
+        raise BadMap(name, refusal.text) from None
+    return region
+
+
+def source_of(name: str, given: Any) -> Source:
+    """Return the map that a caller gives.
+
+    Parameters
+    ----------
+    name : str
+    given : path, array, masked array, (array, region or transform), Map, Grid, DataArray, dataset or band of rasterio
+
+    Raises
+    ------
+    BadMap
+        Where it can't be a map.
+    """
+    if hasattr(given, "blocks") and hasattr(given, "region"):
+        source: Source = given
+        return source
+    if isinstance(given, Map):
+        return given.source(name)
+    if hasattr(given, "as_map"):
+        return source_of(name, given.as_map())
+    if isinstance(given, (str, os.PathLike)):
+        from .text_grids import open_path
+
+        return open_path(name, given)
+    module = type(given).__module__.partition(".")[0]
+    if module == "rasterio":
+        from ..readers.rasterio import open_raster
+
+        return open_raster(name, given)
+    if module == "xarray":
+        from ..readers.xarray import source_of_data_array
+
+        return source_of_data_array(name, given)
+    if module == "dask" and hasattr(given, "ndim"):
+        return Map(given.compute()).source(name)
+    if isinstance(given, tuple) and len(given) == 2 and isinstance(given[0], np.ndarray):
+        return Map(given[0], given[1]).source(name)
+    if isinstance(given, (np.ndarray, list)):
+        return Map(given).source(name)
+    raise BadMap(name, f"neither a path nor an array nor a raster, but a {type(given).__name__}")
+
+
+_NAME = re.compile(r"[A-Za-z_][A-Za-z0-9_.]{0,63}")
+
+
+def check_names(names: Iterable[str]) -> None:
+    """Raise Refused for the first text that cannot be the name of a map."""
+    for name in names:
+        if not (isinstance(name, str) and _NAME.fullmatch(name)):
+            better = re.sub(r"[^A-Za-z0-9_.]", "_", str(name))[:64]
+            better = better if _NAME.fullmatch(better) else f"m_{better[:60]}"
+            told = f"{name!r} is not a name for a map: 1 to 64 letters, digits, _ and ., a letter or _ first; write {better}"
+            raise Refused(told, status=2)
+
+
+def named_once(maps: Any, named: Mapping[str, Any]) -> dict[str, Any]:
+    """Return the maps of a mapping, or the variables of a Dataset, and of keywords, unless one is in both."""
+    if type(maps).__module__.partition(".")[0] == "xarray":
+        from ..readers.xarray import variables_of
+
+        maps = variables_of(maps)
+    twice = set(maps or {}) & set(named)
+    if twice:
+        raise Refused(f"the map {min(twice)} is given twice", status=2)
+    return {**(maps or {}), **named}
+
+
+def sources_of(
+    maps: Mapping[str, Any], crs: Any = None, given: Mapping[str, Any] | None = None
+) -> tuple[dict[str, Source], Any]:
+    """Return the maps of a call, and the coordinate reference system that they have in common.
+
+    Parameters
+    ----------
+    maps : mapping of str to any
+    crs : any
+        The reference system that is stated for maps without one.
+    given : mapping of str to any, optional
+        The maps as the caller gave them, which an advice repeats.
+
+    Raises
+    ------
+    OtherCrs
+        A map has another reference system than the others, or none where others have one and `crs` does not state it.
+    OtherRegion
+        The region of a map differs from the first; the text says which edges differ, by how much, and how to align it.
+    """
+    if not maps:
+        raise Refused('no map is given: name them, as lc="landcover.tif"', status=2)
+    check_names(maps)
+    sources = {name: source_of(name, given) for name, given in maps.items()}
+    common = common_crs({name: source.crs for name, source in sources.items()}, crs)
+    first_name, first = next(iter(sources.items()))
+    for name, source in sources.items():
+        if source.region != first.region:
+            told = "; ".join(first.region.differences(source.region))
+            text = f"not of the region of `{first_name}`, and nothing is resampled: {told}"
+            fault = OtherRegion(
+                name, f"{text}\n  {first_name}: {first.region}\n  {name}: {source.region}"
+            )
+            nearest = (
+                ""
+                if Shift.between(source.transform, first.transform, first.region.shape).is_whole
+                else ', resample="nearest"'
+            )
+            mine, its = (_written(of, (given or maps)[of]) for of in (name, first_name))
+            fault.advice = f"{name}=rcell.align({mine}, to={its}{nearest})"
+            raise fault
+    return sources, common
+
+
+def _written(name: str, given: Any) -> str:
+    """Return a map as a caller would write it: its path, or its name."""
+    return (
+        json.dumps(os.fspath(given), ensure_ascii=False)
+        if isinstance(given, (str, os.PathLike))
+        else name
+    )

@@ -1,0 +1,193 @@
+# SPDX-License-Identifier: Apache-2.0 OR GPL-2.0-or-later
+"""Text grids: rcell reads them."""
+
+from __future__ import annotations
+
+import io
+import os
+import re
+import stat
+from dataclasses import dataclass, field
+from fractions import Fraction
+from itertools import chain
+from typing import Any, Iterator, Mapping
+
+import numpy as np
+
+from .listing import printed_grid
+from .protocol import NULL
+
+from .errors import BadMap, ReadFailed
+from .sources import Block, Source, in_region
+from .region import Region, Transform, units_of
+
+__all__ = ["TextMap", "open_path"]
+
+# Room for a header of six short lines, and for blank lines before it.
+HEADER_BYTES = 1 << 16
+_KEYS = ("north", "south", "east", "west", "rows", "cols", "null", "type", "multiplier")
+_FIRST_LINE = re.compile(rb"\s*(?:%s):" % "|".join(_KEYS).encode())
+_EDGE = re.compile(r"[+-]?[0-9]+\.?[0-9]*")
+_VIRTUAL = re.compile(r"/vsi|[A-Za-z][A-Za-z0-9+.-]+:")
+
+
+@dataclass(frozen=True)
+class TextMap:
+    """A file that contains a grid; made by `open_path`.
+
+    Attributes
+    ----------
+    name : str
+    path : str
+    region : Region
+    held : bytes
+        The bytes that were already read of a pipe.
+    stream : io.FileIO or None
+        The rest of the pipe; None for a file, which can be read again.
+    """
+
+    name: str
+    path: str
+    region: Region
+    held: bytes = b""
+    stream: io.FileIO | None = None
+    labels: Mapping[int, str] = field(default_factory=dict)
+    colors: Mapping[int, str] = field(default_factory=dict)
+    crs: Any = None
+    nodata: int | None = NULL
+    dtype: np.dtype[Any] = np.dtype(np.int32)
+    is_masked: bool = False
+
+    @property
+    def transform(self) -> Transform:
+        """The transform for results."""
+        return self.region.transform
+
+    def blocks(self) -> Iterator[Block]:
+        """Yield the rows from north to south, as rcell reads them.
+
+        Raises
+        ------
+        Refused
+            rcell rejects the grid.
+        """
+        from .programs import find_program, program_errors
+
+        path = find_program()
+        with program_errors("", [self.name], path), printed_grid(
+            path, self.name, self._pieces()
+        ) as grid:
+            for rows in grid.blocks:
+                yield Block(rows, None)
+
+    def _pieces(self) -> Iterator[bytes]:
+        """Yield the text."""
+        with self.stream or _opened(self.name, self.path) as stream:
+            yield from chain([self.held], iter(lambda: stream.read(1 << 20), b""))
+
+
+def _opened(name: str, path: str) -> io.FileIO:
+    try:
+        return io.FileIO(path)
+    except OSError as error:
+        raise ReadFailed(name, f"cannot open: {path}: {error.strerror}") from None
+
+
+def open_path(name: str, path: str | os.PathLike[str]) -> Source:
+    """Return a path as a map: a text grid, or anything that rasterio opens.
+
+    Raises
+    ------
+    ReadFailed
+        The file cannot be opened.
+    BadMap
+        The file cannot be a map.
+    Refused
+        rcell rejects the header of the grid.
+    """
+    text = os.fsdecode(path)
+    if "\0" in text:
+        raise ReadFailed(name, f"cannot open: {text!r}: no path has a NUL byte")
+    if _VIRTUAL.match(text) and not os.path.exists(text):
+        return _raster(name, text)
+    try:
+        stream = io.FileIO(text)
+    except IsADirectoryError:
+        return _raster(name, text)
+    except OSError as error:
+        raise ReadFailed(name, f"cannot open: {text}: {error.strerror}") from None
+    except UnicodeEncodeError:
+        raise ReadFailed(name, f"cannot open: {text!r}: no path has a surrogate") from None
+    is_file = stat.S_ISREG(os.fstat(stream.fileno()).st_mode)
+    head = _head_of(stream, is_file)
+    if _FIRST_LINE.match(head):
+        if is_file:
+            stream.close()
+        region = _region_of(name, head) or _refused_region(name, text, is_file)
+        return TextMap(name, text, region) if is_file else TextMap(name, text, region, head, stream)
+    stream.close()
+    if not is_file:
+        raise BadMap(
+            name, f"{text} is no file, and its text is no grid: a raster is read from a file"
+        )
+    return _raster(name, text)
+
+
+def _raster(name: str, path: str) -> Source:
+    from ..readers.rasterio import open_raster
+
+    return open_raster(name, path)
+
+
+def _head_of(stream: io.FileIO, is_file: bool) -> bytes:
+    """Return the first bytes: of a file a fixed number, of a pipe the complete header."""
+    head = b""
+    while len(head) < HEADER_BYTES:
+        piece = stream.read(HEADER_BYTES - len(head))
+        head += piece or b""
+        if not piece or is_file or not _FIRST_LINE.match(head) or _fields(head)[1]:
+            break
+    return head
+
+
+def _fields(head: bytes) -> tuple[dict[str, str], bool]:
+    """Return the header's values by key, and whether the first line of cells was found."""
+    fields: dict[str, str] = {}
+    for line in head.decode("latin-1").split("\n")[:-1]:
+        key, colon, value = line.strip().partition(":")
+        if not line.strip():
+            continue
+        if not colon or " " in key:
+            return fields, True
+        fields[key] = value.strip()
+    return fields, False
+
+
+def _region_of(name: str, head: bytes) -> Region | None:
+    """Return the region of a header, or None if it is invalid, which rcell then reports."""
+    fields = _fields(head + b"\n")[0]
+    try:
+        north, south, east, west = (
+            _edge_of(fields[key]) for key in ("north", "south", "east", "west")
+        )
+        rows, cols = int(fields["rows"]), int(fields["cols"])
+    except (KeyError, ValueError, OverflowError):
+        return None
+    try:
+        return in_region(name, Region, north, south, east, west, rows, cols)
+    except BadMap:
+        return None
+
+
+def _edge_of(text: str) -> float | Fraction:
+    """Return an edge as a float if that is exact enough for the program, otherwise exactly."""
+    exact = Fraction(text) if _EDGE.fullmatch(text) else Fraction(float(text))
+    return float(exact) if units_of(float(exact)) == units_of(exact) else exact
+
+
+def _refused_region(name: str, path: str, is_file: bool) -> Region:
+    """Raise rcell's error about a grid whose header is invalid."""
+    if is_file:
+        for _ in TextMap(name, path, Region.of_cells(1, 1)).blocks():
+            pass
+    raise BadMap(name, f"{path}: this is not the header of a grid")

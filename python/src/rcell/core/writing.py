@@ -1,0 +1,93 @@
+# SPDX-License-Identifier: Apache-2.0 OR GPL-2.0-or-later
+"""Files that are written whole or not at all."""
+
+from __future__ import annotations
+
+import contextlib
+import errno
+import os
+import shutil
+from typing import Iterator
+
+from .files import Output, write_all
+
+from .errors import RcellError, WriteFailed
+
+__all__ = ["replacing", "told_of", "write_beside"]
+
+# A disk that has less room than this is full: so little is left where a block did not fit.
+FULL_BELOW = 1 << 18
+
+
+@contextlib.contextmanager
+def told_of(path: str, *kinds: type[Exception]) -> Iterator[None]:
+    """Raise what goes wrong with files, and the other kinds of exceptions that are given, as a WriteFailed of a path.
+
+    Libraries of rasters report a full disk on their own standard error alone, if at all, and fail later for another reason: so
+    the free space is checked.
+
+    Examples
+    --------
+    >>> with told_of("a.txt"):
+    ...     open("/nowhere/a.txt")
+    Traceback (most recent call last):
+      ...
+    rcell.WriteFailed: a.txt cannot be written: No such file or directory
+    """
+    told: tuple[type[Exception], ...] = (OSError, *kinds)
+    try:
+        yield
+    except told as error:
+        if isinstance(error, RcellError):
+            raise
+        reason = getattr(error, "strerror", None) or str(error)
+        with contextlib.suppress(OSError):
+            if shutil.disk_usage(os.path.dirname(os.path.abspath(path))).free < FULL_BELOW:
+                reason = os.strerror(errno.ENOSPC)
+        raise WriteFailed(f"{path} cannot be written: {reason}") from None
+
+
+@contextlib.contextmanager
+def replacing(path: str) -> Iterator[str]:
+    """Yield a new path, whose file takes the place of another at the end of the block, unless something went wrong.
+
+    Raises
+    ------
+    WriteFailed
+        The folder is missing, or the file cannot be replaced. Nothing is left then, and an old file is as it was.
+
+    Examples
+    --------
+    >>> import tempfile
+    >>> with tempfile.TemporaryDirectory() as folder:
+    ...     with replacing(os.path.join(folder, "a.txt")) as new:
+    ...         _ = open(new, "w").write("whole")
+    ...     print(os.listdir(folder))
+    ['a.txt']
+    """
+    with contextlib.ExitStack() as opened:
+        with told_of(path):
+            output = opened.enter_context(Output(path))
+            beside = output.path()
+        yield beside
+        with told_of(path):
+            output.keep()
+
+
+def write_beside(path: str, data: bytes | memoryview) -> None:
+    """Write bytes to a file, whole or not at all.
+
+    Raises
+    ------
+    WriteFailed
+
+    Examples
+    --------
+    >>> import tempfile
+    >>> with tempfile.TemporaryDirectory() as folder:
+    ...     write_beside(os.path.join(folder, "a.txt"), b"whole")
+    ...     print(os.listdir(folder))
+    ['a.txt']
+    """
+    with told_of(path), Output(path) as output:
+        write_all(output.stream(), data)

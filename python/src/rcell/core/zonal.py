@@ -1,0 +1,147 @@
+# SPDX-License-Identifier: Apache-2.0 OR GPL-2.0-or-later
+"""Statistics of the values of a map by zone."""
+
+from __future__ import annotations
+
+from decimal import Decimal
+from typing import Any, Iterable
+
+import numpy as np
+
+from .arrays import NDArray
+from .counting import Maps, places_of
+from .errors import Refused
+from .columns import Column, Table, framed
+
+__all__ = ["zonal"]
+
+Integers = NDArray[np.int64]
+Floats = NDArray[np.float64]
+
+
+@framed
+def zonal(
+    values: Any,
+    zones: Any,
+    quantiles: Iterable[float] = (0.5,),
+    *,
+    zone_field: str | None = None,
+    zone_labels: Any = None,
+    crs: Any = None,
+) -> Table:
+    """Compute statistics of a map of whole numbers by zone.
+
+    Parameters
+    ----------
+    values : path, array, .. as a map of `run`
+    zones : map, or path of polygons, or GeoDataFrame
+        Polygons are rasterised with GDAL: a cell belongs to the polygon that contains its centre.
+    quantiles : iterable of float
+        From 0 to 1; each is a column: 0.5 is `q50`, 0.025 is `q2_5`. They are interpolated linearly, as numpy does by default.
+    zone_field : str, optional
+        The field of the polygons with the ids or names of the zones.
+    zone_labels : path, dict or DataFrame, optional
+        The legend of the zones, as in `composition`.
+    crs : any, optional
+        The reference system of maps that have none.
+
+    Returns
+    -------
+    pandas.DataFrame
+        Columns `zone`, `zone_label`, `cells`, `sum`, `mean`, `minimum`, `maximum`, `variance` (of the population), and the quantiles.
+        Zones without a value have no row.
+
+    Raises
+    ------
+    Refused
+        As for `run`, and if a quantile is not from 0 to 1.
+
+    Examples
+    --------
+    >>> import numpy as np, rcell
+    >>> height, zone = np.array([[412, 415, 420]]), np.array([[1, 1, 2]])
+    >>> rcell.zonal(height, zone)
+       zone  cells  sum   mean  minimum  maximum  variance    q50
+    0     1      2  827  413.5      412      415      2.25  413.5
+    1     2      1  420  420.0      420      420      0.00  420.0
+    """
+    asked = [(_title(quantile), float(quantile)) for quantile in quantiles]
+    maps = Maps({"values": values}, crs, zones, zone_field)
+    entries = maps.tables("r.stats -c -n input=zones,values")[0]
+    first = places_of(entries[:, 0])
+    columns = maps.columns("zone", entries[first, 0], "zones", zone_labels)
+    return Table(
+        columns
+        + _moments(entries[:, 1], entries[:, 2], first)
+        + _quantiles(entries[:, 1], entries[:, 2], first, asked)
+    )
+
+
+def _title(quantile: Any) -> str:
+    """Return the name of the column of a quantile: q and its percentage, with _ for the point."""
+    try:
+        number = float(quantile)
+    except (TypeError, ValueError):
+        number = -1.0
+    percentage = Decimal(repr(number)) * 100
+    if not 0 <= number <= 1:
+        raise Refused(f"quantiles= are from 0 to 1, not {quantile!r}", status=2)
+    text = f"{percentage:f}"
+    return "q" + (text.rstrip("0").rstrip(".") if "." in text else text).replace(".", "_")
+
+
+def _moments(values: Integers, cells: Integers, first: NDArray[np.intp]) -> list[Column]:
+    """Return sums, means, extremes and variances, with integers until the final division."""
+    if not first.size:
+        sums = squares = count = least = most = np.empty(0, np.int64)
+    else:
+        last = np.concatenate([first[1:], [values.size]]) - 1
+        count, least, most = np.add.reduceat(cells, first), values[first], values[last]
+        sums = np.add.reduceat(values * cells, first)
+        # Squares of large values do not fit in 64 bits.
+        largest = int(np.abs(values).max())
+        exact = values if largest**2 * int(count.max()) < 2**63 else values.astype(object)
+        squares = np.add.reduceat(exact * exact * cells, first)
+    whole = list(zip(count.tolist(), sums.tolist(), squares.tolist()))
+    mean = np.array([total / n for n, total, _ in whole], np.float64)
+    variance = np.array(
+        [(n * squared - total * total) / (n * n) for n, total, squared in whole], np.float64
+    )
+    kept: list[tuple[str, Any, Any]] = [
+        ("cells", "count", count),
+        ("sum", "count", sums),
+        ("mean", "measure", mean),
+    ]
+    kept += [
+        ("minimum", "count", least),
+        ("maximum", "count", most),
+        ("variance", "measure", variance),
+    ]
+    return [Column(*column) for column in kept]
+
+
+def _quantiles(
+    values: Integers, cells: Integers, first: NDArray[np.intp], asked: list[tuple[str, float]]
+) -> list[Column]:
+    """Return quantiles, interpolated between neighbouring cells of a zone like numpy's method `linear`."""
+    if not first.size:
+        return [Column(title, "measure", np.empty(0)) for title, _ in asked]
+    until = np.cumsum(cells)
+    before = np.concatenate([[0], until])[first]
+    count = np.add.reduceat(cells, first)
+    columns = []
+    for title, quantile in asked:
+        place = (count - 1) * quantile
+        lower = np.floor(place).astype(np.int64)
+        part = place - lower
+        low, high = (
+            values[np.searchsorted(until, before + at, "right")]
+            for at in (lower, np.minimum(lower + 1, count - 1))
+        )
+        step = (high - low).astype(np.float64)
+        columns.append(
+            Column(
+                title, "measure", np.where(part < 0.5, low + step * part, high - step * (1 - part))
+            )
+        )
+    return columns
