@@ -38,7 +38,12 @@ def smallest_type(least: int, greatest: int) -> tuple[str, int]:
 
 
 def profile_of(
-    rows: int, cols: int, transform: tuple[float, ...], crs: Any, dtype: str, nodata: int
+    rows: int,
+    cols: int,
+    transform: tuple[float, ...],
+    crs: Any,
+    dtype: str,
+    nodata: int,
 ) -> dict[str, Any]:
     """Return rasterio's creation profile of a GeoTIFF.
 
@@ -82,7 +87,9 @@ def write_geotiff(grid: Grid, path: str) -> None:
     )  # labels of rules may have bytes that are not text
     kept = compressed(grid.array)
     dtype, nodata = (
-        smallest_type(int(kept.min()), int(kept.max())) if kept.size else smallest_type(0, 0)
+        smallest_type(int(kept.min()), int(kept.max()))
+        if kept.size
+        else smallest_type(0, 0)
     )
     cells = filled(grid.array, nodata).astype(dtype)
     profile = profile_of(*grid.region.shape, grid.transform, grid.crs, dtype, nodata)

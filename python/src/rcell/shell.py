@@ -85,10 +85,16 @@ def _words() -> argparse.ArgumentParser:
     for name, (run, told, kinds, options) in COMMANDS.items():
         parser = commands.add_parser(name, help=told, description=f"Writes {told}.")
         parser.set_defaults(run=run, area="none")
-        for words_of in (*(OPTIONS[kind] for kind in kinds.split()), options, OPTIONS["crs"]):
+        for words_of in (
+            *(OPTIONS[kind] for kind in kinds.split()),
+            options,
+            OPTIONS["crs"],
+        ):
             for option, settings in words_of.items():
                 parser.add_argument(option, **settings)
-    commands.add_parser("tiles", help="maps that are larger than the memory", add_help=False)
+    commands.add_parser(
+        "tiles", help="maps that are larger than the memory", add_help=False
+    )
     return words
 
 
@@ -109,7 +115,9 @@ def _pairs(words: Sequence[str]) -> dict[str, str]:
         if not (name and equals and path):
             raise Refused(f"{word}: write NAME=PATH", status=_COMMAND_LINE)
         if name in found:
-            raise Refused(f"{word}: the name {name} is given twice", status=_COMMAND_LINE)
+            raise Refused(
+                f"{word}: the name {name} is given twice", status=_COMMAND_LINE
+            )
         found[name] = path
     return found
 
@@ -152,7 +160,11 @@ def _change(words: argparse.Namespace) -> None:
     )
     words.given = dict(zip(names, words.maps))
     found = change(
-        words.maps, years=words.years, area=_unit(words), labels=words.labels, crs=words.crs
+        words.maps,
+        years=words.years,
+        area=_unit(words),
+        labels=words.labels,
+        crs=words.crs,
     )
     _put(words, found.tables[words.table])
 
@@ -160,7 +172,8 @@ def _change(words: argparse.Namespace) -> None:
 def _patches(words: argparse.Namespace) -> None:
     words.given = {"map": words.map, **({"zones": words.zones} if words.zones else {})}
     rest = _options(
-        words, "connectivity zones classes least core_depth labels zone_labels zone_field crs"
+        words,
+        "connectivity zones classes least core_depth labels zone_labels zone_field crs",
     )
     _put(words, unwrap(patches)(words.map, area=_unit(words), **rest))
 
@@ -171,12 +184,16 @@ def _zonal(words: argparse.Namespace) -> None:
         quantiles = [float(word) for word in words.quantiles.split(",")]
     except ValueError:
         raise Refused(
-            f"--quantiles are numbers from 0 to 1, not {words.quantiles}", status=_COMMAND_LINE
+            f"--quantiles are numbers from 0 to 1, not {words.quantiles}",
+            status=_COMMAND_LINE,
         ) from None
     _put(
         words,
         unwrap(zonal)(
-            words.map, words.zones, quantiles, **_options(words, "zone_field zone_labels crs")
+            words.map,
+            words.zones,
+            quantiles,
+            **_options(words, "zone_field zone_labels crs"),
         ),
     )
 
@@ -198,7 +215,9 @@ def _align(words: argparse.Namespace) -> None:
         source, words.account = found.source("map"), found.aligned
         array = masked(
             source.array.astype(np.int32),
-            np.zeros(source.array.shape, np.bool_) if source.null is None else source.null,
+            np.zeros(source.array.shape, np.bool_)
+            if source.null is None
+            else source.null,
         )
         return [
             Grid(
@@ -218,7 +237,10 @@ def _align(words: argparse.Namespace) -> None:
         (name, np.nan if value is None else float(value))
         for name, value in words.account._asdict().items()
     ]
-    _put(words, Table(Column(name, "measure", np.array([value])) for name, value in values))
+    _put(
+        words,
+        Table(Column(name, "measure", np.array([value])) for name, value in values),
+    )
 
 
 def _run(words: argparse.Namespace) -> None:
@@ -236,7 +258,9 @@ def _run(words: argparse.Namespace) -> None:
         emit("\n".join(FORMATS[words.format or "csv"](table) for table in tables))
 
 
-def _write_maps(targets: list[str], inputs: Iterable[str], make: Callable[[], list[Grid]]) -> None:
+def _write_maps(
+    targets: list[str], inputs: Iterable[str], make: Callable[[], list[Grid]]
+) -> None:
     """Write maps to files, all or none; raise Refused if a file is an input or its format is not known."""
     for path in targets:
         if not path.lower().endswith((".tif", ".tiff", ".txt", *_PICTURES)):
@@ -262,7 +286,9 @@ def _write_map(grid: Grid, path: str, ending: str) -> None:
     elif ending in _PICTURES:
         need("matplotlib", "plot", "to draw a map").use("Agg")
         with told_of(path):
-            grid.plot().figure.savefig(path, format=ending[1:], bbox_inches="tight", dpi=150)
+            grid.plot().figure.savefig(
+                path, format=ending[1:], bbox_inches="tight", dpi=150
+            )
     else:
         write_geotiff(grid, path)
 
@@ -278,7 +304,9 @@ def _unit(words: argparse.Namespace) -> str | None:
 def _put(words: argparse.Namespace, table: Table) -> None:
     """Write a table to its file or to standard output."""
     form = words.format or (
-        _ENDINGS.get(os.path.splitext(words.out)[1].lower(), "csv") if words.out else "csv"
+        _ENDINGS.get(os.path.splitext(words.out)[1].lower(), "csv")
+        if words.out
+        else "csv"
     )
     text = FORMATS[form](table)
     if not len(table):
@@ -293,9 +321,17 @@ def _put(words: argparse.Namespace, table: Table) -> None:
 # Each command with its function, its result, the options that it shares with others, and its own options.
 
 OPTIONS: dict[str, dict[str, dict[str, Any]]] = {
-    "map": {"map": {"metavar": "MAP", "help": "a raster that GDAL reads, or a grid of rcell"}},
+    "map": {
+        "map": {
+            "metavar": "MAP",
+            "help": "a raster that GDAL reads, or a grid of rcell",
+        }
+    },
     "target": {
-        "target": {"metavar": "OUT.tif", "help": "the map to write: .tif, .txt or a picture"}
+        "target": {
+            "metavar": "OUT.tif",
+            "help": "the map to write: .tif, .txt or a picture",
+        }
     },
     "format": {
         "--format": {
@@ -337,7 +373,8 @@ _NAMED = {
     }
 }
 COMMANDS: dict[
-    str, tuple[Callable[[argparse.Namespace], None], str, str, dict[str, dict[str, Any]]]
+    str,
+    tuple[Callable[[argparse.Namespace], None], str, str, dict[str, dict[str, Any]]],
 ] = {
     "composition": (
         _composition,
@@ -368,7 +405,11 @@ COMMANDS: dict[
                 "nargs": "+",
                 "help": "two maps or more, in the order of their years",
             },
-            "--years": {"type": _wholes, "metavar": "YEAR,..", "help": "one for each map"},
+            "--years": {
+                "type": _wholes,
+                "metavar": "YEAR,..",
+                "help": "one for each map",
+            },
             "--table": {
                 "choices": ["table", "matrix", "summary"],
                 "default": "table",
@@ -430,7 +471,10 @@ COMMANDS: dict[
                 "metavar": "N",
                 "help": f"rows and columns of the square: odd, {SIZES[0]} to {SIZES[-1]}",
             },
-            "--fill": {"action": "store_true", "help": "gives null cells a class as well"},
+            "--fill": {
+                "action": "store_true",
+                "help": "gives null cells a class as well",
+            },
         },
     ),
     "align": (
@@ -438,7 +482,11 @@ COMMANDS: dict[
         "a map on the grid of another one, and an account of used and lost cells",
         "map target format",
         {
-            "--to": {"required": True, "metavar": "OTHER", "help": "the map whose grid it gets"},
+            "--to": {
+                "required": True,
+                "metavar": "OTHER",
+                "help": "the map whose grid it gets",
+            },
             "--resample": {
                 "metavar": "nearest",
                 "help": "takes the nearest cell if the grids are not apart by whole cells",
@@ -561,7 +609,11 @@ def _in_one_line(error: RcellError) -> str:
     place = f"{error.source}, line {error.line}" if error.line else error.source
     parts = [
         f"{place}: {error.text}",
-        *([f"`{lines_of_error(error.content, error.column)[0].strip()}`"] if error.content else []),
+        *(
+            [f"`{lines_of_error(error.content, error.column)[0].strip()}`"]
+            if error.content
+            else []
+        ),
         *([f"try: {error.advice}"] if error.advice else []),
     ]
     return "; ".join(line.strip() for part in parts for line in part.split("\n"))
@@ -573,9 +625,19 @@ def _align_words(error: Refused, given: dict[str, str]) -> str | None:
     if not error.advice or error.source not in given or error.source == first:
         return "--resample nearest" if error.advice else None
     stem, ending = os.path.splitext(given[error.source])
-    words = ["align", given[error.source], f"{stem}-aligned{ending}", "--to", given[first]]
+    words = [
+        "align",
+        given[error.source],
+        f"{stem}-aligned{ending}",
+        "--to",
+        given[first],
+    ]
     return shlex.join(
-        [NAME, *words, *(["--resample", "nearest"] if "resample=" in error.advice else [])]
+        [
+            NAME,
+            *words,
+            *(["--resample", "nearest"] if "resample=" in error.advice else []),
+        ]
     )
 
 

@@ -83,11 +83,17 @@ def _cells_of(source: Source) -> tuple[Cells, Mask]:
     """Return the cells of a map, and which of them are null."""
     blocks = list(source.blocks())
     cells = np.concatenate([block.cells for block in blocks])
-    null = np.zeros(cells.shape, np.bool_) if source.nodata is None else cells == source.nodata
+    null = (
+        np.zeros(cells.shape, np.bool_)
+        if source.nodata is None
+        else cells == source.nodata
+    )
     if any(block.null is not None for block in blocks):
         null |= np.concatenate(
             [
-                np.zeros(block.cells.shape, np.bool_) if block.null is None else block.null
+                np.zeros(block.cells.shape, np.bool_)
+                if block.null is None
+                else block.null
                 for block in blocks
             ]
         )
@@ -100,17 +106,30 @@ def _shifted(
     """Return a map on the grid of another one: moved by whole rows and columns, or with the nearest cells."""
     shift = Shift.between(source.transform, like.transform, like.region.shape)
     if resample is None and not shift.is_whole:
-        raise OtherRegion("map", f'{shift.told("to")}: resample="nearest" takes the nearest cell')
-    places = [np.floor(centres + _ON_BORDER).astype(np.int64) for centres in shift.centres()]
+        raise OtherRegion(
+            "map", f'{shift.told("to")}: resample="nearest" takes the nearest cell'
+        )
+    places = [
+        np.floor(centres + _ON_BORDER).astype(np.int64) for centres in shift.centres()
+    ]
     inside = [(found >= 0) & (found < size) for found, size in zip(places, cells.shape)]
     (rows, cols), (to_rows, to_cols) = (
         [_run(found) for found in sides]
-        for sides in ([at[kept] for at, kept in zip(places, inside)], map(np.flatnonzero, inside))
+        for sides in (
+            [at[kept] for at, kept in zip(places, inside)],
+            map(np.flatnonzero, inside),
+        )
     )
-    made, is_null = np.zeros(like.region.shape, cells.dtype), np.ones(like.region.shape, np.bool_)
-    made[to_rows, to_cols], is_null[to_rows, to_cols] = cells[rows][:, cols], null[rows][:, cols]
+    made, is_null = np.zeros(like.region.shape, cells.dtype), np.ones(
+        like.region.shape, np.bool_
+    )
+    made[to_rows, to_cols], is_null[to_rows, to_cols] = (
+        cells[rows][:, cols],
+        null[rows][:, cols],
+    )
     often = [
-        np.bincount(at[kept], minlength=size) for at, kept, size in zip(places, inside, cells.shape)
+        np.bincount(at[kept], minlength=size)
+        for at, kept, size in zip(places, inside, cells.shape)
     ]
     used, once = (
         np.count_nonzero(~null[often[0] >= 1 if many else often[0] == 1], axis=0)[
@@ -135,7 +154,9 @@ def _run(places: NDArray[np.int64]) -> Any:
     )
 
 
-def _projected(source: Source, like: Source, cells: Cells, null: Mask) -> tuple[Any, Aligned]:
+def _projected(
+    source: Source, like: Source, cells: Cells, null: Mask
+) -> tuple[Any, Aligned]:
     """Return a map on the grid of another one: with the nearest cells, in another reference system."""
     pyproj = need("pyproj", "gis", "to align maps of two reference systems")
     systems = (
@@ -144,7 +165,9 @@ def _projected(source: Source, like: Source, cells: Cells, null: Mask) -> tuple[
     )
     change = pyproj.Transformer.from_crs(*systems, always_xy=True)
     width, _, west, _, height, north = source.transform
-    made, is_null = np.zeros(like.region.shape, cells.dtype), np.ones(like.region.shape, np.bool_)
+    made, is_null = np.zeros(like.region.shape, cells.dtype), np.ones(
+        like.region.shape, np.bool_
+    )
     often, step, (rows, cols) = (
         np.zeros(cells.size, np.int64),
         max(1, _BLOCK // like.region.cols),
@@ -158,14 +181,21 @@ def _projected(source: Source, like: Source, cells: Cells, null: Mask) -> tuple[
         )
         inside = (down >= 0) & (down < rows) & (across >= 0) & (across < cols)
         at = down[inside].astype(np.int64) * cols + across[inside].astype(np.int64)
-        made[part][inside], is_null[part][inside] = cells.reshape(-1)[at], null.reshape(-1)[at]
+        made[part][inside], is_null[part][inside] = (
+            cells.reshape(-1)[at],
+            null.reshape(-1)[at],
+        )
         often += np.bincount(at, minlength=cells.size)
     if not often.any():
         raise BadMap("map", "has no cell in the extent of `to`")
     often = np.where(null.reshape(-1), 0, often)
     used = np.count_nonzero(often)
     return masked(made, is_null), Aligned(
-        None, None, used, np.count_nonzero(often > 1), null.size - np.count_nonzero(null) - used
+        None,
+        None,
+        used,
+        np.count_nonzero(often > 1),
+        null.size - np.count_nonzero(null) - used,
     )
 
 

@@ -42,7 +42,8 @@ def labels_of_band(band: Any) -> dict[int, str]:
 def _labels_of_table(table: Any) -> dict[int, str]:
     places = range(table.GetColumnCount())
     value, name = columns_of(
-        [table.GetUsageOfCol(at) for at in places], [table.GetNameOfCol(at) for at in places]
+        [table.GetUsageOfCol(at) for at in places],
+        [table.GetNameOfCol(at) for at in places],
     )
     if value is None or name is None:
         return {}
@@ -61,7 +62,9 @@ def labels_of_rows(rows: Iterable[Sequence[Any]]) -> dict[int, str]:
     {1: 'wood'}
     """
     found = ((category_of(number), label) for number, label in rows)
-    return {category: label for category, label in found if category is not None and label}
+    return {
+        category: label for category, label in found if category is not None and label
+    }
 
 
 def category_of(number: Any) -> Optional[int]:
@@ -72,7 +75,9 @@ def category_of(number: Any) -> Optional[int]:
     return None
 
 
-def columns_of(usages: Sequence[int], titles: Sequence[str]) -> tuple[Optional[int], Optional[int]]:
+def columns_of(
+    usages: Sequence[int], titles: Sequence[str]
+) -> tuple[Optional[int], Optional[int]]:
     """Return the columns of an attribute table with the values and labels: by their usage, or else by common titles."""
 
     def first(wanted: tuple[int, ...], usual: tuple[str, ...]) -> Optional[int]:

@@ -27,7 +27,9 @@ OPTIONS = (
     "null_value=",
     "after=",
 )
-FUNCTIONS = "if isnull null abs min max mode row col nrows ncols eval nmin nmax nmode".split()
+FUNCTIONS = (
+    "if isnull null abs min max mode row col nrows ncols eval nmin nmax nmode".split()
+)
 MOST_MAPS = 16  # that are tried
 ARGUMENTS = {
     (0,): "no argument",
@@ -44,7 +46,8 @@ MODULES = {
     "r.report": "`r.stats -c -n`, and multiply the counts",
     "r.univar": "`r.stats -c -n`, and awk over category and count",
     **dict.fromkeys(
-        ("r.cross", "r.coin"), "`r.stats -c input=a,b`: the combinations with their counts"
+        ("r.cross", "r.coin"),
+        "`r.stats -c input=a,b`: the combinations with their counts",
     ),
     "r.patch": "`r.mapcalc new = if(isnull(a), b, a)`",
     "r.recode": "an r.reclass: `1 thru 3 = 2`",
@@ -121,7 +124,9 @@ ABSENT_FUNCTIONS = {
     "area": "the size of a cell, as a number",
     "ewres": "the size of a cell, as a number",
     "nsres": "the size of a cell, as a number",
-    **dict.fromkeys("exp log sqrt sin cos tan asin acos atan ceil floor".split(), DECIMALS),
+    **dict.fromkeys(
+        "exp log sqrt sin cos tan asin acos atan ceil floor".split(), DECIMALS
+    ),
 }
 OPERATORS = {
     "and": "&&",
@@ -226,7 +231,9 @@ def keys(at):
 
 
 def known_flags(at):
-    return ["".join(letter for letter in at["letters"] if "-" + letter in options(at, True))]
+    return [
+        "".join(letter for letter in at["letters"] if "-" + letter in options(at, True))
+    ]
 
 
 def flags(at):
@@ -251,7 +258,8 @@ def function(at):
 def wanted(at):
     """Return how many arguments a function takes, by the numbers of them that the program accepts."""
     calls = {
-        count: "r.mapcalc x = %s(%s)" % (at["mark"], ",".join("1" * count)) for count in range(5)
+        count: "r.mapcalc x = %s(%s)" % (at["mark"], ",".join("1" * count))
+        for count in range(5)
     }
     return ARGUMENTS.get(
         tuple(count for count, call in calls.items() if not at["judge"].answer(call)),
@@ -279,7 +287,9 @@ def whole(at):
     value, sign = decimal(at), at["sign"].strip()
     is_right = value and (value.denominator == 1 or sign[:1] in ("<", ">") and sign)
     return (
-        ["%d" % (value // 1 + (value.denominator > 1 and sign in ("<", ">=")))] if is_right else []
+        ["%d" % (value // 1 + (value.denominator > 1 and sign in ("<", ">=")))]
+        if is_right
+        else []
     )
 
 
@@ -294,7 +304,11 @@ def times(at):
     if not value or max(up, down) > 10000:
         return []
     return [
-        "* %d / %d" % (up, down) if up > 1 < down else "* %d" % up if down == 1 else "/ %d" % down
+        "* %d / %d" % (up, down)
+        if up > 1 < down
+        else "* %d" % up
+        if down == 1
+        else "/ %d" % down
     ]
 
 
@@ -321,10 +335,14 @@ COMMA = Cause(
     ("{new}",),
     replaced((r"[ \t]+", ""), ("=,+", "="), (",+(?=,|$)", "")),
 )
-NEXT_COMMAND = Cause("next command", r"^(?P<mark>[ \t]*[rg]\.[A-Za-z].*)", ("end\n{mark}",))
+NEXT_COMMAND = Cause(
+    "next command", r"^(?P<mark>[ \t]*[rg]\.[A-Za-z].*)", ("end\n{mark}",)
+)
 POWER = r"(?P<name>[A-Za-z_][\w.]*)[ \t]*(?P<mark>\^)[ \t]*%d(?![\w.])"
 DASHED = r"(?<![\w.])[A-Za-z_][\w.]*(?:-[\w.]+)+(?![\w.(])"
-OPTION = Cause("option", r"(?<!\S)--(?:o|overwrite|q|quiet|qq|v|verbose|ui|help)(?!\S)", ("",))
+OPTION = Cause(
+    "option", r"(?<!\S)--(?:o|overwrite|q|quiet|qq|v|verbose|ui|help)(?!\S)", ("",)
+)
 UNDERSCORED, READ = replaced((r"[ \t]*-[ \t]*", "_")), replaced(("-", " - "))
 LATER = {"later": lambda at: at["judge"].later(at["mark"], at["block"])}
 NEAR = {"near": lambda at: nearest(at["mark"], at["judge"].maps())}
@@ -348,7 +366,12 @@ CAUSES = {
         Cause("no-break space", r"(?<=\S)(?:\xc2\xa0)+", (" ",)),
         Cause("continued line", r"(?:(?<=\\\n)|(?<=\\\r\n))" + WORD),
         Cause("case", WORD, ("{new}",), lower),
-        Cause("module", r"(?<!\S)(?P<word>\S+).*", ("",), values={"fixed": of(MODULES, "word")}),
+        Cause(
+            "module",
+            r"(?<!\S)(?P<word>\S+).*",
+            ("",),
+            values={"fixed": of(MODULES, "word")},
+        ),
         Cause(
             "module",
             r"(?<!\S)(?P<word>(?:%s)(?!\S)|[A-Za-z_]\w*=\S*).*" % SHELL,
@@ -357,7 +380,11 @@ CAUSES = {
         ),
         Cause("rule", r"(?<!\S)(?:end(?=[ \t\r]*$)|(?:\*|[+-]?[0-9]+)(?!\S)(?=.*=))"),
         Cause("spelling", WORD, ("{new}",), near(COMMANDS, 0.8)),
-        Cause("module", WORD, values={"fixed": "the commands are %s" % ", ".join(COMMANDS)}),
+        Cause(
+            "module",
+            WORD,
+            values={"fixed": "the commands are %s" % ", ".join(COMMANDS)},
+        ),
     ],
     ("script", "bad option"): [
         CONTINUED,
@@ -386,12 +413,16 @@ CAUSES = {
             known_flags,
             {
                 "flag": lambda at: [
-                    "-" + it for it in at["letters"] if "-" + it not in options(at, True)
+                    "-" + it
+                    for it in at["letters"]
+                    if "-" + it not in options(at, True)
                 ],
                 "flags": flags,
             },
         ),
-        Cause("rules", r"(?<!\S)rules=(?P<file>\S*)", ("",), values={"statement": LINE}),
+        Cause(
+            "rules", r"(?<!\S)rules=(?P<file>\S*)", ("",), values={"statement": LINE}
+        ),
         Cause("flags key", r"(?<!\S)flags?=(?P<letters>\w+)", ("-{letters}",)),
         Cause(
             "key twice",
@@ -414,9 +445,16 @@ CAUSES = {
             ("{new}",),
             replaced((r"[ \t]+", "_"), ("[\"']", "")),
         ),
-        Cause("short key", r"(?P<key>[^\s=]+)=(?P<value>\S*)", ("{new}={value}",), near_keys),
         Cause(
-            "separator newline", r"(?i)(?<!\S)separator=[\"']?(?:newline|\\n|nl)[\"']?(?!\S)", ("",)
+            "short key",
+            r"(?P<key>[^\s=]+)=(?P<value>\S*)",
+            ("{new}={value}",),
+            near_keys,
+        ),
+        Cause(
+            "separator newline",
+            r"(?i)(?<!\S)separator=[\"']?(?:newline|\\n|nl)[\"']?(?!\S)",
+            ("",),
         ),
         Cause(
             "separator",
@@ -426,7 +464,9 @@ CAUSES = {
         ),
         Cause("separator", r"(?<!\S)separator=\S*", ("separator=tab",), shown=False),
         Cause("null text", r"(?<!\S)null_value=(?!\S)", ("",)),
-        Cause("null colon", r"(?<!\S)null_value=\S*:\S*", ("null_value=NA",), shown=False),
+        Cause(
+            "null colon", r"(?<!\S)null_value=\S*:\S*", ("null_value=NA",), shown=False
+        ),
         Cause("null text", r"(?<!\S)null_value=\S*", ("null_value=NA",), shown=False),
         Cause("many maps", r"(?<!\S)input=[^\s,]+,\S*", ("input={map}",), shown=False),
         Cause("no key", r"(?<!\S)(?P<word>[^\s=-][^\s=]*)(?!\S)", ("input={word}",)),
@@ -453,7 +493,12 @@ CAUSES = {
         BLANKS,
         COMMA,
         Cause("quotes", r"(?<!\S)\S*[\"']\S*", ("{new}",), replaced(("[\"']", ""))),
-        Cause("mapset", r"(?<!\S)\w+=(?P<name>[^\s@,]*)@\S*", ("{new}",), replaced(("@[^,]*", ""))),
+        Cause(
+            "mapset",
+            r"(?<!\S)\w+=(?P<name>[^\s@,]*)@\S*",
+            ("{new}",),
+            replaced(("@[^,]*", "")),
+        ),
         Cause("dash", r"(?<!\S)\w+=\S*-\S*", ("{new}",), UNDERSCORED),
         Cause(
             "one map",
@@ -462,7 +507,8 @@ CAUSES = {
             shown=False,
             values={
                 "command": lambda at: at["command"]
-                if at["judge"].answer(at["command"] + " input={map},{map}") == "bad name"
+                if at["judge"].answer(at["command"] + " input={map},{map}")
+                == "bad name"
                 else None
             },
         ),
@@ -474,10 +520,15 @@ CAUSES = {
             END,
             (" {new}",),
             lambda at: ["input=" + at["judge"].map, "output=" + at["judge"].spare],
-            {"key": lambda at: at["new"].partition("=")[0], "fixed": "{line} {key}=NAME"},
+            {
+                "key": lambda at: at["new"].partition("=")[0],
+                "fixed": "{line} {key}=NAME",
+            },
             False,
         ),
-        Cause("missing option", END, values={"key": "input", "fixed": "{line} input=NAME"}),
+        Cause(
+            "missing option", END, values={"key": "input", "fixed": "{line} input=NAME"}
+        ),
     ],
     ("script", "unknown map"): [
         Cause("made later", r"[^,=\s]+", values=LATER),
@@ -491,7 +542,9 @@ CAUSES = {
         Cause("unknown map", r"[^,=\s]+", values=NEAR),
     ],
     ("script", "map exists"): [
-        Cause("map exists", r"output=(?P<made>\S+)", ("output={new}",), free_name, EXISTS),
+        Cause(
+            "map exists", r"output=(?P<made>\S+)", ("output={new}",), free_name, EXISTS
+        ),
         Cause(
             "map exists",
             BEGIN + r")(?P<mark>(?P<made>[\w.]+))",
@@ -503,7 +556,9 @@ CAUSES = {
     ],
     ("script", "bad combination"): [
         CONTINUED,
-        Cause("bad combination", r"after=(?:(?:\*|[+-]?\d{1,9}),)*(?P<part>[^,\s]*)\S*"),
+        Cause(
+            "bad combination", r"after=(?:(?:\*|[+-]?\d{1,9}),)*(?P<part>[^,\s]*)\S*"
+        ),
     ],
     ("script", "combination of another width"): [
         Cause(
@@ -520,12 +575,17 @@ CAUSES = {
         Cause(
             "width",
             r"after=\S*",
-            values={"parts": lambda at: 1 + at["mark"].count(","), "maps": "another number"},
+            values={
+                "parts": lambda at: 1 + at["mark"].count(","),
+                "maps": "another number",
+            },
         ),
     ],
     ("script", "bad rule"): [
         Cause(
-            "end with more", r"^(?P<end>[ \t]*end)\b(?P<mark>[^=\n]*[^=\s])[ \t\r]*$", ("{end}",)
+            "end with more",
+            r"^(?P<end>[ \t]*end)\b(?P<mark>[^=\n]*[^=\s])[ \t\r]*$",
+            ("{end}",),
         ),
         NEXT_COMMAND,
         Cause(
@@ -541,8 +601,18 @@ CAUSES = {
     ],
     ("script", "bad number in rule"): [
         NEXT_COMMAND,
-        Cause("two rules", r"^(?=.*;)" + RULE, ("{new}",), replaced((r"[ \t]*;[ \t]*", "\n"))),
-        Cause("two equals signs", r"^(?=[^=\n]*==)" + RULE, ("{new}",), replaced(("==+", "="))),
+        Cause(
+            "two rules",
+            r"^(?=.*;)" + RULE,
+            ("{new}",),
+            replaced((r"[ \t]*;[ \t]*", "\n")),
+        ),
+        Cause(
+            "two equals signs",
+            r"^(?=[^=\n]*==)" + RULE,
+            ("{new}",),
+            replaced(("==+", "=")),
+        ),
         Cause(
             "dash for thru",
             "^" + RULE,
@@ -558,7 +628,12 @@ CAUSES = {
             "null word",
             "^" + RULE,
             ("{new}",),
-            replaced((r"(?<==)([ \t]*)(?:na|nan|null|nodata|none|no|null\(\))(?!\S)", r"\1NULL")),
+            replaced(
+                (
+                    r"(?<==)([ \t]*)(?:na|nan|null|nodata|none|no|null\(\))(?!\S)",
+                    r"\1NULL",
+                )
+            ),
         ),
         Cause("fraction", RULE_WORD % r"[+-]?\d*\.\d*", ("1",), shown=False),
         Cause("range of number", RULE_WORD % r"[+-]?\d{10,}", ("1",), shown=False),
@@ -587,7 +662,12 @@ CAUSES = {
             ("\nr.mapcalc {more}",),
         ),
         Cause("semicolon", r";[ \t\r]*$", ("",)),
-        Cause("power", POWER % 2, ("({name} * {name})",), values={"fixed": "{name} * {name}"}),
+        Cause(
+            "power",
+            POWER % 2,
+            ("({name} * {name})",),
+            values={"fixed": "{name} * {name}"},
+        ),
         Cause(
             "power",
             POWER % 3,
@@ -631,7 +711,9 @@ CAUSES = {
         ),
         Cause(
             "fraction",
-            values={"fixed": "whole numbers of smaller units, as metres in place of kilometres"},
+            values={
+                "fixed": "whole numbers of smaller units, as metres in place of kilometres"
+            },
         ),
     ],
     ("expression", "expression too long"): [Cause("tokens", r"[\w.]+|\S")],
@@ -657,10 +739,15 @@ CAUSES = {
             values={"fixed": "!"},
         ),
         Cause("variable", r"\beval[ \t]*\(.*?(?P<mark>[A-Za-z_][\w.]*[ \t]*=)(?!=)"),
-        Cause("no assignment", BEGIN + r"[A-Za-z_][\w.]*[ \t]*)(?P<mark>==)", ("{begin}=",)),
+        Cause(
+            "no assignment",
+            BEGIN + r"[A-Za-z_][\w.]*[ \t]*)(?P<mark>==)",
+            ("{begin}=",),
+        ),
         Cause(
             "dash in name",
-            BEGIN + r")(?P<made>[\w.]+[ \t]*(?P<mark>-)[\w. \t-]*[\w.])(?P<equals>[ \t]*=)",
+            BEGIN
+            + r")(?P<made>[\w.]+[ \t]*(?P<mark>-)[\w. \t-]*[\w.])(?P<equals>[ \t]*=)",
             ("{begin}{new}{equals}",),
             lambda at: UNDERSCORED({"mark": at["made"]}),
             {"fixed": "{new} = .."},
@@ -682,7 +769,9 @@ CAUSES = {
         ),
         Cause("shift", r"<<|>>>?"),
         Cause("power", r"\*\*"),
-        Cause("one offset", r"(?P<offset>[\w.]+\[[^\[\]]*)(?P<mark>\])", ("{offset},0]",)),
+        Cause(
+            "one offset", r"(?P<offset>[\w.]+\[[^\[\]]*)(?P<mark>\])", ("{offset},0]",)
+        ),
         Cause(
             "parenthesis open",
             OPEN,
@@ -696,7 +785,9 @@ CAUSES = {
     ("expression", "unknown function"): [
         Cause("case", write=("{new}",), new=lower),
         Cause("needless", r"(?i)(?:int|float|double)(?=[ \t]*\()", ("",)),
-        Cause("absent function", r"(?i)not(?=[ \t]*\()", ("!",), values={"fixed": "`!`"}),
+        Cause(
+            "absent function", r"(?i)not(?=[ \t]*\()", ("!",), values={"fixed": "`!`"}
+        ),
         Cause("absent function", values={"fixed": of(ABSENT_FUNCTIONS)}),
         Cause(
             "unknown function",
@@ -715,9 +806,14 @@ CAUSES = {
     ("expression", "wrong number of arguments"): [
         Cause("null test", r"null(?=[ \t]*\()", ("isnull",)),
         Cause(
-            "count", IF_OF_FOUR, (TWO_IFS,), values={"wanted": wanted, "fixed": "`%s`" % TWO_IFS}
+            "count",
+            IF_OF_FOUR,
+            (TWO_IFS,),
+            values={"wanted": wanted, "fixed": "`%s`" % TWO_IFS},
         ),
-        Cause("count", values={"wanted": wanted, "fixed": lambda at: "pass " + wanted(at)}),
+        Cause(
+            "count", values={"wanted": wanted, "fixed": lambda at: "pass " + wanted(at)}
+        ),
     ],
     ("expression", "offset out of range"): [Cause("offset")],
     ("expression", "unknown map"): [

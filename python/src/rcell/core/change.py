@@ -107,7 +107,11 @@ class _Pairs:
         measure: Measure,
     ) -> None:
         self.pairs, self.labels, self._measure = pairs, labels, measure
-        self._years, self._is_legend, self._by_row = years, is_legend, measure.by_row is not None
+        self._years, self._is_legend, self._by_row = (
+            years,
+            is_legend,
+            measure.by_row is not None,
+        )
 
     def table(self) -> Table:
         """Return a table with a row for each change that occurs."""
@@ -115,7 +119,9 @@ class _Pairs:
         columns = self._years_of([pair.cells.size for pair in self.pairs])
         for place, name in enumerate(("from", "to")):
             texts = [
-                self._texts(f"{name}_label", pair.classes[:, place], self.labels[at + place])
+                self._texts(
+                    f"{name}_label", pair.classes[:, place], self.labels[at + place]
+                )
                 for at, pair in enumerate(self.pairs)
             ]
             columns += [Column(name, "class", classes[:, place]), *_joined(texts)]
@@ -124,8 +130,12 @@ class _Pairs:
             if self._measure.unit is None
             else np.concatenate([pair.measured() for pair in self.pairs])
         )
-        together = Counts(classes, np.concatenate([pair.cells for pair in self.pairs]), area)
-        percent = [pair.cells * 100.0 / max(int(pair.cells.sum()), 1) for pair in self.pairs]
+        together = Counts(
+            classes, np.concatenate([pair.cells for pair in self.pairs]), area
+        )
+        percent = [
+            pair.cells * 100.0 / max(int(pair.cells.sum()), 1) for pair in self.pairs
+        ]
         return Table(columns + together.columns(self._measure, np.concatenate(percent)))
 
     def matrix(self) -> tuple[Table, list[int]]:
@@ -148,10 +158,12 @@ class _Pairs:
             else Column("from", "class", np.concatenate(first))
         )
         titles = _names(
-            after, {code: text for labels in self.labels[1:] for code, text in labels.items()}
+            after,
+            {code: text for labels in self.labels[1:] for code, text in labels.items()},
         )
         rest = [
-            Column(title, kind, values) for title, values in zip(titles, np.concatenate(blocks).T)
+            Column(title, kind, values)
+            for title, values in zip(titles, np.concatenate(blocks).T)
         ]
         return (
             Table([*self._years_of([before.size for before in first]), head, *rest]),
@@ -161,13 +173,16 @@ class _Pairs:
     def summary(self) -> Table:
         """Return a table with a row for each class."""
         summed = [
-            _summed(pair, pair.measured() if self._by_row else pair.cells) for pair in self.pairs
+            _summed(pair, pair.measured() if self._by_row else pair.cells)
+            for pair in self.pairs
         ]
         texts = [
             self._texts("label", found, {**self.labels[at], **self.labels[at + 1]})
             for at, (found, _) in enumerate(summed)
         ]
-        classes = Column("class", "class", np.concatenate([found for found, _ in summed]))
+        classes = Column(
+            "class", "class", np.concatenate([found for found, _ in summed])
+        )
         values = np.concatenate([numbers for _, numbers in summed], axis=1)
         kind: Any = "count" if self._measure.unit is None else "measure"
         if self._measure.unit is not None and not self._by_row:
@@ -195,10 +210,16 @@ class _Pairs:
             Column("year_to", "class", np.repeat(years[1:], often)),
         ]
 
-    def _texts(self, title: str, classes: Numbers, labels: Mapping[int, str]) -> list[Column]:
+    def _texts(
+        self, title: str, classes: Numbers, labels: Mapping[int, str]
+    ) -> list[Column]:
         """Return the column of labels of a pair of years, if any map has labels."""
-        made = label_columns(title, classes, labels, self._is_legend, title.removesuffix("_label"))
-        return made or ([Column(title, "label", [""] * classes.size)] if any(self.labels) else [])
+        made = label_columns(
+            title, classes, labels, self._is_legend, title.removesuffix("_label")
+        )
+        return made or (
+            [Column(title, "label", [""] * classes.size)] if any(self.labels) else []
+        )
 
 
 def _names(classes: Numbers, labels: Mapping[int, str]) -> list[str]:
@@ -213,7 +234,11 @@ def _names(classes: Numbers, labels: Mapping[int, str]) -> list[str]:
 def _joined(blocks: list[list[Column]]) -> list[Column]:
     """Return the columns of labels of all pairs, one below the other."""
     return [
-        Column(columns[0].name, "label", [text for column in columns for text in column.values])
+        Column(
+            columns[0].name,
+            "label",
+            [text for column in columns for text in column.values],
+        )
         for columns in zip(*blocks)
     ]
 
@@ -290,11 +315,18 @@ def change(
     maps = Maps(given, crs)
     measure = maps.measure(area)
     names = list(maps.sources)
-    own = [maps.sources[name].labels if labels is None else labels_of(labels) for name in names]
+    own = [
+        maps.sources[name].labels if labels is None else labels_of(labels)
+        for name in names
+    ]
     shared: Mapping[int, str] = next(filter(None, own), {})
     own = [found or shared for found in own]
     pairs = _Pairs(
-        maps.counts(list(zip(names, names[1:])), measure), told, own, labels is not None, measure
+        maps.counts(list(zip(names, names[1:])), measure),
+        told,
+        own,
+        labels is not None,
+        measure,
     )
     matrix, classes = pairs.matrix()
     tables = {"table": pairs.table(), "matrix": matrix, "summary": pairs.summary()}

@@ -49,7 +49,9 @@ class Counts:
     def where(self, kept: NDArray[np.bool_]) -> Counts:
         """Return some of the entries."""
         return Counts(
-            self.classes[kept], self.cells[kept], None if self.area is None else self.area[kept]
+            self.classes[kept],
+            self.cells[kept],
+            None if self.area is None else self.area[kept],
         )
 
     def measured(self) -> NDArray[Any]:
@@ -58,8 +60,16 @@ class Counts:
 
     def columns(self, measure: Measure, percent: NDArray[np.float64]) -> list[Column]:
         """Return the last columns of a table: cells, area and percent."""
-        areas = [] if self.area is None else [Column(f"area_{measure.unit}", "measure", self.area)]
-        return [Column("cells", "count", self.cells), *areas, Column("percent", "measure", percent)]
+        areas = (
+            []
+            if self.area is None
+            else [Column(f"area_{measure.unit}", "measure", self.area)]
+        )
+        return [
+            Column("cells", "count", self.cells),
+            *areas,
+            Column("percent", "measure", percent),
+        ]
 
 
 class Maps:
@@ -89,7 +99,8 @@ class Maps:
             given["zones"] = source_of("zones", zones_of(zones, zone_field, first, crs))
         elif zone_field is not None:
             raise Refused(
-                "zone_field= names a field of polygons, and zones= is not given", status=2
+                "zone_field= names a field of polygons, and zones= is not given",
+                status=2,
             )
         self.sources: dict[str, Source]
         self.sources, self.crs = sources_of(given, crs, {**maps, "zones": zones})
@@ -107,7 +118,9 @@ class Maps:
         self, tables: Sequence[Sequence[str]], measure: Measure, null: bool = False
     ) -> list[Counts]:
         """Return how often classes of some maps occur together, for each list of maps."""
-        flags, rows = "-c" if null else "-c -n", [] if measure.by_row is None else ["row"]
+        flags, rows = "-c" if null else "-c -n", [] if measure.by_row is None else [
+            "row"
+        ]
         lines = ["r.mapcalc row = row()"] if rows else []
         for names in tables:
             if len(names) + len(rows) > MOST_MAPS:
@@ -119,13 +132,20 @@ class Maps:
         return [counts_of(values, measure) for values in self.tables("\n".join(lines))]
 
     def columns(
-        self, title: str, classes: Integers, name: str, legend: Any = None, label: str = "{}_label"
+        self,
+        title: str,
+        classes: Integers,
+        name: str,
+        legend: Any = None,
+        label: str = "{}_label",
     ) -> list[Column]:
         """Return the column of classes of a map, and the column of their labels if there are some: a legend, or its own."""
         labels = self.sources[name].labels if legend is None else labels_of(legend)
         return [
             Column(title, "class", classes),
-            *label_columns(label.format(title), classes, labels, legend is not None, name),
+            *label_columns(
+                label.format(title), classes, labels, legend is not None, name
+            ),
         ]
 
 
@@ -133,10 +153,14 @@ def counts_of(values: Integers, measure: Measure) -> Counts:
     """Return the entries of a table; of one that begins with rows, the sums over the rows."""
     if measure.by_row is None:
         cells = values[:, -1].copy()
-        return Counts(values[:, :-1], cells, None if measure.unit is None else measure.area(cells))
+        return Counts(
+            values[:, :-1], cells, None if measure.unit is None else measure.area(cells)
+        )
     classes, cells = values[:, 1:-1], values[:, -1]
     ordered = np.where(classes == NULL, np.iinfo(np.int64).max, classes)
-    order = np.lexsort(ordered.T[::-1])  # stable: the rows of each combination stay in order
+    order = np.lexsort(
+        ordered.T[::-1]
+    )  # stable: the rows of each combination stay in order
     first = places_of(ordered[order])
     if not first.size:
         return Counts(classes, cells, np.empty(0))
@@ -163,7 +187,11 @@ def label_columns(
     """Return the column of the labels of classes, if there are labels; warn if a legend lacks some."""
     if not labels:
         return []
-    lacking = sorted(set(np.unique(classes).tolist()) - set(labels) - {NULL}) if is_legend else []
+    lacking = (
+        sorted(set(np.unique(classes).tolist()) - set(labels) - {NULL})
+        if is_legend
+        else []
+    )
     if lacking:
         more = f", and {len(lacking) - _SHOWN} more" if len(lacking) > _SHOWN else ""
         warnings.warn(

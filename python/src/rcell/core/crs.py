@@ -73,11 +73,14 @@ def _checked(name: str, crs: Any) -> Any:
         return None if _known(crs) is None else crs
     except need("rasterio.errors", "gis", "to understand a reference system").CRSError:
         raise BadMap(
-            name, f"its coordinate reference system is not understood: {str(crs)[:_SHOWN]!r}"
+            name,
+            f"its coordinate reference system is not understood: {str(crs)[:_SHOWN]!r}",
         ) from None
 
 
-def common_crs(maps: Mapping[str, Any], stated: Any = None, warp: str = "gdalwarp") -> Any:
+def common_crs(
+    maps: Mapping[str, Any], stated: Any = None, warp: str = "gdalwarp"
+) -> Any:
     """Return the reference system that maps have in common.
 
     Parameters
@@ -105,7 +108,8 @@ def common_crs(maps: Mapping[str, Any], stated: Any = None, warp: str = "gdalwar
         common = _checked("arguments", stated)
     except BadMap:
         raise Refused(
-            f"crs= is no coordinate reference system: {str(stated)[:_SHOWN]!r}", status=2
+            f"crs= is no coordinate reference system: {str(stated)[:_SHOWN]!r}",
+            status=2,
         ) from None
     known = {name: _checked(name, crs) for name, crs in maps.items()}
     first = next((name for name, crs in known.items() if crs is not None), None)
@@ -124,7 +128,8 @@ def common_crs(maps: Mapping[str, Any], stated: Any = None, warp: str = "gdalwar
             )
             hint = f"reproject one of them first, as with {warp} -t_srs {_code(common)}"
             raise OtherCrs(
-                name, f"its coordinate reference system is {_shown(crs)}, and {other}: {hint}"
+                name,
+                f"its coordinate reference system is {_shown(crs)}, and {other}: {hint}",
             )
     return common
 
@@ -184,7 +189,9 @@ def cell_area(unit: str, cell: tuple[float, float], crs: Any) -> tuple[float, fl
     (625.0, 10000.0)
     """
     if unit not in UNITS_OF_AREA:
-        raise Refused(f"area= is one of {', '.join(UNITS_OF_AREA)}, and not {unit!r}", status=2)
+        raise Refused(
+            f"area= is one of {', '.join(UNITS_OF_AREA)}, and not {unit!r}", status=2
+        )
     if is_geographic(crs):
         raise Refused(_BY_ROWS)
     return cell[0] * cell[1] * metres_of_unit(crs) ** 2, UNITS_OF_AREA[unit]

@@ -26,7 +26,14 @@ from .errors import Killed, MissingProgram, OutOfMemory, WriteFailed, WrongProgr
 from .sources import Source
 from .programs import PROBE_SECONDS, find_beside, grid_text
 
-__all__ = ["border_of", "check_files", "find_joiner", "joined", "joined_sizes", "numbering_of"]
+__all__ = [
+    "border_of",
+    "check_files",
+    "find_joiner",
+    "joined",
+    "joined_sizes",
+    "numbering_of",
+]
 
 _MESSAGE = re.compile(r"rcell-join: ([^:]*):(\d+): (.*)")
 _TOO_GREAT = re.compile(r"count too great for (.*)")
@@ -52,7 +59,8 @@ def find_joiner(program: str | os.PathLike[str] | None = None) -> str:
 
 _PROBE_MAP = b"north: 1\nsouth: 0\neast: 2\nwest: 0\nrows: 1\ncols: 2\n8 9\n"
 _PROBE_BORDER = b"north: 1\nsouth: 0\neast: 2\nwest: 0\nrows: 10\ncols: 4\n" + (
-    b"8 9 * *\n1 2 * *\n" * 2 + b"8 * * *\n1 * * *\n9 * * *\n2 * * *\n1 2 2 8\n2 * * *\n"
+    b"8 9 * *\n1 2 * *\n" * 2
+    + b"8 * * *\n1 * * *\n9 * * *\n2 * * *\n1 2 2 8\n2 * * *\n"
 )
 _PROBES: list[tuple[list[str], list[bytes], bytes]] = [
     (
@@ -83,7 +91,9 @@ def _probe(path: str) -> None:
         )
 
 
-def joined(texts: Sequence[bytes], program: str | os.PathLike[str] | None = None) -> bytes:
+def joined(
+    texts: Sequence[bytes], program: str | os.PathLike[str] | None = None
+) -> bytes:
     """Merge the tables of tiles of a map, as `r.stats -c` prints them, to the table of the map, as it would print it.
 
     What was merged can be merged again: in a tree of any shape the result is the same.
@@ -148,7 +158,9 @@ def border_of(
 
 
 def numbering_of(
-    borders: Sequence[bytes], diagonal: bool = False, program: str | os.PathLike[str] | None = None
+    borders: Sequence[bytes],
+    diagonal: bool = False,
+    program: str | os.PathLike[str] | None = None,
 ) -> bytes:
     """Join the clumps of tiles by their borders, which come row by row of tiles from the top left.
 
@@ -175,7 +187,9 @@ def numbering_of(
 
 
 def joined_sizes(
-    numbering: bytes, tables: Sequence[bytes], program: str | os.PathLike[str] | None = None
+    numbering: bytes,
+    tables: Sequence[bytes],
+    program: str | os.PathLike[str] | None = None,
 ) -> bytes:
     """Add up the sizes of the clumps of tiles, by their numbering, to the sizes of the clumps of the map.
 
@@ -201,7 +215,10 @@ def joined_sizes(
 
 def check_files(count: int) -> None:
     """Raise WriteFailed if the system does not let a process open so many texts at once."""
-    needed, most = FILES_EACH * count + OTHER_FILES, resource.getrlimit(resource.RLIMIT_NOFILE)[1]
+    needed, most = (
+        FILES_EACH * count + OTHER_FILES,
+        resource.getrlimit(resource.RLIMIT_NOFILE)[1],
+    )
     if most != resource.RLIM_INFINITY and most < needed:
         raise WriteFailed(
             f"to join {count:,} tiles, {needed:,} files are open at once, and this system allows {most:,}: take larger tiles"
@@ -250,9 +267,13 @@ def _started(
     path: str, words: list[str], files: Sequence[int], seconds: float | None = None
 ) -> Started:
     try:
-        return Started([path, *words, *(f"/dev/fd/{file}" for file in files)], files, seconds)
+        return Started(
+            [path, *words, *(f"/dev/fd/{file}" for file in files)], files, seconds
+        )
     except OSError as error:
-        raise MissingProgram(f"the program {path} cannot be executed: {error.strerror}") from None
+        raise MissingProgram(
+            f"the program {path} cannot be executed: {error.strerror}"
+        ) from None
 
 
 def _ended(run: Started) -> tuple[int, bytes, str]:
@@ -267,7 +288,10 @@ _limit_lock = threading.Lock()
 @contextmanager
 def _files_allowed(count: int) -> Iterator[None]:
     """Let this process, and the program that it starts, have so many texts open, as far as the system does."""
-    needed, soft = FILES_EACH * count + OTHER_FILES, resource.getrlimit(resource.RLIMIT_NOFILE)[0]
+    needed, soft = (
+        FILES_EACH * count + OTHER_FILES,
+        resource.getrlimit(resource.RLIMIT_NOFILE)[0],
+    )
     if soft == resource.RLIM_INFINITY or needed <= soft:
         yield
         return
@@ -296,7 +320,9 @@ def _held(text: bytes) -> int:
     try:
         file = above_standard(_unnamed())
     except OSError as error:
-        raise WriteFailed(f"a text for rcell-join cannot be written: {error.strerror}") from None
+        raise WriteFailed(
+            f"a text for rcell-join cannot be written: {error.strerror}"
+        ) from None
     try:
         write_all(file, text)
     except BaseException as error:

@@ -15,7 +15,14 @@ from collections.abc import Callable, Iterator, Sequence
 from types import TracebackType
 from typing import Optional
 
-__all__ = ["WATCH_SECONDS", "Started", "above_standard", "close", "found_on_path", "pipe"]
+__all__ = [
+    "WATCH_SECONDS",
+    "Started",
+    "above_standard",
+    "close",
+    "found_on_path",
+    "pipe",
+]
 
 PIPE_BYTES = 1 << 18  # stays in the cache of a processor, as what is read at once
 READ_BYTES = 1 << 18
@@ -38,7 +45,9 @@ def _let_go() -> None:
     _lock.release()
 
 
-os.register_at_fork(before=_lock.acquire, after_in_parent=_lock.release, after_in_child=_let_go)
+os.register_at_fork(
+    before=_lock.acquire, after_in_parent=_lock.release, after_in_child=_let_go
+)
 
 
 def found_on_path(name: str) -> str | None:
@@ -132,7 +141,10 @@ class Started:
         return self
 
     def __exit__(
-        self, kind: type[BaseException] | None, _: BaseException | None, __: TracebackType | None
+        self,
+        kind: type[BaseException] | None,
+        _: BaseException | None,
+        __: TracebackType | None,
     ) -> None:
         if self._process.poll() is None:
             self._process.kill()

@@ -76,7 +76,10 @@ def candidates(name: str) -> Iterator[str]:
     """Yield where a program of this name is: among the scripts of this installation of Python, next to it, on the path."""
     folders = [
         sysconfig.get_path("scripts", scheme)
-        for scheme in (sysconfig.get_default_scheme(), sysconfig.get_preferred_scheme("user"))
+        for scheme in (
+            sysconfig.get_default_scheme(),
+            sysconfig.get_preferred_scheme("user"),
+        )
     ]
     for folder in (*folders, os.path.dirname(sys.executable or "")):
         path = os.path.join(folder, name)
@@ -119,7 +122,10 @@ def find_pipe(program: str | os.PathLike[str] | None = None) -> str:
 
 
 def find_beside(
-    name: str, variable: str, probe: Callable[[str], None], program: str | os.PathLike[str] | None
+    name: str,
+    variable: str,
+    probe: Callable[[str], None],
+    program: str | os.PathLike[str] | None,
 ) -> str:
     """Return the path of a program that belongs to rcell.
 
@@ -152,7 +158,9 @@ def known_after(probe: Callable[[str], None], path: str) -> str:
 _UNKNOWN = "{} is not a program {} of a version that this package knows"
 _NOT_STARTED = "the program {} cannot be executed: {}"
 _ENDLESS = "{} does not end within {} seconds: it is no program {}"
-_PROBE_GRID = b"north: 1\nsouth: 0\neast: 3\nwest: 0\nrows: 1\ncols: 3\nnull: ***\n007 *** 012 "
+_PROBE_GRID = (
+    b"north: 1\nsouth: 0\neast: 3\nwest: 0\nrows: 1\ncols: 3\nnull: ***\n007 *** 012 "
+)
 
 
 def _probe(path: str) -> None:
@@ -218,7 +226,10 @@ def execute(
     OutOfMemory, Killed, MissingProgram, WrongProgram
     """
     frames = _frames(script, maps, wanted, program)
-    return [_output(frame, at < len(frames) - len(wanted)) for at, frame in enumerate(frames)]
+    return [
+        _output(frame, at < len(frames) - len(wanted))
+        for at, frame in enumerate(frames)
+    ]
 
 
 def planned(
@@ -231,7 +242,10 @@ def planned(
 
 
 def printed(
-    script: str, maps: Mapping[str, Source], *, program: str | os.PathLike[str] | None = None
+    script: str,
+    maps: Mapping[str, Source],
+    *,
+    program: str | os.PathLike[str] | None = None,
 ) -> bytes:
     """Return what rcell prints for a script; arguments and errors are the same as in `execute`."""
     with program_errors(script, list(maps), path := find_pipe(program)):
@@ -244,11 +258,15 @@ def printed(
         )
 
 
-def grids(script: str, maps: Mapping[str, Source], wanted: Sequence[str]) -> list[ArrayMap]:
+def grids(
+    script: str, maps: Mapping[str, Source], wanted: Sequence[str]
+) -> list[ArrayMap]:
     """Return maps of a script that writes nothing, of the type in which the program sends them; all else is as in `execute`."""
     region = next(iter(maps.values())).region
     frames = (
-        frame for frame in _frames(script, maps, wanted) if isinstance(frame, protocol.GridFrame)
+        frame
+        for frame in _frames(script, maps, wanted)
+        if isinstance(frame, protocol.GridFrame)
     )
     return [
         ArrayMap(
@@ -304,7 +322,8 @@ def _sent(name: str, source: Source) -> protocol.Map:
     kind = source.dtype.kind + str(8 * source.dtype.itemsize)
     blocks = (
         protocol.Block(
-            block.cells.data, None if block.null is None else block.null.view(np.uint8).data
+            block.cells.data,
+            None if block.null is None else block.null.view(np.uint8).data,
         )
         for block in source.blocks()
     )

@@ -137,7 +137,9 @@ class Map:
             if len(cells) % row_bytes:
                 break
         if rows != self.rows:
-            raise ValueError(f"{rows} rows of the map {self.name}, which has {self.rows}")
+            raise ValueError(
+                f"{rows} rows of the map {self.name}, which has {self.rows}"
+            )
 
     def _head(self) -> bytes:
         flags = (self.nodata is not None) + 2 * self.is_masked
@@ -158,7 +160,10 @@ class Map:
         return (
             texts
             + numbers
-            + b"".join(struct.pack("<iH", category, len(text)) + text for category, text in labels)
+            + b"".join(
+                struct.pack("<iH", category, len(text)) + text
+                for category, text in labels
+            )
         )
 
 
@@ -166,7 +171,9 @@ def _short(text: str) -> bytes:
     return bytes([len(text)]) + text.encode("ascii")
 
 
-def _interleaved(cells: memoryview, mask: memoryview, row_bytes: int, cols: int) -> Iterator[bytes]:
+def _interleaved(
+    cells: memoryview, mask: memoryview, row_bytes: int, cols: int
+) -> Iterator[bytes]:
     """Yield rows, each followed by its mask."""
     rows = len(cells) // row_bytes
     if len(mask) != rows * cols:
@@ -175,13 +182,18 @@ def _interleaved(cells: memoryview, mask: memoryview, row_bytes: int, cols: int)
     for first in range(0, rows, step):
         places = range(first, min(first + step, rows))
         parts = (
-            (cells[row * row_bytes : (row + 1) * row_bytes], mask[row * cols : (row + 1) * cols])
+            (
+                cells[row * row_bytes : (row + 1) * row_bytes],
+                mask[row * cols : (row + 1) * cols],
+            )
             for row in places
         )
         yield b"".join(part for pair in parts for part in pair)
 
 
-def request(maps: Sequence[Map], script: bytes, magic: bytes = b"RCELLQ1\n") -> Iterator[Buffer]:
+def request(
+    maps: Sequence[Map], script: bytes, magic: bytes = b"RCELLQ1\n"
+) -> Iterator[Buffer]:
     """Yield the bytes of a request."""
     yield magic + struct.pack("<I", len(maps))
     for each in maps:
@@ -200,7 +212,9 @@ def script_bytes(script: str) -> bytes:
     try:
         return script.encode("utf-8", "surrogateescape")
     except UnicodeEncodeError as error:
-        before = script[: error.start].rpartition("\n")[2].encode("utf-8", "surrogateescape")
+        before = (
+            script[: error.start].rpartition("\n")[2].encode("utf-8", "surrogateescape")
+        )
         line, column = script.count("\n", 0, error.start) + 1, len(before) + 1
         raise Rejected(
             1,
@@ -214,9 +228,9 @@ def script_bytes(script: str) -> bytes:
 
 def _plan_request(names: Sequence[str], script: bytes) -> Iterator[Buffer]:
     """Yield the bytes of a request for a plan."""
-    yield b"RCELLP1\n" + struct.pack("<I", len(names)) + b"".join(map(_short, names)) + struct.pack(
-        "<I", len(script)
-    ) + script
+    yield b"RCELLP1\n" + struct.pack("<I", len(names)) + b"".join(
+        map(_short, names)
+    ) + struct.pack("<I", len(script)) + script
 
 
 # The response
@@ -419,14 +433,21 @@ class Rejected(Exception):
 
     def parts(self, program: str, script: str, names: Sequence[str]) -> dict[str, Any]:
         """Return the arguments of `Fault` for this error of a script over maps of some names; the program is asked for advice."""
-        parts = {"text": self.text, "source": "script", "line": self.line, "status": self.status}
+        parts = {
+            "text": self.text,
+            "source": "script",
+            "line": self.line,
+            "status": self.status,
+        }
         if self.source == "request" and self.map < len(names):
             return {**parts, "source": names[self.map]}
         lines = script.split("\n")
         if not 0 < self.line <= len(lines):
             return parts
         column = advice = None
-        with contextlib.suppress(Exception):  # an error of the advice must not hide the message
+        with contextlib.suppress(
+            Exception
+        ):  # an error of the advice must not hide the message
             mending: Any = importlib.import_module(".mending", __package__)
             column, advice = mending.advice(
                 program,
@@ -510,22 +531,40 @@ class _Response:
             entries=entries,
             counts=self.cells(entries, "Q") if counts else None,
             cells=self.cells(entries * width, "i"),
-            labels=[bytes(self.text()) for _ in range(entries * width)] if labels else None,
+            labels=[bytes(self.text()) for _ in range(entries * width)]
+            if labels
+            else None,
         )
 
     def grid(self) -> GridFrame:
-        line, null_text, name, edges = self.count(), bytes(self.text()), self.name(), self.names(4)
+        line, null_text, name, edges = (
+            self.count(),
+            bytes(self.text()),
+            self.name(),
+            self.names(4),
+        )
         rows, cols = self.numbers(2)
-        kind, letter = {1: ("u8", "B"), 6: ("i32", "i")}.get(self.take(1)[0]) or self.unknown()
+        kind, letter = {1: ("u8", "B"), 6: ("i32", "i")}.get(
+            self.take(1)[0]
+        ) or self.unknown()
         return GridFrame(
-            line, name, null_text, edges, rows, cols, kind, self.cells(rows * cols, letter)
+            line,
+            name,
+            null_text,
+            edges,
+            rows,
+            cols,
+            kind,
+            self.cells(rows * cols, letter),
         )
 
     def statement(self) -> Statement:
         line, (command, _) = self.count(), self.take(2)
         return Statement(
             line=line,
-            command=COMMANDS[command - 1] if 0 < command <= len(COMMANDS) else self.unknown(),
+            command=COMMANDS[command - 1]
+            if 0 < command <= len(COMMANDS)
+            else self.unknown(),
             made=self.name(),
             reads={self.name(): Margin(*self.numbers(4)) for _ in range(self.count())},
             needs={self.name(): self.need() for _ in range(self.count())},
@@ -543,7 +582,9 @@ class _Response:
     def call(self) -> Call:
         (first, last), [code] = self.numbers(2), self.take(1)
         return Call(
-            _CALLED[code - 1] if 0 < code <= len(_CALLED) else self.unknown(), first - 1, last
+            _CALLED[code - 1] if 0 < code <= len(_CALLED) else self.unknown(),
+            first - 1,
+            last,
         )
 
     def need(self) -> Optional[Margin]:
@@ -636,7 +677,9 @@ def text(
     watch: Optional[Callable[[], None]] = None,
 ) -> Iterator[bytes]:
     """Yield the text that rcell prints for a script over maps, piece by piece; it is complete if nothing is raised. The rest is as in `run`."""
-    with asked([program], request(maps, script, b"RCELLT1\n"), seconds, watch) as process:
+    with asked(
+        [program], request(maps, script, b"RCELLT1\n"), seconds, watch
+    ) as process:
         pieces, held = process.pieces(), b""
         for piece in pieces:
             held += piece
@@ -654,7 +697,11 @@ def text(
 
 
 _PROBE_SCRIPT = b"r.clump -d input=probe output=k\nr.stats -c input=probe,k after=7,1\nr.stats -1 input=k\nr.out.ascii input=k\n"
-_PROBE_CELLS = [struct.pack("<4i", 12, 2, NULL, NULL), struct.pack("<3i", 1, NULL, 2), b"\1\xff\2"]
+_PROBE_CELLS = [
+    struct.pack("<4i", 12, 2, NULL, NULL),
+    struct.pack("<3i", 1, NULL, 2),
+    b"\1\xff\2",
+]
 
 
 def is_known(program: str, seconds: float) -> bool:
@@ -665,7 +712,9 @@ def is_known(program: str, seconds: float) -> bool:
     NotStarted, TimeoutError
         As `run`.
     """
-    probe = Map("probe", ("1", "0", "3", "0"), 1, 3, "u8", [Block(b"\7\xff\14")], nodata=255)
+    probe = Map(
+        "probe", ("1", "0", "3", "0"), 1, 3, "u8", [Block(b"\7\xff\14")], nodata=255
+    )
     try:
         frames = run(program, [probe], _PROBE_SCRIPT, seconds=seconds)
     except (Rejected, Killed, NoAnswer):
@@ -758,7 +807,9 @@ def asked(
         yield process
 
 
-def _send(writer: int, pieces: Iterator[Buffer], watch: Optional[Callable[[], None]]) -> None:
+def _send(
+    writer: int, pieces: Iterator[Buffer], watch: Optional[Callable[[], None]]
+) -> None:
     """Write a request; stop if the program has stopped reading, for its response says why."""
     os.set_blocking(writer, watch is None)
     room = select.poll()

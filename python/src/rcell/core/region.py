@@ -53,7 +53,9 @@ def six_numbers(name: str, given: Any) -> Transform:
     try:
         a, b, c, d, e, f = (float(number) for number in tuple(given)[:6])
     except (TypeError, ValueError):
-        raise BadMap(name, f"a transform is an Affine or six numbers, not {given!r}") from None
+        raise BadMap(
+            name, f"a transform is an Affine or six numbers, not {given!r}"
+        ) from None
     return a, b, c, d, e, f
 
 
@@ -64,11 +66,13 @@ def check_upright(name: str, transform: Transform) -> None:
         raise BadMap(name, f"a transform with a number that is not finite: {transform}")
     if b or d:
         raise BadMap(
-            name, f"a rotated transform {transform}: warp the map to rows from west to east first"
+            name,
+            f"a rotated transform {transform}: warp the map to rows from west to east first",
         )
     if a <= 0 or e >= 0:
         raise BadMap(
-            name, f"a transform {transform} whose rows are not from north to south, west to east"
+            name,
+            f"a transform {transform} whose rows are not from north to south, west to east",
         )
 
 
@@ -123,7 +127,8 @@ class Region:
                 raise BadMap("region", f"an edge that is no number: {name} is {edge!r}")
             if not math.isfinite(edge) or abs(units_of(edge)) >= EDGE_LIMIT:
                 raise BadMap(
-                    "region", f"an edge of more than ten digits: {name} is {float(edge):g}"
+                    "region",
+                    f"an edge of more than ten digits: {name} is {float(edge):g}",
                 )
         self._check_sizes()
         north, south, east, west = self.units
@@ -136,7 +141,8 @@ class Region:
 
     def _check_sizes(self) -> None:
         if not (
-            isinstance(self.rows, numbers.Integral) and isinstance(self.cols, numbers.Integral)
+            isinstance(self.rows, numbers.Integral)
+            and isinstance(self.cols, numbers.Integral)
         ):
             raise BadMap(
                 "region",
@@ -217,7 +223,12 @@ class Region:
         >>> rcell.Region(1, 0, 2, 0, 1, 2).units
         (100000000, 0, 200000000, 0)
         """
-        return units_of(self.north), units_of(self.south), units_of(self.east), units_of(self.west)
+        return (
+            units_of(self.north),
+            units_of(self.south),
+            units_of(self.east),
+            units_of(self.west),
+        )
 
     @property
     def shape(self) -> tuple[int, int]:
@@ -241,7 +252,10 @@ class Region:
         >>> rcell.Region(300, 0, 100, 0, 3, 2).cell
         (100.0, 50.0)
         """
-        return float(self.north - self.south) / self.rows, float(self.east - self.west) / self.cols
+        return (
+            float(self.north - self.south) / self.rows,
+            float(self.east - self.west) / self.cols,
+        )
 
     @property
     def transform(self) -> Transform:
@@ -346,7 +360,11 @@ class Region:
         return differences_of(self.units + self.shape, other.units + other.shape)
 
     def __eq__(self, other: object) -> bool:
-        return isinstance(other, Region) and self.units == other.units and self.shape == other.shape
+        return (
+            isinstance(other, Region)
+            and self.units == other.units
+            and self.shape == other.shape
+        )
 
     def __hash__(self) -> int:
         return hash((self.units, self.shape))
@@ -379,7 +397,9 @@ class Shift:
     sizes: tuple[tuple[float, float], tuple[float, float]]
 
     @classmethod
-    def between(cls, other: Transform, grid: Transform, shape: tuple[int, int]) -> Shift:
+    def between(
+        cls, other: Transform, grid: Transform, shape: tuple[int, int]
+    ) -> Shift:
         """Return the position of a grid in another one.
 
         Examples
@@ -405,7 +425,9 @@ class Shift:
     def is_whole(self) -> bool:
         """Whether each cell coincides with a cell of the other grid."""
         return (
-            isinstance(self.rows, int) and isinstance(self.cols, int) and not self.has_other_cells
+            isinstance(self.rows, int)
+            and isinstance(self.cols, int)
+            and not self.has_other_cells
         )
 
     def centres(self) -> tuple[NDArray[np.float64], NDArray[np.float64]]:
@@ -416,14 +438,16 @@ class Shift:
                 self.cols + np.arange(self.shape[1]) + 0.5,
             )
         (rows, cols) = self.shape
-        return self.rows + self.height * (np.arange(rows) + 0.5), self.cols + self.width * (
-            np.arange(cols) + 0.5
-        )
+        return self.rows + self.height * (
+            np.arange(rows) + 0.5
+        ), self.cols + self.width * (np.arange(cols) + 0.5)
 
     def told(self, name: str) -> str:
         """Return the reason why whole cells cannot be taken."""
         if self.has_other_cells:
-            mine, its = (f"{width:.10g} x {height:.10g}" for height, width in self.sizes)
+            mine, its = (
+                f"{width:.10g} x {height:.10g}" for height, width in self.sizes
+            )
             return f"cells of {mine}, and those of `{name}` are {its}"
         return f"shifted by {self.rows:.10g} rows and {self.cols:.10g} columns, not by whole cells"
 

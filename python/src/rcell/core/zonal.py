@@ -87,10 +87,14 @@ def _title(quantile: Any) -> str:
     if not 0 <= number <= 1:
         raise Refused(f"quantiles= are from 0 to 1, not {quantile!r}", status=2)
     text = f"{percentage:f}"
-    return "q" + (text.rstrip("0").rstrip(".") if "." in text else text).replace(".", "_")
+    return "q" + (text.rstrip("0").rstrip(".") if "." in text else text).replace(
+        ".", "_"
+    )
 
 
-def _moments(values: Integers, cells: Integers, first: NDArray[np.intp]) -> list[Column]:
+def _moments(
+    values: Integers, cells: Integers, first: NDArray[np.intp]
+) -> list[Column]:
     """Return sums, means, extremes and variances, with integers until the final division."""
     if not first.size:
         sums = squares = count = least = most = np.empty(0, np.int64)
@@ -100,12 +104,17 @@ def _moments(values: Integers, cells: Integers, first: NDArray[np.intp]) -> list
         sums = np.add.reduceat(values * cells, first)
         # Squares of large values do not fit in 64 bits.
         largest = int(np.abs(values).max())
-        exact = values if largest**2 * int(count.max()) < 2**63 else values.astype(object)
+        exact = (
+            values
+            if largest**2 * int(count.max()) < 2**63
+            else values.astype(object)
+        )
         squares = np.add.reduceat(exact * exact * cells, first)
     whole = list(zip(count.tolist(), sums.tolist(), squares.tolist()))
     mean = np.array([total / n for n, total, _ in whole], np.float64)
     variance = np.array(
-        [(n * squared - total * total) / (n * n) for n, total, squared in whole], np.float64
+        [(n * squared - total * total) / (n * n) for n, total, squared in whole],
+        np.float64,
     )
     kept: list[tuple[str, Any, Any]] = [
         ("cells", "count", count),
@@ -121,7 +130,10 @@ def _moments(values: Integers, cells: Integers, first: NDArray[np.intp]) -> list
 
 
 def _quantiles(
-    values: Integers, cells: Integers, first: NDArray[np.intp], asked: list[tuple[str, float]]
+    values: Integers,
+    cells: Integers,
+    first: NDArray[np.intp],
+    asked: list[tuple[str, float]],
 ) -> list[Column]:
     """Return quantiles, interpolated between neighbouring cells of a zone like numpy's method `linear`."""
     if not first.size:
@@ -141,7 +153,9 @@ def _quantiles(
         step = (high - low).astype(np.float64)
         columns.append(
             Column(
-                title, "measure", np.where(part < 0.5, low + step * part, high - step * (1 - part))
+                title,
+                "measure",
+                np.where(part < 0.5, low + step * part, high - step * (1 - part)),
             )
         )
     return columns

@@ -37,7 +37,9 @@ def main(argv: Sequence[str]) -> int:
         return COMMAND_LINE if end.code else 0
     with warnings.catch_warnings():
         warnings.simplefilter("always", NeedlessTiles)
-        warnings.showwarning = lambda message, *_, **__: print(f"rcell: {message}", file=sys.stderr)
+        warnings.showwarning = lambda message, *_, **__: print(
+            f"rcell: {message}", file=sys.stderr
+        )
         try:
             with open_mosaic(
                 dict(given.maps),
@@ -65,9 +67,13 @@ def _parser() -> argparse.ArgumentParser:
         prog="python3 -m rcell tiles", description="Maps of any size, by tiles."
     )
     commands = parser.add_subparsers(required=True, metavar="COMMAND")
-    table = _command(commands, "table", _table, "the table of a script with one r.stats, as CSV")
+    table = _command(
+        commands, "table", _table, "the table of a script with one r.stats, as CSV"
+    )
     table.add_argument(
-        "script", metavar="SCRIPT", help="a file, a line `r.stats ..`, or - for standard input"
+        "script",
+        metavar="SCRIPT",
+        help="a file, a line `r.stats ..`, or - for standard input",
     )
     table.add_argument("--area", choices=["ha", "km2", "m2"], help="a column of areas")
     table.add_argument("--percent", action="store_true", help="a column of percentages")
@@ -80,7 +86,9 @@ def _parser() -> argparse.ArgumentParser:
         commands, "patches", _patches, "the patches of a map with their sizes, as CSV"
     )
     for command in (grid, clump):
-        command.add_argument("--out", required=True, metavar="PATH", help="the GeoTIFF to write")
+        command.add_argument(
+            "--out", required=True, metavar="PATH", help="the GeoTIFF to write"
+        )
     for command in (clump, patches):
         command.add_argument(
             "--connectivity",
@@ -91,7 +99,11 @@ def _parser() -> argparse.ArgumentParser:
         )
     for command in (table, grid):
         command.add_argument(
-            "maps", nargs="+", type=_named, metavar="NAME=PATH", help="maps, by their names"
+            "maps",
+            nargs="+",
+            type=_named,
+            metavar="NAME=PATH",
+            help="maps, by their names",
         )
     for command in (clump, patches):
         command.add_argument(
@@ -101,7 +113,9 @@ def _parser() -> argparse.ArgumentParser:
 
 
 def _command(commands: Any, name: str, act: Any, text: str) -> argparse.ArgumentParser:
-    command: argparse.ArgumentParser = commands.add_parser(name, help=text, description=text)
+    command: argparse.ArgumentParser = commands.add_parser(
+        name, help=text, description=text
+    )
     command.set_defaults(act=act)
     command.add_argument(
         "--size",

@@ -74,7 +74,9 @@ class Engine:
         """Return what the current workers have; there must be one."""
         return self.cluster.room()
 
-    def stream(self, title: str, work: Sequence[Any], room: Room) -> Iterator[tuple[int, Any]]:
+    def stream(
+        self, title: str, work: Sequence[Any], room: Room
+    ) -> Iterator[tuple[int, Any]]:
         """Yield the results of delayed work as they arrive, with their indices; only a few tiles are in progress at a time."""
         ahead = AHEAD * room.tasks
         waiting = iter(enumerate(work))
@@ -83,7 +85,10 @@ class Engine:
                 if len(running) <= ahead // 2:
                     batch = list(islice(waiting, ahead - len(running)))
                     running.update(
-                        zip(self._asked([one for _, one in batch]), (place for place, _ in batch))
+                        zip(
+                            self._asked([one for _, one in batch]),
+                            (place for place, _ in batch),
+                        )
                     )
                 if not running:
                     return
@@ -100,9 +105,7 @@ class Engine:
             while not self._ended([last]):
                 still = [leaf for leaf in open_leaves if not leaf.done()]
                 step(len(open_leaves) - len(still))
-                open_leaves = (
-                    still  # drop the other results, which only other parts of the root need
-                )
+                open_leaves = still  # drop the other results, which only other parts of the root need
             step(len(open_leaves))
             return last.result()
 
@@ -113,12 +116,21 @@ class Engine:
         """Return the futures that have ended, after at most LOOK_SECONDS; Dask itself would wait for workers for ever."""
         try:
             with self.cluster.client.as_current():
-                return set(distributed.wait(list(futures), LOOK_SECONDS, "FIRST_COMPLETED").done)
+                return set(
+                    distributed.wait(
+                        list(futures), LOOK_SECONDS, "FIRST_COMPLETED"
+                    ).done
+                )
         except distributed.TimeoutError:
             self._lone_since = (
-                None if self.cluster.has_workers() else self._lone_since or time.monotonic()
+                None
+                if self.cluster.has_workers()
+                else self._lone_since or time.monotonic()
             )
-            if self._lone_since is not None and time.monotonic() - self._lone_since >= LONE_SECONDS:
+            if (
+                self._lone_since is not None
+                and time.monotonic() - self._lone_since >= LONE_SECONDS
+            ):
                 raise _NoWorker(f"no worker for {LONE_SECONDS:g} seconds") from None
             return set()
 
@@ -132,7 +144,11 @@ class Engine:
         with _reported(self._progress, title, total) as step:
             try:
                 yield running, step
-            except (distributed.KilledWorker, distributed.CancelledError, CommClosedError) as fault:
+            except (
+                distributed.KilledWorker,
+                distributed.CancelledError,
+                CommClosedError,
+            ) as fault:
                 raise WorkerLost(f"{title}: {type(fault).__name__}: {fault}") from fault
             except _NoWorker as fault:
                 raise WorkerLost(f"{title}: {fault}") from None
@@ -142,7 +158,9 @@ class Engine:
 
 
 @contextmanager
-def _reported(progress: Progress, title: str, total: int) -> Iterator[Callable[[int], None]]:
+def _reported(
+    progress: Progress, title: str, total: int
+) -> Iterator[Callable[[int], None]]:
     """Yield a function to call for each finished tile, which shows the progress."""
     if progress is None or isinstance(progress, bool):
         with tqdm(

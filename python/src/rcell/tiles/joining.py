@@ -41,7 +41,12 @@ class Rectangle(NamedTuple):
     def region(self) -> Region:
         """The region of these cells in a map whose cells have sides of 1 and whose top left corner is at 0, 0."""
         return Region(
-            -self.top, -self.top - self.rows, self.left + self.cols, self.left, self.rows, self.cols
+            -self.top,
+            -self.top - self.rows,
+            self.left + self.cols,
+            self.left,
+            self.rows,
+            self.cols,
         )
 
 
@@ -68,7 +73,9 @@ class TileNumbers:
         if not self.clumps:
             return np.zeros(numbers.shape, dtype=np.int64)
         run = np.maximum(np.searchsorted(self.firsts, numbers, side="right") - 1, 0)
-        return np.where(numbers > 0, self.numbers[run] + (numbers - self.firsts[run]), 0)
+        return np.where(
+            numbers > 0, self.numbers[run] + (numbers - self.firsts[run]), 0
+        )
 
 
 @dataclass(frozen=True, eq=False)
@@ -104,11 +111,15 @@ def join(borders: Sequence[bytes], diagonal: bool = False) -> Joined:
     ends = np.searchsorted(runs[:, 0], np.arange(1, len(borders) + 2))
     tiles = [
         TileNumbers(
-            int(runs[end - 1, 2]) if end > begin else 0, runs[begin:end, 1], runs[begin:end, 3]
+            int(runs[end - 1, 2]) if end > begin else 0,
+            runs[begin:end, 1],
+            runs[begin:end, 3],
         )
         for begin, end in zip(ends, ends[1:])
     ]
-    return Joined(int((runs[:, 3] + runs[:, 2] - runs[:, 1]).max(initial=0)), tiles, text)
+    return Joined(
+        int((runs[:, 3] + runs[:, 2] - runs[:, 1]).max(initial=0)), tiles, text
+    )
 
 
 def sizes(
@@ -136,7 +147,9 @@ def sizes(
     return found, counts_of(joined_sizes(whole.numbering, tables), 1).cells
 
 
-def renumber(numbers: Integers, tile: TileNumbers, out: Integers | None = None) -> Integers:
+def renumber(
+    numbers: Integers, tile: TileNumbers, out: Integers | None = None
+) -> Integers:
     """Replace the clump numbers of a tile by the numbers of the full map.
 
     Parameters
@@ -169,5 +182,7 @@ def renumber(numbers: Integers, tile: TileNumbers, out: Integers | None = None) 
     given, taken = numbers.reshape(-1), out.reshape(-1)
     for start in range(0, given.size, PIECE):
         piece = given[start : start + PIECE]
-        taken[start : start + PIECE] = tile.looked_up(piece) if table is None else table[piece]
+        taken[start : start + PIECE] = (
+            tile.looked_up(piece) if table is None else table[piece]
+        )
     return out
