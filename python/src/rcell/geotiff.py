@@ -87,9 +87,7 @@ def write_geotiff(grid: Grid, path: str) -> None:
     )  # labels of rules may have bytes that are not text
     kept = compressed(grid.array)
     dtype, nodata = (
-        smallest_type(int(kept.min()), int(kept.max()))
-        if kept.size
-        else smallest_type(0, 0)
+        smallest_type(int(kept.min()), int(kept.max())) if kept.size else smallest_type(0, 0)
     )
     cells = filled(grid.array, nodata).astype(dtype)
     profile = profile_of(*grid.region.shape, grid.transform, grid.crs, dtype, nodata)

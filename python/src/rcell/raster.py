@@ -264,9 +264,7 @@ class Grid:
         places, colors, norm = self._colored(categories)
         region = self.region
         extent = (region.west, region.east, region.south, region.north)
-        image = ax.imshow(
-            places, cmap=colors, norm=norm, interpolation="nearest", extent=extent
-        )
+        image = ax.imshow(places, cmap=colors, norm=norm, interpolation="nearest", extent=extent)
         ax.set_title(self.name)
         if legend and 0 < len(categories) <= LEGEND_LIMIT:
             self._add_legend(ax, categories, colors)
@@ -280,9 +278,7 @@ class Grid:
         colors_of = need("matplotlib.colors", "plot", "to draw a map")
         if not 0 < len(categories) <= LEGEND_LIMIT:
             return self.array, "viridis", None
-        spare = (
-            color for name in _PALETTES for color in matplotlib.colormaps[name].colors
-        )
+        spare = (color for name in _PALETTES for color in matplotlib.colormaps[name].colors)
         palette = [self.colors.get(category) or next(spare) for category in categories]
         places = np.searchsorted(categories, filled(self.array, categories[0]))
         shown = masked(places, mask_of(self.array))
@@ -290,17 +286,13 @@ class Grid:
         return (
             shown,
             colors,
-            colors_of.BoundaryNorm(
-                np.arange(len(categories) + 1) - 0.5, len(categories)
-            ),
+            colors_of.BoundaryNorm(np.arange(len(categories) + 1) - 0.5, len(categories)),
         )
 
     def _add_legend(self, ax: Any, categories: list[int], colors: Any) -> None:
         patches = need("matplotlib.patches", "plot", "to draw a map")
         handles = [
-            patches.Patch(
-                color=colors(place), label=self.labels.get(category, str(category))
-            )
+            patches.Patch(color=colors(place), label=self.labels.get(category, str(category)))
             for place, category in enumerate(categories)
         ]
         ax.legend(

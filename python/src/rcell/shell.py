@@ -92,9 +92,7 @@ def _words() -> argparse.ArgumentParser:
         ):
             for option, settings in words_of.items():
                 parser.add_argument(option, **settings)
-    commands.add_parser(
-        "tiles", help="maps that are larger than the memory", add_help=False
-    )
+    commands.add_parser("tiles", help="maps that are larger than the memory", add_help=False)
     return words
 
 
@@ -115,9 +113,7 @@ def _pairs(words: Sequence[str]) -> dict[str, str]:
         if not (name and equals and path):
             raise Refused(f"{word}: write NAME=PATH", status=_COMMAND_LINE)
         if name in found:
-            raise Refused(
-                f"{word}: the name {name} is given twice", status=_COMMAND_LINE
-            )
+            raise Refused(f"{word}: the name {name} is given twice", status=_COMMAND_LINE)
         found[name] = path
     return found
 
@@ -215,9 +211,7 @@ def _align(words: argparse.Namespace) -> None:
         source, words.account = found.source("map"), found.aligned
         array = masked(
             source.array.astype(np.int32),
-            np.zeros(source.array.shape, np.bool_)
-            if source.null is None
-            else source.null,
+            np.zeros(source.array.shape, np.bool_) if source.null is None else source.null,
         )
         return [
             Grid(
@@ -258,9 +252,7 @@ def _run(words: argparse.Namespace) -> None:
         emit("\n".join(FORMATS[words.format or "csv"](table) for table in tables))
 
 
-def _write_maps(
-    targets: list[str], inputs: Iterable[str], make: Callable[[], list[Grid]]
-) -> None:
+def _write_maps(targets: list[str], inputs: Iterable[str], make: Callable[[], list[Grid]]) -> None:
     """Write maps to files, all or none; raise Refused if a file is an input or its format is not known."""
     for path in targets:
         if not path.lower().endswith((".tif", ".tiff", ".txt", *_PICTURES)):
@@ -286,9 +278,7 @@ def _write_map(grid: Grid, path: str, ending: str) -> None:
     elif ending in _PICTURES:
         need("matplotlib", "plot", "to draw a map").use("Agg")
         with told_of(path):
-            grid.plot().figure.savefig(
-                path, format=ending[1:], bbox_inches="tight", dpi=150
-            )
+            grid.plot().figure.savefig(path, format=ending[1:], bbox_inches="tight", dpi=150)
     else:
         write_geotiff(grid, path)
 
@@ -304,9 +294,7 @@ def _unit(words: argparse.Namespace) -> str | None:
 def _put(words: argparse.Namespace, table: Table) -> None:
     """Write a table to its file or to standard output."""
     form = words.format or (
-        _ENDINGS.get(os.path.splitext(words.out)[1].lower(), "csv")
-        if words.out
-        else "csv"
+        _ENDINGS.get(os.path.splitext(words.out)[1].lower(), "csv") if words.out else "csv"
     )
     text = FORMATS[form](table)
     if not len(table):
@@ -609,11 +597,7 @@ def _in_one_line(error: RcellError) -> str:
     place = f"{error.source}, line {error.line}" if error.line else error.source
     parts = [
         f"{place}: {error.text}",
-        *(
-            [f"`{lines_of_error(error.content, error.column)[0].strip()}`"]
-            if error.content
-            else []
-        ),
+        *([f"`{lines_of_error(error.content, error.column)[0].strip()}`"] if error.content else []),
         *([f"try: {error.advice}"] if error.advice else []),
     ]
     return "; ".join(line.strip() for part in parts for line in part.split("\n"))

@@ -93,11 +93,7 @@ class Accessor:
         0       1      1      1
         1       1      2      1
         """
-        return (
-            self._mosaic(crs, more)
-            .table(script, area, percent, compute=False)
-            .compute()
-        )
+        return self._mosaic(crs, more).table(script, area, percent, compute=False).compute()
 
     def grid(self, script: str, *, crs: Any = None, **more: Any) -> Any:
         """Return the map that an expression makes.
@@ -143,9 +139,7 @@ class Accessor:
         >>> xarray.DataArray(np.array([[1, 1, 2], [3, 2, 2]]), dims=("y", "x")).rcell.clump().values.tolist()
         [[1, 1, 2], [3, 2, 2]]
         """
-        return self._returned(
-            self._mosaic().clump(self._only(), connectivity=connectivity)
-        )
+        return self._returned(self._mosaic().clump(self._only(), connectivity=connectivity))
 
     def patches(self, connectivity: int = 4) -> Any:
         """Return the patches with their classes and their cells; `rcell.patches` knows more of maps that fit into memory.
@@ -169,9 +163,7 @@ class Accessor:
         1      2      2      3
         2      3      3      1
         """
-        return (
-            self._mosaic().patches(self._only(), connectivity, compute=False).compute()
-        )
+        return self._mosaic().patches(self._only(), connectivity, compute=False).compute()
 
     def _only(self) -> str:
         names = list(self._maps)
@@ -183,9 +175,7 @@ class Accessor:
         return names[0]
 
     def _mosaic(self, crs: Any = None, more: Any = None) -> Mosaic:
-        return Mosaic(
-            open_maps(named_once(self._maps, more or {}), crs), None, Engine(None)
-        )
+        return Mosaic(open_maps(named_once(self._maps, more or {}), crs), None, Engine(None))
 
     def _returned(self, lazy: Any) -> Any:
         return lazy if self._is_lazy else lazy.compute()

@@ -48,9 +48,7 @@ def cut(text):
 
 def unlinked(text):
     """Return a text of the table without its links."""
-    return re.sub(
-        r"\[([^]]*)\]\([^)]*\)", lambda found: "%s in docs/commands.md" % found[1], text
-    )
+    return re.sub(r"\[([^]]*)\]\([^)]*\)", lambda found: "%s in docs/commands.md" % found[1], text)
 
 
 class Messages:
@@ -81,26 +79,18 @@ class Messages:
 
     def said(self, part, text, name, values):
         """Return a cause and what to write instead, with the values filled in."""
-        cause = next(
-            cause for cause in self.causes(part, text) if cause["name"] == name
-        )
-        return filled(cause["cause"], values), unlinked(
-            filled(cause["instead"], values)
-        )
+        cause = next(cause for cause in self.causes(part, text) if cause["name"] == name)
+        return filled(cause["cause"], values), unlinked(filled(cause["instead"], values))
 
     def all_said(self, part, text):
         """Yield all causes of a message with their examples, for when the cause is not known."""
         for cause in self.causes(part, text):
             example = cause.get("example", {})
-            yield filled(cause["cause"], example), unlinked(
-                filled(cause["instead"], example)
-            )
+            yield filled(cause["cause"], example), unlinked(filled(cause["instead"], example))
 
     def warned(self, name, values):
         warning = self.warnings[name]
-        return filled(warning["cause"], values), filled(
-            warning.get("instead", ""), values
-        )
+        return filled(warning["cause"], values), filled(warning.get("instead", ""), values)
 
 
 # Names
@@ -110,9 +100,7 @@ def near_name(name, known, cutoff=0.6):
     """Return a list of the known name most similar to this one, or an empty list; of very many names, only some are compared."""
     names = list(known)
     names = (
-        names
-        if len(names) <= MOST_NAMES
-        else names[: MOST_NAMES // 2] + names[-MOST_NAMES // 2 :]
+        names if len(names) <= MOST_NAMES else names[: MOST_NAMES // 2] + names[-MOST_NAMES // 2 :]
     )
     import difflib  # only errors need it
 
@@ -143,11 +131,7 @@ def new_name(name, known):
 
 def printable(text):
     return "".join(
-        c
-        if c.isprintable()
-        else "\\x%02x" % ord(c)
-        if ord(c) < 256
-        else "\\u%04x" % ord(c)
+        c if c.isprintable() else "\\x%02x" % ord(c) if ord(c) < 256 else "\\u%04x" % ord(c)
         for c in text
     )
 
@@ -169,9 +153,7 @@ def marked(line, spans):
         text, marks = "..", "  "
     at = begin
     while at < end:
-        width = next(
-            (size for size in (1, 2, 3, 4) if is_character(raw[at : at + size])), 1
-        )
+        width = next((size for size in (1, 2, 3, 4) if is_character(raw[at : at + size])), 1)
         piece = shown(raw[at : at + width])
         is_in = any(start <= at < max(stop, start + 1) for start, stop in spans)
         text += piece

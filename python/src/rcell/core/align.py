@@ -83,17 +83,11 @@ def _cells_of(source: Source) -> tuple[Cells, Mask]:
     """Return the cells of a map, and which of them are null."""
     blocks = list(source.blocks())
     cells = np.concatenate([block.cells for block in blocks])
-    null = (
-        np.zeros(cells.shape, np.bool_)
-        if source.nodata is None
-        else cells == source.nodata
-    )
+    null = np.zeros(cells.shape, np.bool_) if source.nodata is None else cells == source.nodata
     if any(block.null is not None for block in blocks):
         null |= np.concatenate(
             [
-                np.zeros(block.cells.shape, np.bool_)
-                if block.null is None
-                else block.null
+                np.zeros(block.cells.shape, np.bool_) if block.null is None else block.null
                 for block in blocks
             ]
         )
@@ -106,12 +100,8 @@ def _shifted(
     """Return a map on the grid of another one: moved by whole rows and columns, or with the nearest cells."""
     shift = Shift.between(source.transform, like.transform, like.region.shape)
     if resample is None and not shift.is_whole:
-        raise OtherRegion(
-            "map", f'{shift.told("to")}: resample="nearest" takes the nearest cell'
-        )
-    places = [
-        np.floor(centres + _ON_BORDER).astype(np.int64) for centres in shift.centres()
-    ]
+        raise OtherRegion("map", f'{shift.told("to")}: resample="nearest" takes the nearest cell')
+    places = [np.floor(centres + _ON_BORDER).astype(np.int64) for centres in shift.centres()]
     inside = [(found >= 0) & (found < size) for found, size in zip(places, cells.shape)]
     (rows, cols), (to_rows, to_cols) = (
         [_run(found) for found in sides]
@@ -120,16 +110,13 @@ def _shifted(
             map(np.flatnonzero, inside),
         )
     )
-    made, is_null = np.zeros(like.region.shape, cells.dtype), np.ones(
-        like.region.shape, np.bool_
-    )
+    made, is_null = np.zeros(like.region.shape, cells.dtype), np.ones(like.region.shape, np.bool_)
     made[to_rows, to_cols], is_null[to_rows, to_cols] = (
         cells[rows][:, cols],
         null[rows][:, cols],
     )
     often = [
-        np.bincount(at[kept], minlength=size)
-        for at, kept, size in zip(places, inside, cells.shape)
+        np.bincount(at[kept], minlength=size) for at, kept, size in zip(places, inside, cells.shape)
     ]
     used, once = (
         np.count_nonzero(~null[often[0] >= 1 if many else often[0] == 1], axis=0)[
@@ -154,9 +141,7 @@ def _run(places: NDArray[np.int64]) -> Any:
     )
 
 
-def _projected(
-    source: Source, like: Source, cells: Cells, null: Mask
-) -> tuple[Any, Aligned]:
+def _projected(source: Source, like: Source, cells: Cells, null: Mask) -> tuple[Any, Aligned]:
     """Return a map on the grid of another one: with the nearest cells, in another reference system."""
     pyproj = need("pyproj", "gis", "to align maps of two reference systems")
     systems = (
@@ -165,9 +150,7 @@ def _projected(
     )
     change = pyproj.Transformer.from_crs(*systems, always_xy=True)
     width, _, west, _, height, north = source.transform
-    made, is_null = np.zeros(like.region.shape, cells.dtype), np.ones(
-        like.region.shape, np.bool_
-    )
+    made, is_null = np.zeros(like.region.shape, cells.dtype), np.ones(like.region.shape, np.bool_)
     often, step, (rows, cols) = (
         np.zeros(cells.size, np.int64),
         max(1, _BLOCK // like.region.cols),

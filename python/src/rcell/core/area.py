@@ -38,9 +38,7 @@ def row_areas(
     """
     axis, flattening = ellipsoid
     edges = north - height * np.arange(rows + 1)
-    upper, lower = np.minimum(edges[:-1], math.pi / 2), np.maximum(
-        edges[1:], -math.pi / 2
-    )
+    upper, lower = np.minimum(edges[:-1], math.pi / 2), np.maximum(edges[1:], -math.pi / 2)
     if rows and (lower.max() >= math.pi / 2 or upper.min() <= -math.pi / 2):
         raise Refused(f"rows beyond the pole: north is {math.degrees(north):g}", "map")
     # The difference of the sines, computed without subtracting them: that would lose digits for thin rows.
@@ -50,11 +48,7 @@ def row_areas(
         return np.asarray(width * axis**2 * risen)
     squared = flattening * (2 - flattening)
     e, s1, s2 = math.sqrt(squared), np.sin(upper), np.sin(lower)
-    middle = (
-        risen
-        * (1 + squared * s1 * s2)
-        / ((1 - squared * s1**2) * (1 - squared * s2**2))
-    )
+    middle = risen * (1 + squared * s1 * s2) / ((1 - squared * s1**2) * (1 - squared * s2**2))
     return np.asarray(
         width
         / 2
@@ -107,26 +101,18 @@ def measure_of(unit: str | None, source: Source, crs: Any) -> Measure:
     is_in_degrees = is_geographic(crs)
     if unit is None or (is_in_degrees and unit in UNITS_OF_AREA):
         by_row = None if unit is None else _by_row(source, crs)
-        return Measure(
-            unit, UNITS_OF_AREA.get(unit or "", 1.0), 1.0, by_row, is_in_degrees
-        )
-    square_metres, divisor = cell_area(
-        unit, (-source.transform[4], source.transform[0]), crs
-    )
+        return Measure(unit, UNITS_OF_AREA.get(unit or "", 1.0), 1.0, by_row, is_in_degrees)
+    square_metres, divisor = cell_area(unit, (-source.transform[4], source.transform[0]), crs)
     return Measure(unit, divisor, square_metres, None, False)
 
 
 def _by_row(source: Source, crs: Any) -> NDArray[np.float64]:
     """Return the area of a cell of each row, on the ellipsoid of a reference system."""
-    system = need(
-        "pyproj", "gis", "to compute areas of a map in degrees"
-    ).CRS.from_user_input(_plain(crs))
-    ellipsoid = system.get_geod()
-    radians = (
-        system.axis_info[0].unit_conversion_factor
-        if system.axis_info
-        else math.radians(1)
+    system = need("pyproj", "gis", "to compute areas of a map in degrees").CRS.from_user_input(
+        _plain(crs)
     )
+    ellipsoid = system.get_geod()
+    radians = system.axis_info[0].unit_conversion_factor if system.axis_info else math.radians(1)
     width, _, _, _, height, north = source.transform
     return row_areas(
         north * radians,

@@ -62,9 +62,7 @@ def labels_of_rows(rows: Iterable[Sequence[Any]]) -> dict[int, str]:
     {1: 'wood'}
     """
     found = ((category_of(number), label) for number, label in rows)
-    return {
-        category: label for category, label in found if category is not None and label
-    }
+    return {category: label for category, label in found if category is not None and label}
 
 
 def category_of(number: Any) -> Optional[int]:
@@ -75,9 +73,7 @@ def category_of(number: Any) -> Optional[int]:
     return None
 
 
-def columns_of(
-    usages: Sequence[int], titles: Sequence[str]
-) -> tuple[Optional[int], Optional[int]]:
+def columns_of(usages: Sequence[int], titles: Sequence[str]) -> tuple[Optional[int], Optional[int]]:
     """Return the columns of an attribute table with the values and labels: by their usage, or else by common titles."""
 
     def first(wanted: tuple[int, ...], usual: tuple[str, ...]) -> Optional[int]:

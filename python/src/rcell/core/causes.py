@@ -27,9 +27,7 @@ OPTIONS = (
     "null_value=",
     "after=",
 )
-FUNCTIONS = (
-    "if isnull null abs min max mode row col nrows ncols eval nmin nmax nmode".split()
-)
+FUNCTIONS = "if isnull null abs min max mode row col nrows ncols eval nmin nmax nmode".split()
 MOST_MAPS = 16  # that are tried
 ARGUMENTS = {
     (0,): "no argument",
@@ -124,9 +122,7 @@ ABSENT_FUNCTIONS = {
     "area": "the size of a cell, as a number",
     "ewres": "the size of a cell, as a number",
     "nsres": "the size of a cell, as a number",
-    **dict.fromkeys(
-        "exp log sqrt sin cos tan asin acos atan ceil floor".split(), DECIMALS
-    ),
+    **dict.fromkeys("exp log sqrt sin cos tan asin acos atan ceil floor".split(), DECIMALS),
 }
 OPERATORS = {
     "and": "&&",
@@ -231,9 +227,7 @@ def keys(at):
 
 
 def known_flags(at):
-    return [
-        "".join(letter for letter in at["letters"] if "-" + letter in options(at, True))
-    ]
+    return ["".join(letter for letter in at["letters"] if "-" + letter in options(at, True))]
 
 
 def flags(at):
@@ -258,8 +252,7 @@ def function(at):
 def wanted(at):
     """Return how many arguments a function takes, by the numbers of them that the program accepts."""
     calls = {
-        count: "r.mapcalc x = %s(%s)" % (at["mark"], ",".join("1" * count))
-        for count in range(5)
+        count: "r.mapcalc x = %s(%s)" % (at["mark"], ",".join("1" * count)) for count in range(5)
     }
     return ARGUMENTS.get(
         tuple(count for count, call in calls.items() if not at["judge"].answer(call)),
@@ -287,9 +280,7 @@ def whole(at):
     value, sign = decimal(at), at["sign"].strip()
     is_right = value and (value.denominator == 1 or sign[:1] in ("<", ">") and sign)
     return (
-        ["%d" % (value // 1 + (value.denominator > 1 and sign in ("<", ">=")))]
-        if is_right
-        else []
+        ["%d" % (value // 1 + (value.denominator > 1 and sign in ("<", ">=")))] if is_right else []
     )
 
 
@@ -304,11 +295,7 @@ def times(at):
     if not value or max(up, down) > 10000:
         return []
     return [
-        "* %d / %d" % (up, down)
-        if up > 1 < down
-        else "* %d" % up
-        if down == 1
-        else "/ %d" % down
+        "* %d / %d" % (up, down) if up > 1 < down else "* %d" % up if down == 1 else "/ %d" % down
     ]
 
 
@@ -335,14 +322,10 @@ COMMA = Cause(
     ("{new}",),
     replaced((r"[ \t]+", ""), ("=,+", "="), (",+(?=,|$)", "")),
 )
-NEXT_COMMAND = Cause(
-    "next command", r"^(?P<mark>[ \t]*[rg]\.[A-Za-z].*)", ("end\n{mark}",)
-)
+NEXT_COMMAND = Cause("next command", r"^(?P<mark>[ \t]*[rg]\.[A-Za-z].*)", ("end\n{mark}",))
 POWER = r"(?P<name>[A-Za-z_][\w.]*)[ \t]*(?P<mark>\^)[ \t]*%d(?![\w.])"
 DASHED = r"(?<![\w.])[A-Za-z_][\w.]*(?:-[\w.]+)+(?![\w.(])"
-OPTION = Cause(
-    "option", r"(?<!\S)--(?:o|overwrite|q|quiet|qq|v|verbose|ui|help)(?!\S)", ("",)
-)
+OPTION = Cause("option", r"(?<!\S)--(?:o|overwrite|q|quiet|qq|v|verbose|ui|help)(?!\S)", ("",))
 UNDERSCORED, READ = replaced((r"[ \t]*-[ \t]*", "_")), replaced(("-", " - "))
 LATER = {"later": lambda at: at["judge"].later(at["mark"], at["block"])}
 NEAR = {"near": lambda at: nearest(at["mark"], at["judge"].maps())}
@@ -413,16 +396,12 @@ CAUSES = {
             known_flags,
             {
                 "flag": lambda at: [
-                    "-" + it
-                    for it in at["letters"]
-                    if "-" + it not in options(at, True)
+                    "-" + it for it in at["letters"] if "-" + it not in options(at, True)
                 ],
                 "flags": flags,
             },
         ),
-        Cause(
-            "rules", r"(?<!\S)rules=(?P<file>\S*)", ("",), values={"statement": LINE}
-        ),
+        Cause("rules", r"(?<!\S)rules=(?P<file>\S*)", ("",), values={"statement": LINE}),
         Cause("flags key", r"(?<!\S)flags?=(?P<letters>\w+)", ("-{letters}",)),
         Cause(
             "key twice",
@@ -464,9 +443,7 @@ CAUSES = {
         ),
         Cause("separator", r"(?<!\S)separator=\S*", ("separator=tab",), shown=False),
         Cause("null text", r"(?<!\S)null_value=(?!\S)", ("",)),
-        Cause(
-            "null colon", r"(?<!\S)null_value=\S*:\S*", ("null_value=NA",), shown=False
-        ),
+        Cause("null colon", r"(?<!\S)null_value=\S*:\S*", ("null_value=NA",), shown=False),
         Cause("null text", r"(?<!\S)null_value=\S*", ("null_value=NA",), shown=False),
         Cause("many maps", r"(?<!\S)input=[^\s,]+,\S*", ("input={map}",), shown=False),
         Cause("no key", r"(?<!\S)(?P<word>[^\s=-][^\s=]*)(?!\S)", ("input={word}",)),
@@ -507,8 +484,7 @@ CAUSES = {
             shown=False,
             values={
                 "command": lambda at: at["command"]
-                if at["judge"].answer(at["command"] + " input={map},{map}")
-                == "bad name"
+                if at["judge"].answer(at["command"] + " input={map},{map}") == "bad name"
                 else None
             },
         ),
@@ -526,9 +502,7 @@ CAUSES = {
             },
             False,
         ),
-        Cause(
-            "missing option", END, values={"key": "input", "fixed": "{line} input=NAME"}
-        ),
+        Cause("missing option", END, values={"key": "input", "fixed": "{line} input=NAME"}),
     ],
     ("script", "unknown map"): [
         Cause("made later", r"[^,=\s]+", values=LATER),
@@ -542,9 +516,7 @@ CAUSES = {
         Cause("unknown map", r"[^,=\s]+", values=NEAR),
     ],
     ("script", "map exists"): [
-        Cause(
-            "map exists", r"output=(?P<made>\S+)", ("output={new}",), free_name, EXISTS
-        ),
+        Cause("map exists", r"output=(?P<made>\S+)", ("output={new}",), free_name, EXISTS),
         Cause(
             "map exists",
             BEGIN + r")(?P<mark>(?P<made>[\w.]+))",
@@ -556,9 +528,7 @@ CAUSES = {
     ],
     ("script", "bad combination"): [
         CONTINUED,
-        Cause(
-            "bad combination", r"after=(?:(?:\*|[+-]?\d{1,9}),)*(?P<part>[^,\s]*)\S*"
-        ),
+        Cause("bad combination", r"after=(?:(?:\*|[+-]?\d{1,9}),)*(?P<part>[^,\s]*)\S*"),
     ],
     ("script", "combination of another width"): [
         Cause(
@@ -711,9 +681,7 @@ CAUSES = {
         ),
         Cause(
             "fraction",
-            values={
-                "fixed": "whole numbers of smaller units, as metres in place of kilometres"
-            },
+            values={"fixed": "whole numbers of smaller units, as metres in place of kilometres"},
         ),
     ],
     ("expression", "expression too long"): [Cause("tokens", r"[\w.]+|\S")],
@@ -746,8 +714,7 @@ CAUSES = {
         ),
         Cause(
             "dash in name",
-            BEGIN
-            + r")(?P<made>[\w.]+[ \t]*(?P<mark>-)[\w. \t-]*[\w.])(?P<equals>[ \t]*=)",
+            BEGIN + r")(?P<made>[\w.]+[ \t]*(?P<mark>-)[\w. \t-]*[\w.])(?P<equals>[ \t]*=)",
             ("{begin}{new}{equals}",),
             lambda at: UNDERSCORED({"mark": at["made"]}),
             {"fixed": "{new} = .."},
@@ -769,9 +736,7 @@ CAUSES = {
         ),
         Cause("shift", r"<<|>>>?"),
         Cause("power", r"\*\*"),
-        Cause(
-            "one offset", r"(?P<offset>[\w.]+\[[^\[\]]*)(?P<mark>\])", ("{offset},0]",)
-        ),
+        Cause("one offset", r"(?P<offset>[\w.]+\[[^\[\]]*)(?P<mark>\])", ("{offset},0]",)),
         Cause(
             "parenthesis open",
             OPEN,
@@ -785,9 +750,7 @@ CAUSES = {
     ("expression", "unknown function"): [
         Cause("case", write=("{new}",), new=lower),
         Cause("needless", r"(?i)(?:int|float|double)(?=[ \t]*\()", ("",)),
-        Cause(
-            "absent function", r"(?i)not(?=[ \t]*\()", ("!",), values={"fixed": "`!`"}
-        ),
+        Cause("absent function", r"(?i)not(?=[ \t]*\()", ("!",), values={"fixed": "`!`"}),
         Cause("absent function", values={"fixed": of(ABSENT_FUNCTIONS)}),
         Cause(
             "unknown function",
@@ -811,9 +774,7 @@ CAUSES = {
             (TWO_IFS,),
             values={"wanted": wanted, "fixed": "`%s`" % TWO_IFS},
         ),
-        Cause(
-            "count", values={"wanted": wanted, "fixed": lambda at: "pass " + wanted(at)}
-        ),
+        Cause("count", values={"wanted": wanted, "fixed": lambda at: "pass " + wanted(at)}),
     ],
     ("expression", "offset out of range"): [Cause("offset")],
     ("expression", "unknown map"): [

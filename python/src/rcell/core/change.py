@@ -119,9 +119,7 @@ class _Pairs:
         columns = self._years_of([pair.cells.size for pair in self.pairs])
         for place, name in enumerate(("from", "to")):
             texts = [
-                self._texts(
-                    f"{name}_label", pair.classes[:, place], self.labels[at + place]
-                )
+                self._texts(f"{name}_label", pair.classes[:, place], self.labels[at + place])
                 for at, pair in enumerate(self.pairs)
             ]
             columns += [Column(name, "class", classes[:, place]), *_joined(texts)]
@@ -130,12 +128,8 @@ class _Pairs:
             if self._measure.unit is None
             else np.concatenate([pair.measured() for pair in self.pairs])
         )
-        together = Counts(
-            classes, np.concatenate([pair.cells for pair in self.pairs]), area
-        )
-        percent = [
-            pair.cells * 100.0 / max(int(pair.cells.sum()), 1) for pair in self.pairs
-        ]
+        together = Counts(classes, np.concatenate([pair.cells for pair in self.pairs]), area)
+        percent = [pair.cells * 100.0 / max(int(pair.cells.sum()), 1) for pair in self.pairs]
         return Table(columns + together.columns(self._measure, np.concatenate(percent)))
 
     def matrix(self) -> tuple[Table, list[int]]:
@@ -162,8 +156,7 @@ class _Pairs:
             {code: text for labels in self.labels[1:] for code, text in labels.items()},
         )
         rest = [
-            Column(title, kind, values)
-            for title, values in zip(titles, np.concatenate(blocks).T)
+            Column(title, kind, values) for title, values in zip(titles, np.concatenate(blocks).T)
         ]
         return (
             Table([*self._years_of([before.size for before in first]), head, *rest]),
@@ -173,16 +166,13 @@ class _Pairs:
     def summary(self) -> Table:
         """Return a table with a row for each class."""
         summed = [
-            _summed(pair, pair.measured() if self._by_row else pair.cells)
-            for pair in self.pairs
+            _summed(pair, pair.measured() if self._by_row else pair.cells) for pair in self.pairs
         ]
         texts = [
             self._texts("label", found, {**self.labels[at], **self.labels[at + 1]})
             for at, (found, _) in enumerate(summed)
         ]
-        classes = Column(
-            "class", "class", np.concatenate([found for found, _ in summed])
-        )
+        classes = Column("class", "class", np.concatenate([found for found, _ in summed]))
         values = np.concatenate([numbers for _, numbers in summed], axis=1)
         kind: Any = "count" if self._measure.unit is None else "measure"
         if self._measure.unit is not None and not self._by_row:
@@ -210,16 +200,10 @@ class _Pairs:
             Column("year_to", "class", np.repeat(years[1:], often)),
         ]
 
-    def _texts(
-        self, title: str, classes: Numbers, labels: Mapping[int, str]
-    ) -> list[Column]:
+    def _texts(self, title: str, classes: Numbers, labels: Mapping[int, str]) -> list[Column]:
         """Return the column of labels of a pair of years, if any map has labels."""
-        made = label_columns(
-            title, classes, labels, self._is_legend, title.removesuffix("_label")
-        )
-        return made or (
-            [Column(title, "label", [""] * classes.size)] if any(self.labels) else []
-        )
+        made = label_columns(title, classes, labels, self._is_legend, title.removesuffix("_label"))
+        return made or ([Column(title, "label", [""] * classes.size)] if any(self.labels) else [])
 
 
 def _names(classes: Numbers, labels: Mapping[int, str]) -> list[str]:
@@ -315,10 +299,7 @@ def change(
     maps = Maps(given, crs)
     measure = maps.measure(area)
     names = list(maps.sources)
-    own = [
-        maps.sources[name].labels if labels is None else labels_of(labels)
-        for name in names
-    ]
+    own = [maps.sources[name].labels if labels is None else labels_of(labels) for name in names]
     shared: Mapping[int, str] = next(filter(None, own), {})
     own = [found or shared for found in own]
     pairs = _Pairs(

@@ -92,14 +92,8 @@ class Column:
     def series(self, pandas: Any) -> Any:
         """Return the values for a column of a DataFrame."""
         if self.kind == "class":
-            return pandas.arrays.IntegerArray(
-                self.values.astype(np.int64), self.values == NULL
-            )
-        return (
-            pandas.array(self.values, dtype="string")
-            if self.kind == "label"
-            else self.values
-        )
+            return pandas.arrays.IntegerArray(self.values.astype(np.int64), self.values == NULL)
+        return pandas.array(self.values, dtype="string") if self.kind == "label" else self.values
 
 
 class Table:
@@ -174,9 +168,7 @@ class Table:
         """
         import pandas  # imported here, since it takes longer to load than everything else
 
-        return pandas.DataFrame(
-            {column.name: column.series(pandas) for column in self._all()}
-        )
+        return pandas.DataFrame({column.name: column.series(pandas) for column in self._all()})
 
     def csv(self) -> str:
         """Return the table as comma-separated values with a header; missing values are empty.
@@ -216,8 +208,7 @@ class Table:
          {"lc": 2, "cells": 1}]
         """
         objects = (
-            json.dumps(dict(zip(self.columns, row)), ensure_ascii=False)
-            for row in self.rows
+            json.dumps(dict(zip(self.columns, row)), ensure_ascii=False) for row in self.rows
         )
         return "[" + ",\n ".join(objects) + "]\n"
 
@@ -241,10 +232,7 @@ class Table:
         sides = ["---" if column.kind == "label" else "---:" for column in self._all()]
         lines = [
             " | ".join(map(_escaped, self.columns)),
-            *(
-                " | ".join(_escaped(_plain(value)) for value in row)
-                for row in self.rows
-            ),
+            *(" | ".join(_escaped(_plain(value)) for value in row) for row in self.rows),
         ]
         head, *rest = (f"| {line} |" for line in lines)
         return "\n".join([head, f"|{'|'.join(sides)}|", *rest]) + "\n"
@@ -259,9 +247,7 @@ class Table:
             "  ".join(text.rjust(width) for text, width in zip(row, widths))
             for row in [list(self.columns), *shown]
         ]
-        return "\n".join(
-            lines + ([f"({len(self):,} rows)"] if len(self) > SHOWN_ROWS else [])
-        )
+        return "\n".join(lines + ([f"({len(self):,} rows)"] if len(self) > SHOWN_ROWS else []))
 
     def _repr_html_(self) -> str:
         return str(self.frame()._repr_html_())
@@ -328,14 +314,8 @@ class StatsTable(Table):
                     )
                 )
         found += [] if self.cells is None else [Column("cells", "count", self.cells)]
-        found += (
-            []
-            if self.area is None
-            else [Column(f"area_{self.unit}", "measure", self.area)]
-        )
-        found += (
-            [] if self.percent is None else [Column("percent", "measure", self.percent)]
-        )
+        found += [] if self.area is None else [Column(f"area_{self.unit}", "measure", self.area)]
+        found += [] if self.percent is None else [Column("percent", "measure", self.percent)]
         return _named_once(found)
 
     def _all(self) -> list[Column]:
@@ -372,9 +352,7 @@ class StatsTable(Table):
         [(1, 2, 2.0), (2, 1, 1.0)]
         """
         square_metres, divisor = cell_area(unit, self.cell, self.crs)
-        return replace(
-            self, unit=unit, area=self._counted("area=") * square_metres / divisor
-        )
+        return replace(self, unit=unit, area=self._counted("area=") * square_metres / divisor)
 
     def with_percent(self) -> StatsTable:
         """Return the table with a column of percentages of all its cells.
@@ -395,9 +373,7 @@ class StatsTable(Table):
 
     def _counted(self, asked: str) -> NDArray[np.int64]:
         if self.cells is None:
-            raise Refused(
-                f"{asked} needs a table with cells: r.stats -c", "script", self.line
-            )
+            raise Refused(f"{asked} needs a table with cells: r.stats -c", "script", self.line)
         return self.cells
 
     def pivot(self) -> Pivot:
@@ -449,9 +425,7 @@ class StatsTable(Table):
         categories, at = np.unique(ordered, return_inverse=True)
         return np.where(categories == np.iinfo(np.int64).max, NULL, categories), at
 
-    def _named(
-        self, categories: NDArray[np.int64], place: int
-    ) -> list[int | str | None]:
+    def _named(self, categories: NDArray[np.int64], place: int) -> list[int | str | None]:
         """Return the labels of categories; a label that occurs twice, or reads as null, is followed by its category."""
         labels = (self.labels or {}).get(self.maps[place], {})
         names = [
@@ -460,9 +434,7 @@ class StatsTable(Table):
         ]
         often = Counter("null" if name is None else str(name) for name in names)
         return [
-            f"{name} ({category})"
-            if isinstance(name, str) and often[name] > 1
-            else name
+            f"{name} ({category})" if isinstance(name, str) and often[name] > 1 else name
             for name, category in zip(names, categories.tolist())
         ]
 
@@ -489,8 +461,7 @@ class StatsTable(Table):
 
         matrix = self.pivot()
         first, second = (
-            pandas.Index(_axis(names), name=name)
-            for names, name in zip(matrix[:2], self.maps)
+            pandas.Index(_axis(names), name=name) for names, name in zip(matrix[:2], self.maps)
         )
         return pandas.DataFrame(matrix.values, first, second)
 
@@ -534,13 +505,7 @@ def shortest(value: Value) -> str:
 
 
 def _plain(value: Value) -> str:
-    return (
-        ""
-        if value is None
-        else f"{value:.10g}"
-        if isinstance(value, float)
-        else str(value)
-    )
+    return "" if value is None else f"{value:.10g}" if isinstance(value, float) else str(value)
 
 
 def _escaped(text: str) -> str:

@@ -78,9 +78,7 @@ def composition(
     columns = maps.columns("class", found.classes[:, -1], "map", labels, "label")
     if zones is not None:
         columns[:0] = maps.columns("zone", found.classes[:, 0], "zones", zone_labels)
-    return Table(
-        columns + found.columns(measure, _percent(found, found.classes[:, :-1]))
-    )
+    return Table(columns + found.columns(measure, _percent(found, found.classes[:, :-1])))
 
 
 def _percent(found: Counts, groups: NDArray[np.int64]) -> NDArray[np.float64]:
@@ -154,9 +152,5 @@ def cross(
     found = crossed.counts([list(given)], measure, null)[0]
     columns: list[Column] = []
     for place, name in enumerate(given):
-        columns += crossed.columns(
-            name, found.classes[:, place], name, legends.get(name)
-        )
-    return Table(
-        columns + found.columns(measure, _percent(found, found.classes[:, :0]))
-    )
+        columns += crossed.columns(name, found.classes[:, place], name, legends.get(name))
+    return Table(columns + found.columns(measure, _percent(found, found.classes[:, :0])))

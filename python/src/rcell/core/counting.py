@@ -60,11 +60,7 @@ class Counts:
 
     def columns(self, measure: Measure, percent: NDArray[np.float64]) -> list[Column]:
         """Return the last columns of a table: cells, area and percent."""
-        areas = (
-            []
-            if self.area is None
-            else [Column(f"area_{measure.unit}", "measure", self.area)]
-        )
+        areas = [] if self.area is None else [Column(f"area_{measure.unit}", "measure", self.area)]
         return [
             Column("cells", "count", self.cells),
             *areas,
@@ -118,9 +114,7 @@ class Maps:
         self, tables: Sequence[Sequence[str]], measure: Measure, null: bool = False
     ) -> list[Counts]:
         """Return how often classes of some maps occur together, for each list of maps."""
-        flags, rows = "-c" if null else "-c -n", [] if measure.by_row is None else [
-            "row"
-        ]
+        flags, rows = "-c" if null else "-c -n", [] if measure.by_row is None else ["row"]
         lines = ["r.mapcalc row = row()"] if rows else []
         for names in tables:
             if len(names) + len(rows) > MOST_MAPS:
@@ -143,9 +137,7 @@ class Maps:
         labels = self.sources[name].labels if legend is None else labels_of(legend)
         return [
             Column(title, "class", classes),
-            *label_columns(
-                label.format(title), classes, labels, legend is not None, name
-            ),
+            *label_columns(label.format(title), classes, labels, legend is not None, name),
         ]
 
 
@@ -153,14 +145,10 @@ def counts_of(values: Integers, measure: Measure) -> Counts:
     """Return the entries of a table; of one that begins with rows, the sums over the rows."""
     if measure.by_row is None:
         cells = values[:, -1].copy()
-        return Counts(
-            values[:, :-1], cells, None if measure.unit is None else measure.area(cells)
-        )
+        return Counts(values[:, :-1], cells, None if measure.unit is None else measure.area(cells))
     classes, cells = values[:, 1:-1], values[:, -1]
     ordered = np.where(classes == NULL, np.iinfo(np.int64).max, classes)
-    order = np.lexsort(
-        ordered.T[::-1]
-    )  # stable: the rows of each combination stay in order
+    order = np.lexsort(ordered.T[::-1])  # stable: the rows of each combination stay in order
     first = places_of(ordered[order])
     if not first.size:
         return Counts(classes, cells, np.empty(0))
@@ -187,11 +175,7 @@ def label_columns(
     """Return the column of the labels of classes, if there are labels; warn if a legend lacks some."""
     if not labels:
         return []
-    lacking = (
-        sorted(set(np.unique(classes).tolist()) - set(labels) - {NULL})
-        if is_legend
-        else []
-    )
+    lacking = sorted(set(np.unique(classes).tolist()) - set(labels) - {NULL}) if is_legend else []
     if lacking:
         more = f", and {len(lacking) - _SHOWN} more" if len(lacking) > _SHOWN else ""
         warnings.warn(

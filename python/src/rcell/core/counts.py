@@ -36,16 +36,11 @@ class TooManyCells(RcellError, ArithmeticError):
     def of(cls, combination: Integers) -> TooManyCells:
         """Return the error of a combination with `NULL` for null."""
         return cls(
-            tuple(
-                None if category == NULL else category
-                for category in combination.tolist()
-            )
+            tuple(None if category == NULL else category for category in combination.tolist())
         )
 
     def __str__(self) -> str:
-        shown = " ".join(
-            "*" if part is None else str(part) for part in self.combination
-        )
+        shown = " ".join("*" if part is None else str(part) for part in self.combination)
         return f"more than {MOST_CELLS} cells of the combination {shown}"
 
 

@@ -78,9 +78,7 @@ def _checked(name: str, crs: Any) -> Any:
         ) from None
 
 
-def common_crs(
-    maps: Mapping[str, Any], stated: Any = None, warp: str = "gdalwarp"
-) -> Any:
+def common_crs(maps: Mapping[str, Any], stated: Any = None, warp: str = "gdalwarp") -> Any:
     """Return the reference system that maps have in common.
 
     Parameters
@@ -189,9 +187,7 @@ def cell_area(unit: str, cell: tuple[float, float], crs: Any) -> tuple[float, fl
     (625.0, 10000.0)
     """
     if unit not in UNITS_OF_AREA:
-        raise Refused(
-            f"area= is one of {', '.join(UNITS_OF_AREA)}, and not {unit!r}", status=2
-        )
+        raise Refused(f"area= is one of {', '.join(UNITS_OF_AREA)}, and not {unit!r}", status=2)
     if is_geographic(crs):
         raise Refused(_BY_ROWS)
     return cell[0] * cell[1] * metres_of_unit(crs) ** 2, UNITS_OF_AREA[unit]

@@ -247,9 +247,7 @@ class Killed(RcellError):
     def __str__(self) -> str:
         from signal import Signals
 
-        name = next(
-            (f" ({known.name})" for known in Signals if known == self.signal), ""
-        )
+        name = next((f" ({known.name})" for known in Signals if known == self.signal), "")
         return f"the program was killed by signal {self.signal}{name}: {_CAUSES.get(self.signal, 'someone ended it')}"
 
 

@@ -58,9 +58,7 @@ def end_on_signals() -> None:
 
     for name in ("SIGHUP", "SIGQUIT", "SIGTERM", "SIGXCPU"):
         number = getattr(signal, name)
-        if (
-            signal.getsignal(number) == signal.SIG_DFL
-        ):  # a signal that nohup ignores stays ignored
+        if signal.getsignal(number) == signal.SIG_DFL:  # a signal that nohup ignores stays ignored
             signal.signal(number, lambda number, _: sys.exit(128 + number))
 
 
@@ -185,9 +183,7 @@ class Output:
             try:
                 if self._special is not None:
                     folder = os.environ.get("TMPDIR") or "/tmp"
-                elif os.path.exists(self._target) and not os.access(
-                    self._target, os.W_OK
-                ):
+                elif os.path.exists(self._target) and not os.access(self._target, os.W_OK):
                     raise PermissionError(errno.EACCES, os.strerror(errno.EACCES))
                 self._room = private_folder(folder, name)
             except OSError as error:
@@ -197,9 +193,7 @@ class Output:
     def stream(self) -> int:
         """Return a descriptor to which the file is written."""
         if self._stream is None:
-            self._stream = os.open(
-                self.path(), os.O_WRONLY | os.O_CREAT | os.O_EXCL, 0o666
-            )
+            self._stream = os.open(self.path(), os.O_WRONLY | os.O_CREAT | os.O_EXCL, 0o666)
         return self._stream
 
     def keep(self) -> None:
@@ -256,9 +250,7 @@ class Output:
         done: list[tuple[str, str]] = []
         try:
             for at, ending in enumerate(SIDECARS):
-                sidecar, kept = self._target + ending, os.path.join(
-                    self._room, f"old-{at}"
-                )
+                sidecar, kept = self._target + ending, os.path.join(self._room, f"old-{at}")
                 if os.path.lexists(sidecar):
                     os.rename(sidecar, kept)
                     done.append((kept, sidecar))

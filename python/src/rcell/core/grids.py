@@ -89,9 +89,7 @@ def kind_of(start):
             return kind
     if start[:3] == b"\xef\xbb\xbf":
         return Kind("a text with a byte order mark", "byte order mark", False)
-    if start[:2] in (b"\xff\xfe", b"\xfe\xff") or (
-        len(start) > 7 and start[:8].count(b"\0") == 4
-    ):
+    if start[:2] in (b"\xff\xfe", b"\xfe\xff") or (len(start) > 7 and start[:8].count(b"\0") == 4):
         return Kind("UTF-16", "utf-16")
     if b"\0" in start:
         return Kind("no text", "no text")
@@ -128,8 +126,7 @@ def table_kind(line, words):
         if separator in line:
             return Kind("a table with %s" % name, "csv", False)
     numbers = [
-        re.fullmatch(rb"[+-]?[0-9]*\.?[0-9]+([eE][+-]?[0-9]+)?", word) is not None
-        for word in words
+        re.fullmatch(rb"[+-]?[0-9]*\.?[0-9]+([eE][+-]?[0-9]+)?", word) is not None for word in words
     ]
     if len(words) == 3 and all(numbers) and b"." in line:
         return Kind("points", "points", False)
@@ -160,9 +157,7 @@ class GridFile:
 
     def __init__(self, name, path, start, lines):
         self.name, self.path, self.start = name, path, start
-        self.lines = (
-            lines  # a function from a line number to the line as bytes, or None
-        )
+        self.lines = lines  # a function from a line number to the line as bytes, or None
         self.values, self.data_line = header_of(start)
 
     def null(self):
@@ -210,11 +205,7 @@ def cause_of(grid, line, text):
 def quoted(path):
     """Return a path, quoted for a shell."""
     text = shown(path.encode("utf-8", "surrogateescape"))
-    return (
-        text
-        if re.fullmatch(r"[\w@%+=:,./-]+", text)
-        else "'%s'" % text.replace("'", "'\\''")
-    )
+    return text if re.fullmatch(r"[\w@%+=:,./-]+", text) else "'%s'" % text.replace("'", "'\\''")
 
 
 def missing_key(grid, line, _):
@@ -273,9 +264,7 @@ def degrees(value):
         re.IGNORECASE,
     )
     if not found:
-        found = re.fullmatch(
-            r"([0-9]{1,3}(?:\.[0-9]+)?)()()([NSEW])", value, re.IGNORECASE
-        )
+        found = re.fullmatch(r"([0-9]{1,3}(?:\.[0-9]+)?)()()([NSEW])", value, re.IGNORECASE)
     if not found:
         return None
     size = float(found[1]) + int(found[2] or 0) / 60 + float(found[3] or 0) / 3600
@@ -312,10 +301,7 @@ def bad_number(grid, line, text):
         return found("separators", value.replace(",", ""))
     if re.fullmatch(r"[+-]?[0-9]+,[0-9]*", value):
         return found("decimal comma", value.replace(",", "."))
-    if (
-        re.fullmatch(r"[+-]?[0-9.]+[eE][+-]?[0-9]{1,2}", value)
-        and plain(value) is not None
-    ):
+    if re.fullmatch(r"[+-]?[0-9.]+[eE][+-]?[0-9]{1,2}", value) and plain(value) is not None:
         return found("exponent", plain(value))
     if re.fullmatch(r"[+-]?[0-9]{0,10}\.[0-9]{9,}", value) and plain(value) is not None:
         return found("decimals", plain(value))
@@ -353,11 +339,7 @@ def number(text):
 def bad_region(grid, line, _):
     values = {key: number(grid.values.get(key)) for key in SIX}
     for high, low in (("north", "south"), ("east", "west")):
-        if (
-            values[high] is not None
-            and values[low] is not None
-            and values[high] <= values[low]
-        ):
+        if values[high] is not None and values[low] is not None and values[high] <= values[low]:
             high_value, low_value = grid.values[high], grid.values[low]
             fixed = (
                 "%s: %s, %s: %s" % (high, low_value, low, high_value)
@@ -399,16 +381,12 @@ def first_word(grid, text, is_bad):
 
 def bad_cell(grid, line, text):
     null = grid.null()
-    found = first_word(
-        grid, text, lambda word: word != null and not WHOLE.fullmatch(word)
-    )
+    found = first_word(grid, text, lambda word: word != null and not WHOLE.fullmatch(word))
     if found is None:
         return None
     start, end, word = found
     values, span = {"word": shown(word[:64])}, [(start, end)]
-    if line == grid.data_line and re.match(
-        rb"\s*[A-Za-z][A-Za-z -]*[A-Za-z]\s*:", text
-    ):
+    if line == grid.data_line and re.match(rb"\s*[A-Za-z][A-Za-z -]*[A-Za-z]\s*:", text):
         return "header line", dict(values, word=shown(text.strip()[:64])), span
     if word == b"*":
         return "star", dict(values, null=shown(null)), span
@@ -459,11 +437,7 @@ def long_token(grid, line, text):
     if kind and kind.cause in ("gzip", "raster"):
         return kind.cause, {"kind": kind.article}, []
     found = re.search(rb"[^ \t\r\n]{65,}", text or b"")
-    if (
-        found
-        and re.fullmatch(rb"[-+0-9.*,;A-Za-z]+", found.group())
-        and b"," in found.group()
-    ):
+    if found and re.fullmatch(rb"[-+0-9.*,;A-Za-z]+", found.group()) and b"," in found.group():
         return "commas", {}, [found.span()]
     return (
         "long word",

@@ -59,8 +59,7 @@ def find_joiner(program: str | os.PathLike[str] | None = None) -> str:
 
 _PROBE_MAP = b"north: 1\nsouth: 0\neast: 2\nwest: 0\nrows: 1\ncols: 2\n8 9\n"
 _PROBE_BORDER = b"north: 1\nsouth: 0\neast: 2\nwest: 0\nrows: 10\ncols: 4\n" + (
-    b"8 9 * *\n1 2 * *\n" * 2
-    + b"8 * * *\n1 * * *\n9 * * *\n2 * * *\n1 2 2 8\n2 * * *\n"
+    b"8 9 * *\n1 2 * *\n" * 2 + b"8 * * *\n1 * * *\n9 * * *\n2 * * *\n1 2 2 8\n2 * * *\n"
 )
 _PROBES: list[tuple[list[str], list[bytes], bytes]] = [
     (
@@ -91,9 +90,7 @@ def _probe(path: str) -> None:
         )
 
 
-def joined(
-    texts: Sequence[bytes], program: str | os.PathLike[str] | None = None
-) -> bytes:
+def joined(texts: Sequence[bytes], program: str | os.PathLike[str] | None = None) -> bytes:
     """Merge the tables of tiles of a map, as `r.stats -c` prints them, to the table of the map, as it would print it.
 
     What was merged can be merged again: in a tree of any shape the result is the same.
@@ -267,13 +264,9 @@ def _started(
     path: str, words: list[str], files: Sequence[int], seconds: float | None = None
 ) -> Started:
     try:
-        return Started(
-            [path, *words, *(f"/dev/fd/{file}" for file in files)], files, seconds
-        )
+        return Started([path, *words, *(f"/dev/fd/{file}" for file in files)], files, seconds)
     except OSError as error:
-        raise MissingProgram(
-            f"the program {path} cannot be executed: {error.strerror}"
-        ) from None
+        raise MissingProgram(f"the program {path} cannot be executed: {error.strerror}") from None
 
 
 def _ended(run: Started) -> tuple[int, bytes, str]:
@@ -320,9 +313,7 @@ def _held(text: bytes) -> int:
     try:
         file = above_standard(_unnamed())
     except OSError as error:
-        raise WriteFailed(
-            f"a text for rcell-join cannot be written: {error.strerror}"
-        ) from None
+        raise WriteFailed(f"a text for rcell-join cannot be written: {error.strerror}") from None
     try:
         write_all(file, text)
     except BaseException as error:

@@ -57,9 +57,7 @@ def checked_labels(name: str, labels: Any) -> dict[int, str]:
                 f"a label of {category!r}: labels are of whole numbers from -2147483647 to 2147483647, as {{1: 'wood'}}",
             )
         if not isinstance(label, str):
-            raise BadMap(
-                name, f"the label of {category} is {label!r}, which is no text"
-            )
+            raise BadMap(name, f"the label of {category} is {label!r}, which is no text")
         bad = _UNWRITABLE.search(label)
         if bad:
             raise BadMap(
@@ -99,9 +97,7 @@ def read_legend(path: str, dataset: Any, band: int) -> Legend:
     )
     return Legend(
         labels,
-        _color_table(dataset, band, labels)
-        or _attribute_colors(path, band)
-        or style.colors,
+        _color_table(dataset, band, labels) or _attribute_colors(path, band) or style.colors,
     )
 
 
@@ -121,9 +117,7 @@ def flags_of(values: Any, meanings: Any) -> dict[int, str]:
         else list(values)
     )
     words = str(meanings).split() if meanings else []
-    return (
-        attributes.labels_of_rows(zip(codes, words)) if len(codes) == len(words) else {}
-    )
+    return attributes.labels_of_rows(zip(codes, words)) if len(codes) == len(words) else {}
 
 
 def _color_table(dataset: Any, band: int, labels: Mapping[int, str]) -> dict[int, str]:
@@ -262,9 +256,7 @@ def _read_beside(path: str, band: int) -> dict[int, str]:
         return {}
     for element in [*root.findall("PAMRasterBand"), *root.findall("VRTRasterBand")]:
         if element.get("band") == str(band):
-            names = [
-                name.text or "" for name in element.findall("CategoryNames/Category")
-            ]
+            names = [name.text or "" for name in element.findall("CategoryNames/Category")]
             if any(names):
                 return {category: name for category, name in enumerate(names) if name}
             table = element.find("GDALRasterAttributeTable")
@@ -274,17 +266,11 @@ def _read_beside(path: str, band: int) -> dict[int, str]:
 
 def _labels_of_element(table: ElementTree.Element) -> dict[int, str]:
     fields = table.findall("FieldDefn")
-    usages = [
-        attributes.category_of(field.findtext("Usage", "0")) or 0 for field in fields
-    ]
-    value, name = attributes.columns_of(
-        usages, [field.findtext("Name", "") for field in fields]
-    )
+    usages = [attributes.category_of(field.findtext("Usage", "0")) or 0 for field in fields]
+    value, name = attributes.columns_of(usages, [field.findtext("Name", "") for field in fields])
     if value is None or name is None:
         return {}
-    rows = [
-        [cell.text or "" for cell in row.findall("F")] for row in table.findall("Row")
-    ]
+    rows = [[cell.text or "" for cell in row.findall("F")] for row in table.findall("Row")]
     return attributes.labels_of_rows(
         (row[value], row[name]) for row in rows if max(value, name) < len(row)
     )
@@ -300,9 +286,7 @@ def _write_beside(path: str, labels: Mapping[int, str]) -> None:
         for name in attributes.names_of(labels):
             ElementTree.SubElement(names, "Category").text = name
     else:
-        table = ElementTree.SubElement(
-            band, "GDALRasterAttributeTable", tableType="thematic"
-        )
+        table = ElementTree.SubElement(band, "GDALRasterAttributeTable", tableType="thematic")
         for at, (title, kind, usage) in enumerate(
             [
                 ("Value", attributes.INTEGER, attributes.USAGE_VALUE),

@@ -61,16 +61,12 @@ def legend_of(given: Any) -> Legend:
     if isinstance(given, (str, os.PathLike)):
         return _of_path(os.fspath(given))
     if isinstance(given, Mapping):
-        return _of_rows(
-            (f"{value!r}", (value, label, "")) for value, label in given.items()
-        )
+        return _of_rows((f"{value!r}", (value, label, "")) for value, label in given.items())
     if hasattr(given, "columns") and hasattr(given, "itertuples"):
         names = [str(name) for name in given.columns]
         at = _columns_of(names, f"the columns are {', '.join(names)}")
         rows = given.itertuples(index=False, name=None)
-        return _of_rows(
-            (f"row {number}", _picked(row, at)) for number, row in enumerate(rows, 1)
-        )
+        return _of_rows((f"row {number}", _picked(row, at)) for number, row in enumerate(rows, 1))
     raise _refused(f"is a path, a dict or a DataFrame, not a {type(given).__name__}")
 
 
@@ -84,9 +80,7 @@ def _of_path(path: str) -> Legend:
 
     source = source_of("labels", path)
     if not source.labels:
-        raise _refused(
-            f"{path} has no labels: a legend is a CSV, a QML or a raster with labels"
-        )
+        raise _refused(f"{path} has no labels: a legend is a CSV, a QML or a raster with labels")
     return Legend(dict(source.labels), dict(source.colors))
 
 
@@ -100,8 +94,7 @@ def _of_csv(path: str) -> Legend:
             at = _columns_of(header, f"the first line is {','.join(header)!r}")
             rows = ((f"line {lines.line_num}", row) for row in lines if row)
             return _of_rows(
-                (place, _picked(_narrow(place, row, len(header)), at))
-                for place, row in rows
+                (place, _picked(_narrow(place, row, len(header)), at)) for place, row in rows
             )
     except (OSError, ValueError, csv.Error) as error:
         raise ReadFailed(
@@ -142,9 +135,7 @@ def _of_rows(rows: Iterable[tuple[str, tuple[Any, Any, Any]]]) -> Legend:
         value = _whole(place, given)
         if value in legend.labels:
             raise _refused(f"{place}: the value {value} is there twice")
-        legend.labels[value] = (
-            "" if label is None or label != label else str(label).strip()
-        )
+        legend.labels[value] = "" if label is None or label != label else str(label).strip()
         if isinstance(color, str) and color.strip():
             if not _COLOR.fullmatch(color.strip()):
                 raise _refused(f"{place}: {color.strip()} is no colour as #rrggbb")

@@ -34,6 +34,4 @@ def need(library: str, extra: str, purpose: str) -> Any:
     try:
         return importlib.import_module(library)
     except ImportError as error:
-        raise MissingLibrary(
-            (error.name or library).partition(".")[0], extra, purpose
-        ) from None
+        raise MissingLibrary((error.name or library).partition(".")[0], extra, purpose) from None

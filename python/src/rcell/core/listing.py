@@ -27,8 +27,7 @@ __all__ = ["PrintedGrid", "numbers_of", "printed_grid"]
 # The bytes of lines of numbers: each kind has a bit, and in the upper half the bits of the kinds that never follow it.
 _KINDS = {b"0123456789": 0x61, b"-": 0xE2, b"*": 0x74, b" \n": 0x88}
 _CODES = bytes(
-    next((code for kind, code in _KINDS.items() if byte in kind), 0xFF)
-    for byte in range(256)
+    next((code for kind, code in _KINDS.items() if byte in kind), 0xFF) for byte in range(256)
 )
 _HEADER = re.compile(
     rb"north: (.*)\nsouth: (.*)\neast: (.*)\nwest: (.*)\nrows: (\d+)\ncols: (\d+)\n"
@@ -105,9 +104,7 @@ def printed_grid(
             [script],
         ) as process:
             pieces, text, found = process.pieces(), b"", None
-            while (
-                not found and len(text) < _HEADER_BYTES and (piece := next(pieces, b""))
-            ):
+            while not found and len(text) < _HEADER_BYTES and (piece := next(pieces, b"")):
                 text += piece
                 found = _HEADER.match(text)
             if not found:
@@ -119,9 +116,7 @@ def printed_grid(
                 tuple(edges),
                 int(rows),
                 int(cols),
-                _blocks(
-                    process, chain([text[found.end() :]], pieces), int(rows), int(cols)
-                ),
+                _blocks(process, chain([text[found.end() :]], pieces), int(rows), int(cols)),
             )
     finally:
         close(script)

@@ -50,9 +50,7 @@ def majority(map: Any, size: int = 3, fill: bool = False, *, crs: Any = None) ->
     [[1, 2, 2], [1, 2, 2]]
     """
     if not isinstance(size, numbers.Integral) or size not in SIZES:
-        raise Refused(
-            f"size= is odd, {SIZES[0]} to {SIZES[-1]}, not {size!r}", status=2
-        )
+        raise Refused(f"size= is odd, {SIZES[0]} to {SIZES[-1]}, not {size!r}", status=2)
     source = source_of("map", map)
     [found] = grids_of(
         run_of(majority_script(int(size), fill), {"map": source}, crs=crs), ["majority"]
@@ -73,9 +71,7 @@ def majority_script(size: int, fill: bool) -> str:
     """
     reach = range(-(size // 2), size // 2 + 1)
     offsets = [(row, col) for row in reach for col in reach]
-    terms = {
-        place: "map[{},{}]".format(*place) if any(place) else "map" for place in offsets
-    }
+    terms = {place: "map[{},{}]".format(*place) if any(place) else "map" for place in offsets}
     # A term and its comma: map [ row , col ] and a sign for each negative offset.
     tokens = {
         place: 7 + (place[0] < 0) + (place[1] < 0) if any(place) else _TOKENS_OF_NAME

@@ -115,8 +115,4 @@ def unmasked(cells: Any) -> tuple[NDArray[Any], NDArray[np.bool_] | None]:
     >>> unmasked(masked(np.array([1, 2]), np.array([False, True])))[1].tolist()
     [False, True]
     """
-    return (
-        (data_of(cells), mask_of(cells))
-        if is_masked_array(cells)
-        else (np.asarray(cells), None)
-    )
+    return (data_of(cells), mask_of(cells)) if is_masked_array(cells) else (np.asarray(cells), None)

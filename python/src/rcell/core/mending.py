@@ -32,9 +32,7 @@ MOST_BYTES, BYTES_OF_A_QUESTION, BYTES_OF_A_NAME = (
 MOST_OF_A_LINE, MOST_OF_AN_ERROR, MOST_MATCHES, LONGEST_CHAIN = 40, 30, 20, 3
 COLUMN = re.compile(r" at column \d+$")
 WORD = re.compile(r"[^ \t\r]+")
-VALUE = re.compile(
-    r"(?<=[=,])[A-Za-z_][\w.]{0,63}(?![^,\s])", re.ASCII
-)  # which may be a map
+VALUE = re.compile(r"(?<=[=,])[A-Za-z_][\w.]{0,63}(?![^,\s])", re.ASCII)  # which may be a map
 PARTS = re.compile(r"\{(\w+)\}")
 # What may replace an error without a correction, so that the rest of the line can be checked.
 STAND_INS = ("{key}={spare}", "{key}={map}", "", "1", "*", "eval", "{map}")
@@ -65,16 +63,8 @@ class Block(NamedTuple):
         """Return the block with a match replaced by a template; groups of the match keep their origins."""
         span, texts, origins = self.span(*span_of(match)), [], []
         for at, part in enumerate(PARTS.split(template)):
-            start, end = (
-                match.span(part) if at % 2 and part in match.re.groupindex else (-1, -1)
-            )
-            text = (
-                self.text[start:end]
-                if start >= 0
-                else values.get(part, "")
-                if at % 2
-                else part
-            )
+            start, end = match.span(part) if at % 2 and part in match.re.groupindex else (-1, -1)
+            text = self.text[start:end] if start >= 0 else values.get(part, "") if at % 2 else part
             texts.append(text)
             origins += self.origins[start:end] if start >= 0 else [span] * len(text)
         start, end = match.span()
@@ -91,12 +81,8 @@ class Block(NamedTuple):
             return True
         start, end = span_of(match)
         if start < end:
-            start, end = self.text.rfind(" ", 0, start) + 1, (self.text + " ").find(
-                " ", end
-            )
-        (start, end), (first, last) = self.span(start, end), after.span(
-            new.start, new.end
-        )
+            start, end = self.text.rfind(" ", 0, start) + 1, (self.text + " ").find(" ", end)
+        (start, end), (first, last) = self.span(start, end), after.span(new.start, new.end)
         return new.text != found.text and (
             first >= max(end, start + 1) or max(last, first + 1) <= start
         )
@@ -113,10 +99,7 @@ def key_of(error):
 
 
 def has_word(text, word):
-    return (
-        re.search(r"(?<![\w.])%s(?![\w.])" % re.escape(word), text, re.ASCII)
-        is not None
-    )
+    return re.search(r"(?<![\w.])%s(?![\w.])" % re.escape(word), text, re.ASCII) is not None
 
 
 class Judge:
@@ -131,9 +114,7 @@ class Judge:
             text,
         )
         self.given = text.split("\n")
-        self.numbers = list(
-            range(1, len(self.given) + 1)
-        )  # the given line of each line
+        self.numbers = list(range(1, len(self.given) + 1))  # the given line of each line
         self.bytes, self.is_enough, self.has_rules = 0, False, True
         self.map, self.spare, self.spares = self.unused("map"), "", set()
         self.left_out = []  # lines without a correction, with their numbers
@@ -148,9 +129,7 @@ class Judge:
         """Return the first error that the program reports in a text, or None; `more` maps are given."""
         names = [*self.names, self.map, *more]
         self.bytes += BYTES_OF_A_QUESTION + len(text) + BYTES_OF_A_NAME * len(names)
-        self.is_enough, (self.statements, found) = self.bytes > MOST_BYTES, self.ask(
-            names, text
-        )
+        self.is_enough, (self.statements, found) = self.bytes > MOST_BYTES, self.ask(names, text)
         return found
 
     def answer(self, line):
@@ -163,16 +142,10 @@ class Judge:
     def maps(self):
         """Return the maps that are known before the line of the error, with where they come from."""
         self.error(self.head)
-        made = {
-            it.made: "line %d" % self.numbers[it.line - 1]
-            for it in self.statements
-            if it.made
-        }
+        made = {it.made: "line %d" % self.numbers[it.line - 1] for it in self.statements if it.made}
         return {
             **dict.fromkeys(self.names, "a grid"),
-            **{
-                name: whence for name, whence in made.items() if name not in self.spares
-            },
+            **{name: whence for name, whence in made.items() if name not in self.spares},
         }
 
     def later(self, name, block):
@@ -190,9 +163,7 @@ class Judge:
 
     def is_taken_as_given(self, name, block):
         """Take an unknown map as given, if a line that was left out may make it, or if no names are known."""
-        number = next(
-            (number for number, text in self.left_out if has_word(text, name)), None
-        )
+        number = next((number for number, text in self.left_out if has_word(text, name)), None)
         if (
             name in self.names
             or self.has_names
@@ -256,26 +227,18 @@ class Judge:
         )
         written = [
             it
-            for it in (
-                re.sub(r"[ \t\r]+", " ", line).strip()
-                for line in block.text.split("\n")
-            )
+            for it in (re.sub(r"[ \t\r]+", " ", line).strip() for line in block.text.split("\n"))
             if it
         ]
         last = shown(written[-1]) if written else ""
         for fault in faults:
             fault.values = {
-                key: last if value == LINE else value
-                for key, value in fault.values.items()
+                key: last if value == LINE else value for key, value in fault.values.items()
             }
-        is_good = written and (
-            is_proposed or not self.is_enough and self.first(block) is None
-        )
+        is_good = written and (is_proposed or not self.is_enough and self.first(block) is None)
         left = block.text if is_good else self.stand_in(number, text)
         first, end = self.head.count("\n"), len(self.numbers) - self.rest.count("\n")
-        self.head, self.numbers[first:end] = self.head + left, [number] * (
-            left.count("\n") + 1
-        )
+        self.head, self.numbers[first:end] = self.head + left, [number] * (left.count("\n") + 1)
         return Line(number, text.split("\n")[0], faults, written if is_proposed else [])
 
     def stand_in(self, number, text):
@@ -305,9 +268,7 @@ class Judge:
             return None
         start, (part, text) = sum(len(line) + 1 for line in lines[:at]), key_of(error)
         span = (
-            (error.column - 1,) * 2
-            if error.column
-            else self.span(block, start, lines[at], error)
+            (error.column - 1,) * 2 if error.column else self.span(block, start, lines[at], error)
         )
         found = Found(text, part, start + span[0], start + span[1])
         name = (
@@ -315,11 +276,7 @@ class Judge:
             if text == "unknown map"
             else ""
         )
-        return (
-            self.first(block)
-            if name and self.is_taken_as_given(name, block.text)
-            else found
-        )
+        return self.first(block) if name and self.is_taken_as_given(name, block.text) else found
 
     def span(self, block, start, line, error):
         """Return the span of a line that an error without a column is about."""
@@ -331,8 +288,7 @@ class Judge:
             values = [it for it in VALUE.finditer(line) if it[0] not in known]
             names = {it[0] for it in values}
             asked = (
-                self.error(self.head + block.text + self.rest, names - {it[0]})
-                for it in values
+                self.error(self.head + block.text + self.rest, names - {it[0]}) for it in values
             )
             return next(
                 (
@@ -353,11 +309,7 @@ class Judge:
                 + block.text[start + len(line) :]
                 + self.rest
             )
-            if (
-                self.is_enough
-                or found
-                and (found.line, found.text) == (error.line, error.text)
-            ):
+            if self.is_enough or found and (found.line, found.text) == (error.line, error.text):
                 break
         return span
 
@@ -379,9 +331,7 @@ class Judge:
             for after, fault, match, cause in self.attempts(before, error):
                 if after is None and before is block:
                     last = fault, match
-                    waiting[:] = (
-                        waiting if cause is CAUSES[error.part, error.text][-1] else []
-                    )
+                    waiting[:] = waiting if cause is CAUSES[error.part, error.text][-1] else []
                 if after is None or tries == MOST_OF_AN_ERROR:
                     continue
                 new, tries = self.first(after), tries + 1
@@ -393,9 +343,7 @@ class Judge:
                 ):
                     return after, [*faults, fault], is_shown and cause.shown
                 if len(faults) + 1 < LONGEST_CHAIN:
-                    waiting.append(
-                        (after, new, [*faults, fault], is_shown and cause.shown)
-                    )
+                    waiting.append((after, new, [*faults, fault], is_shown and cause.shown))
         return self.passed(block, found, last[1]), [last[0]], False
 
     def attempts(self, block, found):
@@ -407,23 +355,15 @@ class Judge:
                     cause.new(at) if cause.new else [""], cause.write or [None]
                 ):
                     at["new"] = new
-                    after = (
-                        block.changed(match, template, at)
-                        if template is not None
-                        else None
-                    )
+                    after = block.changed(match, template, at) if template is not None else None
                     values = values_of(cause, at)
                     if values is None or after and after.text == block.text:
                         continue
                     if after:
                         fixed = after.text[
-                            match.start() : len(after.text)
-                            - len(block.text)
-                            + match.end()
+                            match.start() : len(after.text) - len(block.text) + match.end()
                         ]
-                        values.setdefault(
-                            "fixed", shown(fixed[: 2 * LONGEST_VALUE].strip())
-                        )
+                        values.setdefault("fixed", shown(fixed[: 2 * LONGEST_VALUE].strip()))
                     span = block.span(*span_of(match))
                     yield after, Fault(
                         *span, found.text, cause.name, found.part, values
@@ -436,13 +376,9 @@ class Judge:
         """Yield the places next to an error where the pattern of a cause is found."""
         start, end = block.text.rfind("\n", 0, found.start) + 1, len(block.text)
         if end - start > LONGEST_SEARCHED:
-            start, end = max(start, found.start - WINDOW), min(
-                end, found.start + WINDOW
-            )
+            start, end = max(start, found.start - WINDOW), min(end, found.start + WINDOW)
         first = found.start - (block.text[found.start : found.start + 1] in ("", "\n"))
-        matches = re.compile(cause.find, re.ASCII | re.MULTILINE).finditer(
-            block.text, start, end
-        )
+        matches = re.compile(cause.find, re.ASCII | re.MULTILINE).finditer(block.text, start, end)
         matches = list(
             islice(
                 (it for it in matches if it.start() <= found.end and it.end() > first),
@@ -457,9 +393,7 @@ class Judge:
     def surroundings(self, block, found, match):
         """Return what the functions of a cause get, by the names that causes.py has for it."""
         first, (start, end) = block.text.rfind("\n", 0, found.start) + 1, span_of(match)
-        line, groups = block.text[first:].partition("\n")[0].strip(
-            " \t\r"
-        ), match.groupdict("")
+        line, groups = block.text[first:].partition("\n")[0].strip(" \t\r"), match.groupdict("")
         return {
             "judge": self,
             "map": self.map,
@@ -476,9 +410,7 @@ class Judge:
 
     def passed(self, block, found, match):
         """Return the block with a replacement for the marked words, or None if no replacement gets further."""
-        mark, best = re.compile(r"(?P<key>[^=\s]*)[^\n]*").fullmatch(
-            block.text, *span_of(match)
-        ), (
+        mark, best = re.compile(r"(?P<key>[^=\s]*)[^\n]*").fullmatch(block.text, *span_of(match)), (
             -1,
             None,
         )
@@ -509,9 +441,7 @@ def values_of(cause, at):
         value = (value or [None])[0] if isinstance(value, list) else value
         if value is None:
             return None
-        values[key] = (
-            filled(value, {**at, **values}) if isinstance(value, str) else value
-        )
+        values[key] = filled(value, {**at, **values}) if isinstance(value, str) else value
     return {
         key: shown(value[: 2 * LONGEST_VALUE])
         if isinstance(value, str) and value != LINE
@@ -557,9 +487,7 @@ def rejected_lines(ask, script, names, path="script"):
     """Yield the lines of a script that the program rejects; if `names` is None, all maps that it reads are given."""
     reason, text = no_script(script), script.decode("latin-1")
     bad = reason and Line(1, "", [Fault(0, 0, *reason[:2], "script", reason[2])], [])
-    for line in (
-        [bad] if bad else Judge(ask, text, names and dict.fromkeys(names)).lines()
-    ):
+    for line in [bad] if bad else Judge(ask, text, names and dict.fromkeys(names)).lines():
         for fault in line.faults if line else ():
             fault.values.setdefault("path", path)
         yield line
@@ -578,11 +506,7 @@ def warnings(ask, script, names):
         lines = it.text.split("\n")
         for label in it.labels.values():
             number = it.line + next(
-                (
-                    at
-                    for at, line in enumerate(lines)
-                    if line.rstrip(" \t\r").endswith(label)
-                ),
+                (at for at, line in enumerate(lines) if line.rstrip(" \t\r").endswith(label)),
                 0,
             )
             comment = re.search(r"(?:^|[ \t])(#.*)", label)
@@ -594,9 +518,7 @@ def warnings(ask, script, names):
                 else []
             )
         found += (
-            []
-            if it.made
-            else [(it.line, "null quotes", word) for word in QUOTED.findall(lines[0])]
+            [] if it.made else [(it.line, "null quotes", word) for word in QUOTED.findall(lines[0])]
         )
     for number, name, word in found:
         yield number, name, {"word": shown(word.encode("utf-8", "surrogateescape"))}

@@ -88,12 +88,8 @@ def patches(
     2      3      5      1    100.0         40.0
     """
     check_connectivity(connectivity)
-    if not (
-        isinstance(core_depth, numbers.Integral) and 1 <= core_depth <= MOST_CORE_DEPTH
-    ):
-        raise Refused(
-            f"core_depth= is from 1 to {MOST_CORE_DEPTH}, not {core_depth!r}", status=2
-        )
+    if not (isinstance(core_depth, numbers.Integral) and 1 <= core_depth <= MOST_CORE_DEPTH):
+        raise Refused(f"core_depth= is from 1 to {MOST_CORE_DEPTH}, not {core_depth!r}", status=2)
     if isinstance(classes, (str, bytes)):
         raise Refused(
             f"classes= is a list of whole numbers, as [31, 32], not {classes!r}",
@@ -105,9 +101,7 @@ def patches(
     if measure.is_geographic:
         warnings.warn("perimeters are not computed in degrees", stacklevel=3)
     by_row = measure.by_row is not None
-    tables = maps.tables(
-        _script(connectivity, listed, core_depth, zones is not None, by_row)
-    )
+    tables = maps.tables(_script(connectivity, listed, core_depth, zones is not None, by_row))
     sides, core, by_rows, by_cols = tables[:4]
     found = _Patches(sides, least or 0)
     columns = [
@@ -145,9 +139,7 @@ def _script(
 ) -> str:
     """Return a script whose tables have the sides, cores, rows, columns and zones of patches."""
     leaves = "(isnull(patch[{0}]) ||| patch[{0}] != patch)"
-    north, south, west, east = (
-        leaves.format(place) for place in ("-1,0", "1,0", "0,-1", "0,1")
-    )
+    north, south, west, east = (leaves.format(place) for place in ("-1,0", "1,0", "0,-1", "0,1"))
     core = "if({0}[-1,0] == {0} && {0}[1,0] == {0} && {0}[0,-1] == {0} && {0}[0,1] == {0}, {0}, null())"
     lines = [f"r.clump {'-d ' if connectivity == 8 else ''}input=map output=patch"]
     lines += [
@@ -175,9 +167,7 @@ def _script(
         f"r.stats {'-c ' if by_row else ''}-n input={kept},row",
         f"r.stats -n input={kept},col",
     ]
-    return "\n".join(
-        lines + ([f"r.stats -c -n input={kept},zones"] if has_zones else [])
-    )
+    return "\n".join(lines + ([f"r.stats -c -n input={kept},zones"] if has_zones else []))
 
 
 class _Patches:
@@ -192,9 +182,7 @@ class _Patches:
 
     def __init__(self, sides: Integers, least: int) -> None:
         first = places_of(sides[:, 0])
-        cells = (
-            np.add.reduceat(sides[:, 3], first) if first.size else np.empty(0, np.int64)
-        )
+        cells = np.add.reduceat(sides[:, 3], first) if first.size else np.empty(0, np.int64)
         kept = cells >= least
         self.numbers, self.classes, self.cells = (
             sides[first[kept], 0],
@@ -217,25 +205,17 @@ class _Patches:
 
     def _found(self, numbers: Integers) -> tuple[NDArray[np.intp], NDArray[np.bool_]]:
         """Return the indices of the numbers that are kept, and which numbers these are."""
-        at = np.minimum(
-            np.searchsorted(self.numbers, numbers), max(self.numbers.size - 1, 0)
-        )
+        at = np.minimum(np.searchsorted(self.numbers, numbers), max(self.numbers.size - 1, 0))
         kept = (
-            self.numbers[at] == numbers
-            if self.numbers.size
-            else np.zeros(numbers.size, np.bool_)
+            self.numbers[at] == numbers if self.numbers.size else np.zeros(numbers.size, np.bool_)
         )
         return at[kept], kept
 
-    def perimeter(
-        self, transform: tuple[float, ...], unit: float
-    ) -> NDArray[np.float64]:
+    def perimeter(self, transform: tuple[float, ...], unit: float) -> NDArray[np.float64]:
         """Return the perimeters of the patches: an end is as long as a cell is wide, a flank as long as it is high."""
         return (self._ends * transform[0] + self._flanks * -transform[4]) * unit
 
-    def extents(
-        self, rows: Integers, cols: Integers, transform: tuple[float, ...]
-    ) -> list[Column]:
+    def extents(self, rows: Integers, cols: Integers, transform: tuple[float, ...]) -> list[Column]:
         """Return the bounding box of each patch."""
         width, _, west, _, height, north = transform
         (top, bottom), (left, right) = (self._ends_of(table) for table in (rows, cols))
@@ -251,9 +231,7 @@ class _Patches:
         """Return the first and last row, or column, of each patch."""
         first = places_of(table[:, 0])
         last = (
-            np.concatenate([first[1:], [len(table)]]).astype(np.intp) - 1
-            if first.size
-            else first
+            np.concatenate([first[1:], [len(table)]]).astype(np.intp) - 1 if first.size else first
         )
         kept = self._found(table[first, 0])[1]
         return table[first[kept], 1], table[last[kept], 1]
@@ -281,8 +259,7 @@ def _areas(
             Column(f"core_{measure.unit}", "measure", measure.area(inner)),
         ]
     areas = (
-        found.summed(table[:, 0], table[:, 2] * measure.by_row[table[:, 1] - 1])
-        / measure.divisor
+        found.summed(table[:, 0], table[:, 2] * measure.by_row[table[:, 1] - 1]) / measure.divisor
         for table in (rows, core)
     )
     return [

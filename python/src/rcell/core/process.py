@@ -45,9 +45,7 @@ def _let_go() -> None:
     _lock.release()
 
 
-os.register_at_fork(
-    before=_lock.acquire, after_in_parent=_lock.release, after_in_child=_let_go
-)
+os.register_at_fork(before=_lock.acquire, after_in_parent=_lock.release, after_in_child=_let_go)
 
 
 def found_on_path(name: str) -> str | None:

@@ -158,9 +158,7 @@ def known_after(probe: Callable[[str], None], path: str) -> str:
 _UNKNOWN = "{} is not a program {} of a version that this package knows"
 _NOT_STARTED = "the program {} cannot be executed: {}"
 _ENDLESS = "{} does not end within {} seconds: it is no program {}"
-_PROBE_GRID = (
-    b"north: 1\nsouth: 0\neast: 3\nwest: 0\nrows: 1\ncols: 3\nnull: ***\n007 *** 012 "
-)
+_PROBE_GRID = b"north: 1\nsouth: 0\neast: 3\nwest: 0\nrows: 1\ncols: 3\nnull: ***\n007 *** 012 "
 
 
 def _probe(path: str) -> None:
@@ -226,10 +224,7 @@ def execute(
     OutOfMemory, Killed, MissingProgram, WrongProgram
     """
     frames = _frames(script, maps, wanted, program)
-    return [
-        _output(frame, at < len(frames) - len(wanted))
-        for at, frame in enumerate(frames)
-    ]
+    return [_output(frame, at < len(frames) - len(wanted)) for at, frame in enumerate(frames)]
 
 
 def planned(
@@ -258,15 +253,11 @@ def printed(
         )
 
 
-def grids(
-    script: str, maps: Mapping[str, Source], wanted: Sequence[str]
-) -> list[ArrayMap]:
+def grids(script: str, maps: Mapping[str, Source], wanted: Sequence[str]) -> list[ArrayMap]:
     """Return maps of a script that writes nothing, of the type in which the program sends them; all else is as in `execute`."""
     region = next(iter(maps.values())).region
     frames = (
-        frame
-        for frame in _frames(script, maps, wanted)
-        if isinstance(frame, protocol.GridFrame)
+        frame for frame in _frames(script, maps, wanted) if isinstance(frame, protocol.GridFrame)
     )
     return [
         ArrayMap(

@@ -137,9 +137,7 @@ class Map:
             if len(cells) % row_bytes:
                 break
         if rows != self.rows:
-            raise ValueError(
-                f"{rows} rows of the map {self.name}, which has {self.rows}"
-            )
+            raise ValueError(f"{rows} rows of the map {self.name}, which has {self.rows}")
 
     def _head(self) -> bytes:
         flags = (self.nodata is not None) + 2 * self.is_masked
@@ -160,10 +158,7 @@ class Map:
         return (
             texts
             + numbers
-            + b"".join(
-                struct.pack("<iH", category, len(text)) + text
-                for category, text in labels
-            )
+            + b"".join(struct.pack("<iH", category, len(text)) + text for category, text in labels)
         )
 
 
@@ -171,9 +166,7 @@ def _short(text: str) -> bytes:
     return bytes([len(text)]) + text.encode("ascii")
 
 
-def _interleaved(
-    cells: memoryview, mask: memoryview, row_bytes: int, cols: int
-) -> Iterator[bytes]:
+def _interleaved(cells: memoryview, mask: memoryview, row_bytes: int, cols: int) -> Iterator[bytes]:
     """Yield rows, each followed by its mask."""
     rows = len(cells) // row_bytes
     if len(mask) != rows * cols:
@@ -191,9 +184,7 @@ def _interleaved(
         yield b"".join(part for pair in parts for part in pair)
 
 
-def request(
-    maps: Sequence[Map], script: bytes, magic: bytes = b"RCELLQ1\n"
-) -> Iterator[Buffer]:
+def request(maps: Sequence[Map], script: bytes, magic: bytes = b"RCELLQ1\n") -> Iterator[Buffer]:
     """Yield the bytes of a request."""
     yield magic + struct.pack("<I", len(maps))
     for each in maps:
@@ -212,9 +203,7 @@ def script_bytes(script: str) -> bytes:
     try:
         return script.encode("utf-8", "surrogateescape")
     except UnicodeEncodeError as error:
-        before = (
-            script[: error.start].rpartition("\n")[2].encode("utf-8", "surrogateescape")
-        )
+        before = script[: error.start].rpartition("\n")[2].encode("utf-8", "surrogateescape")
         line, column = script.count("\n", 0, error.start) + 1, len(before) + 1
         raise Rejected(
             1,
@@ -228,9 +217,9 @@ def script_bytes(script: str) -> bytes:
 
 def _plan_request(names: Sequence[str], script: bytes) -> Iterator[Buffer]:
     """Yield the bytes of a request for a plan."""
-    yield b"RCELLP1\n" + struct.pack("<I", len(names)) + b"".join(
-        map(_short, names)
-    ) + struct.pack("<I", len(script)) + script
+    yield b"RCELLP1\n" + struct.pack("<I", len(names)) + b"".join(map(_short, names)) + struct.pack(
+        "<I", len(script)
+    ) + script
 
 
 # The response
@@ -445,9 +434,7 @@ class Rejected(Exception):
         if not 0 < self.line <= len(lines):
             return parts
         column = advice = None
-        with contextlib.suppress(
-            Exception
-        ):  # an error of the advice must not hide the message
+        with contextlib.suppress(Exception):  # an error of the advice must not hide the message
             mending: Any = importlib.import_module(".mending", __package__)
             column, advice = mending.advice(
                 program,
@@ -531,9 +518,7 @@ class _Response:
             entries=entries,
             counts=self.cells(entries, "Q") if counts else None,
             cells=self.cells(entries * width, "i"),
-            labels=[bytes(self.text()) for _ in range(entries * width)]
-            if labels
-            else None,
+            labels=[bytes(self.text()) for _ in range(entries * width)] if labels else None,
         )
 
     def grid(self) -> GridFrame:
@@ -544,9 +529,7 @@ class _Response:
             self.names(4),
         )
         rows, cols = self.numbers(2)
-        kind, letter = {1: ("u8", "B"), 6: ("i32", "i")}.get(
-            self.take(1)[0]
-        ) or self.unknown()
+        kind, letter = {1: ("u8", "B"), 6: ("i32", "i")}.get(self.take(1)[0]) or self.unknown()
         return GridFrame(
             line,
             name,
@@ -562,9 +545,7 @@ class _Response:
         line, (command, _) = self.count(), self.take(2)
         return Statement(
             line=line,
-            command=COMMANDS[command - 1]
-            if 0 < command <= len(COMMANDS)
-            else self.unknown(),
+            command=COMMANDS[command - 1] if 0 < command <= len(COMMANDS) else self.unknown(),
             made=self.name(),
             reads={self.name(): Margin(*self.numbers(4)) for _ in range(self.count())},
             needs={self.name(): self.need() for _ in range(self.count())},
@@ -677,9 +658,7 @@ def text(
     watch: Optional[Callable[[], None]] = None,
 ) -> Iterator[bytes]:
     """Yield the text that rcell prints for a script over maps, piece by piece; it is complete if nothing is raised. The rest is as in `run`."""
-    with asked(
-        [program], request(maps, script, b"RCELLT1\n"), seconds, watch
-    ) as process:
+    with asked([program], request(maps, script, b"RCELLT1\n"), seconds, watch) as process:
         pieces, held = process.pieces(), b""
         for piece in pieces:
             held += piece
@@ -712,9 +691,7 @@ def is_known(program: str, seconds: float) -> bool:
     NotStarted, TimeoutError
         As `run`.
     """
-    probe = Map(
-        "probe", ("1", "0", "3", "0"), 1, 3, "u8", [Block(b"\7\xff\14")], nodata=255
-    )
+    probe = Map("probe", ("1", "0", "3", "0"), 1, 3, "u8", [Block(b"\7\xff\14")], nodata=255)
     try:
         frames = run(program, [probe], _PROBE_SCRIPT, seconds=seconds)
     except (Rejected, Killed, NoAnswer):
@@ -807,9 +784,7 @@ def asked(
         yield process
 
 
-def _send(
-    writer: int, pieces: Iterator[Buffer], watch: Optional[Callable[[], None]]
-) -> None:
+def _send(writer: int, pieces: Iterator[Buffer], watch: Optional[Callable[[], None]]) -> None:
     """Write a request; stop if the program has stopped reading, for its response says why."""
     os.set_blocking(writer, watch is None)
     room = select.poll()

@@ -53,9 +53,7 @@ def six_numbers(name: str, given: Any) -> Transform:
     try:
         a, b, c, d, e, f = (float(number) for number in tuple(given)[:6])
     except (TypeError, ValueError):
-        raise BadMap(
-            name, f"a transform is an Affine or six numbers, not {given!r}"
-        ) from None
+        raise BadMap(name, f"a transform is an Affine or six numbers, not {given!r}") from None
     return a, b, c, d, e, f
 
 
@@ -141,8 +139,7 @@ class Region:
 
     def _check_sizes(self) -> None:
         if not (
-            isinstance(self.rows, numbers.Integral)
-            and isinstance(self.cols, numbers.Integral)
+            isinstance(self.rows, numbers.Integral) and isinstance(self.cols, numbers.Integral)
         ):
             raise BadMap(
                 "region",
@@ -360,11 +357,7 @@ class Region:
         return differences_of(self.units + self.shape, other.units + other.shape)
 
     def __eq__(self, other: object) -> bool:
-        return (
-            isinstance(other, Region)
-            and self.units == other.units
-            and self.shape == other.shape
-        )
+        return isinstance(other, Region) and self.units == other.units and self.shape == other.shape
 
     def __hash__(self) -> int:
         return hash((self.units, self.shape))
@@ -397,9 +390,7 @@ class Shift:
     sizes: tuple[tuple[float, float], tuple[float, float]]
 
     @classmethod
-    def between(
-        cls, other: Transform, grid: Transform, shape: tuple[int, int]
-    ) -> Shift:
+    def between(cls, other: Transform, grid: Transform, shape: tuple[int, int]) -> Shift:
         """Return the position of a grid in another one.
 
         Examples
@@ -425,9 +416,7 @@ class Shift:
     def is_whole(self) -> bool:
         """Whether each cell coincides with a cell of the other grid."""
         return (
-            isinstance(self.rows, int)
-            and isinstance(self.cols, int)
-            and not self.has_other_cells
+            isinstance(self.rows, int) and isinstance(self.cols, int) and not self.has_other_cells
         )
 
     def centres(self) -> tuple[NDArray[np.float64], NDArray[np.float64]]:
@@ -438,16 +427,14 @@ class Shift:
                 self.cols + np.arange(self.shape[1]) + 0.5,
             )
         (rows, cols) = self.shape
-        return self.rows + self.height * (
-            np.arange(rows) + 0.5
-        ), self.cols + self.width * (np.arange(cols) + 0.5)
+        return self.rows + self.height * (np.arange(rows) + 0.5), self.cols + self.width * (
+            np.arange(cols) + 0.5
+        )
 
     def told(self, name: str) -> str:
         """Return the reason why whole cells cannot be taken."""
         if self.has_other_cells:
-            mine, its = (
-                f"{width:.10g} x {height:.10g}" for height, width in self.sizes
-            )
+            mine, its = (f"{width:.10g} x {height:.10g}" for height, width in self.sizes)
             return f"cells of {mine}, and those of `{name}` are {its}"
         return f"shifted by {self.rows:.10g} rows and {self.cols:.10g} columns, not by whole cells"
 

@@ -59,9 +59,7 @@ class Result(Sequence["StatsTable | Grid"]):
         >>> list(rcell.run("r.out.ascii input=lc", lc=np.array([[1, 2]])).grids)
         ['lc']
         """
-        return {
-            output.name: output for output in self._outputs if isinstance(output, Grid)
-        }
+        return {output.name: output for output in self._outputs if isinstance(output, Grid)}
 
     @overload
     def __getitem__(self, place: int) -> StatsTable | Grid:
@@ -71,18 +69,14 @@ class Result(Sequence["StatsTable | Grid"]):
     def __getitem__(self, place: slice) -> list[StatsTable | Grid]:
         ...
 
-    def __getitem__(
-        self, place: int | slice
-    ) -> StatsTable | Grid | list[StatsTable | Grid]:
+    def __getitem__(self, place: int | slice) -> StatsTable | Grid | list[StatsTable | Grid]:
         return self._outputs[place]
 
     def __len__(self) -> int:
         return len(self._outputs)
 
     def __repr__(self) -> str:
-        told = ", ".join(
-            f"{output.command} of {','.join(output.maps)}" for output in self._outputs
-        )
+        told = ", ".join(f"{output.command} of {','.join(output.maps)}" for output in self._outputs)
         return f"<Result: {told or 'no output'}>"
 
 
@@ -117,11 +111,7 @@ class _Run:
 
     def labels(self, name: str) -> Mapping[int, str]:
         """Return the labels of a map: from the rules that made it, or from the input map."""
-        return (
-            self.sources[name].labels
-            if name in self.sources
-            else self.made[name].labels
-        )
+        return self.sources[name].labels if name in self.sources else self.made[name].labels
 
     def _answer(self, output: Output) -> StatsTable | Grid:
         if output.command == "r.out.ascii":
@@ -133,9 +123,7 @@ class _Run:
             maps=output.maps,
             categories=output.values[:, :count],
             cells=output.values[:, count] if output.has_counts else None,
-            labels={name: self.labels(name) for name in output.maps}
-            if output.has_labels
-            else None,
+            labels={name: self.labels(name) for name in output.maps} if output.has_labels else None,
             cell=self.cell,
             crs=self.crs,
         )
@@ -333,11 +321,7 @@ def grid(
 def grids_of(of: _Run, names: Sequence[str]) -> list[Grid]:
     """Return some maps of a run."""
     found = outputs_with(of, names)
-    return [
-        output
-        for output in found[len(found) - len(names) :]
-        if isinstance(output, Grid)
-    ]
+    return [output for output in found[len(found) - len(names) :] if isinstance(output, Grid)]
 
 
 def outputs_with(of: _Run, names: Sequence[str]) -> list[StatsTable | Grid]:

@@ -147,9 +147,7 @@ def nodata_of(dtype: np.dtype[Any], value: float | None) -> int | None:
     return int(value) if limits.min <= int(value) <= limits.max else None
 
 
-def check_computed(
-    name: str, cells: Cells, dtype: np.dtype[Any], shape: tuple[int, ...]
-) -> None:
+def check_computed(name: str, cells: Cells, dtype: np.dtype[Any], shape: tuple[int, ...]) -> None:
     """Refuse cells that Dask has computed in another type or shape than it announced, in which they would be other numbers.
 
     Examples
@@ -205,19 +203,14 @@ def checked(
     null = None if null is None else np.ascontiguousarray(null)
     is_kept = not is_converted(cells.dtype)
     if is_kept and (
-        cells.itemsize <= 2
-        or (cells.min() >= -MAX_CATEGORY and cells.max() <= MAX_CATEGORY)
+        cells.itemsize <= 2 or (cells.min() >= -MAX_CATEGORY and cells.max() <= MAX_CATEGORY)
     ):
         return Block(cells, null)
     is_null = _with_nodata(cells, null, nodata)
     bad = ~(_good(cells) | is_null)
     if bad.any():
-        row, col = (
-            int(place) for place in np.unravel_index(int(bad.argmax()), bad.shape)
-        )
-        raise _bad_cell(
-            name, first_row + row + 1, first_col + col + 1, cells[row, col].item()
-        )
+        row, col = (int(place) for place in np.unravel_index(int(bad.argmax()), bad.shape))
+        raise _bad_cell(name, first_row + row + 1, first_col + col + 1, cells[row, col].item())
     if is_kept:
         return Block(cells, null)
     kept = np.where(is_null, cells.dtype.type(0), cells)
@@ -231,16 +224,10 @@ def checked(
 
 def _with_nodata(cells: Cells, null: Mask | None, nodata: float | None) -> Mask:
     """Return what is null, with the cells of nodata and those that are no number."""
-    is_null = (
-        np.isnan(cells) if cells.dtype.kind == "f" else np.zeros(cells.shape, np.bool_)
-    )
+    is_null = np.isnan(cells) if cells.dtype.kind == "f" else np.zeros(cells.shape, np.bool_)
     if null is not None:
         is_null = is_null | null
-    if (
-        nodata is None
-        or nodata != nodata
-        or sys.float_info.max < abs(nodata) < math.inf
-    ):
+    if nodata is None or nodata != nodata or sys.float_info.max < abs(nodata) < math.inf:
         return is_null
     if cells.dtype.kind == "f":
         with np.errstate(over="ignore"):
@@ -252,14 +239,10 @@ def _with_nodata(cells: Cells, null: Mask | None, nodata: float | None) -> Mask:
         )
     limits = np.iinfo(cells.dtype)
     is_value = (
-        math.isfinite(nodata)
-        and nodata == int(nodata)
-        and limits.min <= int(nodata) <= limits.max
+        math.isfinite(nodata) and nodata == int(nodata) and limits.min <= int(nodata) <= limits.max
     )
     return (
-        np.logical_or(is_null, cells == cells.dtype.type(int(nodata)))
-        if is_value
-        else is_null
+        np.logical_or(is_null, cells == cells.dtype.type(int(nodata))) if is_value else is_null
     )  # by whole numbers: floats do not have all of 64 bits
 
 
@@ -267,9 +250,7 @@ def _good(cells: Cells) -> Mask:
     """Return where cells are whole numbers in range."""
     if cells.dtype.kind == "f":
         with np.errstate(invalid="ignore"):
-            return np.asarray(
-                (np.rint(cells) == cells) & (np.abs(cells) < MAX_CATEGORY + 1.0)
-            )
+            return np.asarray((np.rint(cells) == cells) & (np.abs(cells) < MAX_CATEGORY + 1.0))
     good = cells <= MAX_CATEGORY
     return good & (cells >= -MAX_CATEGORY) if cells.dtype.kind == "i" else good
 
@@ -277,9 +258,7 @@ def _good(cells: Cells) -> Mask:
 def _bad_cell(name: str, row: int, col: int, value: float) -> BadMap:
     number = f"{value:.15g}" if isinstance(value, float) else str(value)
     beyond = (
-        ", beyond 2147483647 either way"
-        if value == value and abs(value) > MAX_CATEGORY
-        else ""
+        ", beyond 2147483647 either way" if value == value and abs(value) > MAX_CATEGORY else ""
     )
     return BadMap(
         name,
@@ -331,9 +310,7 @@ class ArrayMap:
 
     def __post_init__(self) -> None:
         check_array(self.name, self.array)
-        if not (
-            self.nodata_value is None or isinstance(self.nodata_value, numbers.Real)
-        ):
+        if not (self.nodata_value is None or isinstance(self.nodata_value, numbers.Real)):
             raise BadMap(self.name, f"nodata is a number, not {self.nodata_value!r}")
         if self.array.shape != self.region.shape:
             rows, cols = self.array.shape
@@ -368,17 +345,13 @@ class ArrayMap:
         step = max(1, BLOCK_CELLS // cols)
         for row in range(0, rows, step):
             null = None if self.null is None else self.null[row : row + step]
-            yield checked(
-                self.name, self.array[row : row + step], null, self.nodata_value, row
-            )
+            yield checked(self.name, self.array[row : row + step], null, self.nodata_value, row)
 
 
 def check_array(name: str, array: Any) -> None:
     """Refuse an array that has no cells of numbers in rows and columns."""
     if array.dtype.kind not in "iufb":
-        raise BadMap(
-            name, f"not a map of whole numbers: its cells are of the type {array.dtype}"
-        )
+        raise BadMap(name, f"not a map of whole numbers: its cells are of the type {array.dtype}")
     if array.ndim != 2:
         shape = " x ".join(map(str, array.shape)) or "one number"
         raise BadMap(
@@ -386,9 +359,7 @@ def check_array(name: str, array: Any) -> None:
             f"an array of {array.ndim} dimensions ({shape}), and a map has two; of a raster's bands give one, as read(1)",
         )
     if array.size == 0:
-        raise BadMap(
-            name, f"an array without cells ({array.shape[0]} x {array.shape[1]})"
-        )
+        raise BadMap(name, f"an array without cells ({array.shape[0]} x {array.shape[1]})")
 
 
 class Aligned(NamedTuple):
@@ -565,17 +536,11 @@ def source_of(name: str, given: Any) -> Source:
         return source_of_data_array(name, given)
     if module == "dask" and hasattr(given, "ndim"):
         return Map(given.compute()).source(name)
-    if (
-        isinstance(given, tuple)
-        and len(given) == 2
-        and isinstance(given[0], np.ndarray)
-    ):
+    if isinstance(given, tuple) and len(given) == 2 and isinstance(given[0], np.ndarray):
         return Map(given[0], given[1]).source(name)
     if isinstance(given, (np.ndarray, list)):
         return Map(given).source(name)
-    raise BadMap(
-        name, f"neither a path nor an array nor a raster, but a {type(given).__name__}"
-    )
+    raise BadMap(name, f"neither a path nor an array nor a raster, but a {type(given).__name__}")
 
 
 _NAME = re.compile(r"[A-Za-z_][A-Za-z0-9_.]{0,63}")
@@ -632,18 +597,14 @@ def sources_of(
     for name, source in sources.items():
         if source.region != first.region:
             told = "; ".join(first.region.differences(source.region))
-            text = (
-                f"not of the region of `{first_name}`, and nothing is resampled: {told}"
-            )
+            text = f"not of the region of `{first_name}`, and nothing is resampled: {told}"
             fault = OtherRegion(
                 name,
                 f"{text}\n  {first_name}: {first.region}\n  {name}: {source.region}",
             )
             nearest = (
                 ""
-                if Shift.between(
-                    source.transform, first.transform, first.region.shape
-                ).is_whole
+                if Shift.between(source.transform, first.transform, first.region.shape).is_whole
                 else ', resample="nearest"'
             )
             mine, its = (_written(of, (given or maps)[of]) for of in (name, first_name))

@@ -117,20 +117,14 @@ def open_path(name: str, path: str | os.PathLike[str]) -> Source:
     except OSError as error:
         raise ReadFailed(name, f"cannot open: {text}: {error.strerror}") from None
     except UnicodeEncodeError:
-        raise ReadFailed(
-            name, f"cannot open: {text!r}: no path has a surrogate"
-        ) from None
+        raise ReadFailed(name, f"cannot open: {text!r}: no path has a surrogate") from None
     is_file = stat.S_ISREG(os.fstat(stream.fileno()).st_mode)
     head = _head_of(stream, is_file)
     if _FIRST_LINE.match(head):
         if is_file:
             stream.close()
         region = _region_of(name, head) or _refused_region(name, text, is_file)
-        return (
-            TextMap(name, text, region)
-            if is_file
-            else TextMap(name, text, region, head, stream)
-        )
+        return TextMap(name, text, region) if is_file else TextMap(name, text, region, head, stream)
     stream.close()
     if not is_file:
         raise BadMap(

@@ -42,10 +42,7 @@ def told_of(path: str, *kinds: type[Exception]) -> Iterator[None]:
             raise
         reason = getattr(error, "strerror", None) or str(error)
         with contextlib.suppress(OSError):
-            if (
-                shutil.disk_usage(os.path.dirname(os.path.abspath(path))).free
-                < FULL_BELOW
-            ):
+            if shutil.disk_usage(os.path.dirname(os.path.abspath(path))).free < FULL_BELOW:
                 reason = os.strerror(errno.ENOSPC)
         raise WriteFailed(f"{path} cannot be written: {reason}") from None
 

@@ -87,14 +87,10 @@ def _title(quantile: Any) -> str:
     if not 0 <= number <= 1:
         raise Refused(f"quantiles= are from 0 to 1, not {quantile!r}", status=2)
     text = f"{percentage:f}"
-    return "q" + (text.rstrip("0").rstrip(".") if "." in text else text).replace(
-        ".", "_"
-    )
+    return "q" + (text.rstrip("0").rstrip(".") if "." in text else text).replace(".", "_")
 
 
-def _moments(
-    values: Integers, cells: Integers, first: NDArray[np.intp]
-) -> list[Column]:
+def _moments(values: Integers, cells: Integers, first: NDArray[np.intp]) -> list[Column]:
     """Return sums, means, extremes and variances, with integers until the final division."""
     if not first.size:
         sums = squares = count = least = most = np.empty(0, np.int64)
@@ -104,11 +100,7 @@ def _moments(
         sums = np.add.reduceat(values * cells, first)
         # Squares of large values do not fit in 64 bits.
         largest = int(np.abs(values).max())
-        exact = (
-            values
-            if largest**2 * int(count.max()) < 2**63
-            else values.astype(object)
-        )
+        exact = values if largest**2 * int(count.max()) < 2**63 else values.astype(object)
         squares = np.add.reduceat(exact * exact * cells, first)
     whole = list(zip(count.tolist(), sums.tolist(), squares.tolist()))
     mean = np.array([total / n for n, total, _ in whole], np.float64)

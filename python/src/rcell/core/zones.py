@@ -80,15 +80,11 @@ class Layer(Protocol):
 class _Polygons:
     """The features of a layer: their geometries, the values of a field, and their reference system."""
 
-    def __init__(
-        self, features: Sequence[Mapping[str, Any]], field: str | None, crs: Any
-    ) -> None:
+    def __init__(self, features: Sequence[Mapping[str, Any]], field: str | None, crs: Any) -> None:
         self.crs = crs
         names = list(features[0]["properties"]) if features else []
         if field is not None and field not in names:
-            raise Refused(
-                f"no field {field}: there are {', '.join(names) or 'none'}", "zones"
-            )
+            raise Refused(f"no field {field}: there are {', '.join(names) or 'none'}", "zones")
         kept = [
             (number, feature)
             for number, feature in enumerate(features, 1)
@@ -107,8 +103,7 @@ class _Polygons:
                 )
         self.shapes = [feature["geometry"] for _, feature in kept]
         self.values = [
-            number if field is None else feature["properties"][field]
-            for number, feature in kept
+            number if field is None else feature["properties"][field] for number, feature in kept
         ]
 
     def ids(self) -> tuple[list[int], dict[int, str]]:
@@ -116,21 +111,14 @@ class _Polygons:
         if all(_is_whole(value) for value in self.values):
             return [int(value) for value in self.values], {}
         numbers: dict[str, int] = {}
-        return [
-            numbers.setdefault(str(value), len(numbers) + 1) for value in self.values
-        ], {number: text for text, number in numbers.items()}
+        return [numbers.setdefault(str(value), len(numbers) + 1) for value in self.values], {
+            number: text for text, number in numbers.items()
+        }
 
 
 def _is_whole(value: Any) -> bool:
-    is_number = isinstance(value, (int, float, np.number)) and not isinstance(
-        value, bool
-    )
-    return (
-        is_number
-        and value == value
-        and float(value).is_integer()
-        and abs(value) <= MAX_CATEGORY
-    )
+    is_number = isinstance(value, (int, float, np.number)) and not isinstance(value, bool)
+    return is_number and value == value and float(value).is_integer() and abs(value) <= MAX_CATEGORY
 
 
 def zones_of(given: Any, field: str | None, like: Source, crs: Any = None) -> Any:
@@ -196,17 +184,9 @@ def _burnt(shapes: list[Any], like: Source) -> NDArray[np.int32]:
     burnt: NDArray[np.int32] = features.rasterize(
         ((shape, number) for number, shape in enumerate(shapes, 1)), fill=0, **words
     )
-    often = (
-        features.rasterize(
-            ((shape, 1) for shape in shapes), fill=0, merge_alg=add, **words
-        )
-        > 1
-    )
+    often = features.rasterize(((shape, 1) for shape in shapes), fill=0, merge_alg=add, **words) > 1
     if often.any():
-        row, col = (
-            int(place) + 1
-            for place in np.unravel_index(int(often.argmax()), often.shape)
-        )
+        row, col = (int(place) + 1 for place in np.unravel_index(int(often.argmax()), often.shape))
         told = f"{np.count_nonzero(often):,} cells are in more than one polygon, the first at row {row}, column {col}"
         warnings.warn(f"zones: {told}: the later polygon has them", stacklevel=6)
     return burnt
@@ -232,15 +212,11 @@ def _polygons(given: Any, field: str | None) -> _Polygons | None:
         features = list(given.iterfeatures(na="null"))
         return _Polygons(features, field, given.crs)
     if isinstance(given, Mapping) and given.get("type") == "FeatureCollection":
-        return _Polygons(
-            [_plain(feature) for feature in given["features"]], field, GEOJSON_CRS
-        )
+        return _Polygons([_plain(feature) for feature in given["features"]], field, GEOJSON_CRS)
     if not isinstance(given, (str, os.PathLike)):
         return None
     path, chosen, layer = os.fspath(given).partition(_LAYER)
-    return (
-        _read(path, layer if chosen else None, field) if _VECTOR.search(path) else None
-    )
+    return _read(path, layer if chosen else None, field) if _VECTOR.search(path) else None
 
 
 def _read(path: str, layer: str | None, field: str | None) -> _Polygons:
@@ -257,9 +233,7 @@ def _read(path: str, layer: str | None, field: str | None) -> _Polygons:
         if layer is not None and layer not in layers:
             raise Refused(f"no layer {layer}: there are {', '.join(layers)}", "zones")
         with fiona.open(path, layer=layers[0] if layer is None else layer) as opened:
-            return _Polygons(
-                [_plain(feature) for feature in opened], field, opened.crs_wkt or None
-            )
+            return _Polygons([_plain(feature) for feature in opened], field, opened.crs_wkt or None)
     except (
         fiona.errors.FionaError,
         fiona.errors.FionaValueError,

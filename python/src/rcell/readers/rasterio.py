@@ -67,9 +67,7 @@ def open_raster(name: str, given: Any) -> RasterMap:
         if isinstance(given, rasterio.Band):
             return RasterMap.of_dataset(name, given.ds, int(given.bidx))
         dataset = (
-            open_dataset(name, os.fspath(given))
-            if isinstance(given, (str, os.PathLike))
-            else given
+            open_dataset(name, os.fspath(given)) if isinstance(given, (str, os.PathLike)) else given
         )
         return RasterMap.of_dataset(name, dataset, None)
 
@@ -141,9 +139,7 @@ class Layer:
         check_scale(name, dataset, band)
         dtype, nodata = dataset.dtypes[band - 1], dataset.nodatavals[band - 1]
         if dtype.startswith("complex") or dtype not in np.sctypeDict:
-            raise BadMap(
-                name, f"not a map of whole numbers: its cells are of the type {dtype}"
-            )
+            raise BadMap(name, f"not a map of whole numbers: its cells are of the type {dtype}")
         if np.dtype(dtype).kind in "iu" and np.dtype(dtype).itemsize == 8:
             dtype, nodata = _of_64_bits(dataset, band)
         flags = dataset.mask_flag_enums[band - 1]
@@ -168,15 +164,9 @@ class Layer:
         with told_of_reading(name, f"{told} cannot be read"):
             cells: Cells = dataset.read(self.band, window=window)
             masks: list[Mask] = (
-                [dataset.read_masks(self.band, window=window) == 0]
-                if self.has_mask
-                else []
+                [dataset.read_masks(self.band, window=window) == 0] if self.has_mask else []
             )
-            masks += (
-                []
-                if self.alpha is None
-                else [dataset.read(self.alpha, window=window) == 0]
-            )
+            masks += [] if self.alpha is None else [dataset.read(self.alpha, window=window) == 0]
         # rasterio before 1.4 swaps the names of the two 64-bit types, not the bits.
         return (
             cells.view(self.dtype) if cells.dtype.itemsize == 8 else cells,
@@ -190,9 +180,7 @@ def _of_64_bits(dataset: Any, band: int) -> tuple[str, int | None]:
     rasterio itself has nodata as a float, and before 1.4 swaps the two 64-bit types.
     """
     with need("rasterio.io", "gis", _PURPOSE).MemoryFile(ext=".vrt") as memory:
-        need("rasterio.shutil", "gis", _PURPOSE).copy(
-            dataset, memory.name, driver="VRT"
-        )
+        need("rasterio.shutil", "gis", _PURPOSE).copy(dataset, memory.name, driver="VRT")
         layer = ElementTree.fromstring(memory.read()).findall("VRTRasterBand")[band - 1]
     nodata = layer.findtext("NoDataValue")
     return str(layer.get("dataType")).lower(), None if nodata is None else int(nodata)
@@ -232,9 +220,7 @@ class RasterMap:
         enums = need("rasterio.enums", "gis", _PURPOSE)
         band = only_band(name, dataset, enums) if band is None else band
         transform, is_upside_down = upright(name, dataset)
-        region = in_region(
-            name, Region.from_transform, transform, dataset.height, dataset.width
-        )
+        region = in_region(name, Region.from_transform, transform, dataset.height, dataset.width)
         return cls(
             name=name,
             dataset=dataset,
@@ -260,9 +246,9 @@ class RasterMap:
     @property
     def is_masked(self) -> bool:
         """Whether its blocks have masks."""
-        return (
-            self.layer.has_mask or self.layer.alpha is not None
-        ) and not is_converted(np.dtype(self.layer.dtype))
+        return (self.layer.has_mask or self.layer.alpha is not None) and not is_converted(
+            np.dtype(self.layer.dtype)
+        )
 
     @property
     def labels(self) -> Mapping[int, str]:
@@ -322,9 +308,7 @@ def only_band(name: str, dataset: Any, enums: Any) -> int:
     """Return the only band that is not an alpha band; raise BadMap if there are several."""
     bands = sorted({*dataset.indexes} - {*alphas(dataset, enums)})
     if len(bands) != 1:
-        raise BadMap(
-            name, f"has {len(bands)} bands: give one, as rasterio.band(dataset, 1)"
-        )
+        raise BadMap(name, f"has {len(bands)} bands: give one, as rasterio.band(dataset, 1)")
     return int(bands[0])
 
 
@@ -351,15 +335,9 @@ def upright(name: str, dataset: Any) -> tuple[Transform, bool]:
     a, b, c, d, e, f = transform = six_numbers(name, dataset.transform)
     if transform == _IDENTITY:
         if dataset.gcps[0]:
-            raise BadMap(
-                name, "has ground control points and no transform: warp it first"
-            )
+            raise BadMap(name, "has ground control points and no transform: warp it first")
         return (1.0, 0.0, 0.0, 0.0, -1.0, float(dataset.height)), False
     is_upside_down = e > 0 and not b and not d
-    turned = (
-        (a, b, c, d, -e, f + e * dataset.height)
-        if is_upside_down
-        else (a, b, c, d, e, f)
-    )
+    turned = (a, b, c, d, -e, f + e * dataset.height) if is_upside_down else (a, b, c, d, e, f)
     check_upright(name, turned)
     return turned, is_upside_down

@@ -114,11 +114,7 @@ class DataArrayMap:
             part = self.array[row : row + step].data
             cells, null = unmasked(part.compute() if is_lazy(self.array) else part)
             check_computed(self.name, cells, self.array.dtype, part.shape)
-            null = (
-                np.zeros(cells.shape, np.bool_)
-                if self.is_masked and null is None
-                else null
-            )
+            null = np.zeros(cells.shape, np.bool_) if self.is_masked and null is None else null
             yield checked(self.name, cells, null, self.nodata_value, row)
 
 
@@ -166,9 +162,7 @@ def flat_of(name: str, array: Any) -> Flat:
     if transform is not None and transform[4] > 0:
         a, b, c, d, e, f = transform
         flat, transform = flat[::-1], (a, b, c, d, -e, f + e * flat.shape[0])
-    return Flat(
-        flat, transform, _crs_of(array), _nodata_of(name, array), _flags_of(array)
-    )
+    return Flat(flat, transform, _crs_of(array), _nodata_of(name, array), _flags_of(array))
 
 
 def source_of_data_array(name: str, array: Any) -> DataArrayMap:
@@ -184,17 +178,13 @@ def source_of_data_array(name: str, array: Any) -> DataArrayMap:
         region = in_region(name, Region.of_cells, *flat.shape)
     else:
         region = in_region(name, Region.from_transform, transform, *flat.shape)
-    return DataArrayMap(
-        name, flat, region, transform or region.transform, crs, nodata, labels
-    )
+    return DataArrayMap(name, flat, region, transform or region.transform, crs, nodata, labels)
 
 
 def variables_of(dataset: Any) -> dict[str, Any]:
     """Return the maps of a Dataset by their names: its variables but those that say where the cells are."""
     if not hasattr(dataset, "data_vars"):
-        raise BadMap(
-            "maps", "a DataArray that is no map of a name: give it one, as lc=array"
-        )
+        raise BadMap("maps", "a DataArray that is no map of a name: give it one, as lc=array")
     described = {name: dataset[name] for name in dataset.data_vars}
     places = {
         of.get("grid_mapping")
@@ -202,9 +192,7 @@ def variables_of(dataset: Any) -> dict[str, Any]:
         for of in (array.attrs, array.encoding)
     }
     return {
-        str(name): array.assign_coords(
-            {at: dataset[at] for at in places & set(described)}
-        )
+        str(name): array.assign_coords({at: dataset[at] for at in places & set(described)})
         for name, array in described.items()
         if name not in places and array.ndim > 1
     }
@@ -230,10 +218,7 @@ def is_lazy(array: Any) -> bool:
 def _flat(name: str, array: Any) -> Any:
     """Return an array with its rows first, by the names of its dimensions, else by their places."""
     axes = {dim: _axis_of(array, dim) for dim in array.dims}
-    named = [
-        next((dim for dim, axis in axes.items() if axis == wanted), None)
-        for wanted in "YX"
-    ]
+    named = [next((dim for dim, axis in axes.items() if axis == wanted), None) for wanted in "YX"]
     if len(set(axes.values()) - {None}) < len([axis for axis in axes.values() if axis]):
         raise BadMap(
             name,
@@ -264,9 +249,7 @@ def _by_place(array: Any, named: list[Any]) -> list[Any]:
     """Return the two dimensions that have more than one element, else the last two; a known one decides which comes first."""
     long = [dim for dim in array.dims if array.sizes[dim] > 1 or dim in named]
     kept = long if len(long) == 2 else list(array.dims[-2:])
-    return (
-        kept[::-1] if kept and (named[0] == kept[-1] or named[1] == kept[0]) else kept
-    )
+    return kept[::-1] if kept and (named[0] == kept[-1] or named[1] == kept[0]) else kept
 
 
 def _check_scale(name: str, array: Any) -> None:
@@ -285,14 +268,10 @@ def _transform_of(name: str, array: Any) -> Transform | None:
     if y not in array.coords or x not in array.coords:
         return None
     told = _told_transform(name, array)
-    north, height = _spacing(
-        name, array[y], None if told is None else (told[5], told[4])
-    )
+    north, height = _spacing(name, array[y], None if told is None else (told[5], told[4]))
     west, width = _spacing(name, array[x], None if told is None else (told[2], told[0]))
     if width < 0:
-        raise BadMap(
-            name, f"its columns go from east to west: sort them, as .sortby({x!r})"
-        )
+        raise BadMap(name, f"its columns go from east to west: sort them, as .sortby({x!r})")
     return (width, 0.0, west, 0.0, height, north)
 
 
@@ -306,27 +285,18 @@ def _told_transform(name: str, array: Any) -> Transform | None:
     return None if b or d else (a, b, c, d, e, f)
 
 
-def _spacing(
-    name: str, coordinate: Any, told: tuple[float, float] | None
-) -> tuple[float, float]:
+def _spacing(name: str, coordinate: Any, told: tuple[float, float] | None) -> tuple[float, float]:
     """Return the outer edge and the step of the centres along a dimension."""
     try:
         centres = np.asarray(coordinate.values, dtype=np.float64)
     except (TypeError, ValueError):
-        raise BadMap(
-            name, f"its coordinate {coordinate.name} is not of numbers"
-        ) from None
+        raise BadMap(name, f"its coordinate {coordinate.name} is not of numbers") from None
     if not np.isfinite(centres).all():
-        raise BadMap(
-            name, f"its coordinate {coordinate.name} has a number that is not finite"
-        )
+        raise BadMap(name, f"its coordinate {coordinate.name} has a number that is not finite")
     count = centres.size
     if told is not None:
         edge, step = told
-        if (
-            np.abs(edge + step * (np.arange(count) + 0.5) - centres).max()
-            <= abs(step) * _TOLERANCE
-        ):
+        if np.abs(edge + step * (np.arange(count) + 0.5) - centres).max() <= abs(step) * _TOLERANCE:
             return edge, step
     if count == 1:
         raise BadMap(
@@ -345,10 +315,7 @@ def _crs_of(array: Any) -> Any:
     reference = array.coords.get(named, array.coords.get("spatial_ref"))
     attributes = {} if reference is None else reference.attrs
     return (
-        attributes.get("crs_wkt")
-        or attributes.get("spatial_ref")
-        or array.attrs.get("crs")
-        or None
+        attributes.get("crs_wkt") or attributes.get("spatial_ref") or array.attrs.get("crs") or None
     )
 
 
@@ -356,8 +323,7 @@ def _nodata_of(name: str, array: Any) -> float | None:
     """Return the number that is null; NaN is in any case, and the only one where xarray has scaled the cells."""
     stored = (
         array.encoding
-        if (array.encoding.get("scale_factor", 1), array.encoding.get("add_offset", 0))
-        == (1, 0)
+        if (array.encoding.get("scale_factor", 1), array.encoding.get("add_offset", 0)) == (1, 0)
         else {}
     )
     told = [
@@ -368,9 +334,7 @@ def _nodata_of(name: str, array: Any) -> float | None:
     ]
     values = [value.item() for values in told for value in values]
     if not all(isinstance(value, numbers.Real) for value in values):
-        raise BadMap(
-            name, f"a nodata value that is no number: {', '.join(map(repr, values))}"
-        )
+        raise BadMap(name, f"a nodata value that is no number: {', '.join(map(repr, values))}")
     found = {value for value in values if value == value}
     if len(found) > 1:
         raise BadMap(
@@ -433,9 +397,7 @@ def data_array(
             "_".join(labels[category].split()) for category in sorted(labels)
         )
     a, _, c, _, e, f = transform
-    reference = {
-        "GeoTransform": " ".join(repr(number) for number in (c, a, 0.0, f, 0.0, e))
-    }
+    reference = {"GeoTransform": " ".join(repr(number) for number in (c, a, 0.0, f, 0.0, e))}
     wkt = wkt_of(crs)
     if wkt:
         reference |= {"crs_wkt": wkt, "spatial_ref": wkt}

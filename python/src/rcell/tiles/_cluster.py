@@ -174,18 +174,13 @@ class Cluster:
             with contextlib.suppress(BrokenPipeError):
                 write_all(
                     keys,
-                    json.dumps(
-                        {name: getattr(security, name) for name in KEYS}
-                    ).encode()
-                    + b"\n",
+                    json.dumps({name: getattr(security, name) for name in KEYS}).encode() + b"\n",
                 )
             address = _line(output)
             if not ADDRESS.fullmatch(address):
                 log.seek(0)
                 told = " ".join(log.read().strip().splitlines()[-1:]) or address
-                raise ClusterFailed(
-                    f"the processes of this machine did not start: {told}"
-                )
+                raise ClusterFailed(f"the processes of this machine did not start: {told}")
         return address.strip(), security
 
     def room(self) -> Room:
@@ -196,14 +191,10 @@ class Cluster:
         threads = sum(worker["nthreads"] for worker in workers)
         told = all(RESOURCE in worker["resources"] for worker in workers)
         whole = [
-            worker["resources"][RESOURCE]
-            if told
-            else worker["memory_limit"] or free_memory()
+            worker["resources"][RESOURCE] if told else worker["memory_limit"] or free_memory()
             for worker in workers
         ]
-        share = min(
-            memory / worker["nthreads"] for memory, worker in zip(whole, workers)
-        )
+        share = min(memory / worker["nthreads"] for memory, worker in zip(whole, workers))
         return Room(threads, int(share), int(min(whole)), told)
 
     def has_workers(self) -> bool:
@@ -249,15 +240,10 @@ def _line(output: int) -> str:
 def _environment() -> dict[str, str]:
     """Return an environment in which Python imports nothing from the working folder, and Dask serves no pages."""
     given = (
-        []
-        if sys.flags.ignore_environment
-        else os.environ.get("PYTHONPATH", "").split(os.pathsep)
+        [] if sys.flags.ignore_environment else os.environ.get("PYTHONPATH", "").split(os.pathsep)
     )
     paths = [str(Path(__file__).parents[2]), *filter(os.path.isabs, given)]
-    no_pages = {
-        f"DASK_DISTRIBUTED__{role}__HTTP__ROUTES": "[]"
-        for role in ("SCHEDULER", "WORKER")
-    }
+    no_pages = {f"DASK_DISTRIBUTED__{role}__HTTP__ROUTES": "[]" for role in ("SCHEDULER", "WORKER")}
     return {
         **os.environ,
         **no_pages,
@@ -268,12 +254,8 @@ def _environment() -> dict[str, str]:
 
 def main(workers: int, memory: int) -> None:
     """Hold a cluster of so many workers, each of so many bytes, until standard input ends; its first line has the keys."""
-    security = distributed.Security(
-        require_encryption=True, **json.loads(sys.stdin.readline())
-    )
-    with tempfile.TemporaryDirectory(
-        prefix="rcell-tiles-", ignore_cleanup_errors=True
-    ) as folder:
+    security = distributed.Security(require_encryption=True, **json.loads(sys.stdin.readline()))
+    with tempfile.TemporaryDirectory(prefix="rcell-tiles-", ignore_cleanup_errors=True) as folder:
         own = {
             "host": "127.0.0.1",
             "protocol": "tls://",
@@ -289,10 +271,7 @@ def main(workers: int, memory: int) -> None:
         }
         scheduler = {"cls": distributed.Scheduler, "options": own}
         cluster = distributed.SpecCluster(
-            {
-                at: {"cls": distributed.Nanny, "options": worker}
-                for at in range(workers)
-            },
+            {at: {"cls": distributed.Nanny, "options": worker} for at in range(workers)},
             scheduler,
             security=security,
             silence_logs=logging.WARNING,

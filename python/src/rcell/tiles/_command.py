@@ -37,9 +37,7 @@ def main(argv: Sequence[str]) -> int:
         return COMMAND_LINE if end.code else 0
     with warnings.catch_warnings():
         warnings.simplefilter("always", NeedlessTiles)
-        warnings.showwarning = lambda message, *_, **__: print(
-            f"rcell: {message}", file=sys.stderr
-        )
+        warnings.showwarning = lambda message, *_, **__: print(f"rcell: {message}", file=sys.stderr)
         try:
             with open_mosaic(
                 dict(given.maps),
@@ -67,9 +65,7 @@ def _parser() -> argparse.ArgumentParser:
         prog="python3 -m rcell tiles", description="Maps of any size, by tiles."
     )
     commands = parser.add_subparsers(required=True, metavar="COMMAND")
-    table = _command(
-        commands, "table", _table, "the table of a script with one r.stats, as CSV"
-    )
+    table = _command(commands, "table", _table, "the table of a script with one r.stats, as CSV")
     table.add_argument(
         "script",
         metavar="SCRIPT",
@@ -86,9 +82,7 @@ def _parser() -> argparse.ArgumentParser:
         commands, "patches", _patches, "the patches of a map with their sizes, as CSV"
     )
     for command in (grid, clump):
-        command.add_argument(
-            "--out", required=True, metavar="PATH", help="the GeoTIFF to write"
-        )
+        command.add_argument("--out", required=True, metavar="PATH", help="the GeoTIFF to write")
     for command in (clump, patches):
         command.add_argument(
             "--connectivity",
@@ -113,9 +107,7 @@ def _parser() -> argparse.ArgumentParser:
 
 
 def _command(commands: Any, name: str, act: Any, text: str) -> argparse.ArgumentParser:
-    command: argparse.ArgumentParser = commands.add_parser(
-        name, help=text, description=text
-    )
+    command: argparse.ArgumentParser = commands.add_parser(name, help=text, description=text)
     command.set_defaults(act=act)
     command.add_argument(
         "--size",

@@ -74,9 +74,7 @@ class Engine:
         """Return what the current workers have; there must be one."""
         return self.cluster.room()
 
-    def stream(
-        self, title: str, work: Sequence[Any], room: Room
-    ) -> Iterator[tuple[int, Any]]:
+    def stream(self, title: str, work: Sequence[Any], room: Room) -> Iterator[tuple[int, Any]]:
         """Yield the results of delayed work as they arrive, with their indices; only a few tiles are in progress at a time."""
         ahead = AHEAD * room.tasks
         waiting = iter(enumerate(work))
@@ -105,7 +103,9 @@ class Engine:
             while not self._ended([last]):
                 still = [leaf for leaf in open_leaves if not leaf.done()]
                 step(len(open_leaves) - len(still))
-                open_leaves = still  # drop the other results, which only other parts of the root need
+                open_leaves = (
+                    still  # drop the other results, which only other parts of the root need
+                )
             step(len(open_leaves))
             return last.result()
 
@@ -116,21 +116,12 @@ class Engine:
         """Return the futures that have ended, after at most LOOK_SECONDS; Dask itself would wait for workers for ever."""
         try:
             with self.cluster.client.as_current():
-                return set(
-                    distributed.wait(
-                        list(futures), LOOK_SECONDS, "FIRST_COMPLETED"
-                    ).done
-                )
+                return set(distributed.wait(list(futures), LOOK_SECONDS, "FIRST_COMPLETED").done)
         except distributed.TimeoutError:
             self._lone_since = (
-                None
-                if self.cluster.has_workers()
-                else self._lone_since or time.monotonic()
+                None if self.cluster.has_workers() else self._lone_since or time.monotonic()
             )
-            if (
-                self._lone_since is not None
-                and time.monotonic() - self._lone_since >= LONE_SECONDS
-            ):
+            if self._lone_since is not None and time.monotonic() - self._lone_since >= LONE_SECONDS:
                 raise _NoWorker(f"no worker for {LONE_SECONDS:g} seconds") from None
             return set()
 
@@ -158,9 +149,7 @@ class Engine:
 
 
 @contextmanager
-def _reported(
-    progress: Progress, title: str, total: int
-) -> Iterator[Callable[[int], None]]:
+def _reported(progress: Progress, title: str, total: int) -> Iterator[Callable[[int], None]]:
     """Yield a function to call for each finished tile, which shows the progress."""
     if progress is None or isinstance(progress, bool):
         with tqdm(

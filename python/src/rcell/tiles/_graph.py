@@ -47,9 +47,7 @@ def places_of(cuts: Cuts) -> list[Rectangle]:
     """Return the tiles row by row; each cell is in one (law `grids_cover`)."""
     rows, cols = (list(pairwise(accumulate(lengths, initial=0))) for lengths in cuts)
     return [
-        Rectangle(top, left, low - top, right - left)
-        for top, low in rows
-        for left, right in cols
+        Rectangle(top, left, low - top, right - left) for top, low in rows for left, right in cols
     ]
 
 
@@ -100,9 +98,7 @@ def over_tiles(
     name = f"{function.__name__}-{uuid4().hex}"
     keys = list(product(*(range(len(lengths)) for lengths in cuts)))
     more: list[tuple[Any, ...]] = (
-        [()] * len(keys)
-        if each is None
-        else [(getattr(one, "key", one),) for one in each]
+        [()] * len(keys) if each is None else [(getattr(one, "key", one),) for one in each]
     )
     graph = {
         (name, *at): (
@@ -130,9 +126,7 @@ def _with_halos(cells: Any, cuts: Cuts, reach: Reach) -> Any:
     if reach == NO_REACH:
         return cells
     sides = (reach.up, reach.down), (reach.left, reach.right)
-    depth = {
-        axis: side if len(cuts[axis]) > 1 else 0 for axis, side in enumerate(sides)
-    }
+    depth = {axis: side if len(cuts[axis]) > 1 else 0 for axis, side in enumerate(sides)}
     return overlap(cells, depth, "none", allow_rechunk=False)
 
 

@@ -74,9 +74,7 @@ class Demand:
         """Rows or columns of the halo, whichever are more."""
         return max(self.reach.up + self.reach.down, self.reach.left + self.reach.right)
 
-    def bytes(
-        self, rows: int, cols: int, runs: float = 1.0, share: float | None = None
-    ) -> int:
+    def bytes(self, rows: int, cols: int, runs: float = 1.0, share: float | None = None) -> int:
         """Return the peak memory, in bytes, of a worker and the program for a tile of so many rows and columns.
 
         Parameters
@@ -94,9 +92,7 @@ class Demand:
         program = self.maps * min(CELL, RUN * runs)
         part = runs if share is None else share
         beside = (
-            self.read
-            + program
-            + max(self.answer, self.clumps * CLUMP * runs, self.entry * part)
+            self.read + program + max(self.answer, self.clumps * CLUMP * runs, self.entry * part)
         )
         afterwards = self.after + self.per_clump * part
         return WORKER + math.ceil(cells * max(beside, afterwards))
@@ -109,9 +105,7 @@ def table_demand(read: int, maps: int, reach: Reach, made: int = 0) -> Demand:
 
 def grid_demand(read: int, maps: int, reach: Reach) -> Demand:
     """Return the demand of a map of int32, whose halo is cut off before it is sent."""
-    return Demand(
-        read, maps, answer=4, after=4 if reach == NO_REACH else 8, reach=reach
-    )
+    return Demand(read, maps, answer=4, after=4 if reach == NO_REACH else 8, reach=reach)
 
 
 def clump_demand(read: int, number: int = 4) -> Demand:
@@ -138,10 +132,7 @@ def size_for(demand: Demand, sheet: Sheet, memory: int, tasks: int) -> tuple[int
     together, since each tile would have to read them whole.
     """
     side = min(math.isqrt(CELL_LIMIT), SIDE_LIMIT) - demand.halo
-    enough = (
-        math.ceil(math.sqrt(sheet.rows * sheet.cols / (tasks * TILES_EACH)) / BLOCK)
-        * BLOCK
-    )
+    enough = math.ceil(math.sqrt(sheet.rows * sheet.cols / (tasks * TILES_EACH)) / BLOCK) * BLOCK
     side = min(side, enough) // BLOCK * BLOCK
     while side > BLOCK and demand.bytes(side, side) > memory:
         side -= BLOCK

@@ -57,11 +57,7 @@ class TileWriter:
         with need("rasterio", "gis", PURPOSE).open(path) as dataset:
             for place, expected in self._sums.items():
                 if (
-                    zlib.crc32(
-                        np.ascontiguousarray(
-                            dataset.read(1, window=_window(place))
-                        ).data
-                    )
+                    zlib.crc32(np.ascontiguousarray(dataset.read(1, window=_window(place))).data)
                     != expected
                 ):
                     raise OSError(
@@ -77,9 +73,7 @@ def _window(place: Rectangle) -> Any:
 
 def _told(path: str) -> AbstractContextManager[None]:
     """Raise errors of rasterio and the system as `WriteFailed`."""
-    return told_of(
-        path, need("rasterio.errors", "gis", PURPOSE).RasterioError, UnicodeEncodeError
-    )
+    return told_of(path, need("rasterio.errors", "gis", PURPOSE).RasterioError, UnicodeEncodeError)
 
 
 @contextmanager
@@ -101,9 +95,9 @@ def tile_writer(
     """
     rasterio = need("rasterio", "gis", PURPOSE)
     final = os.fspath(path)
-    profile = profile_of(
-        sheet.rows, sheet.cols, sheet.transform, sheet.crs, dtype, nodata
-    ) | {"zlevel": 1}
+    profile = profile_of(sheet.rows, sheet.cols, sheet.transform, sheet.crs, dtype, nodata) | {
+        "zlevel": 1
+    }
     with replacing(final) as beside, rasterio.Env(GDAL_CACHEMAX=CACHE), _warnings_off():
         with _told(final):
             dataset = rasterio.open(beside, "w", **profile)

@@ -21,9 +21,7 @@ NO_REACH = Reach()
 def counting(stats: Statement) -> Statement:
     """Return an r.stats that prints plain categories and counts."""
     flags = "".join(sorted({*stats.options, "c"} - {"l"}))
-    after = ",".join(
-        "*" if category == NULL else str(category) for category in stats.after
-    )
+    after = ",".join("*" if category == NULL else str(category) for category in stats.after)
     return replace(
         stats,
         text=f"r.stats -{flags} input={','.join(stats.inputs)}{after and f' after={after}'}",
@@ -34,9 +32,7 @@ def short_names(taken: Iterable[str]) -> Iterator[str]:
     """Yield names that no map has, as short as `row()`: a line has at most 65,535 bytes, and no more in a tile."""
     known = set(taken)
     return (
-        name
-        for name in map("".join, product("_", *[ascii_lowercase] * 4))
-        if name not in known
+        name for name in map("".join, product("_", *[ascii_lowercase] * 4)) if name not in known
     )
 
 
@@ -71,9 +67,7 @@ class TileScript:
     spare: str
 
     @classmethod
-    def of(
-        cls, plan: Sequence[Statement], last: Statement, names: Iterable[str]
-    ) -> TileScript:
+    def of(cls, plan: Sequence[Statement], last: Statement, names: Iterable[str]) -> TileScript:
         """Return a statement of a script and the statements that it depends on, over maps of these names."""
         used, wanted = [last], set(last.reads)
         for each in reversed(plan[: plan.index(last)]):
@@ -96,9 +90,7 @@ class TileScript:
                 [a + b for a, b in zip(found.get(name, NO_REACH), margin)]
                 for name, margin in each.reads.items()
             ]
-            found[each.made] = Reach(
-                *[max(lengths) for lengths in zip(NO_REACH, *margins)]
-            )
+            found[each.made] = Reach(*[max(lengths) for lengths in zip(NO_REACH, *margins)])
         return found[self.statements[-1].made]
 
     @property
@@ -109,9 +101,7 @@ class TileScript:
         )
 
     def _calls(self, function: str) -> bool:
-        return any(
-            call.function == function for each in self.statements for call in each.calls
-        )
+        return any(call.function == function for each in self.statements for call in each.calls)
 
     def text(self, place: Rectangle, rows: int, cols: int) -> str:
         """Return the script for a tile (with its halo) of a full map of so many rows and columns."""

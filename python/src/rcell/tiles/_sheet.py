@@ -117,17 +117,15 @@ class MapFile:
         """
         top = sheet.rows - place.top - place.rows if self.is_upside_down else place.top
         where = f"the tile of {place.rows} x {place.cols} cells at row {place.top + 1}, column {place.left + 1}"
-        with need("rasterio", "gis", PURPOSE).Env(
-            GDAL_CACHEMAX=READ_CACHE
-        ), open_dataset(self.name, self.path) as dataset:
+        with need("rasterio", "gis", PURPOSE).Env(GDAL_CACHEMAX=READ_CACHE), open_dataset(
+            self.name, self.path
+        ) as dataset:
             cells, null = self.layer.read(
                 self.name, dataset, (top, place.left, place.rows, place.cols), where
             )
         if self.is_upside_down:
             cells, null = cells[::-1], None if null is None else null[::-1]
-        block = checked(
-            self.name, cells, null, self.layer.nodata, place.top, place.left
-        )
+        block = checked(self.name, cells, null, self.layer.nodata, place.top, place.left)
         return ArrayMap(
             self.name,
             block.cells,
@@ -158,9 +156,7 @@ class MapCells:
     @property
     def bytes(self) -> int:
         """Return what a cell takes: cells of more than two bytes are checked, with masks, and copied to int32."""
-        return (
-            self.dtype.itemsize if self.dtype.itemsize <= 2 else self.dtype.itemsize + 7
-        )
+        return self.dtype.itemsize if self.dtype.itemsize <= 2 else self.dtype.itemsize + 7
 
     def of(self, cells: Any, place: Rectangle) -> ArrayMap:
         """Return the cells of a rectangle as a map of its own, as `MapFile.read` does."""
@@ -227,9 +223,7 @@ def open_maps(given: Mapping[str, Any], crs: Any = None) -> Maps:
         A map of another grid than the first.
     """
     if not given:
-        raise BadMap(
-            "maps", 'no map is given: name at least one, as lc="landcover.tif"'
-        )
+        raise BadMap("maps", 'no map is given: name at least one, as lc="landcover.tif"')
     check_names(given)
     opened = {name: _opened(name, one) for name, one in given.items()}
     common = common_crs({name: one.sheet.crs for name, one in opened.items()}, crs)
@@ -308,9 +302,7 @@ def _of_array(name: str, given: Any) -> Maps:
 
 
 def _of_file(name: str, path: str | os.PathLike[str], band: int | None = None) -> Maps:
-    file = (
-        os.fspath(path) if GDAL_NAME.match(os.fspath(path)) else os.path.abspath(path)
-    )
+    file = os.fspath(path) if GDAL_NAME.match(os.fspath(path)) else os.path.abspath(path)
     enums = need("rasterio.enums", "gis", PURPOSE)
     with told_of_reading(name, "cannot open"), open_dataset(name, file) as dataset:
         layer = Layer.of(name, dataset, band or only_band(name, dataset, enums), enums)

@@ -55,11 +55,7 @@ def read(
     file: MapFile | MapCells, place: Rectangle, sheet: Sheet, given: Iterator[Any]
 ) -> ArrayMap:
     """Return the cells of a map in a rectangle: read from its file, or the next cells that Dask has passed on."""
-    return (
-        file.read(place, sheet)
-        if isinstance(file, MapFile)
-        else file.of(next(given), place)
-    )
+    return file.read(place, sheet) if isinstance(file, MapFile) else file.of(next(given), place)
 
 
 @dataclass(frozen=True)
@@ -225,9 +221,7 @@ def grid_cells(task: TileRun, place: Rectangle, cells: Sequence[Any]) -> Integer
     return np.ascontiguousarray(inner(made, place, outer))
 
 
-def clumps_table(
-    task: ClumpRun, place: Rectangle, cells: Sequence[Any]
-) -> tuple[bytes, Integers]:
+def clumps_table(task: ClumpRun, place: Rectangle, cells: Sequence[Any]) -> tuple[bytes, Integers]:
     """Return the table of a tile's clump numbers, as the program prints it, and the category of each clump."""
     maps = {"cells": task.tile(place, cells)}
     with told_of_size(maps):
@@ -265,19 +259,13 @@ def numbered_cells(
     return renumber(
         numbers,
         tile,
-        out=numbers
-        if numbers.dtype == task.dtype
-        else np.empty(numbers.shape, task.dtype),
+        out=numbers if numbers.dtype == task.dtype else np.empty(numbers.shape, task.dtype),
     )
 
 
-def patches_frame(
-    whole: Joined, parts: Sequence[tuple[bytes, Integers]], sheet: Sheet
-) -> Any:
+def patches_frame(whole: Joined, parts: Sequence[tuple[bytes, Integers]], sheet: Sheet) -> Any:
     """Return the patches of the full map with their classes and numbers of cells."""
-    categories, cells = sizes(
-        whole, [table for table, _ in parts], [own for _, own in parts]
-    )
+    categories, cells = sizes(whole, [table for table, _ in parts], [own for _, own in parts])
     numbers = np.column_stack([np.arange(1, whole.clumps + 1), categories])
     return StatsTable(
         "r.clump", 0, ("patch", "class"), numbers, cells, cell=sheet.cell, crs=sheet.crs

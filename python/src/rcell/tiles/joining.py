@@ -73,9 +73,7 @@ class TileNumbers:
         if not self.clumps:
             return np.zeros(numbers.shape, dtype=np.int64)
         run = np.maximum(np.searchsorted(self.firsts, numbers, side="right") - 1, 0)
-        return np.where(
-            numbers > 0, self.numbers[run] + (numbers - self.firsts[run]), 0
-        )
+        return np.where(numbers > 0, self.numbers[run] + (numbers - self.firsts[run]), 0)
 
 
 @dataclass(frozen=True, eq=False)
@@ -117,9 +115,7 @@ def join(borders: Sequence[bytes], diagonal: bool = False) -> Joined:
         )
         for begin, end in zip(ends, ends[1:])
     ]
-    return Joined(
-        int((runs[:, 3] + runs[:, 2] - runs[:, 1]).max(initial=0)), tiles, text
-    )
+    return Joined(int((runs[:, 3] + runs[:, 2] - runs[:, 1]).max(initial=0)), tiles, text)
 
 
 def sizes(
@@ -147,9 +143,7 @@ def sizes(
     return found, counts_of(joined_sizes(whole.numbering, tables), 1).cells
 
 
-def renumber(
-    numbers: Integers, tile: TileNumbers, out: Integers | None = None
-) -> Integers:
+def renumber(numbers: Integers, tile: TileNumbers, out: Integers | None = None) -> Integers:
     """Replace the clump numbers of a tile by the numbers of the full map.
 
     Parameters
@@ -182,7 +176,5 @@ def renumber(
     given, taken = numbers.reshape(-1), out.reshape(-1)
     for start in range(0, given.size, PIECE):
         piece = given[start : start + PIECE]
-        taken[start : start + PIECE] = (
-            tile.looked_up(piece) if table is None else table[piece]
-        )
+        taken[start : start + PIECE] = tile.looked_up(piece) if table is None else table[piece]
     return out

@@ -142,9 +142,7 @@ def open_mosaic(
     """
     given = named_once(maps, named)
     if size is not None and min(np.atleast_1d(size)) < 1:
-        raise Refused(
-            f"a tile has at least one row and one column, not {size}", status=2
-        )
+        raise Refused(f"a tile has at least one row and one column, not {size}", status=2)
     mosaic = Mosaic(
         open_maps(given, crs),
         (size, size) if isinstance(size, int) else size,
@@ -195,9 +193,7 @@ class Mosaic:
     <Mosaic of lc: 2 x 3 cells, tiles of 2 x 2 cells>
     """
 
-    def __init__(
-        self, maps: Maps, size: tuple[int, int] | None, engine: Engine
-    ) -> None:
+    def __init__(self, maps: Maps, size: tuple[int, int] | None, engine: Engine) -> None:
         self.sheet = maps.sheet
         self._maps = maps
         self._files = maps.files
@@ -384,9 +380,7 @@ class Mosaic:
         run = self._grid_run(script)
         last = run.script.statements[-1]
         name, labels = last.made, last.labels
-        tiles = self._tiles(
-            grid_demand(self._read(run), run.made, run.reach), path is not None
-        )
+        tiles = self._tiles(grid_demand(self._read(run), run.made, run.reach), path is not None)
         work = self._over(_tasks.grid_cells, run, tiles, dtype="int32")
         if path is None:
             return self._data_array(work, name, NULL, labels)
@@ -444,12 +438,9 @@ class Mosaic:
         borders, joined = self._joined(run, tiles)
         if path is None:
             numbers = [
-                dask.delayed(_tasks.numbers_of_tile)(joined, tile)
-                for tile in range(len(borders))
+                dask.delayed(_tasks.numbers_of_tile)(joined, tile) for tile in range(len(borders))
             ]
-            work = self._over(
-                _tasks.numbered_cells, run, tiles, numbers, widest, joined
-            )
+            work = self._over(_tasks.numbered_cells, run, tiles, numbers, widest, joined)
             return self._data_array(work, f"{name}_patches", NO_CLUMP, {})
         whole: Joined = self._engine.finish("borders", joined, borders)
         run = replace(run, dtype="int32" if whole.clumps < 2**31 else "int64")
@@ -499,11 +490,7 @@ class Mosaic:
         borders, joined = self._joined(run, tiles)
         tables = _parts(self._over(_tasks.clumps_table, run, tiles))
         table = dask.delayed(_tasks.patches_frame)(joined, tables, self.sheet)
-        return (
-            self._engine.finish("patches", table, borders + tables)
-            if compute
-            else table
-        )
+        return self._engine.finish("patches", table, borders + tables) if compute else table
 
     def _joined(self, run: _tasks.ClumpRun, tiles: _Tiles) -> tuple[list[Any], Any]:
         """Return the work of the borders of tiles, and the work of rcell-join, which joins their clumps to the clumps of the full map."""
@@ -514,26 +501,18 @@ class Mosaic:
 
     def _file(self, name: str) -> MapFile | MapCells:
         if name not in self._files:
-            raise Refused(
-                f"no map {name}: there are {', '.join(self._files)}", status=2
-            )
+            raise Refused(f"no map {name}: there are {', '.join(self._files)}", status=2)
         return self._files[name]
 
     def _refuse_inputs(self, path: str | os.PathLike[str] | None) -> None:
-        files = [
-            file.path for file in self._files.values() if isinstance(file, MapFile)
-        ]
-        if path is not None and any(
-            is_same_file(os.fspath(path), file) for file in files
-        ):
+        files = [file.path for file in self._files.values() if isinstance(file, MapFile)]
+        if path is not None and any(is_same_file(os.fspath(path), file) for file in files):
             raise Refused(
                 f"{path}: the output file is the input file: choose another name",
                 status=2,
             )
 
-    def _data_array(
-        self, cells: Any, name: str, null: int, labels: Mapping[int, str]
-    ) -> Any:
+    def _data_array(self, cells: Any, name: str, null: int, labels: Mapping[int, str]) -> Any:
         return data_array(
             cells,
             self.sheet.transform,
@@ -550,14 +529,10 @@ class Mosaic:
         plan = planned(script, self._files)
         tables = [statement for statement in plan if statement.command == "r.stats"]
         if len(tables) != 1:
-            raise Refused(
-                f"{len(tables)} lines of r.stats, but exactly one is needed", "script"
-            )
+            raise Refused(f"{len(tables)} lines of r.stats, but exactly one is needed", "script")
         stats = tables[0]
         if "1" in stats.options:
-            raise refused(
-                script, stats, "-1 lists cells, of which there is no table to merge"
-            )
+            raise refused(script, stats, "-1 lists cells, of which there is no table to merge")
         run = self._run(script, plan, stats)
         return stats, replace(run, script=run.script.with_last(counting(stats)))
 
@@ -565,9 +540,7 @@ class Mosaic:
         """Return the labels of the maps that the last statement reads."""
         made = {statement.made: statement for statement in script}
         return {
-            name: self._maps.labels_of(name)
-            if name in self._files
-            else made[name].labels
+            name: self._maps.labels_of(name) if name in self._files else made[name].labels
             for name in script[-1].inputs
         }
 
@@ -587,18 +560,13 @@ class Mosaic:
         try:
             plan = planned(script, self._files)
         except Refused as error:
-            if (
-                error.text != "unknown command"
-                or (error.content or "").strip() != script.strip()
-            ):
+            if error.text != "unknown command" or (error.content or "").strip() != script.strip():
                 raise
             plan = []
         text = script if plan else f"r.mapcalc {script.strip()}"
         return text, plan or planned(text, self._files)
 
-    def _run(
-        self, script: str, plan: list[Statement], last: Statement
-    ) -> _tasks.TileRun:
+    def _run(self, script: str, plan: list[Statement], last: Statement) -> _tasks.TileRun:
         run = TileScript.of(plan, last, self._files)
         for statement in run.statements:
             if statement.command == "r.clump":
@@ -662,11 +630,7 @@ class Mosaic:
     ) -> Any:
         """Return the work of a function over tiles as an array of Dask; `over_tiles` says the rest."""
         files = run.files if isinstance(run, _tasks.TileRun) else (run.file,)
-        arrays = [
-            self._maps.arrays[file.name].data
-            for file in files
-            if isinstance(file, MapCells)
-        ]
+        arrays = [self._maps.arrays[file.name].data for file in files if isinstance(file, MapCells)]
         arrays = list(dask.optimize(*arrays)) if tiles.is_eager else arrays
         rows, cols = (max(lengths) for lengths in tiles.cuts)
         _log.info(
@@ -677,7 +641,5 @@ class Mosaic:
             cols,
             tiles.memory,
         )
-        with dask.annotate(
-            **tiles.room.annotations(tiles.memory) if tiles.is_eager else {}
-        ):
+        with dask.annotate(**tiles.room.annotations(tiles.memory) if tiles.is_eager else {}):
             return over_tiles(function, run, tiles.cuts, arrays, each, dtype, once)
