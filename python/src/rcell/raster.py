@@ -327,11 +327,7 @@ class Grid:
     def _picture(self, longest: int) -> bytes:
         step = -(-max(self.region.shape) // longest)
         small = Grid(
-            self.name,
-            self.array[::step, ::step],
-            self.region,
-            self.transform,
-            colors=self.colors,
+            self.name, self.array[::step, ::step], self.region, self.transform, colors=self.colors
         )
         places, colors, norm = small._colored(self.categories())
         image = (

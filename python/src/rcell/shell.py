@@ -85,11 +85,7 @@ def _words() -> argparse.ArgumentParser:
     for name, (run, told, kinds, options) in COMMANDS.items():
         parser = commands.add_parser(name, help=told, description=f"Writes {told}.")
         parser.set_defaults(run=run, area="none")
-        for words_of in (
-            *(OPTIONS[kind] for kind in kinds.split()),
-            options,
-            OPTIONS["crs"],
-        ):
+        for words_of in (*(OPTIONS[kind] for kind in kinds.split()), options, OPTIONS["crs"]):
             for option, settings in words_of.items():
                 parser.add_argument(option, **settings)
     commands.add_parser("tiles", help="maps that are larger than the memory", add_help=False)
@@ -156,11 +152,7 @@ def _change(words: argparse.Namespace) -> None:
     )
     words.given = dict(zip(names, words.maps))
     found = change(
-        words.maps,
-        years=words.years,
-        area=_unit(words),
-        labels=words.labels,
-        crs=words.crs,
+        words.maps, years=words.years, area=_unit(words), labels=words.labels, crs=words.crs
     )
     _put(words, found.tables[words.table])
 
@@ -168,8 +160,7 @@ def _change(words: argparse.Namespace) -> None:
 def _patches(words: argparse.Namespace) -> None:
     words.given = {"map": words.map, **({"zones": words.zones} if words.zones else {})}
     rest = _options(
-        words,
-        "connectivity zones classes least core_depth labels zone_labels zone_field crs",
+        words, "connectivity zones classes least core_depth labels zone_labels zone_field crs"
     )
     _put(words, unwrap(patches)(words.map, area=_unit(words), **rest))
 
@@ -180,16 +171,12 @@ def _zonal(words: argparse.Namespace) -> None:
         quantiles = [float(word) for word in words.quantiles.split(",")]
     except ValueError:
         raise Refused(
-            f"--quantiles are numbers from 0 to 1, not {words.quantiles}",
-            status=_COMMAND_LINE,
+            f"--quantiles are numbers from 0 to 1, not {words.quantiles}", status=_COMMAND_LINE
         ) from None
     _put(
         words,
         unwrap(zonal)(
-            words.map,
-            words.zones,
-            quantiles,
-            **_options(words, "zone_field zone_labels crs"),
+            words.map, words.zones, quantiles, **_options(words, "zone_field zone_labels crs")
         ),
     )
 
@@ -231,10 +218,7 @@ def _align(words: argparse.Namespace) -> None:
         (name, np.nan if value is None else float(value))
         for name, value in words.account._asdict().items()
     ]
-    _put(
-        words,
-        Table(Column(name, "measure", np.array([value])) for name, value in values),
-    )
+    _put(words, Table(Column(name, "measure", np.array([value])) for name, value in values))
 
 
 def _run(words: argparse.Namespace) -> None:
@@ -309,17 +293,9 @@ def _put(words: argparse.Namespace, table: Table) -> None:
 # Each command with its function, its result, the options that it shares with others, and its own options.
 
 OPTIONS: dict[str, dict[str, dict[str, Any]]] = {
-    "map": {
-        "map": {
-            "metavar": "MAP",
-            "help": "a raster that GDAL reads, or a grid of rcell",
-        }
-    },
+    "map": {"map": {"metavar": "MAP", "help": "a raster that GDAL reads, or a grid of rcell"}},
     "target": {
-        "target": {
-            "metavar": "OUT.tif",
-            "help": "the map to write: .tif, .txt or a picture",
-        }
+        "target": {"metavar": "OUT.tif", "help": "the map to write: .tif, .txt or a picture"}
     },
     "format": {
         "--format": {
@@ -361,8 +337,7 @@ _NAMED = {
     }
 }
 COMMANDS: dict[
-    str,
-    tuple[Callable[[argparse.Namespace], None], str, str, dict[str, dict[str, Any]]],
+    str, tuple[Callable[[argparse.Namespace], None], str, str, dict[str, dict[str, Any]]]
 ] = {
     "composition": (
         _composition,
@@ -393,11 +368,7 @@ COMMANDS: dict[
                 "nargs": "+",
                 "help": "two maps or more, in the order of their years",
             },
-            "--years": {
-                "type": _wholes,
-                "metavar": "YEAR,..",
-                "help": "one for each map",
-            },
+            "--years": {"type": _wholes, "metavar": "YEAR,..", "help": "one for each map"},
             "--table": {
                 "choices": ["table", "matrix", "summary"],
                 "default": "table",
@@ -459,10 +430,7 @@ COMMANDS: dict[
                 "metavar": "N",
                 "help": f"rows and columns of the square: odd, {SIZES[0]} to {SIZES[-1]}",
             },
-            "--fill": {
-                "action": "store_true",
-                "help": "gives null cells a class as well",
-            },
+            "--fill": {"action": "store_true", "help": "gives null cells a class as well"},
         },
     ),
     "align": (
@@ -470,11 +438,7 @@ COMMANDS: dict[
         "a map on the grid of another one, and an account of used and lost cells",
         "map target format",
         {
-            "--to": {
-                "required": True,
-                "metavar": "OTHER",
-                "help": "the map whose grid it gets",
-            },
+            "--to": {"required": True, "metavar": "OTHER", "help": "the map whose grid it gets"},
             "--resample": {
                 "metavar": "nearest",
                 "help": "takes the nearest cell if the grids are not apart by whole cells",
@@ -609,19 +573,9 @@ def _align_words(error: Refused, given: dict[str, str]) -> str | None:
     if not error.advice or error.source not in given or error.source == first:
         return "--resample nearest" if error.advice else None
     stem, ending = os.path.splitext(given[error.source])
-    words = [
-        "align",
-        given[error.source],
-        f"{stem}-aligned{ending}",
-        "--to",
-        given[first],
-    ]
+    words = ["align", given[error.source], f"{stem}-aligned{ending}", "--to", given[first]]
     return shlex.join(
-        [
-            NAME,
-            *words,
-            *(["--resample", "nearest"] if "resample=" in error.advice else []),
-        ]
+        [NAME, *words, *(["--resample", "nearest"] if "resample=" in error.advice else [])]
     )
 
 

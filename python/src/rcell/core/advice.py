@@ -59,13 +59,7 @@ class Messages:
             read = json.load(file)
         self.parts = read["parts"]
         self.warnings = {warning["name"]: warning for warning in read["warnings"]}
-        self.titles = {
-            "arguments": 0,
-            "files": 1,
-            "grid": 2,
-            "script": 3,
-            "expression": 4,
-        }
+        self.titles = {"arguments": 0, "files": 1, "grid": 2, "script": 3, "expression": 4}
 
     def causes(self, part, text):
         """Return the causes of a message of a part."""

@@ -105,16 +105,10 @@ def _shifted(
     inside = [(found >= 0) & (found < size) for found, size in zip(places, cells.shape)]
     (rows, cols), (to_rows, to_cols) = (
         [_run(found) for found in sides]
-        for sides in (
-            [at[kept] for at, kept in zip(places, inside)],
-            map(np.flatnonzero, inside),
-        )
+        for sides in ([at[kept] for at, kept in zip(places, inside)], map(np.flatnonzero, inside))
     )
     made, is_null = np.zeros(like.region.shape, cells.dtype), np.ones(like.region.shape, np.bool_)
-    made[to_rows, to_cols], is_null[to_rows, to_cols] = (
-        cells[rows][:, cols],
-        null[rows][:, cols],
-    )
+    made[to_rows, to_cols], is_null[to_rows, to_cols] = cells[rows][:, cols], null[rows][:, cols]
     often = [
         np.bincount(at[kept], minlength=size) for at, kept, size in zip(places, inside, cells.shape)
     ]
@@ -164,21 +158,14 @@ def _projected(source: Source, like: Source, cells: Cells, null: Mask) -> tuple[
         )
         inside = (down >= 0) & (down < rows) & (across >= 0) & (across < cols)
         at = down[inside].astype(np.int64) * cols + across[inside].astype(np.int64)
-        made[part][inside], is_null[part][inside] = (
-            cells.reshape(-1)[at],
-            null.reshape(-1)[at],
-        )
+        made[part][inside], is_null[part][inside] = cells.reshape(-1)[at], null.reshape(-1)[at]
         often += np.bincount(at, minlength=cells.size)
     if not often.any():
         raise BadMap("map", "has no cell in the extent of `to`")
     often = np.where(null.reshape(-1), 0, often)
     used = np.count_nonzero(often)
     return masked(made, is_null), Aligned(
-        None,
-        None,
-        used,
-        np.count_nonzero(often > 1),
-        null.size - np.count_nonzero(null) - used,
+        None, None, used, np.count_nonzero(often > 1), null.size - np.count_nonzero(null) - used
     )
 
 

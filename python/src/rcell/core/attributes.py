@@ -42,8 +42,7 @@ def labels_of_band(band: Any) -> dict[int, str]:
 def _labels_of_table(table: Any) -> dict[int, str]:
     places = range(table.GetColumnCount())
     value, name = columns_of(
-        [table.GetUsageOfCol(at) for at in places],
-        [table.GetNameOfCol(at) for at in places],
+        [table.GetUsageOfCol(at) for at in places], [table.GetNameOfCol(at) for at in places]
     )
     if value is None or name is None:
         return {}

@@ -44,8 +44,7 @@ MODULES = {
     "r.report": "`r.stats -c -n`, and multiply the counts",
     "r.univar": "`r.stats -c -n`, and awk over category and count",
     **dict.fromkeys(
-        ("r.cross", "r.coin"),
-        "`r.stats -c input=a,b`: the combinations with their counts",
+        ("r.cross", "r.coin"), "`r.stats -c input=a,b`: the combinations with their counts"
     ),
     "r.patch": "`r.mapcalc new = if(isnull(a), b, a)`",
     "r.recode": "an r.reclass: `1 thru 3 = 2`",
@@ -349,12 +348,7 @@ CAUSES = {
         Cause("no-break space", r"(?<=\S)(?:\xc2\xa0)+", (" ",)),
         Cause("continued line", r"(?:(?<=\\\n)|(?<=\\\r\n))" + WORD),
         Cause("case", WORD, ("{new}",), lower),
-        Cause(
-            "module",
-            r"(?<!\S)(?P<word>\S+).*",
-            ("",),
-            values={"fixed": of(MODULES, "word")},
-        ),
+        Cause("module", r"(?<!\S)(?P<word>\S+).*", ("",), values={"fixed": of(MODULES, "word")}),
         Cause(
             "module",
             r"(?<!\S)(?P<word>(?:%s)(?!\S)|[A-Za-z_]\w*=\S*).*" % SHELL,
@@ -363,11 +357,7 @@ CAUSES = {
         ),
         Cause("rule", r"(?<!\S)(?:end(?=[ \t\r]*$)|(?:\*|[+-]?[0-9]+)(?!\S)(?=.*=))"),
         Cause("spelling", WORD, ("{new}",), near(COMMANDS, 0.8)),
-        Cause(
-            "module",
-            WORD,
-            values={"fixed": "the commands are %s" % ", ".join(COMMANDS)},
-        ),
+        Cause("module", WORD, values={"fixed": "the commands are %s" % ", ".join(COMMANDS)}),
     ],
     ("script", "bad option"): [
         CONTINUED,
@@ -424,16 +414,9 @@ CAUSES = {
             ("{new}",),
             replaced((r"[ \t]+", "_"), ("[\"']", "")),
         ),
+        Cause("short key", r"(?P<key>[^\s=]+)=(?P<value>\S*)", ("{new}={value}",), near_keys),
         Cause(
-            "short key",
-            r"(?P<key>[^\s=]+)=(?P<value>\S*)",
-            ("{new}={value}",),
-            near_keys,
-        ),
-        Cause(
-            "separator newline",
-            r"(?i)(?<!\S)separator=[\"']?(?:newline|\\n|nl)[\"']?(?!\S)",
-            ("",),
+            "separator newline", r"(?i)(?<!\S)separator=[\"']?(?:newline|\\n|nl)[\"']?(?!\S)", ("",)
         ),
         Cause(
             "separator",
@@ -470,12 +453,7 @@ CAUSES = {
         BLANKS,
         COMMA,
         Cause("quotes", r"(?<!\S)\S*[\"']\S*", ("{new}",), replaced(("[\"']", ""))),
-        Cause(
-            "mapset",
-            r"(?<!\S)\w+=(?P<name>[^\s@,]*)@\S*",
-            ("{new}",),
-            replaced(("@[^,]*", "")),
-        ),
+        Cause("mapset", r"(?<!\S)\w+=(?P<name>[^\s@,]*)@\S*", ("{new}",), replaced(("@[^,]*", ""))),
         Cause("dash", r"(?<!\S)\w+=\S*-\S*", ("{new}",), UNDERSCORED),
         Cause(
             "one map",
@@ -496,10 +474,7 @@ CAUSES = {
             END,
             (" {new}",),
             lambda at: ["input=" + at["judge"].map, "output=" + at["judge"].spare],
-            {
-                "key": lambda at: at["new"].partition("=")[0],
-                "fixed": "{line} {key}=NAME",
-            },
+            {"key": lambda at: at["new"].partition("=")[0], "fixed": "{line} {key}=NAME"},
             False,
         ),
         Cause("missing option", END, values={"key": "input", "fixed": "{line} input=NAME"}),
@@ -545,17 +520,12 @@ CAUSES = {
         Cause(
             "width",
             r"after=\S*",
-            values={
-                "parts": lambda at: 1 + at["mark"].count(","),
-                "maps": "another number",
-            },
+            values={"parts": lambda at: 1 + at["mark"].count(","), "maps": "another number"},
         ),
     ],
     ("script", "bad rule"): [
         Cause(
-            "end with more",
-            r"^(?P<end>[ \t]*end)\b(?P<mark>[^=\n]*[^=\s])[ \t\r]*$",
-            ("{end}",),
+            "end with more", r"^(?P<end>[ \t]*end)\b(?P<mark>[^=\n]*[^=\s])[ \t\r]*$", ("{end}",)
         ),
         NEXT_COMMAND,
         Cause(
@@ -571,18 +541,8 @@ CAUSES = {
     ],
     ("script", "bad number in rule"): [
         NEXT_COMMAND,
-        Cause(
-            "two rules",
-            r"^(?=.*;)" + RULE,
-            ("{new}",),
-            replaced((r"[ \t]*;[ \t]*", "\n")),
-        ),
-        Cause(
-            "two equals signs",
-            r"^(?=[^=\n]*==)" + RULE,
-            ("{new}",),
-            replaced(("==+", "=")),
-        ),
+        Cause("two rules", r"^(?=.*;)" + RULE, ("{new}",), replaced((r"[ \t]*;[ \t]*", "\n"))),
+        Cause("two equals signs", r"^(?=[^=\n]*==)" + RULE, ("{new}",), replaced(("==+", "="))),
         Cause(
             "dash for thru",
             "^" + RULE,
@@ -598,12 +558,7 @@ CAUSES = {
             "null word",
             "^" + RULE,
             ("{new}",),
-            replaced(
-                (
-                    r"(?<==)([ \t]*)(?:na|nan|null|nodata|none|no|null\(\))(?!\S)",
-                    r"\1NULL",
-                )
-            ),
+            replaced((r"(?<==)([ \t]*)(?:na|nan|null|nodata|none|no|null\(\))(?!\S)", r"\1NULL")),
         ),
         Cause("fraction", RULE_WORD % r"[+-]?\d*\.\d*", ("1",), shown=False),
         Cause("range of number", RULE_WORD % r"[+-]?\d{10,}", ("1",), shown=False),
@@ -632,12 +587,7 @@ CAUSES = {
             ("\nr.mapcalc {more}",),
         ),
         Cause("semicolon", r";[ \t\r]*$", ("",)),
-        Cause(
-            "power",
-            POWER % 2,
-            ("({name} * {name})",),
-            values={"fixed": "{name} * {name}"},
-        ),
+        Cause("power", POWER % 2, ("({name} * {name})",), values={"fixed": "{name} * {name}"}),
         Cause(
             "power",
             POWER % 3,
@@ -707,11 +657,7 @@ CAUSES = {
             values={"fixed": "!"},
         ),
         Cause("variable", r"\beval[ \t]*\(.*?(?P<mark>[A-Za-z_][\w.]*[ \t]*=)(?!=)"),
-        Cause(
-            "no assignment",
-            BEGIN + r"[A-Za-z_][\w.]*[ \t]*)(?P<mark>==)",
-            ("{begin}=",),
-        ),
+        Cause("no assignment", BEGIN + r"[A-Za-z_][\w.]*[ \t]*)(?P<mark>==)", ("{begin}=",)),
         Cause(
             "dash in name",
             BEGIN + r")(?P<made>[\w.]+[ \t]*(?P<mark>-)[\w. \t-]*[\w.])(?P<equals>[ \t]*=)",
@@ -769,10 +715,7 @@ CAUSES = {
     ("expression", "wrong number of arguments"): [
         Cause("null test", r"null(?=[ \t]*\()", ("isnull",)),
         Cause(
-            "count",
-            IF_OF_FOUR,
-            (TWO_IFS,),
-            values={"wanted": wanted, "fixed": "`%s`" % TWO_IFS},
+            "count", IF_OF_FOUR, (TWO_IFS,), values={"wanted": wanted, "fixed": "`%s`" % TWO_IFS}
         ),
         Cause("count", values={"wanted": wanted, "fixed": lambda at: "pass " + wanted(at)}),
     ],

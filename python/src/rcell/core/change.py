@@ -107,11 +107,7 @@ class _Pairs:
         measure: Measure,
     ) -> None:
         self.pairs, self.labels, self._measure = pairs, labels, measure
-        self._years, self._is_legend, self._by_row = (
-            years,
-            is_legend,
-            measure.by_row is not None,
-        )
+        self._years, self._is_legend, self._by_row = years, is_legend, measure.by_row is not None
 
     def table(self) -> Table:
         """Return a table with a row for each change that occurs."""
@@ -152,8 +148,7 @@ class _Pairs:
             else Column("from", "class", np.concatenate(first))
         )
         titles = _names(
-            after,
-            {code: text for labels in self.labels[1:] for code, text in labels.items()},
+            after, {code: text for labels in self.labels[1:] for code, text in labels.items()}
         )
         rest = [
             Column(title, kind, values) for title, values in zip(titles, np.concatenate(blocks).T)
@@ -218,11 +213,7 @@ def _names(classes: Numbers, labels: Mapping[int, str]) -> list[str]:
 def _joined(blocks: list[list[Column]]) -> list[Column]:
     """Return the columns of labels of all pairs, one below the other."""
     return [
-        Column(
-            columns[0].name,
-            "label",
-            [text for column in columns for text in column.values],
-        )
+        Column(columns[0].name, "label", [text for column in columns for text in column.values])
         for columns in zip(*blocks)
     ]
 
@@ -303,11 +294,7 @@ def change(
     shared: Mapping[int, str] = next(filter(None, own), {})
     own = [found or shared for found in own]
     pairs = _Pairs(
-        maps.counts(list(zip(names, names[1:])), measure),
-        told,
-        own,
-        labels is not None,
-        measure,
+        maps.counts(list(zip(names, names[1:])), measure), told, own, labels is not None, measure
     )
     matrix, classes = pairs.matrix()
     tables = {"table": pairs.table(), "matrix": matrix, "summary": pairs.summary()}

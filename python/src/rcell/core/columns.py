@@ -9,16 +9,7 @@ import json
 from collections import Counter
 from dataclasses import dataclass, field, replace
 from functools import cached_property, wraps
-from typing import (
-    Any,
-    Callable,
-    Iterable,
-    Iterator,
-    Literal,
-    Mapping,
-    NamedTuple,
-    ParamSpec,
-)
+from typing import Any, Callable, Iterable, Iterator, Literal, Mapping, NamedTuple, ParamSpec
 
 import numpy as np
 
@@ -418,9 +409,7 @@ class StatsTable(Table):
     def _sides(self, place: int) -> tuple[NDArray[np.int64], NDArray[np.intp]]:
         """Return the categories of a map, null last, and the index of each row among them."""
         ordered = np.where(
-            self.categories[:, place] == NULL,
-            np.iinfo(np.int64).max,
-            self.categories[:, place],
+            self.categories[:, place] == NULL, np.iinfo(np.int64).max, self.categories[:, place]
         )
         categories, at = np.unique(ordered, return_inverse=True)
         return np.where(categories == np.iinfo(np.int64).max, NULL, categories), at

@@ -49,9 +49,7 @@ class Counts:
     def where(self, kept: NDArray[np.bool_]) -> Counts:
         """Return some of the entries."""
         return Counts(
-            self.classes[kept],
-            self.cells[kept],
-            None if self.area is None else self.area[kept],
+            self.classes[kept], self.cells[kept], None if self.area is None else self.area[kept]
         )
 
     def measured(self) -> NDArray[Any]:
@@ -61,11 +59,7 @@ class Counts:
     def columns(self, measure: Measure, percent: NDArray[np.float64]) -> list[Column]:
         """Return the last columns of a table: cells, area and percent."""
         areas = [] if self.area is None else [Column(f"area_{measure.unit}", "measure", self.area)]
-        return [
-            Column("cells", "count", self.cells),
-            *areas,
-            Column("percent", "measure", percent),
-        ]
+        return [Column("cells", "count", self.cells), *areas, Column("percent", "measure", percent)]
 
 
 class Maps:
@@ -95,8 +89,7 @@ class Maps:
             given["zones"] = source_of("zones", zones_of(zones, zone_field, first, crs))
         elif zone_field is not None:
             raise Refused(
-                "zone_field= names a field of polygons, and zones= is not given",
-                status=2,
+                "zone_field= names a field of polygons, and zones= is not given", status=2
             )
         self.sources: dict[str, Source]
         self.sources, self.crs = sources_of(given, crs, {**maps, "zones": zones})
@@ -126,12 +119,7 @@ class Maps:
         return [counts_of(values, measure) for values in self.tables("\n".join(lines))]
 
     def columns(
-        self,
-        title: str,
-        classes: Integers,
-        name: str,
-        legend: Any = None,
-        label: str = "{}_label",
+        self, title: str, classes: Integers, name: str, legend: Any = None, label: str = "{}_label"
     ) -> list[Column]:
         """Return the column of classes of a map, and the column of their labels if there are some: a legend, or its own."""
         labels = self.sources[name].labels if legend is None else labels_of(legend)

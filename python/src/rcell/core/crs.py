@@ -73,8 +73,7 @@ def _checked(name: str, crs: Any) -> Any:
         return None if _known(crs) is None else crs
     except need("rasterio.errors", "gis", "to understand a reference system").CRSError:
         raise BadMap(
-            name,
-            f"its coordinate reference system is not understood: {str(crs)[:_SHOWN]!r}",
+            name, f"its coordinate reference system is not understood: {str(crs)[:_SHOWN]!r}"
         ) from None
 
 
@@ -106,8 +105,7 @@ def common_crs(maps: Mapping[str, Any], stated: Any = None, warp: str = "gdalwar
         common = _checked("arguments", stated)
     except BadMap:
         raise Refused(
-            f"crs= is no coordinate reference system: {str(stated)[:_SHOWN]!r}",
-            status=2,
+            f"crs= is no coordinate reference system: {str(stated)[:_SHOWN]!r}", status=2
         ) from None
     known = {name: _checked(name, crs) for name, crs in maps.items()}
     first = next((name for name, crs in known.items() if crs is not None), None)
@@ -126,8 +124,7 @@ def common_crs(maps: Mapping[str, Any], stated: Any = None, warp: str = "gdalwar
             )
             hint = f"reproject one of them first, as with {warp} -t_srs {_code(common)}"
             raise OtherCrs(
-                name,
-                f"its coordinate reference system is {_shown(crs)}, and {other}: {hint}",
+                name, f"its coordinate reference system is {_shown(crs)}, and {other}: {hint}"
             )
     return common
 

@@ -234,11 +234,7 @@ def bad_header_line(grid, line, text):
     span = [(len(text) - len(text.lstrip()), len(text.rstrip()))]
     name, values = shown(key), {"key": shown(key)}
     if key.decode("latin-1").lower() in KEYS and key.decode("latin-1") not in KEYS:
-        return (
-            "upper case",
-            dict(values, fixed=shown(key.lower() + b": " + value.strip())),
-            span,
-        )
+        return "upper case", dict(values, fixed=shown(key.lower() + b": " + value.strip())), span
     if name not in KEYS:
         return ("unknown key", values, span) if colon else None
     words = value.split()
@@ -259,9 +255,7 @@ def key_twice(grid, line, text):
 def degrees(value):
     """Return a value such as 48:30:15N in decimal degrees, or None."""
     found = re.fullmatch(
-        r"([0-9]{1,3}):([0-9]{1,2})(?::([0-9]{1,2}(?:\.[0-9]*)?))?([NSEW]?)",
-        value,
-        re.IGNORECASE,
+        r"([0-9]{1,3}):([0-9]{1,2})(?::([0-9]{1,2}(?:\.[0-9]*)?))?([NSEW]?)", value, re.IGNORECASE
     )
     if not found:
         found = re.fullmatch(r"([0-9]{1,3}(?:\.[0-9]+)?)()()([NSEW])", value, re.IGNORECASE)
@@ -277,12 +271,7 @@ def bad_number(grid, line, text):
         return None
     key, _, value = text.decode("latin-1").strip().partition(":")
     value = value.strip()
-    span = [
-        (
-            text.find(value.encode("latin-1")),
-            text.find(value.encode("latin-1")) + len(value),
-        )
-    ]
+    span = [(text.find(value.encode("latin-1")), text.find(value.encode("latin-1")) + len(value))]
     values = {"value": shown(value)}
 
     def found(cause, fixed=None):
@@ -359,10 +348,7 @@ def bad_region(grid, line, _):
             )
     return (
         "too large",
-        {
-            "rows": shown(grid.values.get("rows", "?")),
-            "cols": shown(grid.values.get("cols", "?")),
-        },
+        {"rows": shown(grid.values.get("rows", "?")), "cols": shown(grid.values.get("cols", "?"))},
         [],
     )
 
@@ -439,8 +425,4 @@ def long_token(grid, line, text):
     found = re.search(rb"[^ \t\r\n]{65,}", text or b"")
     if found and re.fullmatch(rb"[-+0-9.*,;A-Za-z]+", found.group()) and b"," in found.group():
         return "commas", {}, [found.span()]
-    return (
-        "long word",
-        {},
-        [found.span()] if found and not (kind and kind.is_binary) else [],
-    )
+    return "long word", {}, [found.span()] if found and not (kind and kind.is_binary) else []

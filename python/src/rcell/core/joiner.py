@@ -26,14 +26,7 @@ from .errors import Killed, MissingProgram, OutOfMemory, WriteFailed, WrongProgr
 from .sources import Source
 from .programs import PROBE_SECONDS, find_beside, grid_text
 
-__all__ = [
-    "border_of",
-    "check_files",
-    "find_joiner",
-    "joined",
-    "joined_sizes",
-    "numbering_of",
-]
+__all__ = ["border_of", "check_files", "find_joiner", "joined", "joined_sizes", "numbering_of"]
 
 _MESSAGE = re.compile(r"rcell-join: ([^:]*):(\d+): (.*)")
 _TOO_GREAT = re.compile(r"count too great for (.*)")
@@ -155,9 +148,7 @@ def border_of(
 
 
 def numbering_of(
-    borders: Sequence[bytes],
-    diagonal: bool = False,
-    program: str | os.PathLike[str] | None = None,
+    borders: Sequence[bytes], diagonal: bool = False, program: str | os.PathLike[str] | None = None
 ) -> bytes:
     """Join the clumps of tiles by their borders, which come row by row of tiles from the top left.
 
@@ -184,9 +175,7 @@ def numbering_of(
 
 
 def joined_sizes(
-    numbering: bytes,
-    tables: Sequence[bytes],
-    program: str | os.PathLike[str] | None = None,
+    numbering: bytes, tables: Sequence[bytes], program: str | os.PathLike[str] | None = None
 ) -> bytes:
     """Add up the sizes of the clumps of tiles, by their numbering, to the sizes of the clumps of the map.
 
@@ -212,10 +201,7 @@ def joined_sizes(
 
 def check_files(count: int) -> None:
     """Raise WriteFailed if the system does not let a process open so many texts at once."""
-    needed, most = (
-        FILES_EACH * count + OTHER_FILES,
-        resource.getrlimit(resource.RLIMIT_NOFILE)[1],
-    )
+    needed, most = FILES_EACH * count + OTHER_FILES, resource.getrlimit(resource.RLIMIT_NOFILE)[1]
     if most != resource.RLIM_INFINITY and most < needed:
         raise WriteFailed(
             f"to join {count:,} tiles, {needed:,} files are open at once, and this system allows {most:,}: take larger tiles"
@@ -281,10 +267,7 @@ _limit_lock = threading.Lock()
 @contextmanager
 def _files_allowed(count: int) -> Iterator[None]:
     """Let this process, and the program that it starts, have so many texts open, as far as the system does."""
-    needed, soft = (
-        FILES_EACH * count + OTHER_FILES,
-        resource.getrlimit(resource.RLIMIT_NOFILE)[0],
-    )
+    needed, soft = FILES_EACH * count + OTHER_FILES, resource.getrlimit(resource.RLIMIT_NOFILE)[0]
     if soft == resource.RLIM_INFINITY or needed <= soft:
         yield
         return

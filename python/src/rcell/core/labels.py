@@ -47,8 +47,7 @@ def checked_labels(name: str, labels: Any) -> dict[int, str]:
     """
     if not isinstance(labels, Mapping):
         raise BadMap(
-            name,
-            f"labels are a dict, as {{1: 'wood'}}, and not a {type(labels).__name__}",
+            name, f"labels are a dict, as {{1: 'wood'}}, and not a {type(labels).__name__}"
         )
     for category, label in labels.items():
         if not (isinstance(category, numbers.Integral) and abs(int(category)) < -NULL):
@@ -61,8 +60,7 @@ def checked_labels(name: str, labels: Any) -> dict[int, str]:
         bad = _UNWRITABLE.search(label)
         if bad:
             raise BadMap(
-                name,
-                f"the label of {category} has a character that no file can hold: {bad[0]!r}",
+                name, f"the label of {category} has a character that no file can hold: {bad[0]!r}"
             )
     return {int(category): label for category, label in labels.items()}
 
@@ -96,8 +94,7 @@ def read_legend(path: str, dataset: Any, band: int) -> Legend:
         or style.labels
     )
     return Legend(
-        labels,
-        _color_table(dataset, band, labels) or _attribute_colors(path, band) or style.colors,
+        labels, _color_table(dataset, band, labels) or _attribute_colors(path, band) or style.colors
     )
 
 
@@ -294,11 +291,7 @@ def _write_beside(path: str, labels: Mapping[int, str]) -> None:
             ]
         ):
             field = ElementTree.SubElement(table, "FieldDefn", index=str(at))
-            for tag, text in (
-                ("Name", title),
-                ("Type", str(kind)),
-                ("Usage", str(usage)),
-            ):
+            for tag, text in (("Name", title), ("Type", str(kind)), ("Usage", str(usage))):
                 ElementTree.SubElement(field, tag).text = text
         for at, (category, label) in enumerate(sorted(labels.items())):
             row = ElementTree.SubElement(table, "Row", index=str(at))

@@ -98,8 +98,7 @@ def _of_csv(path: str) -> Legend:
             )
     except (OSError, ValueError, csv.Error) as error:
         raise ReadFailed(
-            "labels",
-            f"cannot open: {path}: {getattr(error, 'strerror', None) or error}",
+            "labels", f"cannot open: {path}: {getattr(error, 'strerror', None) or error}"
         ) from None
 
 
@@ -157,8 +156,7 @@ def legend_of_qml(path: str) -> Legend:
         root = ElementTree.parse(path).getroot()
     except (OSError, ValueError) as error:
         raise ReadFailed(
-            "labels",
-            f"cannot open: {path}: {getattr(error, 'strerror', None) or error}",
+            "labels", f"cannot open: {path}: {getattr(error, 'strerror', None) or error}"
         ) from None
     except ElementTree.ParseError as error:
         raise _refused(f"{path} is no style of QGIS: {error}") from None
@@ -169,11 +167,7 @@ def legend_of_qml(path: str) -> Legend:
     return _of_rows(
         (
             f"value {entry.get('value')}",
-            (
-                float(entry.get("value", "")),
-                entry.get("label", ""),
-                entry.get("color", ""),
-            ),
+            (float(entry.get("value", "")), entry.get("label", ""), entry.get("color", "")),
         )
         for entry in kept
     )

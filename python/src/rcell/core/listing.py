@@ -97,11 +97,7 @@ def printed_grid(
         os.write(writer, b"r.out.ascii input=%s\n" % name.encode())
         close(writer)
         with asked(
-            [program, f"/dev/fd/{script}", f"{name}=/dev/stdin"],
-            sent,
-            seconds,
-            watch,
-            [script],
+            [program, f"/dev/fd/{script}", f"{name}=/dev/stdin"], sent, seconds, watch, [script]
         ) as process:
             pieces, text, found = process.pieces(), b"", None
             while not found and len(text) < _HEADER_BYTES and (piece := next(pieces, b"")):

@@ -86,8 +86,5 @@ def majority_script(size: int, fill: bool) -> str:
         terms[place], tokens[place] = name, _TOKENS_OF_NAME
     mode = f"nmode({','.join(terms.values())})"
     return "\n".join(
-        [
-            *lines,
-            f"r.mapcalc majority = {mode if fill else f'if(isnull(map), null(), {mode})'}",
-        ]
+        [*lines, f"r.mapcalc majority = {mode if fill else f'if(isnull(map), null(), {mode})'}"]
     )

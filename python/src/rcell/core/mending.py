@@ -20,10 +20,7 @@ from .advice import LONGEST_VALUE, Fault, Messages, filled, shown
 from .causes import CAUSES, LINE
 from .grids import kind_of
 
-LONGEST_SEARCHED, WINDOW = (
-    1000,
-    300,
-)  # bytes: a longer line is searched only around the error
+LONGEST_SEARCHED, WINDOW = 1000, 300  # bytes: a longer line is searched only around the error
 MOST_BYTES, BYTES_OF_A_QUESTION, BYTES_OF_A_NAME = (
     1 << 24,
     1 << 15,
@@ -191,8 +188,7 @@ class Judge:
                 and line.faults[0].cause in ("missing end", "next command")
             ):
                 line = line._replace(
-                    faults=line.faults[1:],
-                    mended=[it for it in line.mended if it != "end"],
+                    faults=line.faults[1:], mended=[it for it in line.mended if it != "end"]
                 )
             if line.faults:
                 yield line
@@ -202,16 +198,10 @@ class Judge:
         """Return the line of an error, with all its errors, and continue after it."""
         first, number = error.line - 1, self.numbers[error.line - 1]
         if error.text == "missing end":
-            self.rest, self.numbers = self.rest + "\nend", [
-                *self.numbers,
-                self.numbers[-1],
-            ]
+            self.rest, self.numbers = self.rest + "\nend", [*self.numbers, self.numbers[-1]]
             text = self.given[number - 1]
             return Line(
-                number,
-                text,
-                [Fault(0, len(text), error.text, "missing end", "script", {})],
-                [],
+                number, text, [Fault(0, len(text), error.text, "missing end", "script", {})], []
             )
         lines, self.spare = (self.head + self.rest).split("\n"), self.unused("spare")
         self.spares.add(self.spare)
@@ -260,10 +250,7 @@ class Judge:
     def first(self, block):
         """Return the first error of a block, or None if there is none before the rest."""
         error = self.error(self.head + block.text + self.rest)
-        lines, at = (
-            block.text.split("\n"),
-            error.line - 1 - self.head.count("\n") if error else -1,
-        )
+        lines, at = block.text.split("\n"), error.line - 1 - self.head.count("\n") if error else -1
         if not 0 <= at < len(lines) or error.text == "missing end":
             return None
         start, (part, text) = sum(len(line) + 1 for line in lines[:at]), key_of(error)
@@ -381,8 +368,7 @@ class Judge:
         matches = re.compile(cause.find, re.ASCII | re.MULTILINE).finditer(block.text, start, end)
         matches = list(
             islice(
-                (it for it in matches if it.start() <= found.end and it.end() > first),
-                MOST_MATCHES,
+                (it for it in matches if it.start() <= found.end and it.end() > first), MOST_MATCHES
             )
         )
         is_last = (
@@ -421,21 +407,14 @@ class Judge:
                 return after
             if block.is_past(found, block.place(found), new, after, mark):
                 best = max(
-                    best,
-                    (max(after.place(new), block.place(found)), after),
-                    key=lambda it: it[0],
+                    best, (max(after.place(new), block.place(found)), after), key=lambda it: it[0]
                 )
         return best[1]
 
 
 def values_of(cause, at):
     """Return what is filled into the sentences of a cause, or None if a value excludes the cause."""
-    values = {
-        "word": at["mark"],
-        "name": at["mark"],
-        "command": at["command"],
-        **at["groups"],
-    }
+    values = {"word": at["mark"], "name": at["mark"], "command": at["command"], **at["groups"]}
     for key, value in cause.values.items():
         value = value(at) if callable(value) else value
         value = (value or [None])[0] if isinstance(value, list) else value
@@ -461,16 +440,7 @@ def no_script(text):
         len(text) > 3 and text[:4].count(b"\0") == 2 and text[0:1].isascii()
     ):
         return "unknown command", "utf-16", {}
-    if first in (
-        b"north:",
-        b"south:",
-        b"east:",
-        b"west:",
-        b"rows:",
-        b"cols:",
-        b"ncols",
-        b"nrows",
-    ):
+    if first in (b"north:", b"south:", b"east:", b"west:", b"rows:", b"cols:", b"ncols", b"nrows"):
         return "unknown command", "grid", {"word": shown(first)}
     if kind and kind.is_binary:
         return "unknown command", "no text", {"kind": kind.article}
@@ -506,8 +476,7 @@ def warnings(ask, script, names):
         lines = it.text.split("\n")
         for label in it.labels.values():
             number = it.line + next(
-                (at for at, line in enumerate(lines) if line.rstrip(" \t\r").endswith(label)),
-                0,
+                (at for at, line in enumerate(lines) if line.rstrip(" \t\r").endswith(label)), 0
             )
             comment = re.search(r"(?:^|[ \t])(#.*)", label)
             found += (
@@ -529,10 +498,7 @@ def asker(program, seconds=10):
 
     def ask(names, text):
         try:
-            return (
-                protocol.plan(program, names, text.encode("latin-1"), seconds=seconds),
-                None,
-            )
+            return protocol.plan(program, names, text.encode("latin-1"), seconds=seconds), None
         except protocol.Rejected as error:
             return [], error
 

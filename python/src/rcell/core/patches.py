@@ -92,8 +92,7 @@ def patches(
         raise Refused(f"core_depth= is from 1 to {MOST_CORE_DEPTH}, not {core_depth!r}", status=2)
     if isinstance(classes, (str, bytes)):
         raise Refused(
-            f"classes= is a list of whole numbers, as [31, 32], not {classes!r}",
-            status=2,
+            f"classes= is a list of whole numbers, as [31, 32], not {classes!r}", status=2
         )
     listed = None if classes is None else [_class_of(one) for one in classes]
     maps = Maps({"map": map}, crs, zones, zone_field)
@@ -112,11 +111,7 @@ def patches(
     columns += _areas(found, measure, by_rows if by_row else None, core)
     columns.insert(
         -1,
-        Column(
-            "perimeter_m",
-            "measure",
-            found.perimeter(maps.first.transform, metres(maps.crs)),
-        ),
+        Column("perimeter_m", "measure", found.perimeter(maps.first.transform, metres(maps.crs))),
     )
     columns += found.extents(by_rows, by_cols, maps.first.transform)
     if zones is not None:
@@ -131,11 +126,7 @@ def check_connectivity(connectivity: Any) -> None:
 
 
 def _script(
-    connectivity: int,
-    classes: list[int] | None,
-    core_depth: int,
-    has_zones: bool,
-    by_row: bool,
+    connectivity: int, classes: list[int] | None, core_depth: int, has_zones: bool, by_row: bool
 ) -> str:
     """Return a script whose tables have the sides, cores, rows, columns and zones of patches."""
     leaves = "(isnull(patch[{0}]) ||| patch[{0}] != patch)"

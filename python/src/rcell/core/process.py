@@ -15,14 +15,7 @@ from collections.abc import Callable, Iterator, Sequence
 from types import TracebackType
 from typing import Optional
 
-__all__ = [
-    "WATCH_SECONDS",
-    "Started",
-    "above_standard",
-    "close",
-    "found_on_path",
-    "pipe",
-]
+__all__ = ["WATCH_SECONDS", "Started", "above_standard", "close", "found_on_path", "pipe"]
 
 PIPE_BYTES = 1 << 18  # stays in the cache of a processor, as what is read at once
 READ_BYTES = 1 << 18
@@ -139,10 +132,7 @@ class Started:
         return self
 
     def __exit__(
-        self,
-        kind: type[BaseException] | None,
-        _: BaseException | None,
-        __: TracebackType | None,
+        self, kind: type[BaseException] | None, _: BaseException | None, __: TracebackType | None
     ) -> None:
         if self._process.poll() is None:
             self._process.kill()

@@ -76,10 +76,7 @@ def candidates(name: str) -> Iterator[str]:
     """Yield where a program of this name is: among the scripts of this installation of Python, next to it, on the path."""
     folders = [
         sysconfig.get_path("scripts", scheme)
-        for scheme in (
-            sysconfig.get_default_scheme(),
-            sysconfig.get_preferred_scheme("user"),
-        )
+        for scheme in (sysconfig.get_default_scheme(), sysconfig.get_preferred_scheme("user"))
     ]
     for folder in (*folders, os.path.dirname(sys.executable or "")):
         path = os.path.join(folder, name)
@@ -122,10 +119,7 @@ def find_pipe(program: str | os.PathLike[str] | None = None) -> str:
 
 
 def find_beside(
-    name: str,
-    variable: str,
-    probe: Callable[[str], None],
-    program: str | os.PathLike[str] | None,
+    name: str, variable: str, probe: Callable[[str], None], program: str | os.PathLike[str] | None
 ) -> str:
     """Return the path of a program that belongs to rcell.
 
@@ -237,10 +231,7 @@ def planned(
 
 
 def printed(
-    script: str,
-    maps: Mapping[str, Source],
-    *,
-    program: str | os.PathLike[str] | None = None,
+    script: str, maps: Mapping[str, Source], *, program: str | os.PathLike[str] | None = None
 ) -> bytes:
     """Return what rcell prints for a script; arguments and errors are the same as in `execute`."""
     with program_errors(script, list(maps), path := find_pipe(program)):
@@ -313,8 +304,7 @@ def _sent(name: str, source: Source) -> protocol.Map:
     kind = source.dtype.kind + str(8 * source.dtype.itemsize)
     blocks = (
         protocol.Block(
-            block.cells.data,
-            None if block.null is None else block.null.view(np.uint8).data,
+            block.cells.data, None if block.null is None else block.null.view(np.uint8).data
         )
         for block in source.blocks()
     )

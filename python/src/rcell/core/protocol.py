@@ -175,10 +175,7 @@ def _interleaved(cells: memoryview, mask: memoryview, row_bytes: int, cols: int)
     for first in range(0, rows, step):
         places = range(first, min(first + step, rows))
         parts = (
-            (
-                cells[row * row_bytes : (row + 1) * row_bytes],
-                mask[row * cols : (row + 1) * cols],
-            )
+            (cells[row * row_bytes : (row + 1) * row_bytes], mask[row * cols : (row + 1) * cols])
             for row in places
         )
         yield b"".join(part for pair in parts for part in pair)
@@ -422,12 +419,7 @@ class Rejected(Exception):
 
     def parts(self, program: str, script: str, names: Sequence[str]) -> dict[str, Any]:
         """Return the arguments of `Fault` for this error of a script over maps of some names; the program is asked for advice."""
-        parts = {
-            "text": self.text,
-            "source": "script",
-            "line": self.line,
-            "status": self.status,
-        }
+        parts = {"text": self.text, "source": "script", "line": self.line, "status": self.status}
         if self.source == "request" and self.map < len(names):
             return {**parts, "source": names[self.map]}
         lines = script.split("\n")
@@ -522,23 +514,11 @@ class _Response:
         )
 
     def grid(self) -> GridFrame:
-        line, null_text, name, edges = (
-            self.count(),
-            bytes(self.text()),
-            self.name(),
-            self.names(4),
-        )
+        line, null_text, name, edges = self.count(), bytes(self.text()), self.name(), self.names(4)
         rows, cols = self.numbers(2)
         kind, letter = {1: ("u8", "B"), 6: ("i32", "i")}.get(self.take(1)[0]) or self.unknown()
         return GridFrame(
-            line,
-            name,
-            null_text,
-            edges,
-            rows,
-            cols,
-            kind,
-            self.cells(rows * cols, letter),
+            line, name, null_text, edges, rows, cols, kind, self.cells(rows * cols, letter)
         )
 
     def statement(self) -> Statement:
@@ -563,9 +543,7 @@ class _Response:
     def call(self) -> Call:
         (first, last), [code] = self.numbers(2), self.take(1)
         return Call(
-            _CALLED[code - 1] if 0 < code <= len(_CALLED) else self.unknown(),
-            first - 1,
-            last,
+            _CALLED[code - 1] if 0 < code <= len(_CALLED) else self.unknown(), first - 1, last
         )
 
     def need(self) -> Optional[Margin]:
@@ -676,11 +654,7 @@ def text(
 
 
 _PROBE_SCRIPT = b"r.clump -d input=probe output=k\nr.stats -c input=probe,k after=7,1\nr.stats -1 input=k\nr.out.ascii input=k\n"
-_PROBE_CELLS = [
-    struct.pack("<4i", 12, 2, NULL, NULL),
-    struct.pack("<3i", 1, NULL, 2),
-    b"\1\xff\2",
-]
+_PROBE_CELLS = [struct.pack("<4i", 12, 2, NULL, NULL), struct.pack("<3i", 1, NULL, 2), b"\1\xff\2"]
 
 
 def is_known(program: str, seconds: float) -> bool:

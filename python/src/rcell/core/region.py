@@ -64,13 +64,11 @@ def check_upright(name: str, transform: Transform) -> None:
         raise BadMap(name, f"a transform with a number that is not finite: {transform}")
     if b or d:
         raise BadMap(
-            name,
-            f"a rotated transform {transform}: warp the map to rows from west to east first",
+            name, f"a rotated transform {transform}: warp the map to rows from west to east first"
         )
     if a <= 0 or e >= 0:
         raise BadMap(
-            name,
-            f"a transform {transform} whose rows are not from north to south, west to east",
+            name, f"a transform {transform} whose rows are not from north to south, west to east"
         )
 
 
@@ -125,8 +123,7 @@ class Region:
                 raise BadMap("region", f"an edge that is no number: {name} is {edge!r}")
             if not math.isfinite(edge) or abs(units_of(edge)) >= EDGE_LIMIT:
                 raise BadMap(
-                    "region",
-                    f"an edge of more than ten digits: {name} is {float(edge):g}",
+                    "region", f"an edge of more than ten digits: {name} is {float(edge):g}"
                 )
         self._check_sizes()
         north, south, east, west = self.units
@@ -220,12 +217,7 @@ class Region:
         >>> rcell.Region(1, 0, 2, 0, 1, 2).units
         (100000000, 0, 200000000, 0)
         """
-        return (
-            units_of(self.north),
-            units_of(self.south),
-            units_of(self.east),
-            units_of(self.west),
-        )
+        return units_of(self.north), units_of(self.south), units_of(self.east), units_of(self.west)
 
     @property
     def shape(self) -> tuple[int, int]:
@@ -249,10 +241,7 @@ class Region:
         >>> rcell.Region(300, 0, 100, 0, 3, 2).cell
         (100.0, 50.0)
         """
-        return (
-            float(self.north - self.south) / self.rows,
-            float(self.east - self.west) / self.cols,
-        )
+        return float(self.north - self.south) / self.rows, float(self.east - self.west) / self.cols
 
     @property
     def transform(self) -> Transform:

@@ -149,12 +149,7 @@ class _Run:
 
 
 def run(
-    script: str,
-    maps: Mapping[str, Any] | None = None,
-    /,
-    *,
-    crs: Any = None,
-    **named: Any,
+    script: str, maps: Mapping[str, Any] | None = None, /, *, crs: Any = None, **named: Any
 ) -> Result:
     """Run a script over maps of one region.
 
@@ -329,7 +324,6 @@ def outputs_with(of: _Run, names: Sequence[str]) -> list[StatsTable | Grid]:
     for name in names:
         if name not in of.sources and name not in of.made:
             raise Refused(
-                f"no map {name}: there are {', '.join([*of.sources, *of.made])}",
-                status=2,
+                f"no map {name}: there are {', '.join([*of.sources, *of.made])}", status=2
             )
     return of.outputs(wanted=names)

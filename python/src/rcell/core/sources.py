@@ -157,10 +157,7 @@ def check_computed(name: str, cells: Cells, dtype: np.dtype[Any], shape: tuple[i
       ...
     rcell.BadMap: m: its cells are of the type int16, but Dask expected uint16: state it, as in map_blocks(.., dtype='int16')
     """
-    if (is_converted(cells.dtype), type_of(cells.dtype)) != (
-        is_converted(dtype),
-        type_of(dtype),
-    ):
+    if (is_converted(cells.dtype), type_of(cells.dtype)) != (is_converted(dtype), type_of(dtype)):
         told = f"its cells are of the type {cells.dtype}, but Dask expected {dtype}: state it, as in map_blocks(.., dtype='{cells.dtype}')"
         raise BadMap(name, told)
     if cells.shape != shape:
@@ -477,19 +474,9 @@ def _placed(
         return array, null, region, region.transform
     a, b, c, d, e, f = six_numbers(name, place)
     if e > 0 and not b and not d:
-        array, null, e, f = (
-            array[::-1],
-            None if null is None else null[::-1],
-            -e,
-            f + e * rows,
-        )
+        array, null, e, f = array[::-1], None if null is None else null[::-1], -e, f + e * rows
     transform = (a, b, c, d, e, f)
-    return (
-        array,
-        null,
-        in_region(name, Region.from_transform, transform, rows, cols),
-        transform,
-    )
+    return array, null, in_region(name, Region.from_transform, transform, rows, cols), transform
 
 
 def in_region(name: str, make: Any, *words: Any) -> Region:
@@ -599,8 +586,7 @@ def sources_of(
             told = "; ".join(first.region.differences(source.region))
             text = f"not of the region of `{first_name}`, and nothing is resampled: {told}"
             fault = OtherRegion(
-                name,
-                f"{text}\n  {first_name}: {first.region}\n  {name}: {source.region}",
+                name, f"{text}\n  {first_name}: {first.region}\n  {name}: {source.region}"
             )
             nearest = (
                 ""

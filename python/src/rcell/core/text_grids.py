@@ -128,8 +128,7 @@ def open_path(name: str, path: str | os.PathLike[str]) -> Source:
     stream.close()
     if not is_file:
         raise BadMap(
-            name,
-            f"{text} is no file, and its text is no grid: a raster is read from a file",
+            name, f"{text} is no file, and its text is no grid: a raster is read from a file"
         )
     return _raster(name, text)
 

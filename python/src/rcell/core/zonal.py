@@ -105,8 +105,7 @@ def _moments(values: Integers, cells: Integers, first: NDArray[np.intp]) -> list
     whole = list(zip(count.tolist(), sums.tolist(), squares.tolist()))
     mean = np.array([total / n for n, total, _ in whole], np.float64)
     variance = np.array(
-        [(n * squared - total * total) / (n * n) for n, total, squared in whole],
-        np.float64,
+        [(n * squared - total * total) / (n * n) for n, total, squared in whole], np.float64
     )
     kept: list[tuple[str, Any, Any]] = [
         ("cells", "count", count),
@@ -122,10 +121,7 @@ def _moments(values: Integers, cells: Integers, first: NDArray[np.intp]) -> list
 
 
 def _quantiles(
-    values: Integers,
-    cells: Integers,
-    first: NDArray[np.intp],
-    asked: list[tuple[str, float]],
+    values: Integers, cells: Integers, first: NDArray[np.intp], asked: list[tuple[str, float]]
 ) -> list[Column]:
     """Return quantiles, interpolated between neighbouring cells of a zone like numpy's method `linear`."""
     if not first.size:
@@ -145,9 +141,7 @@ def _quantiles(
         step = (high - low).astype(np.float64)
         columns.append(
             Column(
-                title,
-                "measure",
-                np.where(part < 0.5, low + step * part, high - step * (1 - part)),
+                title, "measure", np.where(part < 0.5, low + step * part, high - step * (1 - part))
             )
         )
     return columns

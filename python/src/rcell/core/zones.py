@@ -69,10 +69,7 @@ class Layer(Protocol):
         """Yield the features in their order, with their values of a field; curves are lines already."""
 
     def burn(
-        self,
-        shapes: Sequence[tuple[Any, int]],
-        transform: Transform,
-        shape: tuple[int, int],
+        self, shapes: Sequence[tuple[Any, int]], transform: Transform, shape: tuple[int, int]
     ) -> NDArray[np.int32]:
         """Return a grid with the number of the last geometry that contains each cell's centre, 0 for none."""
 
@@ -98,8 +95,7 @@ class _Polygons:
         for number, feature in kept:
             if feature["geometry"]["type"] not in ("Polygon", "MultiPolygon"):
                 raise Refused(
-                    f"not polygons: feature {number} is a {feature['geometry']['type']}",
-                    "zones",
+                    f"not polygons: feature {number} is a {feature['geometry']['type']}", "zones"
                 )
         self.shapes = [feature["geometry"] for _, feature in kept]
         self.values = [
@@ -148,10 +144,7 @@ def zones_of(given: Any, field: str | None, like: Source, crs: Any = None) -> An
     polygons = _polygons(given, field)
     if polygons is None:
         if field is not None:
-            raise Refused(
-                "zone_field= names a field of polygons, and zones= is a raster",
-                status=2,
-            )
+            raise Refused("zone_field= names a field of polygons, and zones= is a raster", status=2)
         return given
     common_crs({"map": like.crs, "zones": polygons.crs}, crs, "ogr2ogr")
     if not polygons.shapes:
@@ -161,14 +154,7 @@ def zones_of(given: Any, field: str | None, like: Source, crs: Any = None) -> An
     _tell_of_lost(burnt, [labels.get(number, str(number)) for number in ids])
     of_polygon = np.array([0, *ids], np.int32)
     return ArrayMap(
-        "zones",
-        of_polygon[burnt],
-        like.region,
-        burnt == 0,
-        None,
-        labels,
-        like.crs,
-        like.transform,
+        "zones", of_polygon[burnt], like.region, burnt == 0, None, labels, like.crs, like.transform
     )
 
 
@@ -234,17 +220,9 @@ def _read(path: str, layer: str | None, field: str | None) -> _Polygons:
             raise Refused(f"no layer {layer}: there are {', '.join(layers)}", "zones")
         with fiona.open(path, layer=layers[0] if layer is None else layer) as opened:
             return _Polygons([_plain(feature) for feature in opened], field, opened.crs_wkt or None)
-    except (
-        fiona.errors.FionaError,
-        fiona.errors.FionaValueError,
-        OSError,
-        ValueError,
-    ) as error:
+    except (fiona.errors.FionaError, fiona.errors.FionaValueError, OSError, ValueError) as error:
         raise ReadFailed("zones", f"cannot open: {path}: {error}") from None
 
 
 def _plain(feature: Any) -> dict[str, Any]:
-    return {
-        "geometry": feature["geometry"],
-        "properties": dict(feature["properties"] or {}),
-    }
+    return {"geometry": feature["geometry"], "properties": dict(feature["properties"] or {})}

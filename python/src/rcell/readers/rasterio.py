@@ -85,13 +85,7 @@ def told_of_reading(name: str, told: str) -> Iterator[None]:
         raise ReadFailed(
             name, f"{told}: rasterio takes no path that is not UTF-8: rename the file"
         ) from None
-    except (
-        rasterio.errors.RasterioError,
-        gdal_error,
-        OSError,
-        ValueError,
-        TypeError,
-    ) as error:
+    except (rasterio.errors.RasterioError, gdal_error, OSError, ValueError, TypeError) as error:
         if isinstance(error, RcellError):
             raise
         raise ReadFailed(name, f"{told}: {error}") from None
@@ -285,10 +279,7 @@ class RasterMap:
         """
         top = self.region.rows - row - rows if self.is_upside_down else row
         cells, null = self.layer.read(
-            self.name,
-            self.dataset,
-            (top, col, rows, cols),
-            f"rows {row + 1} to {row + rows}",
+            self.name, self.dataset, (top, col, rows, cols), f"rows {row + 1} to {row + rows}"
         )
         if self.is_upside_down:
             cells, null = cells[::-1], None if null is None else null[::-1]

@@ -221,8 +221,7 @@ def _flat(name: str, array: Any) -> Any:
     named = [next((dim for dim, axis in axes.items() if axis == wanted), None) for wanted in "YX"]
     if len(set(axes.values()) - {None}) < len([axis for axis in axes.values() if axis]):
         raise BadMap(
-            name,
-            f"a DataArray with two dimensions of one axis: {', '.join(map(str, array.dims))}",
+            name, f"a DataArray with two dimensions of one axis: {', '.join(map(str, array.dims))}"
         )
     kept = named if None not in named else _by_place(array, named)
     others = [dim for dim in array.dims if dim not in kept]
@@ -238,10 +237,7 @@ def _flat(name: str, array: Any) -> Any:
 def _axis_of(array: Any, dim: Any) -> str | None:
     """Return X or Y, if a dimension is known to be that: by CF's attributes of its coordinate, or by a usual name."""
     attributes = array.coords[dim].attrs if dim in array.coords else {}
-    told = {
-        *(attributes.get(key) for key in ("axis", "standard_name", "units")),
-        str(dim).lower(),
-    }
+    told = {*(attributes.get(key) for key in ("axis", "standard_name", "units")), str(dim).lower()}
     return next((axis for axis, names in _AXES.items() if told & names), None)
 
 

@@ -141,21 +141,10 @@ class Cluster:
             raise
 
     def _start(self, workers: int, memory: int | None) -> tuple[str, Any]:
-        need(
-            "cryptography",
-            "tiles",
-            "for a cluster that no other user of this machine can use",
-        )
+        need("cryptography", "tiles", "for a cluster that no other user of this machine can use")
         security = distributed.Security.temporary()
         share = (memory or int(free_memory() * SHARE)) // workers
-        command = [
-            sys.executable,
-            "-P",
-            "-m",
-            "rcell.tiles._cluster",
-            str(workers),
-            str(share),
-        ]
+        command = [sys.executable, "-P", "-m", "rcell.tiles._cluster", str(workers), str(share)]
         (given, keys), (output, printed) = pipe(), pipe()
         self._ends = [keys, output]
         with tempfile.TemporaryFile("w+", errors="replace") as log:
@@ -244,12 +233,7 @@ def _environment() -> dict[str, str]:
     )
     paths = [str(Path(__file__).parents[2]), *filter(os.path.isabs, given)]
     no_pages = {f"DASK_DISTRIBUTED__{role}__HTTP__ROUTES": "[]" for role in ("SCHEDULER", "WORKER")}
-    return {
-        **os.environ,
-        **no_pages,
-        "PYTHONPATH": os.pathsep.join(paths),
-        "PYTHONSAFEPATH": "1",
-    }
+    return {**os.environ, **no_pages, "PYTHONPATH": os.pathsep.join(paths), "PYTHONSAFEPATH": "1"}
 
 
 def main(workers: int, memory: int) -> None:

@@ -67,9 +67,7 @@ def _parser() -> argparse.ArgumentParser:
     commands = parser.add_subparsers(required=True, metavar="COMMAND")
     table = _command(commands, "table", _table, "the table of a script with one r.stats, as CSV")
     table.add_argument(
-        "script",
-        metavar="SCRIPT",
-        help="a file, a line `r.stats ..`, or - for standard input",
+        "script", metavar="SCRIPT", help="a file, a line `r.stats ..`, or - for standard input"
     )
     table.add_argument("--area", choices=["ha", "km2", "m2"], help="a column of areas")
     table.add_argument("--percent", action="store_true", help="a column of percentages")
@@ -93,11 +91,7 @@ def _parser() -> argparse.ArgumentParser:
         )
     for command in (table, grid):
         command.add_argument(
-            "maps",
-            nargs="+",
-            type=_named,
-            metavar="NAME=PATH",
-            help="maps, by their names",
+            "maps", nargs="+", type=_named, metavar="NAME=PATH", help="maps, by their names"
         )
     for command in (clump, patches):
         command.add_argument(

@@ -83,10 +83,7 @@ class Engine:
                 if len(running) <= ahead // 2:
                     batch = list(islice(waiting, ahead - len(running)))
                     running.update(
-                        zip(
-                            self._asked([one for _, one in batch]),
-                            (place for place, _ in batch),
-                        )
+                        zip(self._asked([one for _, one in batch]), (place for place, _ in batch))
                     )
                 if not running:
                     return
@@ -135,11 +132,7 @@ class Engine:
         with _reported(self._progress, title, total) as step:
             try:
                 yield running, step
-            except (
-                distributed.KilledWorker,
-                distributed.CancelledError,
-                CommClosedError,
-            ) as fault:
+            except (distributed.KilledWorker, distributed.CancelledError, CommClosedError) as fault:
                 raise WorkerLost(f"{title}: {type(fault).__name__}: {fault}") from fault
             except _NoWorker as fault:
                 raise WorkerLost(f"{title}: {fault}") from None

@@ -101,13 +101,7 @@ def over_tiles(
         [()] * len(keys) if each is None else [(getattr(one, "key", one),) for one in each]
     )
     graph = {
-        (name, *at): (
-            function,
-            shared.key,
-            place,
-            [(one.name, *at) for one in held],
-            *own,
-        )
+        (name, *at): (function, shared.key, place, [(one.name, *at) for one in held], *own)
         for at, place, own in zip(keys, places_of(cuts), more)
     }
     needed = [shared, *held, *(one for one in each or () if hasattr(one, "key"))]

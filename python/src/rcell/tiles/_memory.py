@@ -11,14 +11,7 @@ from ._output import BLOCK
 from ._scripts import NO_REACH, Reach
 from ._sheet import Sheet
 
-__all__ = [
-    "Demand",
-    "clump_demand",
-    "grid_demand",
-    "patches_demand",
-    "size_for",
-    "table_demand",
-]
+__all__ = ["Demand", "clump_demand", "grid_demand", "patches_demand", "size_for", "table_demand"]
 
 WORKER = 165 * 10**6
 """Bytes of a worker without a tile: Python, Dask, numpy and rasterio, the buffers of GDAL, of pipes and of text."""
@@ -111,12 +104,7 @@ def grid_demand(read: int, maps: int, reach: Reach) -> Demand:
 def clump_demand(read: int, number: int = 4) -> Demand:
     """Return the demand of clump numbers: int32, then the numbers of the full map with 4 bytes (in place) or 8."""
     return Demand(
-        read,
-        maps=2,
-        clumps=1,
-        answer=4,
-        after=read + (4 if number == 4 else 12),
-        per_clump=number,
+        read, maps=2, clumps=1, answer=4, after=read + (4 if number == 4 else 12), per_clump=number
     )
 
 

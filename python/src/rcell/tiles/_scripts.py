@@ -23,8 +23,7 @@ def counting(stats: Statement) -> Statement:
     flags = "".join(sorted({*stats.options, "c"} - {"l"}))
     after = ",".join("*" if category == NULL else str(category) for category in stats.after)
     return replace(
-        stats,
-        text=f"r.stats -{flags} input={','.join(stats.inputs)}{after and f' after={after}'}",
+        stats, text=f"r.stats -{flags} input={','.join(stats.inputs)}{after and f' after={after}'}"
     )
 
 
@@ -107,17 +106,9 @@ class TileScript:
         """Return the script for a tile (with its halo) of a full map of so many rows and columns."""
         lines = [
             f"r.mapcalc {name} = {call}() + {before}"
-            for name, call, before in (
-                (self.row, "row", place.top),
-                (self.col, "col", place.left),
-            )
+            for name, call, before in ((self.row, "row", place.top), (self.col, "col", place.left))
             if self._calls(call)
         ]
-        written = {
-            "row": self.row,
-            "col": self.col,
-            "nrows": str(rows),
-            "ncols": str(cols),
-        }
+        written = {"row": self.row, "col": self.col, "nrows": str(rows), "ncols": str(cols)}
         lines += [with_calls(each, written) for each in self.statements]
         return "\n".join(lines) + "\n"

@@ -65,8 +65,7 @@ class Sheet:
     def differences(self, other: Sheet) -> list[str]:
         """Return the edges and sizes in which another sheet differs, with the difference."""
         return differences_of(
-            (*self._units, self.rows, self.cols),
-            (*other._units, other.rows, other.cols),
+            (*self._units, self.rows, self.cols), (*other._units, other.rows, other.cols)
         )
 
     @property
@@ -232,8 +231,7 @@ def open_maps(given: Mapping[str, Any], crs: Any = None) -> Maps:
         told = one.sheet.differences(other.sheet)
         if told:
             raise OtherRegion(
-                name,
-                f"not of the region of `{first}`, and nothing is resampled: {'; '.join(told)}",
+                name, f"not of the region of `{first}`, and nothing is resampled: {'; '.join(told)}"
             )
     found = Maps(replace(one.sheet, crs=wkt_of(common) or None), {}, {}, {})
     for each in opened.values():
@@ -255,10 +253,7 @@ def _opened(name: str, given: Any) -> Maps:
     if module == "rasterio" and hasattr(given, "bidx"):
         return _of_file(name, given.ds.name, given.bidx)
     if module == "dask" and hasattr(given, "ndim"):
-        given, module = (
-            need("xarray", "xarray", "for arrays of Dask").DataArray(given),
-            "xarray",
-        )
+        given, module = need("xarray", "xarray", "for arrays of Dask").DataArray(given), "xarray"
     if module != "xarray":
         raise BadMap(
             name,
@@ -294,10 +289,7 @@ def _of_array(name: str, given: Any) -> Maps:
         block,
     )
     return Maps(
-        sheet,
-        {name: MapCells(name, array.dtype, flat.nodata)},
-        {name: array},
-        {name: flat.labels},
+        sheet, {name: MapCells(name, array.dtype, flat.nodata)}, {name: array}, {name: flat.labels}
     )
 
 

@@ -41,12 +41,7 @@ class Rectangle(NamedTuple):
     def region(self) -> Region:
         """The region of these cells in a map whose cells have sides of 1 and whose top left corner is at 0, 0."""
         return Region(
-            -self.top,
-            -self.top - self.rows,
-            self.left + self.cols,
-            self.left,
-            self.rows,
-            self.cols,
+            -self.top, -self.top - self.rows, self.left + self.cols, self.left, self.rows, self.cols
         )
 
 
@@ -109,9 +104,7 @@ def join(borders: Sequence[bytes], diagonal: bool = False) -> Joined:
     ends = np.searchsorted(runs[:, 0], np.arange(1, len(borders) + 2))
     tiles = [
         TileNumbers(
-            int(runs[end - 1, 2]) if end > begin else 0,
-            runs[begin:end, 1],
-            runs[begin:end, 3],
+            int(runs[end - 1, 2]) if end > begin else 0, runs[begin:end, 1], runs[begin:end, 3]
         )
         for begin, end in zip(ends, ends[1:])
     ]

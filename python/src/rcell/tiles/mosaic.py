@@ -28,14 +28,7 @@ from . import _tasks
 from ._cluster import SHARE, Room, free_memory
 from ._engine import Engine, Progress
 from ._graph import Cuts, cuts_for, cuts_of, merged, over_tiles, places_of
-from ._memory import (
-    Demand,
-    clump_demand,
-    grid_demand,
-    patches_demand,
-    size_for,
-    table_demand,
-)
+from ._memory import Demand, clump_demand, grid_demand, patches_demand, size_for, table_demand
 from ._output import tile_writer
 from ._scripts import Statement, TileScript, counting
 from ._sheet import MapCells, MapFile, Maps, open_maps
@@ -73,11 +66,7 @@ class TooLittleMemory(RcellError, MemoryError):
 def refused(script: str, statement: Statement, text: str) -> Refused:
     """Return an error of this package at the line of a statement."""
     return Refused(
-        text,
-        "script",
-        statement.line,
-        1,
-        script.split("\n")[statement.line - 1].rstrip("\r"),
+        text, "script", statement.line, 1, script.split("\n")[statement.line - 1].rstrip("\r")
     )
 
 
@@ -272,11 +261,7 @@ class Mosaic:
         return demand.bytes(*self.shape) < free_memory() * SHARE
 
     def table(
-        self,
-        script: str,
-        area: str | None = None,
-        percent: bool = False,
-        compute: bool = True,
+        self, script: str, area: str | None = None, percent: bool = False, compute: bool = True
     ) -> Any:
         """Return the table of an r.stats over the full map; see `rcell.table`.
 
@@ -321,10 +306,7 @@ class Mosaic:
         form = _tasks.TableForm(stats, labels, self.sheet, area, percent)
         tiles = self._tiles(
             table_demand(
-                self._read(run),
-                run.made,
-                run.reach,
-                len({*stats.inputs} - {*self._files}),
+                self._read(run), run.made, run.reach, len({*stats.inputs} - {*self._files})
             ),
             compute,
         )
@@ -389,10 +371,7 @@ class Mosaic:
                 writer.write(tiles.places[place], cells)
 
     def clump(
-        self,
-        name: str,
-        path: str | os.PathLike[str] | None = None,
-        connectivity: int = 4,
+        self, name: str, path: str | os.PathLike[str] | None = None, connectivity: int = 4
     ) -> Any:
         """Return the map of the patches of a map, its connected cells, as a DataArray of Dask, or write it as a GeoTIFF; null is 0.
 
@@ -508,19 +487,12 @@ class Mosaic:
         files = [file.path for file in self._files.values() if isinstance(file, MapFile)]
         if path is not None and any(is_same_file(os.fspath(path), file) for file in files):
             raise Refused(
-                f"{path}: the output file is the input file: choose another name",
-                status=2,
+                f"{path}: the output file is the input file: choose another name", status=2
             )
 
     def _data_array(self, cells: Any, name: str, null: int, labels: Mapping[int, str]) -> Any:
         return data_array(
-            cells,
-            self.sheet.transform,
-            self.sheet.crs,
-            labels,
-            name,
-            null,
-            self._maps.like,
+            cells, self.sheet.transform, self.sheet.crs, labels, name, null, self._maps.like
         )
 
     # Scripts
@@ -548,11 +520,7 @@ class Mosaic:
         text, plan = self._planned(script)
         last = plan[-1]
         if not last.made or last.command == "r.clump":
-            raise refused(
-                text,
-                last,
-                "the last line does not make a map by r.mapcalc or r.reclass",
-            )
+            raise refused(text, last, "the last line does not make a map by r.mapcalc or r.reclass")
         return self._run(text, plan, last)
 
     def _planned(self, script: str) -> tuple[str, list[Statement]]:
@@ -600,8 +568,7 @@ class Mosaic:
         like = self._maps.like
         if like is None:
             return cuts_of(
-                self.shape,
-                self._size or size_for(demand, self.sheet, room.memory, room.tasks),
+                self.shape, self._size or size_for(demand, self.sheet, room.memory, room.tasks)
             )
         rows, cols = (max(lengths) for lengths in like.chunks)
         is_fit = (
@@ -613,8 +580,7 @@ class Mosaic:
             return cuts_for(like.chunks, demand.reach)
         return cuts_for(
             cuts_of(
-                self.shape,
-                self._size or size_for(demand, self.sheet, room.memory, room.tasks),
+                self.shape, self._size or size_for(demand, self.sheet, room.memory, room.tasks)
             ),
             demand.reach,
         )
