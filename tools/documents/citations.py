@@ -17,7 +17,7 @@ sys.path.insert(1, f"{ROOT}/tools/lint")
 import crate_graph
 import sources
 
-PAGES_ABOUT_PROOFS = ("proofs.md", "architecture.md")
+PAGES_ABOUT_PROOFS = ("proofs.md", "theorems.md", "architecture.md")
 EDITS = re.compile(r"(\w+/(?:must-fail|edits))/([\w-]+(?:, [\w-]+-[\w-]+)*)")
 CODE = re.compile(r"`([^`]+)`")
 IN_PARENTHESES = re.compile(r"\(`([a-z_]+)`\)")

@@ -11,7 +11,7 @@ Its fenced blocks are taken from the top:
     console needs=A,B  the same where A and B are installed, programs, files by their paths or packages such as python3-rasterio;
                      else it is skipped
     text file=PATH   a file (also python file=PATH); the commands of later blocks find it
-    text, sh         shown and not run: such a block has no command with its output
+    text, sh, antt, rust  shown and not run: such a block has no command with its output
 The folder that a block goes to with `cd` is also the next one's. With --write what is printed takes the place of what is shown.
 Of docs/grass.md the program's side of each table is also run (differences.py), and the flags and keys that docs/commands.md,
 docs/rcell-join.md and the manual pages name are tried (command_options.py). What needs no program is tried first, and with --texts
@@ -19,7 +19,7 @@ alone, or what ends in a WORD, as in `--texts links`: docs/errors.md has the tab
 (crate_graph.py), docs/proofs.md and README.md the numbers of lines that have to be believed (reading.py), README.md and docs/speed.md
 the figures of bench/RESULTS.md (figures.py), each link and anchor leads somewhere (links.py), the edits, clauses and laws that the
 documents cite exist (citations.py), the text before a block to be saved names its file (saved_blocks.py), the code of the site
-equals its source (site/spans.py), and the manual pages pass the warnings of man if it is installed.
+equals its source (site/spans.py), the definitions shown are in the crates (definitions.py), and the manual pages pass the warnings of man if it is installed.
 The last line is 'N passed, M failed'.
 """
 import argparse
@@ -39,6 +39,7 @@ sys.path.insert(1, f"{ROOT}/tools/grass")
 import citations
 import command_options
 import crate_graph
+import definitions
 import differences
 import figures
 import links
@@ -72,7 +73,7 @@ READING_ROW = re.compile(
 READING_SENTENCE = re.compile(
     r"(for a table of (?P<command>r\.\w+) )(\d+)( lines, )(\d+)( with comments)"
 )
-LANGUAGES = {"console", "pycon", "text", "python", "sh"}
+LANGUAGES = {"console", "pycon", "text", "python", "sh", "antt", "rust"}
 PACKAGES = {
     "gdal_retile.py": "python3-gdal",
     "gdalinfo": "gdal-bin",
@@ -418,6 +419,7 @@ def main():
         ("the citations", citations.check),
         ("the blocks to be saved", saved_blocks.check),
         ("the code of the site", check_site_code),
+        ("the definitions", definitions.check),
         ("the picture of the crates", crate_graph.check),
         ("the manual pages", check_pages),
         ("the numbers of lines", lambda: check_reading(settings.write)),

@@ -40,6 +40,7 @@ MENU = {
     "Packages": {"Python": "docs/python.md", "R": "docs/r.md", "QGIS": "docs/qgis.md"},
     "About": {
         "What is proved": "docs/proofs.md",
+        "Theorems": "docs/theorems.md",
         "Speed": "docs/speed.md",
         "Changes": "CHANGELOG.md",
         "Licence": "LICENSE.md",
