@@ -3,11 +3,28 @@
 from __future__ import annotations
 
 import pathlib
+import re
 import shutil
-from dataclasses import dataclass, field
+import tempfile
+from dataclasses import dataclass, field, replace
 
 HERE = pathlib.Path(__file__).resolve().parent
-ANSWERS = ("composition", "cross", "change", "patches", "zonal", "majority", "align")
+TABLES = ("composition", "cross", "change", "patches", "zonal", "adjacency")
+MAPS = ("majority", "align", "reclass", "clump")
+ANSWERS = (*TABLES, *MAPS)
+POLYGONS = re.compile(r"\.(geojson|gpkg|shp|fgb)(\|layername=.*)?$")
+# Options of a call that are files; errors of QGIS and of the shell have no kind but in their text.
+FILES = ("labels", "zone_labels", "rules")
+KINDS = [
+    ("other crs", r"its coordinate reference system is |it has no coordinate reference system"),
+    ("other region", r"not of the region of |shifted by |cells of "),
+    ("read failed", r"cannot open|rows \d+ to \d+ cannot be read"),
+    (
+        "bad map",
+        r"not a map of whole numbers|has \d+ bands|a (rotated )?transform|its values are scaled|no polygon|not polygons|no field ",
+    ),
+    ("refused", r""),
+]
 
 
 @dataclass
@@ -35,6 +52,12 @@ class Case:
         The reference system that is stated for maps that have none, or nothing.
     over : str
         The path of the raster over which `write` writes.
+    outs : dict of str to str
+        The files to which a result is written, by `out`, `matrix` and `summary`.
+    warned : list of str or None
+        The warnings, as parts of their texts divided by ` .. `; None if they are not looked at.
+    types : str
+        The types of the columns of a table, or nothing.
     expected : dict of str to (list of str, bool)
         The lines that must come out, or the lines of an error, and whether it is one: under the name of a package if
         its result differs, and else under no name.
@@ -53,12 +76,21 @@ class Case:
     percent: bool = False
     crs: str = ""
     over: str = ""
+    outs: dict[str, str] = field(default_factory=dict)
+    warned: list[str] | None = None
+    types: str = ""
     expected: dict[str, tuple[list[str], bool]] = field(default_factory=dict)
     left_out: dict[str, str] = field(default_factory=dict)
 
     def expected_of(self, front: str) -> tuple[list[str], bool]:
         """What must come out of a package, and whether it is an error."""
         return self.expected.get(front, self.expected.get("", ([], False)))
+
+    def is_for(self, front: str) -> bool:
+        """Whether a package runs the case: r.rcell has scripts alone, and `rcell-gis` only the ready calls."""
+        is_answer = self.call in ANSWERS
+        is_outside = {"grass": is_answer, "shell": not is_answer}.get(front, False)
+        return front not in self.left_out and not is_outside
 
 
 def _blocks(text: str) -> dict[str, list[str]]:
@@ -90,9 +122,10 @@ def read(path: pathlib.Path) -> Case:
             expected[front] = (lines, kind == "refused")
     kind, *words = blocks["call"][0].split()
     options = dict(word.split("=", 1) for word in words if "=" in word)
-    for key in ("labels", "zone_labels"):
+    for key in FILES:
         if key in options:
             options[key] = _path(options[key])
+    outs = [word.rpartition("=") for line in blocks.get("out", []) for word in line.split()]
     return Case(
         name=path.stem,
         maps={name: _path(file) for name, file in maps.items()},
@@ -105,6 +138,11 @@ def read(path: pathlib.Path) -> Case:
         percent="percent" in blocks,
         crs="".join(blocks.get("crs", [])),
         over=str(HERE / "rasters" / blocks["over"][0]) if "over" in blocks else "",
+        outs={name or "out": _path(file) for name, _, file in outs},
+        warned=[line for line in blocks["warned"] if line != "none"]
+        if "warned" in blocks
+        else None,
+        types="".join(blocks.get("types", [])),
         expected=expected,
         left_out={
             key.split()[1]: " ".join(lines)
@@ -112,6 +150,50 @@ def read(path: pathlib.Path) -> Case:
             if key.startswith("without ")
         },
     )
+
+
+class Scratch:
+    """Copies of all inputs, which a case reads and over which it may try to write."""
+
+    def __init__(self) -> None:
+        self._room = tempfile.TemporaryDirectory(prefix="rcell-cases-")
+        self.folder = pathlib.Path(self._room.name, "rasters")
+        shutil.copytree(HERE / "rasters", self.folder)
+        self._before = self._bytes()
+
+    def _bytes(self) -> dict[str, bytes]:
+        return {it.name: it.read_bytes() for it in self.folder.iterdir() if it.is_file()}
+
+    def moved(self, case: Case) -> Case:
+        """The case over the copies."""
+
+        def here(paths: dict[str, str]) -> dict[str, str]:
+            return {
+                name: str(self.folder / pathlib.Path(text).name) if text.startswith("/") else text
+                for name, text in paths.items()
+            }
+
+        return replace(case, maps=here(case.maps), options=here(case.options), outs=here(case.outs))
+
+    def changed(self) -> list[str]:
+        """A line for each input that is not what it was."""
+        after = self._bytes()
+        return [
+            f"changed: {name}" for name, told in self._before.items() if after.get(name) != told
+        ]
+
+
+def kind_of(text: str) -> str:
+    """The kind of an error, by its text."""
+    return next(name for name, form in KINDS if re.match(form, text))
+
+
+def notes(case: Case, types: str, warnings: list[str]) -> list[str]:
+    """The lines about types and warnings, of a case that looks at them."""
+    told = [f"types: {types}"] if case.types else []
+    return told + [
+        f"warned: {text.splitlines()[0]}" for text in warnings if case.warned is not None
+    ]
 
 
 def copied(path: str, folder: str) -> str:

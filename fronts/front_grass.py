@@ -34,7 +34,9 @@ def raster_of(path: str) -> str:
 
 def import_all() -> None:
     """All rasters of the cases, whatever their reference system; the ones that r.in.gdal rejects are not there."""
-    for path in sorted({path for case in cases() for path in case.maps.values()}):
+    for path in sorted(
+        {path for case in cases() if case.is_for("grass") for path in case.maps.values()}
+    ):
         module = "r.in.ascii" if path.endswith(".txt") else "r.in.gdal"
         words = ("null_value=*",) if path.endswith(".txt") else ("-o", "band=1")
         called(
@@ -152,7 +154,7 @@ def inside() -> None:
     """The cases, within a session."""
     import_all()
     for case in cases():
-        if "grass" not in case.left_out:
+        if case.is_for("grass"):
             print(f"case {case.name}", *(f" {line}" for line in answer(case)), sep="\n")
 
 

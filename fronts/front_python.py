@@ -2,6 +2,7 @@
 
 from __future__ import annotations
 
+import inspect
 import sys
 import tempfile
 import warnings
@@ -11,7 +12,7 @@ from typing import Any, Callable
 import pandas
 import rasterio.errors
 import rcell
-from cases import Case, cases, copied
+from cases import MAPS, Case, Scratch, cases, copied, notes
 
 KINDS = [
     ("other crs", rcell.OtherCrs),
@@ -22,19 +23,22 @@ KINDS = [
 ]
 
 
-# The type of each parameter of the seven functions that is not a map.
+# The type of each parameter of the ready calls that is not a map.
 OPTIONS: dict[str, Callable[[str], Any]] = {
     "area": lambda text: None if text == "none" else text,
-    **dict.fromkeys(("null", "fill"), lambda text: text == "yes"),
-    **dict.fromkeys(("labels", "zone_labels", "zone_field", "resample"), str),
+    **dict.fromkeys(("include_null", "fill"), lambda text: text == "yes"),
+    **dict.fromkeys(("labels", "zone_labels", "zone_field", "resample", "crs"), str),
+    **dict.fromkeys(("rules", "other"), str),
     **dict.fromkeys(("years", "classes"), lambda text: [int(part) for part in text.split(",")]),
-    **dict.fromkeys(("connectivity", "least", "core_depth", "size"), int),
+    **dict.fromkeys(("connectivity", "min_cells", "core_depth", "size"), int),
     "quantiles": lambda text: [float(part) for part in text.split(",")],
 }
+# Until the package has the new names.
+OLD_NAMES = {"min_cells": "least", "include_null": "null"}
 
 
 def plain(value: Any, digits: int = 12) -> str:
-    is_missing = value is None or value is pandas.NA or value != value or value == ""
+    is_missing = value is None or value is pandas.NA or value != value
     return "*" if is_missing else f"{value:.{digits}g}" if isinstance(value, float) else str(value)
 
 
@@ -56,30 +60,48 @@ def of_grid(grid: rcell.Grid) -> list[str]:
 
 def of_frame(case: Case, frame: Any) -> list[str]:
     rows = frame.itertuples(index=False, name=None)
-    return ["|".join(map(str, frame.columns))] + [
+    lines = ["|".join(map(str, frame.columns))] + [
         "|".join(plain(value, case.digits) for value in row) for row in rows
     ]
+    return lines + notes(case, types_of(frame), [])
+
+
+def types_of(frame: Any) -> str:
+    """The types of the columns of a table."""
+    kinds = {"i": "integer", "u": "integer", "f": "number"}
+    return "|".join(kinds.get(getattr(kind, "kind", "O"), "text") for kind in frame.dtypes)
+
+
+def options_of(case: Case) -> dict[str, Any]:
+    """The parameters of a call."""
+    known = inspect.signature(inspect.unwrap(getattr(rcell, case.call))).parameters
+    return {
+        key
+        if key in known
+        else OLD_NAMES.get(key, key): case.maps[text]
+        if key in ("zones", "to")
+        else OPTIONS[key](text)
+        for key, text in case.options.items()
+        if key not in ("table", "band")
+    }
 
 
 def answered(case: Case) -> list[str]:
-    """One of the seven functions."""
-    options = {
-        key: case.maps[text] if key in ("zones", "to") else OPTIONS[key](text)
-        for key, text in case.options.items()
-        if key != "table"
-    }
-    if case.call == "cross":
-        return of_frame(
-            case, rcell.cross({name: case.maps[name] for name in case.words}, **options)
-        )
+    """One of the ready calls."""
+    options = options_of(case)
     maps: list[Any] = [case.maps[name] for name in case.words]
+    if "band" in case.options:
+        maps[0] = rasterio.band(rasterio.open(maps[0]), int(case.options["band"]))
+    if case.call == "cross":
+        return of_frame(case, rcell.cross(dict(zip(case.words, maps)), **options))
     if case.call == "change":
         found = rcell.change(*maps, **options) if len(maps) == 2 else rcell.change(maps, **options)
         part = getattr(found, case.options.get("table", "table"))
         return of_frame(case, part.reset_index() if case.options.get("table") == "matrix" else part)
     answer = getattr(rcell, case.call)(*maps, **options)
-    if case.call == "majority":
-        return of_grid(answer)
+    if case.outs:
+        answer.write(case.outs["out"])
+        return [f"written: {case.outs['out']}"]
     if case.call == "align":
         facts = answer.aligned
         names = ("shift_rows", "shift_columns", "cells_used", "cells_repeated", "cells_lost")
@@ -88,7 +110,7 @@ def answered(case: Case) -> list[str]:
             "|".join(plain(getattr(facts, name)) for name in names),
             *of_grid(rcell.grid("", "x", x=answer)),
         ]
-    return of_frame(case, answer)
+    return of_grid(answer) if case.call in MAPS else of_frame(case, answer)
 
 
 def answer(case: Case) -> list[str]:
@@ -119,14 +141,29 @@ def refusal(error: rcell.Refused) -> list[str]:
     return [f"{name}: {value}" for name, value in found if value is not None]
 
 
-def main() -> None:
-    warnings.simplefilter("ignore", rasterio.errors.NotGeoreferencedWarning)
-    warnings.simplefilter("ignore", UserWarning)
-    for case in cases():
+def tried(case: Case) -> list[str]:
+    """What came out of a case, with its warnings."""
+    with warnings.catch_warnings(record=True) as caught:
+        warnings.simplefilter("always", UserWarning)
+        warnings.simplefilter("ignore", rasterio.errors.NotGeoreferencedWarning)
         try:
             lines = answer(case)
         except rcell.Refused as error:
             lines = refusal(error)
+        except Exception as error:
+            lines = [f"error: {error!r}"]
+    return lines + notes(replace(case, types=""), "", [str(it.message) for it in caught])
+
+
+def main() -> None:
+    for case in cases():
+        if not case.is_for("python"):
+            continue
+        if case.outs:
+            scratch = Scratch()
+            lines = tried(scratch.moved(case)) + scratch.changed()
+        else:
+            lines = tried(case)
         print(f"case {case.name}", *(f" {line}" for line in lines), sep="\n")
 
 

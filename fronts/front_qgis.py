@@ -17,30 +17,41 @@ HERE = pathlib.Path(__file__).resolve().parent
 os.environ.setdefault("QT_QPA_PLATFORM", "offscreen")
 sys.path[:0] = [str(HERE.parent / "qgis"), "/usr/share/qgis/python/plugins"]
 
-from cases import ANSWERS, Case, cases, copied
+from cases import ANSWERS, MAPS, POLYGONS, Case, Scratch, cases, copied, kind_of, notes
 from osgeo import gdal
 from qgis.core import (
     NULL,
     QgsApplication,
     QgsProcessingException,
+    QgsProcessingFeedback,
+    QgsProject,
     QgsRasterLayer,
     QgsVectorLayer,
 )
+from qgis.PyQt.QtCore import QVariant
 
-# QGIS has one kind of error; the text identifies ours (fronts/README.md lists them).
-KINDS = [
-    ("other crs", r"its coordinate reference system is |it has no coordinate reference system"),
-    ("other region", r"not of the region of |shifted by |cells of "),
-    ("read failed", r"cannot open|rows \d+ to \d+ cannot be read"),
-    (
-        "bad map",
-        r"not a map of whole numbers|has \d+ bands|a (rotated )?transform|its values are scaled|no polygon|not polygons|no field ",
-    ),
-    ("refused", r""),
-]
 # Parts of a change that are outputs of their own.
 PARTS = {"matrix": "MATRIX", "summary": "SUMMARY"}
+# Until the plugin has the new names.
+OLD_NAMES = {"MIN_CELLS": "LEAST", "INCLUDE_NULL": "NULL"}
+TYPES = {
+    QVariant.Int: "integer",
+    QVariant.LongLong: "integer",
+    QVariant.Double: "number",
+    QVariant.String: "text",
+}
 FACTS = ("SHIFT_ROWS", "SHIFT_COLUMNS", "CELLS_USED", "CELLS_REPEATED", "CELLS_LOST")
+
+
+class Feedback(QgsProcessingFeedback):
+    """Keeps the warnings of a run."""
+
+    def __init__(self) -> None:
+        super().__init__(False)
+        self.warnings: list[str] = []
+
+    def pushWarning(self, warning: str) -> None:
+        self.warnings.append(warning)
 
 
 def plain(value: Any, digits: int = 12) -> str:
@@ -91,16 +102,17 @@ def of_layer(layer: Any, digits: int = 12) -> list[str]:
 def layer_of(case: Case, name: str) -> Any:
     path = case.maps[name]
     return (
-        QgsVectorLayer(path, name, "ogr")
-        if path.endswith(".geojson")
-        else QgsRasterLayer(path, name)
+        QgsVectorLayer(path, name, "ogr") if POLYGONS.search(path) else QgsRasterLayer(path, name)
     )
 
 
-def answered(case: Case, room: str) -> list[str]:
-    """One of the seven algorithms, whose parameters are the parameters of the functions in capitals."""
-    import processing
+def types_of(layer: Any) -> str:
+    return "|".join(TYPES.get(field.type(), "other") for field in layer.fields())
 
+
+def parameters_of(case: Case) -> dict[str, Any]:
+    """The parameters of an algorithm, named as in Python, in capitals."""
+    known = QgsApplication.processingRegistry().algorithmById(f"rcell:{case.call}")
     layers = [layer_of(case, name) for name in case.words]
     parameters: dict[str, Any] = {
         "INPUT": layers if case.call in ("cross", "change") else layers[0]
@@ -108,32 +120,51 @@ def answered(case: Case, room: str) -> list[str]:
     if case.call == "zonal":
         parameters["ZONES"] = layers[1]
     for key, text in case.options.items():
+        name = key.upper()
+        if known is not None and not known.parameterDefinition(name):
+            name = OLD_NAMES.get(name, name)
         if key != "table":
-            parameters[key.upper()] = (
+            parameters[name] = (
                 layer_of(case, text)
                 if key in ("zones", "to")
                 else text == "yes"
-                if key in ("fill", "null")
+                if key in ("fill", "include_null")
                 else text
             )
-    if case.call in ("majority", "align"):
-        found = processing.run(
-            f"rcell:{case.call}", {**parameters, "OUTPUT": os.path.join(room, f"{case.name}.tif")}
-        )
+    return parameters
+
+
+def answered(case: Case, room: str) -> list[str]:
+    """One of the ready calls."""
+    import processing
+
+    parameters, feedback = parameters_of(case), Feedback()
+    part = PARTS.get(case.options.get("table", ""), "OUTPUT")
+    if case.outs:
+        outputs = {
+            {"out": "OUTPUT"}.get(name, name.upper()): path for name, path in case.outs.items()
+        }
+    elif case.call in MAPS:
+        outputs = {"OUTPUT": os.path.join(room, f"{case.name}.tif")}
+    else:
+        outputs = {"OUTPUT": "TEMPORARY_OUTPUT", part: "TEMPORARY_OUTPUT"}
+    try:
+        found = processing.run(f"rcell:{case.call}", {**parameters, **outputs}, feedback=feedback)
+    except QgsProcessingException as error:
+        return refusal(str(error)) + notes(case, case.types, feedback.warnings)
+    types = case.types
+    if case.outs:
+        lines = [f"written: {path}" for path in case.outs.values()]
+    elif case.call in MAPS:
         facts = (
             ["|".join(FACTS).lower(), "|".join(plain(found[name]) for name in FACTS)]
             if case.call == "align"
             else []
         )
-        return [*facts, *of_raster(found["OUTPUT"])]
-    part = PARTS.get(case.options.get("table", ""), "OUTPUT")
-    return of_layer(
-        processing.run(
-            f"rcell:{case.call}",
-            {**parameters, "OUTPUT": "TEMPORARY_OUTPUT", part: "TEMPORARY_OUTPUT"},
-        )[part],
-        case.digits,
-    )
+        lines = [*facts, *of_raster(found["OUTPUT"])]
+    else:
+        lines, types = of_layer(found[part], case.digits), types_of(found[part])
+    return lines + notes(case, types, feedback.warnings)
 
 
 def answer(case: Case, room: str) -> list[str]:
@@ -162,15 +193,26 @@ def answer(case: Case, room: str) -> list[str]:
 def refusal(message: str) -> list[str]:
     """The parts of an error: `SOURCE, line N: TEXT`, or `SOURCE: TEXT`."""
     first, *rest = message.removeprefix("Unable to execute algorithm\n").splitlines()
+    # An exception of Python, or nothing to run.
+    if re.match("There were errors executing the algorithm|.*Algorithm .* not found", first):
+        return [f"error: {message}"]
     place, _, text = first.partition(": ")
     source, _, line = place.partition(", line ")
-    kind = next(name for name, form in KINDS if re.match(form, text))
     cell = re.search(r"the cell at row (\d+), column (\d+)", text)
     # The mark is below its column, two blanks farther to the right.
     column = next((len(line) - 2 for line in rest if line.endswith("^")), None)
-    found = [("kind", kind), ("source", source), ("line", line), ("row", cell and cell[1])]
+    found = [("kind", kind_of(text)), ("source", source), ("line", line), ("row", cell and cell[1])]
     found += [("column", cell[2] if cell else column), ("text", text)]
     return [f"{name}: {value}" for name, value in found if value]
+
+
+def tried(case: Case, room: str) -> list[str]:
+    try:
+        return answer(case, room)
+    except QgsProcessingException as error:
+        return refusal(str(error))
+    except Exception as error:
+        return [f"error: {error!r}"]
 
 
 def main() -> None:
@@ -186,14 +228,18 @@ def main() -> None:
         # QGIS leaves statistics next to a raster that it opens.
         shutil.copytree(HERE / "rasters", f"{room}/rasters")
         shutil.copytree(HERE.parent / "examples/rasters", f"{room}/rasters", dirs_exist_ok=True)
-        for case in (it for it in cases() if "qgis" not in it.left_out):
-            case.maps = {
-                name: f"{room}/rasters/{os.path.basename(path)}" for name, path in case.maps.items()
-            }
-            try:
-                lines = answer(case, room)
-            except QgsProcessingException as error:
-                lines = refusal(str(error))
+        for case in (it for it in cases() if it.is_for("qgis")):
+            if case.outs:
+                scratch = Scratch()
+                lines = tried(scratch.moved(case), room)
+                QgsProject.instance().clear()
+                lines += scratch.changed()
+            else:
+                case.maps = {
+                    name: f"{room}/rasters/{os.path.basename(path)}"
+                    for name, path in case.maps.items()
+                }
+                lines = tried(case, room)
             print(f"case {case.name}", *(f" {line}" for line in lines), sep="\n", flush=True)
     plugin.unload()
     application.exitQgis()

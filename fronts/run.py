@@ -9,6 +9,7 @@ from __future__ import annotations
 
 import os
 import pathlib
+import re
 import shutil
 import subprocess
 import sys
@@ -17,7 +18,7 @@ from cases import Case, cases
 
 HERE = pathlib.Path(__file__).resolve().parent
 REPOSITORY = HERE.parent
-FRONTS = ("python", "r", "qgis", "grass")
+FRONTS = ("python", "shell", "r", "qgis", "grass")
 
 
 def environment() -> dict[str, str]:
@@ -64,6 +65,7 @@ def missing_of_grass() -> str:
 
 MISSING = {
     "python": missing_of_python,
+    "shell": missing_of_python,
     "r": missing_of_r,
     "qgis": missing_of_qgis,
     "grass": missing_of_grass,
@@ -71,12 +73,14 @@ MISSING = {
 # Packages of Debian.
 PACKAGES = {
     "python": "python3-numpy python3-rasterio python3-pandas",
+    "shell": "python3-numpy python3-rasterio python3-pandas",
     "r": "r-base-core r-cran-terra r-cran-data.table r-cran-processx r-cran-codetools",
     "qgis": "python3-qgis python3-gdal python3-numpy",
     "grass": "grass-core python3-numpy",
 }
 COMMANDS = {
     "python": [sys.executable, str(HERE / "front_python.py")],
+    "shell": [sys.executable, str(HERE / "front_shell.py")],
     "r": ["Rscript", str(HERE / "front_r.R"), str(HERE)],
     "qgis": [sys.executable, str(HERE / "front_qgis.py")],
     "grass": [sys.executable, str(HERE / "front_grass.py")],
@@ -102,19 +106,38 @@ def found_by(front: str) -> tuple[dict[str, list[str]], str]:
 def is_right(case: Case, front: str, lines: list[str]) -> bool:
     """A result must be the same; of an error all that the case names, the text as far as it goes."""
     expected, is_refused = case.expected_of(front)
+    kept: dict[str, list[str]] = {"types: ": [], "warned: ": [], "changed: ": [], "": []}
+    for line in lines:
+        start = next(start for start in kept if line.startswith(start))
+        kept[start].append(line.removeprefix(start))
+    is_noted = is_refused or kept["types: "] == [case.types] * bool(case.types)
+    if kept["changed: "] or not is_noted or not are_told(case.warned, kept["warned: "]):
+        return False
     if not is_refused:
-        return lines == expected
-    told = dict(line.split(": ", 1) for line in lines if ": " in line)
+        return kept[""] == expected
+    told = dict(line.split(": ", 1) for line in kept[""] if ": " in line)
     wanted = dict(line.split(": ", 1) for line in expected)
     text = wanted.pop("text", "")
-    return told.get("text", "").startswith(text) and all(
-        told.get(key) == value for key, value in wanted.items()
+    is_own = "text" in told  # an error that the product did not foresee has none
+    return (
+        is_own
+        and told["text"].startswith(text)
+        and all(told.get(key) == value for key, value in wanted.items())
+    )
+
+
+def are_told(wanted: list[str] | None, warnings: list[str]) -> bool:
+    """Whether each warning has the parts that a case names, in this order."""
+    forms = [".*".join(map(re.escape, text.split(" .. "))) for text in wanted or []]
+    return wanted is None or (
+        len(forms) == len(warnings)
+        and all(re.search(form, text) for form, text in zip(forms, warnings))
     )
 
 
 def run(front: str) -> tuple[int, int, int]:
     """How many cases passed on a package, failed, and were skipped since the package is not installed."""
-    tried = [case for case in cases() if front not in case.left_out]
+    tried = [case for case in cases() if case.is_for(front)]
     missing = MISSING[front]()
     if missing:
         print(f"skipped  fronts/{front}: {missing}; install: apt-get install {PACKAGES[front]}")
@@ -126,6 +149,8 @@ def run(front: str) -> tuple[int, int, int]:
             f"fronts: {front}: {case.name}",
             "  expected:",
             *(f"    {line}" for line in case.expected_of(front)[0]),
+            *(f"    warned: {text}" for text in case.warned or []),
+            *(f"    types: {case.types}" for _ in range(bool(case.types))),
             "  found:",
             sep="\n",
         )

@@ -1,0 +1,142 @@
+"""Runs the ready calls of the table of cases on `rcell-gis`: prints `case NAME`, and below it what came out, each line after a blank.
+
+The libraries are loaded once: a case runs in a process that is forked from this one.
+"""
+
+from __future__ import annotations
+
+import csv
+import os
+import re
+import runpy
+import sys
+import tempfile
+import warnings
+
+import pandas  # noqa: F401  (loaded before a fork)
+import rasterio
+import rcell  # noqa: F401
+from cases import MAPS, Case, Scratch, cases, kind_of, notes
+
+warnings.simplefilter("ignore", rasterio.errors.NotGeoreferencedWarning)
+PROGRAM = os.path.join(os.path.dirname(__file__), "..", "helpers", "rcell-gis")
+FLAGS = ("include_null", "fill")
+# Until the program has the new names.
+OLD_NAMES = {"min_cells": "least", "include_null": "null"}
+HELP: dict[str, str] = {}
+
+
+def ran(words: list[str]) -> tuple[int, str, str]:
+    """The status, the output and the errors of a call."""
+    with tempfile.TemporaryFile() as out, tempfile.TemporaryFile() as told:
+        child = os.fork()
+        if not child:
+            os.dup2(out.fileno(), 1)
+            os.dup2(told.fileno(), 2)
+            sys.argv = [PROGRAM, *words]
+            try:
+                runpy.run_path(PROGRAM, run_name="__main__")
+            except SystemExit as end:
+                os._exit(end.code if isinstance(end.code, int) else 0)
+            except BaseException:
+                sys.excepthook(*sys.exc_info())
+            os._exit(1)
+        status = os.waitstatus_to_exitcode(os.waitpid(child, 0)[1])
+        texts = []
+        for file in (out, told):
+            file.seek(0)
+            texts.append(file.read().decode("utf-8", "replace"))
+    return status, texts[0], texts[1]
+
+
+def option_of(command: str, name: str) -> str:
+    """The option of a parameter."""
+    if command not in HELP:
+        HELP[command] = ran([command, "--help"])[1]
+    option = f"--{name.replace('_', '-')}"
+    return option if option in HELP[command] or name not in OLD_NAMES else f"--{OLD_NAMES[name]}"
+
+
+def words_of(case: Case, target: str) -> list[str]:
+    """The words of a call, which writes a map to `target`."""
+    words = [
+        f"{name}={case.maps[name]}" if case.call == "cross" else case.maps[name]
+        for name in case.words
+    ]
+    words += [target] if case.call in MAPS else []
+    for key, text in case.options.items():
+        option = option_of(case.call, key)
+        value = case.maps[text] if key in ("zones", "to") else text
+        words += [option] if key in FLAGS else [option, value]
+    return [case.call, *words, *(["--out", target] if case.outs and case.call not in MAPS else [])]
+
+
+def plain(title: str, text: str, digits: int) -> str:
+    """A field: a measure with so many digits; nothing is null."""
+    if text in ("", "nan"):
+        return "*"
+    is_measure = re.fullmatch(r"-?[0-9]+(\.[0-9]*)?(e[-+][0-9]+)?", text) and "label" not in title
+    return f"{float(text):.{digits}g}" if is_measure and re.search("[.e]", text) else text
+
+
+def of_table(case: Case, text: str) -> list[str]:
+    titles, *rows = csv.reader(text.splitlines())
+    return ["|".join(titles)] + [
+        "|".join(map(plain, titles, row, [case.digits] * len(row))) for row in rows
+    ]
+
+
+def of_raster(path: str) -> list[str]:
+    with rasterio.open(path) as file:
+        rows = file.read(1, masked=True).tolist()
+    return [" ".join("*" if value is None else str(value) for value in row) for row in rows]
+
+
+def refusal(status: int, told: str) -> list[str]:
+    """The parts of an error, which is one line: `rcell-gis: SOURCE: TEXT`."""
+    lines = [line for line in told.splitlines() if not line.startswith("rcell-gis: warning: ")]
+    # A traceback, or a word that the program does not have.
+    if (
+        re.search("invalid choice|unrecognized arguments", told)
+        or len(lines) != 1
+        or not lines[0].startswith("rcell-gis")
+        or status not in (1, 2, 3, 4)
+    ):
+        return [f"error: status {status}: {told[-300:]!r}"]
+    source, _, text = lines[0].partition(": ")[2].partition(": ")
+    cell = re.search(r"the cell at row (\d+), column (\d+)", text)
+    place = [f"row: {cell[1]}", f"column: {cell[2]}"] if cell else []
+    return [f"kind: {kind_of(text)}", f"source: {source}", *place, f"text: {text}"]
+
+
+def answer(case: Case, room: str) -> list[str]:
+    target = case.outs.get("out", os.path.join(room, f"{case.name}.tif"))
+    status, out, told = ran(words_of(case, target))
+    start = "rcell-gis: warning: "
+    warned = [line.removeprefix(start) for line in told.splitlines() if line.startswith(start)]
+    lines = [] if case.call in MAPS and case.call != "align" else of_table(case, out) if out else []
+    if status:
+        lines = refusal(status, told)
+    elif case.outs:
+        lines = [f"written: {target}"]
+    elif case.call in MAPS:
+        lines += of_raster(target)
+    return lines + notes(case, case.types, warned)
+
+
+def main() -> None:
+    with tempfile.TemporaryDirectory() as room:
+        for case in cases():
+            if not case.is_for("shell"):
+                continue
+            if case.outs:
+                scratch = Scratch()
+                lines = answer(scratch.moved(case), room) + scratch.changed()
+            else:
+                lines = answer(case, room)
+            print(f"case {case.name}", *(f" {line}" for line in lines), sep="\n")
+
+
+if __name__ == "__main__":
+    sys.stdout.reconfigure(encoding="utf-8")  # type: ignore[union-attr]
+    main()

@@ -1,0 +1,1 @@
+<qgis><pipe><rasterrenderer type="paletted"><colorPalette><paletteEntry value="1" label="a > b" color="#228b22"/><paletteEntry value="2" label="w&#246;d &amp; &lt;x&gt;" color="#9acd32"/><paletteEntry value="3" label="m&#xF6;r" color="#123456"/></colorPalette></rasterrenderer></pipe></qgis>

@@ -1,0 +1,1 @@
+<qgis><pipe><rasterrenderer type="singlebandpseudocolor"><rastershader><colorrampshader><item alpha="255" color="#228b22" value="1" label="wood"/><item alpha="255" color="#228b22" value="2" label="heath"/><item alpha="255" color="#228b22" value="3" label="moor"/></colorrampshader></rastershader></rasterrenderer></pipe></qgis>
