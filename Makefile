@@ -12,7 +12,7 @@
 # make static    links the programs as bin/NAME-static, which run on any Linux on x86-64
 # make dist      makes the release in dist/: tarball, package of Debian, wheel, packages for R and QGIS, objects, bill of materials
 # make debian11  runs the release's quick start in a root of Debian 11 (as root, with debootstrap)
-# make edits     tries the edits of crates/NAME/edits/, of which the gate tries those of tools/edits.txt: each must be rejected
+# make edits     tries all edits: each must be rejected; OF="rcell cell_cats" those of these crates
 # make hostile   attacks the program: memory, reads, writes and bytes fail in turn, and the largest inputs (an hour)
 # make fuzz      runs it on random input next to a plain model for SECONDS=60, from SEED=
 # make bench     times each task next to C++, and doubles one dimension after another; BENCH=--short takes five minutes
@@ -83,7 +83,7 @@ debian11: dist
 	sh tools/build/debian11.sh dist
 
 edits:
-	python3 tools/build/edits.py --all
+	python3 tools/build/edits.py $(OF)
 
 hostile: bin/rcell
 	python3 tools/hostile --clang "$$(dirname "$$(rt doc)")/toolchain/bin/clang"

@@ -76,9 +76,8 @@ EARLY = [
     ),
     Part(
         "stale_edits",
-        "the edits outside the gate still fit their files",
-        [tool("build/stale_edits.py")],
-        has_counts=False,
+        "each edit fits its files",
+        [tool("build/edits.py", "--stale")],
         needs_programs=False,
     ),
     Part(
@@ -91,14 +90,14 @@ EARLY = [
 ]
 PROOFS = Part(
     "proofs",
-    "each proof, each edit that must fail, each test",
+    "each proof, each test, and the wrong bodies that matter most",
     [["rt", "ci"]],
     needs_programs=False,
 )
 LATE = [
     Part(
         "edits",
-        "wrong bodies that the proof must refuse, many in one check",
+        "wrong bodies and turned definitions that the proofs must refuse",
         [tool("build/edits.py")],
         needs_programs=False,
     ),

@@ -40,11 +40,8 @@ class Crate:
     """A crate of a repository: its line of crates.txt, the crates right below it, and the kit's libraries that it uses."""
 
     def __init__(self, name, uses, crates, root=ROOT):
-        self.name, self.folder, self.line = (
-            name,
-            f"{root}/crates/{name}",
-            f"{name}: {' '.join(uses)}\n",
-        )
+        self.name, self.root, self.folder = name, root, f"{root}/crates/{name}"
+        self.line = f"{name}: {' '.join(uses)}\n"
         self.rlib = f"{self.folder}/out/rlib/{name}.rlib"
         self.below = [crates[it] for it in uses if it in crates]
         self.of_kit = ["std", *[it for it in uses if it not in crates]]
@@ -131,17 +128,23 @@ def kit_version():
     return subprocess.check_output(["rt", "version"], text=True).strip()
 
 
-def crates_of(programs, root=ROOT):
-    """The crates that programs need and themselves, each after those below it."""
+@functools.cache
+def uses():
+    """The libraries that crates.txt lists for each crate."""
     with open(f"{ROOT}/crates.txt", encoding="utf-8") as file:
         lines = [line.split("#")[0].split(":") for line in file if ":" in line]
-    uses, crates = {name.strip(): used.split() for name, used in lines}, {}
+    return {name.strip(): used.split() for name, used in lines}
+
+
+def crates_of(programs, root=ROOT):
+    """The crates that programs need and themselves, each after those below it."""
+    crates = {}
 
     def visit(name):
-        for it in uses[name]:
-            if it in uses and it not in crates:
+        for it in uses()[name]:
+            if it in uses() and it not in crates:
                 visit(it)
-        crates[name] = Crate(name, uses[name], crates, root)
+        crates[name] = Crate(name, uses()[name], crates, root)
 
     for program in programs:
         visit(program)

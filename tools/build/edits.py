@@ -1,15 +1,21 @@
 #!/usr/bin/env python3
-"""Tries the edits of crates/NAME/edits, many in one check: each must be rejected by the function that it changes.
+"""Tries the edits of crates/NAME/edits and crates/NAME/must-fail, many in one check: the proof has to reject each.
 
-    edits.py [--one-by-one] [--all | CRATE..]       without names, the crates that tools/edits.txt names for the gate
+    edits.py [--one-by-one] [--list] [CRATE..]       without names, all crates that have edits
+    edits.py --stale                                 only that each edit still fits its files, in a second
 
 A check judges each function by itself, over the contracts of what it calls. So edits of different functions are made in one copy of
-the crate and do not touch each other; each next copy begins with what the check before it kept. An edit is rejected if a function
-that it changes is not proved for a reason of its own, and not because it calls another that is not proved. What is not rejected in
-company is tried alone. What is rejected is kept next to the kit, by a sum of all that it uses, and not tried again. The last
-line is 'N passed, M failed'.
+the crate and do not touch each other, and only these functions are checked. An edit is rejected if a function that it changes is not
+proved for a reason of its own, and not because it calls another that is not proved. What is not rejected in company is tried again,
+in the end alone. A turned definition (edit_files.py) is tried alone: the proof of each law that it names has to fail.
+
+The tool says of each edit why it is rejected: `values`, a goal is false at values that the prover found; `goal`, a goal stayed open;
+`written`, only a written step of the proof no longer fits, which says little of the contract. An edit that a page cites as evidence must not be
+of the last kind. What is rejected is kept next to the kit, by a sum of all that it uses, and not tried again. The last line is
+'N passed, M failed'.
 """
 import argparse
+import collections
 import hashlib
 import os
 import pathlib
@@ -18,88 +24,124 @@ import shutil
 import subprocess
 import sys
 import tempfile
+import time
 from concurrent.futures import ThreadPoolExecutor
-from dataclasses import dataclass, field
+from dataclasses import dataclass
 
 import build
+import edit_files
+import turned_definitions
 
-HEAD = re.compile(r"^( *)(?:pub(?:\([\w:]+\))? )?(?:const )?fn (\w+)", re.MULTILINE)
-IMPL = re.compile(
-    r"^impl(?:<.*?>)? (?:(?:\w+::)*(\w+)(?:<.*>)? for )?&?(?:'\w+ )?(\w+)", re.MULTILINE
-)
-VERDICT = re.compile(r"^(?:fn|impl|enum|struct|trait) \w+::(\S+): (.*)$", re.MULTILINE)
-PROVED = re.compile(r"proved\b|no proof: it calls .*, which is not proved$")
-IN_GATE = pathlib.Path(build.ROOT, "tools/edits.txt")
+VERDICT = re.compile(r"^(?:fn|impl|enum|struct|trait) \w+::(\S+): (.*)$")
+PROVED = re.compile(r"proved\b|assumed\b|no proof: it calls .*, which (?:is|are) not proved$")
+BY_CALL = re.compile(r"not proved; it (?:calls|waits for)\b")
+OPEN = re.compile(r"`search` did not prove|^note: \S+: it is not proved that")
+FALSE = "allow values at which this goal is false"
+UNTRIED = re.compile(r"^note: `search` has not tried the goals of `\w+::([^`]+)`")
+OF_PROOF = re.compile(r"^(?:\./)?proofs/(\S+)/\w+\.antt:\d+:\d+: error")
+NO_FUNCTION = re.compile(r"error: `\w+` has no function `\w+::([^`]+)`")
+KINDS = ("values", "goal", "written")
 BYTES_OF_A_CHECK = 4 << 30  # at most
+ROUNDS_IN_COMPANY = 2
 
 
 @dataclass
-class Edit:
-    """An edit: its file, its pairs of a file, an old text and a new one, and the functions that it changes, each as (file, name)."""
+class Reason:
+    """Why a function is rejected: the kind, or '' if for no reason of its own, and whether a search has not tried all of its goals."""
 
-    path: pathlib.Path
-    pairs: list = field(default_factory=list)
-    functions: set = field(default_factory=set)
-
-    @property
-    def name(self):
-        return f"{self.path.parent.parent.name}/{self.path.name}"
+    kind: str
+    is_untried: bool = False
 
 
-def function_at(text, at):
-    """The function that has this place of a file, a method as TYPE::NAME or TYPETRAIT::NAME, or '' if the place is outside all."""
-    heads = list(HEAD.finditer(text, 0, at))
-    end = (
-        re.compile(rf"^{heads[-1][1]}}}", re.MULTILINE).search(text, heads[-1].end())
-        if heads
-        else None
-    )
-    if not end or end.start() < at:
+@dataclass
+class Tally:
+    """What came of a crate's edits."""
+
+    crate: str
+    kinds: dict
+    missed: list
+    kept: int = 0
+    checks: int = 0
+    seconds: float = 0
+
+
+def reasons_of(output):
+    """The reason of each function that the output of a check names, in its order: a list of (path, Reason)."""
+    found, notes, broken, untried = [], [], set(), set()
+    for line in output.splitlines():
+        if at := OF_PROOF.match(line):
+            broken.add(at[1].replace("/", "::"))
+        elif at := UNTRIED.match(line):
+            untried.add(at[1])
+        elif line.startswith("note: "):
+            notes.append(line)
+        elif at := VERDICT.match(line):
+            found.append((at[1], at[2], notes))
+            notes = []
+    return [
+        (path, Reason(kind_of(said, notes, path in broken), path in untried))
+        for path, said, notes in found
+    ]
+
+
+def kind_of(said, notes, is_broken):
+    """The kind of a function's verdict, with the notes before it; is_broken says that something written of its proof has an error."""
+    if PROVED.match(said):
         return ""
-    owners = list(IMPL.finditer(text, 0, heads[-1].start())) if heads[-1][1] else []
-    return f"{owners[-1][2]}{owners[-1][1] or ''}::{heads[-1][2]}" if owners else heads[-1][2]
+    is_open = OPEN.search(said) or any(map(OPEN.match, notes))
+    if is_open:
+        return "values" if any(FALSE in it for it in notes) else "goal"
+    return "" if BY_CALL.match(said) and not is_broken else "written"
 
 
-def edit_of(path):
-    """An edit as its file has it. A pair that applies to what an earlier one made is in no known function."""
-    edit, name, old = Edit(path), "", ""
-    for line in path.read_text(encoding="utf-8").splitlines():
-        key, _, value = line.partition(":")
-        value = value.removeprefix(" ")
-        if key == "file":
-            name = value.strip()
-        elif key == "old":
-            old = value
-        elif key == "new":
-            text = (path.parent.parent / name).read_text(encoding="utf-8")
-            edit.pairs.append((name, old, value))
-            edit.functions.add(
-                (name, function_at(text, text.find(old)) if text.count(old) == 1 else "")
-            )
-    return edit
+def is_of(path, name, function):
+    """Whether a path of a verdict names the function of a file, or a closure in it. A method is in the module of its type."""
+    parts = [it.split("+")[0] for it in path.split("::")]
+    owner, _, function = function.rpartition("::")
+    if owner:
+        return any(
+            before.startswith(owner) and after == function
+            for before, after in zip(parts, parts[1:])
+        )
+    module = modules_of(name)
+    if parts[: len(module)] != module or function not in parts[len(module) :]:
+        return False
+    return all(it == "fn" for it in parts[len(module) : parts.index(function, len(module))])
+
+
+def modules_of(name):
+    """The modules that lead to a file of src/."""
+    parts = list(pathlib.PurePath(name).with_suffix("").parts[1:])
+    return [] if parts in (["lib"], ["main"]) else [it for it in parts if it != "mod"]
+
+
+def reason_of(edit, found):
+    """Why an edit is rejected: the strongest reason of a function that it changes, or of a closure in it."""
+    reasons = [
+        reason
+        for name, function in edit.functions
+        for path, reason in found
+        if reason.kind and (not function or is_of(path, name, function))
+    ]
+    return min(reasons, key=lambda it: KINDS.index(it.kind), default=Reason(""))
 
 
 def groups_of(edits, one_by_one):
     """The edits in groups: no two of a group change one function, and what changes something outside functions is alone."""
     groups = []
     for edit in edits:
-        is_alone = one_by_one or any(name == "" for _, name in edit.functions)
+        is_alone = one_by_one or edit.is_outside
         fits = (
             it
             for it in groups
-            if not it[0].is_alone and not any(edit.functions & other.functions for other in it[1:])
+            if not it[0].is_outside and not any(edit.functions & other.functions for other in it)
         )
         group = None if is_alone else next(fits, None)
         if group is None:
-            groups.append([Group(is_alone)])
-            group = groups[-1]
-        group.append(edit)
-    return [it[1:] for it in groups]
-
-
-@dataclass
-class Group:
-    is_alone: bool
+            groups.append([edit])
+        else:
+            group.append(edit)
+    return groups
 
 
 def changed_copy(crate, edits, room):
@@ -125,116 +167,165 @@ def changed_copy(crate, edits, room):
         pathlib.Path(room, name).write_text(text, encoding="utf-8")
 
 
-def verdicts(crate, edits, kept):
-    """Check the crate with these edits; return the verdict on each function, and the output."""
-    with tempfile.TemporaryDirectory(prefix="rcell-edits-") as room:
-        changed_copy(crate, edits, room)
-        ran = subprocess.run(
-            [*crate.command("check"), "--incremental", kept],
-            cwd=room,
-            stdin=subprocess.DEVNULL,
-            stdout=subprocess.PIPE,
-            stderr=subprocess.STDOUT,
-            text=True,
-            errors="replace",
-            check=False,
-        )
-    return VERDICT.findall(ran.stdout), ran.stdout
+class Checks:
+    """Runs checks of a crate over what the checks before them kept, and counts them and their processor seconds."""
+
+    def __init__(self, crate, kept):
+        self.crate, self.kept, self.count, self.seconds = crate, kept, 0, 0.0
+
+    def run(self, room, functions, crate=None):
+        """Check the crate in a folder, or only some functions of it; return the output."""
+        words = [*(crate or self.crate).command("check"), "--incremental", self.kept]
+        words += [word for it in sorted(functions) for word in ("--only", it)]
+        with tempfile.TemporaryFile("w+", encoding="utf-8", errors="replace") as output:
+            ran = subprocess.Popen(  # pylint: disable=consider-using-with
+                words, cwd=room, stdin=subprocess.DEVNULL, stdout=output, stderr=subprocess.STDOUT
+            )
+            _, ran.returncode, used = os.wait4(ran.pid, 0)
+            self.count, self.seconds = self.count + 1, self.seconds + used.ru_utime + used.ru_stime
+            output.seek(0)
+            return output.read()
+
+    def of_edits(self, edits):
+        """Check the crate with these edits; return the reasons of its functions, and the output."""
+        functions = {
+            "::".join([*modules_of(name), function])
+            for edit in edits
+            for name, function in edit.functions
+            if not edit.is_outside
+        }
+        with tempfile.TemporaryDirectory(prefix="rcell-edits-") as room:
+            changed_copy(self.crate, edits, room)
+            said = self.run(room, functions)
+            while unknown := NO_FUNCTION.findall(said):
+                # Nothing but the full check judges what cannot be named.
+                functions = set() if set(unknown) - functions else functions - set(unknown)
+                said = self.run(room, functions)
+        return reasons_of(said), said
+
+    def of_laws(self, edit, home):
+        """Check the laws that must fall over a turned definition; return whether each falls, and the output."""
+        crate = turned_definitions.crate_with(self.crate.name, home, self.crate.root)
+        with tempfile.TemporaryDirectory(prefix="rcell-turned-") as room:
+            turned_definitions.lay_out(self.crate.name, home, edit.pairs, pathlib.Path(room))
+            said = self.run(room, edit.falls, crate)
+        return [law for law in edit.falls if not is_proved(law, said)], said
 
 
-def is_of(path, name, function):
-    """Whether a path of a verdict names the function of a file, or a closure in it. A method is in the module of its type."""
-    parts = [it.split("+")[0] for it in path.split("::")]
-    owner, _, function = function.rpartition("::")
-    if owner:
-        return any(
-            before.startswith(owner) and after == function
-            for before, after in zip(parts, parts[1:])
-        )
-    module = [] if name == "src/lib.rt" else list(pathlib.Path(name).with_suffix("").parts[1:])
-    if parts[: len(module)] != module or function not in parts[len(module) :]:
-        return False
-    return all(it == "fn" for it in parts[len(module) : parts.index(function, len(module))])
-
-
-def is_refused(edit, found):
-    """Whether a function that the edit changes, or a closure in it, is not proved for a reason of its own."""
-    return any(
-        not PROVED.match(said)
-        for name, function in edit.functions
-        for path, said in found
-        if not function or is_of(path, name, function)
-    )
+def is_proved(law, said):
+    return re.search(rf"^fn \w+::(?:\w+::)*{law}: proved", said, re.MULTILINE) is not None
 
 
 class Kept:
-    """The edits that were rejected before, by a sum of the kit, the crate with all below it, this file, and the edit."""
+    """The edits that were rejected before, with their kinds, by a sum of the kit, the crate with all below it, and the edit."""
 
     def __init__(self, crate):
         self.folder = pathlib.Path(os.path.dirname(build.kit()), "rcell-kept-edits")
-        self.sum = hashlib.sha256(
-            f"{crate.stamp} {pathlib.Path(__file__).read_text(encoding='utf-8')}".encode()
-        )
+        tools = [
+            pathlib.Path(it.__file__).read_text(encoding="utf-8")
+            for it in (sys.modules[__name__], edit_files, turned_definitions)
+        ]
+        self.sum = hashlib.sha256(f"{crate.stamp} {tools}".encode())
 
     def place(self, edit):
         found = self.sum.copy()
         found.update(edit.path.name.encode() + edit.path.read_bytes())
         return self.folder / found.hexdigest()
 
-    def has(self, edit):
-        return self.place(edit).exists()
+    def kind(self, edit):
+        place = self.place(edit)
+        return place.read_text(encoding="ascii") if place.exists() else ""
 
-    def keep(self, edit):
+    def keep(self, edit, kind):
         try:
             self.folder.mkdir(mode=0o700, exist_ok=True)
-            self.place(edit).touch()
+            self.place(edit).write_text(kind, encoding="ascii")
         except OSError:
             pass
 
 
-def try_groups(crate, edits, one_by_one, kept):
-    """Tries edits, those again alone that are not rejected in company, and returns those that are not rejected, and how many checks it took."""
-    groups, checks, missed = groups_of(edits, one_by_one), 0, []
+def try_bodies(checks, edits, one_by_one):
+    """Yield each wrong body with its kind, '' if it is not rejected, and what to say of it then."""
+    groups = [(it, 1) for it in groups_of(edits, one_by_one)]
+    again, unsure = collections.defaultdict(list), set()
+    while groups:
+        group, round_ = groups.pop(0)
+        found, said = checks.of_edits(group)
+        if not found and len(group) > 1:
+            half = len(group) // 2
+            groups[:0] = [(group[:half], round_), (group[half:], round_)]
+            continue
+        for edit in group:
+            reason = reason_of(edit, found)
+            is_last = len(group) == 1 or round_ > ROUNDS_IN_COMPANY
+            if reason.kind == "written" and reason.is_untried and not is_last:
+                unsure.add(edit.name)
+                again[round_ + 1].append(edit)
+            elif reason.kind or len(group) == 1:
+                kind = reason.kind or ("written" if edit.name in unsure else "")
+                yield edit, kind, "NOT REFUSED" if found else "BAD EDIT: " + said[-600:]
+            else:
+                again[round_ + 1].append(edit)
+        if not groups and again:
+            next_round = min(again)
+            is_alone = next_round > ROUNDS_IN_COMPANY
+            groups = [
+                (it, next_round) for it in groups_of(again.pop(next_round), one_by_one or is_alone)
+            ]
+
+
+def try_definitions(checks, edits):
+    """Yield each turned definition with its kind, as try_bodies does. The laws have to prove if nothing is turned."""
+    homes = collections.defaultdict(list)
+    for edit in edits:
+        homes[turned_definitions.home_of(checks.crate.name, edit)].append(edit)
+    for home, turned in sorted(homes.items()):
+        laws = sorted({law for edit in turned for law in edit.falls})
+        broken, said = checks.of_laws(edit_files.Edit(turned[0].path, falls=tuple(laws)), home)
+        for edit in turned:
+            if set(broken) & set(edit.falls):
+                yield edit, "", "its laws do not prove if nothing is turned: " + said[-600:]
+                continue
+            fallen, said = checks.of_laws(edit, home)
+            stand = set(edit.falls) - set(fallen)
+            yield edit, "" if stand else "goal", f"NOT REFUSED: {', '.join(sorted(stand))}"
+
+
+def try_crate(crate, one_by_one, is_listed):
+    """Tries the edits of a crate, and returns what came of them."""
+    edits, kept = edit_files.edits_in(crate.name), Kept(crate)
+    tally = Tally(crate.name, {it.name: kept.kind(it) for it in edits}, [])
+    left = [it for it in edits if not tally.kinds[it.name]]
+    tally.kept = len(edits) - len(left)
     with tempfile.TemporaryDirectory(prefix="rcell-edits-kept-") as room:
-        while groups:
-            group, checks = groups.pop(0), checks + 1
-            found, said = verdicts(crate, group, f"{room}/kept")
-            lost = [it for it in group if not is_refused(it, found)]
-            for it in (it for it in group if it not in lost):
-                kept.keep(it)
-            if len(group) > 1:
-                groups += [[it] for it in lost]
-            elif lost:
-                missed += lost
-                print(
-                    f"{lost[0].name}: {'NOT REFUSED' if found else 'BAD EDIT: ' + said[-600:]}",
-                    flush=True,
-                )
-    return missed, checks
+        checks = Checks(crate, f"{room}/kept")
+        bodies = [it for it in left if not it.falls]
+        tried = [try_bodies(checks, bodies, one_by_one)] if bodies else []
+        for edit, kind, said in (
+            it
+            for several in [*tried, try_definitions(checks, [it for it in left if it.falls])]
+            for it in several
+        ):
+            tally.kinds[edit.name] = kind
+            if kind:
+                kept.keep(edit, kind)
+            else:
+                tally.missed.append(edit.name)
+            if is_listed or not kind:
+                print(f"{edit.name}: {kind or said}", flush=True)
+    tally.checks, tally.seconds = checks.count, checks.seconds
+    print(line_of(tally), flush=True)
+    return tally
 
 
-def try_crate(crate, one_by_one):
-    """Tries the edits of a crate, and returns how many were rejected, how many were not, and how many of the first were kept."""
-    edits, kept = [edit_of(it) for it in edits_in(crate.name)], Kept(crate)
-    left = [it for it in edits if not kept.has(it)]
-    missed, checks = try_groups(crate, left, one_by_one, kept) if left else ([], 0)
-    print(
-        f"{crate.name}: {len(left) - len(missed)} of {len(left)} edits refused in {checks} checks; {len(edits) - len(left)} kept",
-        flush=True,
+def line_of(tally):
+    counts = collections.Counter(tally.kinds.values())
+    kinds = ", ".join(f"{counts[it]} by {it}" for it in KINDS if counts[it])
+    refused = len(tally.kinds) - counts[""]
+    return (
+        f"{tally.crate}: {refused} of {len(tally.kinds)} edits refused ({kinds or 'none'}); "
+        f"{tally.kept} kept, {tally.checks} checks, {tally.seconds:.0f} processor seconds"
     )
-    return len(edits) - len(missed), len(missed), len(edits) - len(left)
-
-
-def edits_in(crate):
-    return sorted(pathlib.Path(build.ROOT, "crates", crate, "edits").glob("*.edit"))
-
-
-def crates_in_gate():
-    return [
-        line.split("#")[0].strip()
-        for line in IN_GATE.read_text(encoding="utf-8").splitlines()
-        if line.split("#")[0].strip()
-    ]
 
 
 def checks_at_a_time():
@@ -247,50 +338,77 @@ def checks_at_a_time():
     return max(1, min(len(os.sched_getaffinity(0)), int(available[1]) * 1024 // BYTES_OF_A_CHECK))
 
 
-def try_over(root, names, one_by_one):
-    """Try the edits of crates over the libraries below a root, the largest crates first, and return the counts of each crate."""
+def try_over(root, names, one_by_one, is_listed):
+    """Try the edits of crates over the libraries below a root, the largest crates first, and return what came of each."""
     tried = [it for it in build.crates_of(names, root) if it.name in names]
     for crate in tried:
         crate.folder = f"{build.ROOT}/crates/{crate.name}"
     with ThreadPoolExecutor(checks_at_a_time()) as pool:
         return list(
             pool.map(
-                lambda crate: try_crate(crate, one_by_one),
+                lambda crate: try_crate(crate, one_by_one, is_listed),
                 sorted(tried, key=lambda crate: -crate.work),
             )
         )
 
 
-def try_all(names, one_by_one):
+def try_all(names, one_by_one, is_listed):
     """Try the edits of crates over the libraries that the gate left, or over a copy that is proved here."""
     crates = build.crates_of(names)
     below = [it for it in crates if any(it.name in other.all_below for other in crates)]
     if all(it.has_proved() for it in below):
-        return try_over(build.ROOT, names, one_by_one)
+        return try_over(build.ROOT, names, one_by_one, is_listed)
     with build.cut(below) as folder:
         if build.prove(folder, below, 0, f"{folder}/log"):
-            return [(0, len(edits_in(name)), 0) for name in names]
-        return try_over(folder, names, one_by_one)
+            return []
+        return try_over(folder, names, one_by_one, is_listed)
+
+
+def faults_of_evidence(kinds):
+    """The edits that a page cites as evidence, and that are rejected only since a written step no longer fits."""
+    return [
+        f"{name}: evidence on {page}, and rejected only since a written step no longer fits"
+        for name, page in edit_files.cited().items()
+        if kinds.get(name) == "written"
+    ]
+
+
+def closing(tallies, wall):
+    """Prints all counts, and returns the status."""
+    kinds = {name: kind for it in tallies for name, kind in it.kinds.items()}
+    counts = collections.Counter(kinds.values())
+    for fault in (faults := faults_of_evidence(kinds)):
+        print(fault)
+    kept = sum(it.kept for it in tallies)
+    print(
+        f"{counts['values']} refused at values that make a goal false, {counts['goal']} by an open goal, "
+        f"{counts['written']} only since a written step no longer fits; "
+        f"{sum(it.seconds for it in tallies):.0f} processor seconds in {wall / 60:.0f} minutes"
+    )
+    print(
+        f"ran: {len(kinds) - kept} of {len(kinds)} edits; the others are kept from earlier runs on this machine"
+    )
+    failed = counts[""] + len(faults) + (not tallies)
+    print(f"{len(kinds) - counts['']} passed, {failed} failed")
+    return 1 if failed else 0
 
 
 def main():
     words = argparse.ArgumentParser(
         description=__doc__, formatter_class=argparse.RawDescriptionHelpFormatter
     )
-    words.add_argument("--one-by-one", action="store_true")
-    words.add_argument(
-        "--all", action="store_true", help="all crates that have edits outside must-fail/"
-    )
+    words.add_argument("--one-by-one", action="store_true", help="each in a check of its own")
+    words.add_argument("--list", action="store_true", help="print the kind of each edit")
+    words.add_argument("--stale", action="store_true", help="only whether edits fit their files")
     words.add_argument("crates", nargs="*", metavar="CRATE")
-    given = words.parse_args()
-    every = sorted(it.parent.name for it in pathlib.Path(build.ROOT, "crates").glob("*/edits"))
-    counts = try_all(every if given.all else given.crates or crates_in_gate(), given.one_by_one)
-    passed, failed, kept = (sum(it[at] for it in counts) for at in range(3))
-    print(
-        f"ran: {passed + failed - kept} of {passed + failed} edits; the others are kept from earlier runs on this machine"
-    )
-    print(f"{passed} passed, {failed} failed")
-    return 1 if failed else 0
+    given, begun = words.parse_args(), time.monotonic()
+    paths = edit_files.paths_in()
+    if given.stale:
+        faults = [fault for path in paths for fault in edit_files.faults_of(path)]
+        print(*faults, f"{len(paths) - len(faults)} passed, {len(faults)} failed", sep="\n")
+        return 1 if faults else 0
+    names = given.crates or sorted({it.parents[1].name for it in paths})
+    return closing(try_all(names, given.one_by_one, given.list), time.monotonic() - begun)
 
 
 if __name__ == "__main__":

@@ -7,14 +7,13 @@ The programs, dynamic and static, and their objects are in bin/. The commit, the
 this machine now. The closing line of the gate is in bin/gate, which `make check` leaves; if there is none for this commit
 and these programs, the page says so. What is proved, only tested and trusted is the section of the README.
 """
-import glob
 import hashlib
 import re
 import subprocess
 import sys
 
 import build
-import edits
+import edit_files
 
 ROOT = build.ROOT
 # The key of each program in what the gate leaves.
@@ -66,14 +65,10 @@ def gate_record(commit):
 
 def counted():
     crates = build.crates_of(build.PROGRAMS)
-    tried = [
-        *glob.glob(f"{ROOT}/crates/*/must-fail/*.edit"),
-        *(it for crate in edits.crates_in_gate() for it in edits.edits_in(crate)),
-    ]
     lines = read(f"{ROOT}/crates.txt").splitlines()
     every = sum(":" in line.split("#")[0] for line in lines)
     return f"""{every} crates, {len(crates)} of which make up the programs;
-            {len(tried)} edits that each change a meaning, and that the proof must refuse"""
+            {len(edit_files.paths_in())} edits that each change a meaning, and that the proof must refuse"""
 
 
 def gate_text(record):

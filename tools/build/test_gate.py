@@ -1,17 +1,20 @@
 #!/usr/bin/env python3
-"""Tries how the gate counts (tools/check.py, tools/counting.sh), which libraries it leaves for edits.py, and how that groups edits and
-reads a check. The last line is 'N passed, M failed'."""
+"""Tries how the gate counts (tools/check.py, tools/counting.sh), which libraries it leaves for edits.py, and how that reads edits,
+groups them and reads a check. The last line is 'N passed, M failed'."""
 import os
 import pathlib
 import subprocess
 import sys
 import tempfile
+from unittest import mock
 
 sys.path.insert(1, os.path.abspath(f"{__file__}/../.."))
 
 import build
 import check
+import edit_files
 import edits
+import turned_definitions
 
 # What a command prints, its status, whether it has counts: and what it counts for.
 COUNTED = [
@@ -84,40 +87,79 @@ PLACES = {
 }
 BY_ANOTHER = "no proof: it calls `first`, which is not proved"
 OPEN = "no proof: at `found as u64`, `search` did not prove `result = 3`"
-# The functions that an edit changes, the verdicts of a check, and whether that rejects the edit.
-VERDICTS = [
-    ({("src/lib.rt", "first")}, [("first", OPEN)], True),
-    ({("src/lib.rt", "first")}, [("first", "proved")], False),
-    ({("src/lib.rt", "first")}, [("first", "proved where its callers give what it asks")], False),
-    ({("src/lib.rt", "first")}, [("first", BY_ANOTHER)], False),
-    ({("src/lib.rt", "first")}, [], False),
-    ({("src/lib.rt", "first")}, [("second", OPEN)], False),
-    ({("src/lib.rt", "first")}, [("words::first", OPEN)], False),
-    ({("src/lib.rt", "Reader::next")}, [("Reader::next", OPEN)], True),
-    ({("src/lib.rt", "RangeIterator::least")}, [("ranges::RangeIterator::least", OPEN)], True),
-    ({("src/lib.rt", "RangeIterator::least")}, [("ranges::Range::least", OPEN)], False),
-    ({("src/words.rt", "first")}, [("words::first", OPEN)], True),
-    ({("src/words.rt", "first")}, [("blanks::first", OPEN), ("words::first", "proved")], False),
-    ({("src/words.rt", "Reader::next")}, [("readers::Reader::next", "not proved")], True),
-    ({("src/words.rt", "Reader::next")}, [("readers::next", "not proved")], False),
-    ({("src/words.rt", "first")}, [("words::fn::first::map+2", OPEN)], True),
-    ({("src/lib.rt", "")}, [("anything", OPEN)], True),
-    ({("src/lib.rt", "")}, [("anything", BY_ANOTHER)], False),
+WAITS = "not proved; it calls `all::second`, which is not proved"
+NOTE = "note: src/lib.rt:3:1: it is not proved that what the function ensures holds when it returns (`returns`)"
+# The output of a check, and the kind of each function that it rejects; `?` if a search has not tried all of its goals.
+OUTPUTS = [
+    (f"fn all::first: {OPEN}", {"first": "goal"}),
+    (
+        f"{NOTE}; the facts known there allow values at which this goal is false\nfn all::first: {OPEN}",
+        {"first": "values"},
+    ),
+    (f"{NOTE}\nfn all::first: {WAITS}\nfn all::second: {BY_ANOTHER}", {"first": "goal"}),
+    (
+        "./proofs/words/first/Answers.antt:9:40: error: `returns`\nfn all::words::first: not proved",
+        {"words::first": "written"},
+    ),
+    (
+        f"./proofs/words/first/Answers.antt:9:40: error: `returns`\nfn all::words::first: {WAITS}",
+        {"words::first": "written"},
+    ),
+    (
+        "proofs/first/Answers.antt:9:40: error: `returns`\nnote: `search` has not tried the goals of `all::first`, which wait"
+        f"\nfn all::first: {WAITS}",
+        {"first": "written?"},
+    ),
+    (f"fn all::first: {WAITS}\nfn all::second: proved\nimpl all::ThreeDebug: proved", {}),
+    ("fn all::first: no proof: it calls `all::a` and `all::b`, which are not proved", {}),
+    ("impl all::ThreeEq: not proved; it waits for the proof of `eq`", {}),
+    ("fn all::first: not proved", {"first": "written"}),
 ]
+# The function that an edit changes, the function that is rejected, and whether that rejects the edit.
+CHANGED = [
+    (("src/lib.rt", "first"), "first", True),
+    (("src/lib.rt", "first"), "second", False),
+    (("src/lib.rt", "first"), "words::first", False),
+    (("src/lib.rt", "Reader::next"), "Reader::next", True),
+    (("src/lib.rt", "RangeIterator::least"), "ranges::RangeIterator::least", True),
+    (("src/lib.rt", "RangeIterator::least"), "ranges::Range::least", False),
+    (("src/words.rt", "first"), "words::first", True),
+    (("src/words.rt", "first"), "blanks::first", False),
+    (("src/words.rt", "Reader::next"), "readers::Reader::next", True),
+    (("src/words.rt", "Reader::next"), "readers::next", False),
+    (("src/words.rt", "first"), "words::fn::first::map+2", True),
+    (("src/lib.rt", ""), "anything", True),
+]
+SPREAD = """use Rattle.std.specs.Prelude.{
+  pos,
+  suc,
+}
+meant = pos 3
+"""
 
 
 def made(name, *functions):
-    return edits.Edit(pathlib.Path("crate/edits", name), functions=set(functions))
+    return edit_files.Edit(pathlib.Path("crates/one/edits", name), functions=set(functions))
 
 
-def faults_of_edits():
+def faults_of_verdicts():
+    for output, wanted in OUTPUTS:
+        found = {
+            path: it.kind + "?" * it.is_untried for path, it in edits.reasons_of(output) if it.kind
+        }
+        yield "" if found == wanted else f"{output!r}: {found}, and not {wanted}"
+    for function, rejected, wanted in CHANGED:
+        found = edits.reason_of(made("edit", function), [(rejected, edits.Reason("goal"))])
+        yield "" if bool(found.kind) == wanted else f"{function}, {rejected}: not {wanted}"
+    several = [("first", edits.Reason("written")), ("first", edits.Reason("values"))]
+    found = edits.reason_of(made("edit", ("src/lib.rt", "first")), several)
+    yield "" if found.kind == "values" else f"the weaker of two reasons: {found}"
+
+
+def faults_of_groups():
     for text, wanted in PLACES.items():
-        found = edits.function_at(SOURCE, SOURCE.index(text))
+        found = edit_files.function_at(SOURCE, SOURCE.index(text), len(text))
         yield "" if found == wanted else f"{text!r} is in {found!r}, and not in {wanted!r}"
-    for functions, found, wanted in VERDICTS:
-        yield "" if edits.is_refused(
-            made("edit", *functions), found
-        ) == wanted else f"{functions}, {found}: not {wanted}"
     one, two, other, outside = (
         made(name, ("src/lib.rt", function)) for name, function in zip("abcd", ("f", "f", "g", ""))
     )
@@ -130,6 +172,63 @@ def faults_of_edits():
         [one],
         [other],
     ] else "edits in company, one by one"
+
+
+class OneAtATime(edits.Checks):
+    """Stands for the prover: rejects `bad` edits only in a check of their own, and can't read a group that has an `unread` one."""
+
+    def __init__(self):
+        super().__init__(None, "")
+        self.tried = []
+
+    def of_edits(self, edits_of_check):
+        names = [it.path.name for it in edits_of_check]
+        self.tried.append(names)
+        if "unread" in names:
+            return [], "error: expected `;`"
+        rejected = [it for it in names if it == "good" or (it == "bad" and len(names) == 1)]
+        return [(it, edits.Reason("goal" if it in rejected else "")) for it in names], ""
+
+
+def faults_of_trying():
+    several = [made(it, ("src/lib.rt", it)) for it in ("good", "bad", "proved", "unread")]
+    checks = OneAtATime()
+    found = {edit.path.name: kind for edit, kind, _ in edits.try_bodies(checks, several, False)}
+    wanted = {"good": "goal", "bad": "goal", "proved": "", "unread": ""}
+    yield "" if found == wanted else f"edits tried: {found}, and not {wanted}"
+    yield "" if max(map(checks.tried.count, checks.tried)) < 4 else f"too often: {checks.tried}"
+    kinds = {"one/edits/weak": "written", "one/edits/strong": "goal"}
+    pages = dict.fromkeys(kinds, "proofs.md")
+    with mock.patch.object(edit_files, "cited", lambda: pages):
+        faults = edits.faults_of_evidence(kinds)
+    yield "" if len(faults) == 1 and "one/edits/weak" in faults[0] else f"evidence: {faults}"
+
+
+def faults_of_files():
+    with tempfile.TemporaryDirectory() as room:
+        crate = pathlib.Path(room, "crates/one")
+        for name, text in {
+            "src/lib.rt": SOURCE,
+            "specs/Three.antt": SPREAD,
+            "edits/good.edit": "file: src/lib.rt\nold: let found\nnew: let lost\nold: let lost\nnew: let less\n",
+            "edits/twice.edit": "file: src/lib.rt\nold: self\nnew: other\n",
+            "edits/empty.edit": "file: src/lib.rt\n",
+            "edits/other.txt": "",
+            "must-fail/turned.edit": "falls: three\nfile: ../one/specs/Three.antt\nold: {pos, suc}\nnew: {pos}\n",
+        }.items():
+            crate.joinpath(name).parent.mkdir(parents=True, exist_ok=True)
+            crate.joinpath(name).write_text(text, encoding="utf-8")
+        with mock.patch.object(build, "ROOT", room):
+            paths = edit_files.paths_in("one")
+        found = {it.name: len(edit_files.faults_of(it)) for it in paths}
+        wanted = {"good.edit": 0, "twice.edit": 1, "empty.edit": 1, "other.txt": 1}
+        yield "" if found == {**wanted, "turned.edit": 0} else f"faults of edits: {found}"
+        good, turned = (
+            edit_files.edit_of(crate / it) for it in ("edits/good.edit", "must-fail/turned.edit")
+        )
+        yield "" if good.functions == {("src/lib.rt", "first")} else f"changed: {good.functions}"
+        home = turned_definitions.home_of("one", turned)
+        yield "" if (turned.falls, home) == (("three",), ("one", "specs.Three")) else f"{turned}"
 
 
 def faults_of_libraries():
@@ -172,7 +271,18 @@ def faults_of_counts():
 
 
 def main():
-    found = [*faults_of_counts(), *faults_of_libraries(), *faults_of_edits()]
+    found = [
+        fault
+        for faults in (
+            faults_of_counts,
+            faults_of_libraries,
+            faults_of_verdicts,
+            faults_of_groups,
+            faults_of_trying,
+            faults_of_files,
+        )
+        for fault in faults()
+    ]
     bad = [it for it in found if it]
     print(*bad, f"{len(found) - len(bad)} passed, {len(bad)} failed", sep="\n")
     return 1 if bad else 0

@@ -67,7 +67,7 @@ def known_names():
     for kind in ("src", "specs", "proofs"):
         for _, path, text in sources.read_files(kind, True):
             found.update(pathlib.Path(path).parts[:-1], [pathlib.Path(path).stem], names_in(text))
-    for folder in ("tools", "tools/*", "tools/build/turned", "cases", "cases/*", "examples"):
+    for folder in ("tools", "tools/*", "cases", "cases/*", "examples"):
         found.update(path.stem.replace("-", "_") for path in ROOT.glob(f"{folder}/*"))
     return found
 
