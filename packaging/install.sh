@@ -12,6 +12,9 @@ shared=share/rcell
 installed=$shared/installed
 pages=share/man/man1
 programs='rcell rcell-join rcell-pipe'
+# The pages that others link to, next to docs/ and examples/.
+other_pages='README.md CHANGELOG.md LICENSE.md CITATION.cff VERSION CONTRIBUTING.md SECURITY.md CODE_OF_CONDUCT.md
+    bench/RESULTS.md bench/hostile.md fronts/README.md'
 
 # The files of the repository below some paths: those that git tracks, or all if this is no clone.
 files() {
@@ -25,9 +28,7 @@ list() {
         echo "644 docs/$name.1 $pages/$name.1"
     done
     helpers
-    for file in README.md CHANGELOG.md LICENSE.md CITATION.cff VERSION; do
-        echo "644 $file $documents/$file"
-    done
+    for file in $other_pages; do echo "644 $file $documents/$file"; done
     files docs | grep -E '^docs/[^/]*\.(md|png|svg)$' | while read -r file; do echo "644 $file $documents/$file"; done
     files examples grass/r.rcell | grep -Ev '\.(mk|pyc)$' | while read -r file; do
         mode=644

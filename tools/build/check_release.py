@@ -24,12 +24,14 @@ sys.path[1:1] = [f"{ROOT}/tools", f"{ROOT}/tools/documents", f"{ROOT}/tools/lint
 import check
 import check_artefacts
 import documents
+import links
 
 PATH_WITHOUT_KIT = "/usr/bin:/bin"
 RUNS = "300"
 KIND_OF_INTERPRETER = 3  # PT_INTERP of an ELF file
 PROGRAMS = ("rcell", "rcell-join", "rcell-pipe")
 PAGES = "share/man/man1"
+DOCUMENTS = "share/doc/rcell"
 # The packages of Debian that a release is made with, each by a file of it.
 PACKAGES = {
     "libc6-dev": "/usr/lib/x86_64-linux-gnu/libc.a",
@@ -228,8 +230,12 @@ def check_pages(count, what, prefix):
         count.skip(f"man or groff is not installed, for {what}", "man-db groff")
 
 
+def check_links(count, what, prefix):
+    count.add(f"the links of {what}", "; ".join(links.faults_below(f"{prefix}/{DOCUMENTS}")))
+
+
 def check_unpacked(count, room, folder, names):
-    """From the tarball and from the package: the quick start, then the manual pages, rcell-join, rcell-pipe and the helpers."""
+    """From the tarball and from the package: the quick start, then the pages, rcell-join, rcell-pipe and the helpers."""
     for kind, ending, programs in (
         ("tarball", "linux-x86_64.tar.gz", "rcell-*/bin"),
         ("package", ".deb", "unpacked/usr/bin"),
@@ -245,6 +251,7 @@ def check_unpacked(count, room, folder, names):
         )
         found = next(iter(glob.glob(f"{here}/{programs}")), f"{here}/{programs}")
         check_pages(count, f"the manual pages of the {kind}", os.path.dirname(found))
+        check_links(count, f"the {kind}", os.path.dirname(found))
         count.add(f"rcell-join of the {kind}", fault_of_joining(found, room))
         count.add(f"rcell-pipe of the {kind}", fault_of_pipe(found))
         count.add_run(f"helpers of the {kind}", [sys.executable, "helpers/tests", "--bin", found])
@@ -276,17 +283,18 @@ def check_install(count, room):
     wanted = [
         *(f"bin/{name}" for name in PROGRAMS),
         *(f"{PAGES}/{name}.1" for name in PROGRAMS),
-        "share/doc/rcell/examples/islands/archipelago.txt",
-        "share/doc/rcell/docs/tutorial.md",
+        f"{DOCUMENTS}/examples/islands/archipelago.txt",
+        f"{DOCUMENTS}/docs/tutorial.md",
     ]
     count.add(
         "what make install puts",
         " ".join(name for name in wanted if not os.path.exists(f"{prefix}/{name}")),
     )
     check_pages(count, "the installed manual pages", prefix)
+    check_links(count, "the installed pages", prefix)
     count.add("the installed rcell-join", fault_of_joining(f"{prefix}/bin", room))
     count.add("the installed rcell-pipe", fault_of_pipe(f"{prefix}/bin"))
-    land = f"{prefix}/share/doc/rcell/examples/land-cover"
+    land = f"{prefix}/{DOCUMENTS}/examples/land-cover"
     ran = run(f"{prefix}/bin/rcell", f"{land}/script", f"landuse={land}/landuse.txt")
     with open(f"{ROOT}/examples/land-cover/stdout", encoding="ascii") as file:
         count.add(
@@ -295,7 +303,7 @@ def check_install(count, room):
         )
     others = {
         f"{prefix}/share/rcell/theirs",
-        f"{prefix}/share/doc/rcell/examples/theirs",
+        f"{prefix}/{DOCUMENTS}/examples/theirs",
         f"{prefix}/bin/theirs",
     }
     for name in others:

@@ -33,7 +33,6 @@ package=$room/package
 documents=$package/usr/share/doc/rcell
 mkdir -p "$package/DEBIAN"
 stage "$package/usr" --without-own
-rm "$documents/LICENSE.md"
 python3 packaging/copyright.py > "$documents/copyright"
 install -D -m 644 packaging/lintian-overrides "$package/usr/share/lintian/overrides/rcell"
 gzip -9n "$package"/usr/share/man/man1/*.1

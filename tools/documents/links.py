@@ -54,15 +54,24 @@ def fault_of(document, link):
     )
 
 
+def faults_of(path):
+    """What is wrong with each link of a document, or ''."""
+    prose = re.sub(r"`[^`\n]*`", "", FENCED.sub("", path.read_text(encoding="utf-8")))
+    return [fault_of(path, link) for link in LINK.findall(prose)]
+
+
+def faults_below(folder):
+    """What is wrong with the links of the documents below a folder, as of a release."""
+    return [
+        f"{path.relative_to(folder)}: {fault}"
+        for path in sorted(pathlib.Path(folder).rglob("*.md"))
+        for fault in faults_of(path)
+        if fault
+    ]
+
+
 def check():
     """How many links of the documents lead somewhere, and what is wrong with the others."""
-    passed, faults = 0, []
-    for name in documents():
-        path = ROOT / name
-        for link in LINK.findall(
-            re.sub(r"`[^`\n]*`", "", FENCED.sub("", path.read_text(encoding="utf-8")))
-        ):
-            fault = fault_of(path, link)
-            passed += not fault
-            faults += [f"{name}: {fault}"] * bool(fault)
-    return passed, faults
+    found = [(name, fault) for name in documents() for fault in faults_of(ROOT / name)]
+    faults = [f"{name}: {fault}" for name, fault in found if fault]
+    return len(found) - len(faults), faults
