@@ -23,6 +23,7 @@ SHARED = (
     "attributes.py",
     "causes.py",
     "edges.py",
+    "errors.py",
     "files.py",
     "grids.py",
     "listing.py",

@@ -59,35 +59,40 @@ def hidden(room: pathlib.Path) -> list[str]:
 
 
 def test_what_is_no_file_is_written_and_never_replaced(room: pathlib.Path) -> None:
-    for command, begins in ((f"{TABLE} --out ", b"class,cells"), (TIF, b"II*\0")):
+    for command, begins, end in (
+        (f"{TABLE} --out ", b"class,cells", "txt"),
+        (TIF, b"II*\0", "tif"),
+    ):
         if os.geteuid() == 0:
-            subprocess.run(["mknod", str(room / "null.tif"), "c", "1", "3"], check=True)
-            assert shell(room, f"{command}null.tif").returncode == 0
-            assert stat.S_ISCHR((room / "null.tif").stat().st_mode)
-            (room / "null.tif").unlink()
+            subprocess.run(["mknod", str(room / f"null.{end}"), "c", "1", "3"], check=True)
+            assert shell(room, f"{command}null.{end}").returncode == 0
+            assert stat.S_ISCHR((room / f"null.{end}").stat().st_mode)
+            (room / f"null.{end}").unlink()
         shell(
             room,
-            "rm -f fifo.tif link.tif real got; mkfifo fifo.tif; ln -s real link.tif; ln -sf /proc/self/fd/1 stdout.tif",
+            f"rm -f fifo.{end} link.{end} real got; mkfifo fifo.{end}; ln -s real link.{end}; ln -sf /proc/self/fd/1 stdout.{end}",
         )
         assert (
             shell(
-                room, f"cat fifo.tif > got & {command}fifo.tif; status=$?; wait; exit $status"
+                room, f"cat fifo.{end} > got & {command}fifo.{end}; status=$?; wait; exit $status"
             ).returncode
             == 0
         )
-        assert stat.S_ISFIFO((room / "fifo.tif").stat().st_mode) and (
+        assert stat.S_ISFIFO((room / f"fifo.{end}").stat().st_mode) and (
             room / "got"
         ).read_bytes().startswith(begins)
-        assert shell(room, f"{command}link.tif").returncode == 0
-        assert (room / "link.tif").is_symlink() and (room / "real").read_bytes().startswith(begins)
-        assert shell(room, f"echo old > log; {command}stdout.tif >> log").returncode == 0
-        assert (room / "stdout.tif").is_symlink() and (room / "log").read_bytes().startswith(
+        assert shell(room, f"{command}link.{end}").returncode == 0
+        assert (room / f"link.{end}").is_symlink() and (room / "real").read_bytes().startswith(
+            begins
+        )
+        assert shell(room, f"echo old > log; {command}stdout.{end} >> log").returncode == 0
+        assert (room / f"stdout.{end}").is_symlink() and (room / "log").read_bytes().startswith(
             b"old\n" + begins
         )
-        full = shell(room, f"ln -sf /dev/full full.tif; {command}full.tif")
+        full = shell(room, f"ln -sf /dev/full full.{end}; {command}full.{end}")
         assert (full.returncode, full.stderr) == (
             4,
-            "rcell-gis: full.tif cannot be written: No space left on device\n",
+            f"rcell-gis: full.{end} cannot be written: No space left on device\n",
         )
     assert hidden(room) == []
 
@@ -105,7 +110,7 @@ def test_a_map_over_one_with_a_mask_is_read_without_it(
     raster: Write, tmp_path: pathlib.Path
 ) -> None:
     path = raster(LAND)
-    grid = rcell.grid("r.mapcalc x = m + 1", "x", m=path)
+    grid = rcell.grid("r.mapcalc x = m + 1", "x", m=LAND)
     with rasterio.Env(GDAL_TIFF_INTERNAL_MASK=False), rasterio.open(path, "r+") as dataset:
         dataset.write_mask(LAND != 1)
     for ending in (".aux.xml", ".ovr"):
@@ -153,7 +158,7 @@ def test_an_input_is_no_output(room: pathlib.Path) -> None:
     ran = shell(room, f"{TIF}x.tif --out n=./x.tif")
     assert (ran.returncode, ran.stderr) == (
         2,
-        "rcell-gis: arguments: ./x.tif: two maps go to one file\n",
+        "rcell-gis: arguments: ./x.tif: two outputs go to one file: choose another name\n",
     )
 
 

@@ -50,6 +50,8 @@ class Grid:
     command : str
     line : int
         The line of the script; 0 if the map was requested by name.
+    files : tuple of str
+        The files that it was made of, none of which `write` replaces.
 
     Examples
     --------
@@ -68,6 +70,7 @@ class Grid:
     command: str = "r.out.ascii"
     line: int = 0
     colors: Mapping[int, str] = field(default_factory=dict)
+    files: tuple[str, ...] = field(default=(), repr=False)
 
     @property
     def maps(self) -> tuple[str, ...]:
@@ -122,7 +125,8 @@ class Grid:
         >>> rcell.run("r.stats -c input=areas", areas=areas).tables[0].rows
         [(1, 2), (2, 1), (3, 1)]
         """
-        return Map(self.array, self.transform, self.crs, None, self.labels, self.colors)
+        place = (self.transform, self.crs, None, self.labels, self.colors)
+        return Map(self.array, *place, files=self.files)
 
     def categories(self) -> list[int]:
         """Return the categories that occur, ascending.
@@ -173,9 +177,11 @@ class Grid:
         ...     print(open(grid.write(os.path.join(folder, "lc.txt"))).read().split())
         ['north:', '1', 'south:', '0', 'east:', '3', 'west:', '0', 'rows:', '1', 'cols:', '3', '5', '7', '5']
         """
+        from .core.files import check_output
         from .core.writing import write_beside
 
         text = os.fspath(path)
+        check_output(text, self.files)
         if text.lower().endswith((".tif", ".tiff")):
             from .geotiff import write_geotiff
 

@@ -11,7 +11,7 @@ import shlex
 import sys
 import warnings
 from inspect import unwrap
-from typing import Any, Callable, Iterable, Iterator, NoReturn, Sequence
+from typing import Any, Callable, Iterator, NoReturn, Sequence
 
 import numpy as np
 
@@ -19,10 +19,11 @@ from .core.advice import lines_of_error
 from .core.files import (
     Output,
     end_on_signals,
-    is_same_file,
     open_standard_streams,
+    opened,
     read_all,
     write_all,
+    writing,
 )
 
 from .core.align import align
@@ -42,7 +43,7 @@ from .core.columns import Column, StatsTable, Table
 from ._version import __version__
 from .core.zonal import zonal
 
-__all__ = ["emit", "main", "refuse_inputs", "script_of"]
+__all__ = ["emit", "main", "script_of"]
 
 NAME = "rcell-gis"
 EPILOG = """\
@@ -51,10 +52,18 @@ A legend is a CSV with the header value,label, a style of QGIS (.qml) or a raste
 Status: 0 done; 1 a map, legend or script is invalid; 2 the command line is; 3 out of memory; 4 a file could not be read or written."""
 FORMATS: dict[str, Callable[[Table], str]] = {
     "csv": Table.csv,
+    "tsv": lambda table: table.csv("\t"),
     "markdown": Table.markdown,
     "json": Table.json,
 }
-_ENDINGS = {".md": "markdown", ".json": "json"}
+_ENDINGS = {
+    ".csv": "csv",
+    ".tsv": "tsv",
+    ".txt": "csv",
+    "": "csv",
+    ".md": "markdown",
+    ".json": "json",
+}
 _PICTURES = (".png", ".svg", ".pdf")
 _MEMORY, _FILES, _COMMAND_LINE = 3, 4, 2
 
@@ -184,9 +193,7 @@ def _zonal(words: argparse.Namespace) -> None:
 def _majority(words: argparse.Namespace) -> None:
     words.given = {"map": words.map}
     _write_maps(
-        [words.target],
-        words.given.values(),
-        lambda: [majority(words.map, words.size, words.fill, crs=words.crs)],
+        [words.target], lambda: [majority(words.map, words.size, words.fill, crs=words.crs)]
     )
 
 
@@ -212,7 +219,7 @@ def _align(words: argparse.Namespace) -> None:
             )
         ]
 
-    _write_maps([words.target], words.given.values(), made)
+    _write_maps([words.target], made)
     words.out = None
     values = [
         (name, np.nan if value is None else float(value))
@@ -223,29 +230,29 @@ def _align(words: argparse.Namespace) -> None:
 
 def _run(words: argparse.Namespace) -> None:
     words.given, paths = _pairs(words.maps), _pairs(words.out)
-    script = script_of(words.script)
     result: list[Any] = []
 
     def made() -> list[Grid]:
+        script = script_of(words.script)
         result.extend(outputs_with(run_of(script, words.given, words.crs), list(paths)))
         return result[len(result) - len(paths) :]
 
-    _write_maps(list(paths.values()), [words.script, *words.given.values()], made)
+    _write_maps(list(paths.values()), made)
     tables = [output for output in result if isinstance(output, StatsTable)]
     if tables:
         emit("\n".join(FORMATS[words.format or "csv"](table) for table in tables))
 
 
-def _write_maps(targets: list[str], inputs: Iterable[str], make: Callable[[], list[Grid]]) -> None:
-    """Write maps to files, all or none; raise Refused if a file is an input or its format is not known."""
+def _write_maps(targets: list[str], make: Callable[[], list[Grid]]) -> None:
+    """Write maps to files, all or none; raise Refused if a file is read too, or its format is not known."""
     for path in targets:
         if not path.lower().endswith((".tif", ".tiff", ".txt", *_PICTURES)):
             raise Refused(
                 f"{path}: a map is written as .tif, .tiff, .txt or a picture ({', '.join(_PICTURES)})",
                 status=_COMMAND_LINE,
             )
-    refuse_inputs(targets, inputs)
-    grids = make()
+    with writing(*targets):
+        grids = make()
     with contextlib.ExitStack() as files:  # the files get their names at the end
         parts = [files.enter_context(replacing(path)) for path in targets]
         for grid, path, part in zip(grids, targets, parts):
@@ -275,18 +282,28 @@ def _unit(words: argparse.Namespace) -> str | None:
     return None if words.area == "none" else str(words.area)
 
 
+@contextlib.contextmanager
+def _writing_a_table(path: str | None) -> Iterator[None]:
+    """While the block runs, raise Refused if the file of a table is read; raise it at once if its ending is wrong."""
+    if path is None:
+        yield
+        return
+    if os.path.splitext(path)[1].lower() not in _ENDINGS:
+        told = f"{path}: a table is written as .csv, .tsv, .txt, .md or .json"
+        raise Refused(told, status=_COMMAND_LINE)
+    with writing(path):
+        yield
+
+
 def _put(words: argparse.Namespace, table: Table) -> None:
     """Write a table to its file or to standard output."""
-    form = words.format or (
-        _ENDINGS.get(os.path.splitext(words.out)[1].lower(), "csv") if words.out else "csv"
-    )
-    text = FORMATS[form](table)
+    ending = os.path.splitext(words.out or "")[1].lower()
+    text = FORMATS[words.format or _ENDINGS[ending]](table)
     if not len(table):
         _tell("note: the table is empty: all cells are null or left out")
     if not words.out:
         emit(text)
         return
-    refuse_inputs([words.out], words.given.values())
     write_beside(words.out, text.encode("utf-8", "surrogateescape"))
 
 
@@ -475,6 +492,7 @@ def script_of(word: str) -> str:
             return read_all(sys.stdin.fileno()).decode("utf-8", "surrogateescape")
     if not os.path.exists(word) and word.startswith("r."):
         return word
+    opened(word)
     with _told_of_script(word), open(
         word, encoding="utf-8", errors="surrogateescape", newline=""
     ) as file:
@@ -492,21 +510,6 @@ def _told_of_script(path: str) -> Iterator[None]:
             "script",
             status=_FILES,
         ) from None
-
-
-def refuse_inputs(outputs: Iterable[str], inputs: Iterable[str]) -> None:
-    """Raise Refused if an output file is also an input, or is named twice."""
-    seen: list[str] = []
-    kept = list(inputs)
-    for path in outputs:
-        if any(is_same_file(path, given) for given in kept):
-            raise Refused(
-                f"{path}: the output file is the input file: choose another name",
-                status=_COMMAND_LINE,
-            )
-        if os.path.realpath(path) in seen:
-            raise Refused(f"{path}: two maps go to one file", status=_COMMAND_LINE)
-        seen.append(os.path.realpath(path))
 
 
 def emit(text: str) -> None:
@@ -539,7 +542,9 @@ def main(words: Sequence[str] | None = None) -> int:
         warnings.showwarning = lambda message, *_, **__: _tell(f"warning: {message}")
         try:
             settings = _words().parse_args(given, settings)
-            settings.run(settings)
+            table = None if settings.run is _run else getattr(settings, "out", None)
+            with _writing_a_table(table):
+                settings.run(settings)
         except KeyboardInterrupt:
             return 130
         except RcellError as error:

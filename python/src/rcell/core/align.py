@@ -76,7 +76,8 @@ def align(map: Any, to: Any, resample: str | None = None, *, crs: Any = None) ->
         if Region.from_transform(like.transform, *like.region.shape) == like.region
         else like.region
     )
-    return Map(made, place, known, None, source.labels, source.colors, aligned)
+    files = (*source.files, *like.files)
+    return Map(made, place, known, None, source.labels, source.colors, aligned, files)
 
 
 def _cells_of(source: Source) -> tuple[Cells, Mask]:

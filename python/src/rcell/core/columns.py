@@ -161,8 +161,13 @@ class Table:
 
         return pandas.DataFrame({column.name: column.series(pandas) for column in self._all()})
 
-    def csv(self) -> str:
+    def csv(self, delimiter: str = ",") -> str:
         """Return the table as comma-separated values with a header; missing values are empty.
+
+        Parameters
+        ----------
+        delimiter : str
+            What separates values.
 
         Returns
         -------
@@ -178,7 +183,7 @@ class Table:
         2,1
         """
         text = io.StringIO()
-        writer = csv.writer(text, lineterminator="\n")
+        writer = csv.writer(text, delimiter=delimiter, lineterminator="\n")
         writer.writerow(self.columns)
         writer.writerows([shortest(value) for value in row] for row in self.rows)
         return text.getvalue()

@@ -1,29 +1,37 @@
 # SPDX-License-Identifier: Apache-2.0 OR GPL-2.0-or-later
-"""Files that are written completely or not at all, and the standard streams.
-
-Modules that are slow to load are not imported: most runs of a helper do little more than copy.
-"""
+"""Files: what a call reads, outputs that are written completely or not at all, and the standard streams."""
 
 from __future__ import annotations
 
+import contextlib
 import errno
 import fcntl
+import html
 import os
+import re
 import select
 import stat
 import sys
+from collections.abc import Iterable, Iterator, Sequence
+from contextvars import ContextVar
+from itertools import combinations
 from types import TracebackType
+
+from .errors import Refused
 
 __all__ = [
     "SIDECARS",
     "Output",
+    "check_output",
     "end_on_signals",
     "is_same_file",
     "open_standard_streams",
+    "opened",
     "private_folder",
     "read_all",
     "read_some",
     "remove_folder",
+    "writing",
     "write_all",
 ]
 
@@ -62,12 +70,103 @@ def end_on_signals() -> None:
             signal.signal(number, lambda number, _: sys.exit(128 + number))
 
 
+# What a call reads
+
+_PARTS = {
+    ".shp": (".shx", ".dbf", ".prj", ".cpg", ".qix", ".sbn", ".sbx", ".shp.xml"),
+    ".tab": (".dat", ".map", ".id", ".ind"),
+}
+_VRT_SOURCE = re.compile(r"<Source(?:Filename|Dataset)[^>]*>([^<]+)<")
+_VIRTUAL = re.compile(r"(/vsi\w+/)+\{?")
+_STATUS = 2
+_outputs: ContextVar[Sequence[str]] = ContextVar("outputs", default=())
+
+
+@contextlib.contextmanager
+def writing(*paths: str) -> Iterator[None]:
+    """While the block runs, raise Refused as soon as a file is read that is one of the outputs of the call.
+
+    Examples
+    --------
+    >>> with writing("a.csv", "./a.csv"):
+    ...     pass
+    Traceback (most recent call last):
+      ...
+    rcell.Refused: arguments: ./a.csv: two outputs go to one file: choose another name
+    """
+    for one, other in combinations(paths, 2):
+        if os.path.realpath(one) == os.path.realpath(other) or is_same_file(one, other):
+            raise Refused(
+                f"{other}: two outputs go to one file: choose another name",
+                status=_STATUS,
+            )
+    token = _outputs.set(paths)
+    try:
+        yield
+    finally:
+        _outputs.reset(token)
+
+
+def opened(*paths: str) -> None:
+    """Note files that the current call reads: whoever opens a file calls this, with all files of a raster that GDAL lists."""
+    for output in _outputs.get():
+        check_output(output, paths)
+
+
+def check_output(output: str, inputs: Iterable[str]) -> None:
+    """Raise Refused if an output, or a file that GDAL may put next to it, is one of the inputs, or may be next to one.
+
+    Parameters
+    ----------
+    output : str
+    inputs : iterable of str
+        A layer is `FILE|layername=NAME`. All files of a Shapefile and all sources of a VRT count as well.
+    """
+    names = {os.path.realpath(output) + ending for ending in ("", *SIDECARS)}
+    for path in _files_of(inputs):
+        read = {os.path.realpath(path) + ending for ending in ("", *SIDECARS)}
+        if (
+            os.path.realpath(output) in read
+            or os.path.realpath(path) in names
+            or is_same_file(output, path)
+        ):
+            told = "the output file is the input file" + ("" if path == output else f" {path}")
+            raise Refused(f"{output}: {told}: choose another name", status=_STATUS)
+
+
+def _files_of(inputs: Iterable[str]) -> Iterator[str]:
+    """Yield the files that are read when paths are opened."""
+    found: dict[str, None] = {}
+    waiting = list(inputs)
+    while waiting:
+        path = waiting.pop().partition("|layername=")[0]
+        if _VIRTUAL.match(path):  # a file in an archive
+            path = _VIRTUAL.sub("", path)
+            while path and not os.path.isfile(path):
+                path = os.path.dirname(path) if os.path.dirname(path) != path else ""
+        if path in found or not os.path.isfile(path):
+            continue
+        found[path] = None
+        yield path
+        stem, ending = os.path.splitext(path)
+        waiting += [stem + part for part in _PARTS.get(ending.lower(), ())]
+        if ending.lower() == ".vrt":
+            with open(path, encoding="utf-8", errors="replace") as file:
+                sources = _VRT_SOURCE.findall(file.read())
+            waiting += [
+                os.path.join(os.path.dirname(path), html.unescape(source)) for source in sources
+            ]
+
+
 def is_same_file(path: str, other: str) -> bool:
     """Return whether two paths refer to the same regular file."""
     try:
         return os.path.samefile(path, other) and os.path.isfile(path)
     except (OSError, ValueError):
         return False
+
+
+# Reading and writing
 
 
 def _wait(descriptor: int, event: int) -> None:
@@ -207,7 +306,10 @@ class Output:
         self._is_kept = True
 
     def __exit__(
-        self, kind: type[BaseException] | None, _: BaseException | None, __: TracebackType | None
+        self,
+        kind: type[BaseException] | None,
+        _: BaseException | None,
+        __: TracebackType | None,
     ) -> None:
         try:
             if kind is None:

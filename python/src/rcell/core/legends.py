@@ -10,6 +10,7 @@ import re
 import xml.etree.ElementTree as ElementTree
 from typing import Any, Iterable, Mapping, NamedTuple
 
+from .files import opened
 from .errors import ReadFailed, Refused
 
 __all__ = ["Legend", "labels_of", "legend_of", "legend_of_qml"]
@@ -85,6 +86,7 @@ def _of_path(path: str) -> Legend:
 
 
 def _of_csv(path: str) -> Legend:
+    opened(path)
     try:
         with open(path, encoding="utf-8-sig", newline="") as file:
             lines = csv.reader(file)
@@ -152,6 +154,7 @@ def _whole(place: str, given: Any) -> int:
 
 def legend_of_qml(path: str) -> Legend:
     """Return the legend of a QGIS style: the entries of a palette, or the items of a colour ramp."""
+    opened(path)
     try:
         root = ElementTree.parse(path).getroot()
     except (OSError, ValueError) as error:

@@ -145,6 +145,7 @@ class _Run:
             command=output.command,
             line=output.line,
             colors=self.sources[name].colors if name in self.sources else {},
+            files=tuple(file for source in self.sources.values() for file in source.files),
         )
 
 

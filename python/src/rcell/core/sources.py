@@ -102,6 +102,10 @@ class Source(Protocol):
     def crs(self) -> Any:
         """Its coordinate reference system, or None."""
 
+    @property
+    def files(self) -> tuple[str, ...]:
+        """The files that it is read from, or was made of."""
+
     def blocks(self) -> Iterator[Block]:
         """Yield the rows from north to south."""
 
@@ -304,6 +308,7 @@ class ArrayMap:
     crs: Any = None
     exact_transform: Transform | None = None
     colors: Mapping[int, str] = field(default_factory=dict)
+    files: tuple[str, ...] = ()
 
     def __post_init__(self) -> None:
         check_array(self.name, self.array)
@@ -405,6 +410,8 @@ class Map:
         As `#rrggbb`.
     aligned : Aligned, optional
         What `rcell.align` did to it.
+    files : tuple of str, optional
+        The files that it was made of, none of which a result is written over.
 
     Examples
     --------
@@ -421,6 +428,7 @@ class Map:
     labels: Mapping[int, str] = field(default_factory=dict)
     colors: Mapping[int, str] = field(default_factory=dict)
     aligned: Aligned | None = None
+    files: tuple[str, ...] = field(default=(), repr=False)
 
     def source(self, name: str) -> ArrayMap:
         """Return the same under a name, as the program needs it.
@@ -459,6 +467,7 @@ class Map:
             self.crs or None,
             transform,
             self.colors,
+            self.files,
         )
 
 

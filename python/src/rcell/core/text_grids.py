@@ -17,6 +17,7 @@ import numpy as np
 from .listing import printed_grid
 from .protocol import NULL
 
+from .files import opened
 from .errors import BadMap, ReadFailed
 from .sources import Block, Source, in_region
 from .region import Region, Transform, units_of
@@ -51,6 +52,7 @@ class TextMap:
     region: Region
     held: bytes = b""
     stream: io.FileIO | None = None
+    files: tuple[str, ...] = ()
     labels: Mapping[int, str] = field(default_factory=dict)
     colors: Mapping[int, str] = field(default_factory=dict)
     crs: Any = None
@@ -121,10 +123,13 @@ def open_path(name: str, path: str | os.PathLike[str]) -> Source:
     is_file = stat.S_ISREG(os.fstat(stream.fileno()).st_mode)
     head = _head_of(stream, is_file)
     if _FIRST_LINE.match(head):
+        opened(text)
         if is_file:
             stream.close()
         region = _region_of(name, head) or _refused_region(name, text, is_file)
-        return TextMap(name, text, region) if is_file else TextMap(name, text, region, head, stream)
+        if is_file:
+            return TextMap(name, text, region, files=(text,))
+        return TextMap(name, text, region, head, stream)
     stream.close()
     if not is_file:
         raise BadMap(

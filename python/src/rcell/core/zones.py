@@ -13,6 +13,7 @@ import numpy as np
 
 from .arrays import NDArray
 from .crs import common_crs
+from .files import opened
 from .errors import BadMap, ReadFailed, Refused
 from .libraries import need
 from .region import Transform
@@ -208,6 +209,7 @@ def _polygons(given: Any, field: str | None) -> _Polygons | None:
 def _read(path: str, layer: str | None, field: str | None) -> _Polygons:
     if not path.startswith("/vsi") and not os.path.exists(path):
         raise ReadFailed("zones", f"cannot open: {path}: No such file or directory")
+    opened(path)
     fiona = need("fiona", "vector", _PURPOSE)
     try:
         layers = fiona.listlayers(path)
@@ -218,8 +220,8 @@ def _read(path: str, layer: str | None, field: str | None) -> _Polygons:
             )
         if layer is not None and layer not in layers:
             raise Refused(f"no layer {layer}: there are {', '.join(layers)}", "zones")
-        with fiona.open(path, layer=layers[0] if layer is None else layer) as opened:
-            return _Polygons([_plain(feature) for feature in opened], field, opened.crs_wkt or None)
+        with fiona.open(path, layer=layers[0] if layer is None else layer) as features:
+            return _Polygons([_plain(each) for each in features], field, features.crs_wkt or None)
     except (fiona.errors.FionaError, fiona.errors.FionaValueError, OSError, ValueError) as error:
         raise ReadFailed("zones", f"cannot open: {path}: {error}") from None
 

@@ -13,6 +13,7 @@ from typing import Any, Iterator, Mapping
 
 import numpy as np
 
+from ..core.files import opened
 from ..core.errors import BadMap, RcellError, ReadFailed
 from ..core.labels import read_legend
 from ..core.legends import Legend
@@ -215,6 +216,7 @@ class RasterMap:
         band = only_band(name, dataset, enums) if band is None else band
         transform, is_upside_down = upright(name, dataset)
         region = in_region(name, Region.from_transform, transform, dataset.height, dataset.width)
+        opened(*dataset.files)
         return cls(
             name=name,
             dataset=dataset,
@@ -226,6 +228,11 @@ class RasterMap:
             block_shape=dataset.block_shapes[band - 1],
             labels_path=dataset.name,
         )
+
+    @property
+    def files(self) -> tuple[str, ...]:
+        """Its files, as GDAL lists them."""
+        return tuple(self.dataset.files)
 
     @property
     def dtype(self) -> np.dtype[Any]:

@@ -89,6 +89,12 @@ class DataArrayMap:
     colors: Mapping[int, str] = field(default_factory=dict)
 
     @property
+    def files(self) -> tuple[str, ...]:
+        """The file that it was opened from, if it says so."""
+        source = self.array.encoding.get("source")
+        return (source,) if isinstance(source, str) else ()
+
+    @property
     def dtype(self) -> np.dtype[Any]:
         """The type of its blocks."""
         return type_of(self.array.dtype)

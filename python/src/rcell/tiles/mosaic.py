@@ -14,7 +14,7 @@ from typing import Any, NamedTuple
 import dask
 import numpy as np
 
-from ..core.files import is_same_file
+from ..core.files import check_output
 from ..core.protocol import NULL
 
 from ..core.errors import RcellError, Refused
@@ -485,10 +485,8 @@ class Mosaic:
 
     def _refuse_inputs(self, path: str | os.PathLike[str] | None) -> None:
         files = [file.path for file in self._files.values() if isinstance(file, MapFile)]
-        if path is not None and any(is_same_file(os.fspath(path), file) for file in files):
-            raise Refused(
-                f"{path}: the output file is the input file: choose another name", status=2
-            )
+        if path is not None:
+            check_output(os.fspath(path), files)
 
     def _data_array(self, cells: Any, name: str, null: int, labels: Mapping[int, str]) -> Any:
         return data_array(
