@@ -2,6 +2,7 @@
 
 from __future__ import annotations
 
+import importlib
 import os
 import pathlib
 import subprocess
@@ -19,6 +20,12 @@ from .conftest import LAND, TRANSFORM
 rasterio = pytest.importorskip("rasterio")
 Write = Callable[..., str]
 SCRIPT = "r.stats -c input=m"
+ESRI_LAEA = (
+    'PROJCS["ETRS_1989_LAEA",GEOGCS["GCS_ETRS_1989",DATUM["D_ETRS_1989",SPHEROID["GRS_1980",6378137.0,298.257222101]],'
+    'PRIMEM["Greenwich",0.0],UNIT["Degree",0.0174532925199433]],PROJECTION["Lambert_Azimuthal_Equal_Area"],'
+    'PARAMETER["False_Easting",4321000.0],PARAMETER["False_Northing",3210000.0],PARAMETER["Central_Meridian",10.0],'
+    'PARAMETER["Latitude_Of_Origin",52.0],UNIT["Meter",1.0]]'
+)
 
 
 def cells(given: Any, script: str = "", **words: Any) -> Any:
@@ -411,12 +418,65 @@ def test_a_reference_system_that_is_not_understood_is_refused(
     with pytest.raises(rcell.Refused, match="in degrees the area of a cell differs"):
         rcell.table(SCRIPT, m=compound, area="ha")
     modules: dict[str, Any] = sys.modules
-    for name in ("rasterio", "rasterio.crs", "rasterio.errors"):
-        monkeypatch.setitem(modules, name, None)
+    for name in ("pyproj", "gdal"):
+        monkeypatch.setitem(modules, f"rcell.readers.{name}", None)
+    other = rcell.Map([[1, 1]], (1, 0, 10, 0, -1, 50), "EPSG:4267")
+    assert rcell.run(SCRIPT, m=other)[0].rows == [(1, 2)]
     with pytest.raises(
-        rcell.MissingLibrary, match="to understand the coordinate reference system 'EPSG:4326'"
+        rcell.MissingLibrary, match="to understand the coordinate reference system 'EPSG:4267'"
     ):
-        rcell.table(SCRIPT, m=rcell.Map([[1, 1]], (1, 0, 10, 0, -1, 50), "EPSG:4326"), area="ha")
+        rcell.table(SCRIPT, m=other, area="ha")
+
+
+@pytest.mark.parametrize(
+    ("one", "other", "is_same"),
+    [
+        ("EPSG:4326", "OGC:CRS84", True),
+        ("EPSG:3035", ESRI_LAEA, True),
+        (
+            "EPSG:3035",
+            "+proj=laea +lat_0=52 +lon_0=10 +x_0=4321000 +y_0=3210000 +ellps=GRS80",
+            False,
+        ),
+        ("+proj=longlat +R=6371000", "+proj=longlat +R=6371000 +no_defs", True),
+        ("+proj=utm +zone=32 +units=km", "+proj=utm +zone=32 +units=km +type=crs", True),
+        ("EPSG:4326", "EPSG:4258", False),
+        ("EPSG:25832", "EPSG:32632", False),
+    ],
+)
+@pytest.mark.parametrize("library", ["pyproj", "gdal"])
+def test_reference_systems_are_the_same_whatever_their_spelling(
+    library: str, one: str, other: str, is_same: bool
+) -> None:
+    crs_of = importlib.import_module(f"rcell.readers.{library}").crs_of
+    assert crs_of(one).same(crs_of(other)) is is_same
+    assert crs_of(crs_of(one).wkt).same(crs_of(other)) is is_same
+
+
+@pytest.mark.parametrize(
+    ("crs", "kind"),
+    [
+        ("EPSG:4978", "geocentric"),
+        ("EPSG:5783", "vertical"),
+        ('LOCAL_CS["site",UNIT["metre",1]]', "local"),
+    ],
+)
+@pytest.mark.parametrize("library", ["pyproj", "gdal"])
+def test_systems_without_a_plane_have_no_areas(library: str, crs: str, kind: str) -> None:
+    assert importlib.import_module(f"rcell.readers.{library}").crs_of(crs).kind == kind
+    with pytest.raises(rcell.Refused, match=f"cells have no area in a {kind} reference system"):
+        rcell.composition(rcell.Map([[1]], crs=crs), area="ha")
+
+
+def test_cells_centred_on_the_poles_have_the_area_of_the_ellipsoid() -> None:
+    ones = np.ones((721, 1440), int)
+    globe = rcell.Map(ones, (0.25, 0, -180.125, 0, -0.25, 90.125), "EPSG:4326")
+    # Of WGS 84: 4 pi times the square of its authalic radius, 6,371,007.1809 m.
+    area = rcell.composition(globe, area="km2")["area_km2"][0]
+    assert area == pytest.approx(510_065_621.724, rel=1e-11)
+    beyond = rcell.Map(ones, (0.25, 0, -180.125, 0, -0.25, 90.25), "EPSG:4326")
+    with pytest.raises(rcell.Refused, match="rows beyond the pole: north is 90.25"):
+        rcell.composition(beyond)
 
 
 def test_areas_are_the_nearest_floats() -> None:

@@ -25,11 +25,17 @@ NEEDS = {
     "rasterio": ("rasterio", "tiles", "EPSG:"),
 }
 
+MODULES = {
+    "rcell.readers.gdal": ("osgeo",),
+    "rcell.readers.pyproj": ("pyproj",),
+    "rcell.xarray": ("xarray", "distributed"),
+}
+
 
 def examples() -> list[doctest.DocTest]:
     found: list[doctest.DocTest] = []
     for module in pkgutil.walk_packages(rcell.__path__, "rcell."):
-        is_run = module.name != "rcell.xarray" or has("xarray") and has("distributed")
+        is_run = all(has(library) for library in MODULES.get(module.name, ()))
         if is_run and not module.ispkg and not module.name.startswith("rcell.tiles"):
             found += doctest.DocTestFinder(exclude_empty=True).find(
                 importlib.import_module(module.name), extraglobs={"np": np}

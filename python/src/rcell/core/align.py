@@ -8,9 +8,8 @@ from typing import Any
 import numpy as np
 
 from .arrays import NDArray
-from .crs import are_same_crs, common_crs
+from .crs import are_same_crs, common_crs, known
 from .errors import BadMap, OtherCrs, OtherRegion, Refused
-from .libraries import need
 from .sources import Aligned, Cells, Map, Mask, Source, source_of
 from .masked import masked
 from .region import Region, Shift
@@ -138,12 +137,8 @@ def _run(places: NDArray[np.int64]) -> Any:
 
 def _projected(source: Source, like: Source, cells: Cells, null: Mask) -> tuple[Any, Aligned]:
     """Return a map on the grid of another one: with the nearest cells, in another reference system."""
-    pyproj = need("pyproj", "gis", "to align maps of two reference systems")
-    systems = (
-        pyproj.CRS.from_user_input(crs.to_wkt() if hasattr(crs, "to_wkt") else crs)
-        for crs in (like.crs, source.crs)
-    )
-    change = pyproj.Transformer.from_crs(*systems, always_xy=True)
+    system, target = known(like.crs), known(source.crs)
+    assert system is not None and target is not None
     width, _, west, _, height, north = source.transform
     made, is_null = np.zeros(like.region.shape, cells.dtype), np.ones(like.region.shape, np.bool_)
     often, step, (rows, cols) = (
@@ -153,7 +148,7 @@ def _projected(source: Source, like: Source, cells: Cells, null: Mask) -> tuple[
     )
     for row in range(0, like.region.rows, step):
         part = slice(row, min(row + step, like.region.rows))
-        x, y = change.transform(*_centres(like, part))
+        x, y = system.points(target, *_centres(like, part))
         down, across = np.floor((y - north) / height + _ON_BORDER), np.floor(
             (x - west) / width + _ON_BORDER
         )

@@ -10,12 +10,14 @@ from typing import Any
 import numpy as np
 
 from .arrays import NDArray
-from .crs import UNITS_OF_AREA, cell_area, is_geographic, metres_of_unit
+from .crs import UNITS_OF_AREA, cell_area, is_geographic, known, metres_of_unit
 from .errors import Refused
-from .libraries import need
 from .sources import Source
 
 __all__ = ["Measure", "measure_of", "row_areas"]
+
+# The most that a row may reach beyond a pole, in cells: a half, and what rounding adds.
+_MOST_BEYOND = 0.5 + 1e-6
 
 
 def row_areas(
@@ -36,11 +38,14 @@ def row_areas(
     >>> float(row_areas(math.pi / 2, math.pi, 2 * math.pi, 1, (1.0, 0.0))[0] / math.pi)
     4.0
     """
+    # The area between two parallels: Snyder, Map Projections: A Working Manual (1987), equation 3-12, and its authalic radius.
     axis, flattening = ellipsoid
     edges = north - height * np.arange(rows + 1)
+    # Cells may be centred on a pole: half of them then lies beyond it, and has no area.
+    if rows and max(edges[0], -edges[-1]) > math.pi / 2 + height * _MOST_BEYOND:
+        side, edge = ("north", edges[0]) if edges[0] > math.pi / 2 else ("south", edges[-1])
+        raise Refused(f"rows beyond the pole: {side} is {math.degrees(edge):.10g}", "map")
     upper, lower = np.minimum(edges[:-1], math.pi / 2), np.maximum(edges[1:], -math.pi / 2)
-    if rows and (lower.max() >= math.pi / 2 or upper.min() <= -math.pi / 2):
-        raise Refused(f"rows beyond the pole: north is {math.degrees(north):g}", "map")
     # The difference of the sines, computed without subtracting them: that would lose digits for thin rows.
     step = np.where((upper < edges[:-1]) | (lower > edges[1:]), upper - lower, height)
     risen = 2 * np.cos((upper + lower) / 2) * np.sin(step / 2)
@@ -108,23 +113,16 @@ def measure_of(unit: str | None, source: Source, crs: Any) -> Measure:
 
 def _by_row(source: Source, crs: Any) -> NDArray[np.float64]:
     """Return the area of a cell of each row, on the ellipsoid of a reference system."""
-    system = need("pyproj", "gis", "to compute areas of a map in degrees").CRS.from_user_input(
-        _plain(crs)
-    )
-    ellipsoid = system.get_geod()
-    radians = system.axis_info[0].unit_conversion_factor if system.axis_info else math.radians(1)
+    system = known(crs)
+    assert system is not None
     width, _, _, _, height, north = source.transform
     return row_areas(
-        north * radians,
-        -height * radians,
-        width * radians,
+        north * system.unit,
+        -height * system.unit,
+        width * system.unit,
         source.region.rows,
-        (ellipsoid.a, ellipsoid.f),
+        system.ellipsoid,
     )
-
-
-def _plain(crs: Any) -> Any:
-    return crs.to_wkt() if hasattr(crs, "to_wkt") else crs
 
 
 def metres(crs: Any) -> float:

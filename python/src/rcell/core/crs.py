@@ -3,24 +3,29 @@
 
 from __future__ import annotations
 
-import re
+import functools
+from dataclasses import dataclass
 from typing import Any, Mapping
 
-from .errors import BadMap, OtherCrs, Refused
-from .libraries import has, need
+from .arrays import NDArray
+from .errors import BadMap, MissingLibrary, OtherCrs, Refused
+from .host import option
 
 __all__ = [
     "UNITS_OF_AREA",
+    "Crs",
     "are_same_crs",
     "cell_area",
     "common_crs",
     "is_geographic",
+    "known",
     "metres_of_unit",
     "wkt_of",
 ]
 
 UNITS_OF_AREA = {"m2": 1.0, "ha": 1e4, "km2": 1e6}
-_NAME = re.compile(r'\s*\w+\s*\[\s*"([^"]*)"')
+# So sure a library must be that a text means a system of a register, in percent.
+CONFIDENCE = 90
 _SHOWN = 60
 _BY_ROWS = (
     "area= needs a map in metres or feet: in degrees the area of a cell differs from row to row; rcell.composition and "
@@ -28,13 +33,97 @@ _BY_ROWS = (
 )
 
 
-def _known(crs: Any) -> Any:
-    """Return a reference system of any kind as rasterio's; None for none."""
-    if crs is None or crs == "":
-        return None
-    purpose = f"to understand the coordinate reference system {str(crs)[:_SHOWN]!r}"
-    known = need("rasterio.crs", "gis", purpose).CRS.from_user_input(crs)
-    return known if known.to_wkt() else None
+@dataclass(frozen=True, eq=False)
+class Crs:
+    """A reference system as a library knows it: pyproj in `readers.pyproj`, GDAL's osr in `readers.gdal`.
+
+    Attributes
+    ----------
+    wkt : str
+        Its well-known text.
+    codes : tuple of str
+        Its codes in registers, such as `EPSG:3035`.
+    title : str
+        Its name.
+    kind : {"geographic", "projected", "geocentric", "vertical", "local"}
+    unit : float
+        Its unit in radians if it is geographic, else in metres.
+    ellipsoid : tuple of float
+        If it is geographic, the semi-major axis in metres and the flattening.
+    """
+
+    wkt: str
+    codes: tuple[str, ...]
+    title: str
+    kind: str
+    unit: float
+    ellipsoid: tuple[float, float]
+
+    @property
+    def name(self) -> str:
+        """Its name for people: the code and the title."""
+        title = self.title or "a system without a name"
+        return f"{self.codes[0]} ({title})" if self.codes else title
+
+    @property
+    def code(self) -> str:
+        """Its first code, for commands and options."""
+        return self.codes[0] if self.codes else "WKT"
+
+    def same(self, other: Crs) -> bool:
+        """Return whether it is another one for coordinates in the order x, y."""
+        return (
+            self.wkt == other.wkt
+            or bool(set(self.codes) & set(other.codes))
+            or self.is_equal(other)
+        )
+
+    def is_equal(self, other: Crs) -> bool:
+        """Return whether the library holds it equal to another one, whatever the order of their axes."""
+        raise NotImplementedError
+
+    def points(
+        self, to: Crs, x: NDArray[Any], y: NDArray[Any]
+    ) -> tuple[NDArray[Any], NDArray[Any]]:
+        """Return points in another system; what lies outside of it is not finite."""
+        raise NotImplementedError
+
+
+def known(crs: Any) -> Crs | None:
+    """Return a reference system of any library, its code or its text as a Crs; None for none.
+
+    Raises
+    ------
+    ValueError
+        The text is not understood.
+    MissingLibrary
+        Neither pyproj nor GDAL's Python is installed.
+    """
+    if isinstance(crs, Crs):
+        return crs
+    text = _text_of(crs)
+    return _known(text) if text else None
+
+
+@functools.lru_cache(maxsize=64)
+def _known(text: str) -> Crs:
+    from ..readers import crs_of
+
+    return crs_of(text)
+
+
+def _text_of(crs: Any) -> str:
+    """Return the text of a reference system of any library, an empty text for none."""
+    if crs is None:
+        return ""
+    for method in ("to_wkt", "ExportToWkt"):
+        if hasattr(crs, method):
+            return str(getattr(crs, method)())
+    if isinstance(crs, Mapping):
+        return " ".join(
+            f"+{key}" if value is True else f"+{key}={value}" for key, value in crs.items()
+        )
+    return f"EPSG:{crs}" if isinstance(crs, int) else str(crs)
 
 
 def wkt_of(crs: Any) -> str:
@@ -45,36 +134,29 @@ def wkt_of(crs: Any) -> str:
     >>> wkt_of(None)
     ''
     """
-    if isinstance(crs, str) and ("[" in crs or not has("rasterio")):
-        return crs
-    known = _known(crs)
-    return "" if known is None else str(known.to_wkt())
-
-
-def _shown(crs: Any) -> str:
-    """Return a reference system as people name it: its code and its name."""
-    known = _known(crs)
-    found = _NAME.match(known.to_wkt())
-    name = found[1] if found else "a system without a name"
-    authority = known.to_authority()
-    return f"{':'.join(authority)} ({name})" if authority else name
-
-
-def _code(crs: Any) -> str:
-    known = _known(crs)
-    return ":".join(known.to_authority() or ("WKT",))
+    text = _text_of(crs)
+    return text if not text or "[" in text else _known(text).wkt
 
 
 def _checked(name: str, crs: Any) -> Any:
-    """Return a reference system unless it cannot be understood; without rasterio it is not looked at."""
-    if crs is None or not has("rasterio"):
-        return crs or None
+    """Return a reference system unless it cannot be understood; without a library it is not looked at."""
     try:
-        return None if _known(crs) is None else crs
-    except need("rasterio.errors", "gis", "to understand a reference system").CRSError:
+        return None if known(crs) is None else crs
+    except MissingLibrary:
+        return crs
+    except ValueError:
         raise BadMap(
             name, f"its coordinate reference system is not understood: {str(crs)[:_SHOWN]!r}"
         ) from None
+
+
+def _named(crs: Any) -> tuple[str, str]:
+    """Return the code and the name of a reference system, for people."""
+    try:
+        system = known(crs)
+    except MissingLibrary:
+        system = None
+    return ("WKT", _text_of(crs)[:_SHOWN]) if system is None else (system.code, system.name)
 
 
 def common_crs(maps: Mapping[str, Any], stated: Any = None, warp: str = "gdalwarp") -> Any:
@@ -107,35 +189,31 @@ def common_crs(maps: Mapping[str, Any], stated: Any = None, warp: str = "gdalwar
         raise Refused(
             f"crs= is no coordinate reference system: {str(stated)[:_SHOWN]!r}", status=2
         ) from None
-    known = {name: _checked(name, crs) for name, crs in maps.items()}
-    first = next((name for name, crs in known.items() if crs is not None), None)
+    systems = {name: _checked(name, crs) for name, crs in maps.items()}
+    first = next((name for name, crs in systems.items() if crs is not None), None)
     if first is None:
         return common
-    common = known[first] if common is None else common
-    for name, crs in known.items():
+    common = systems[first] if common is None else common
+    for name, crs in systems.items():
         if crs is None and stated is None:
-            text = f'it has no coordinate reference system, and `{first}` has {_shown(common)}: state it with crs="{_code(common)}"'
-            raise OtherCrs(name, text)
+            code, title = _named(common)
+            text = f"it has no coordinate reference system, and `{first}` has {title}"
+            raise OtherCrs(name, f"{text}: state it with {option('crs', code)}")
         if crs is not None and not are_same_crs(crs, common):
-            other = (
-                f"that of `{first}` is {_shown(common)}"
-                if stated is None
-                else f"crs= is {_shown(common)}"
-            )
-            hint = f"reproject one of them first, as with {warp} -t_srs {_code(common)}"
-            raise OtherCrs(
-                name, f"its coordinate reference system is {_shown(crs)}, and {other}: {hint}"
-            )
+            code, title = _named(common)
+            has = f"that of `{first}` is" if stated is None else f"{option('crs')} is"
+            text = f"its coordinate reference system is {_named(crs)[1]}, and {has} {title}"
+            hint = f"reproject one of them first, as with {warp} -t_srs {code}"
+            raise OtherCrs(name, f"{text}: {hint}")
     return common
 
 
 def are_same_crs(one: Any, other: Any) -> bool:
     """Return whether two reference systems are the same."""
-    return (
-        one is other
-        or (type(one) is type(other) and bool(one == other))
-        or bool(_known(one) == _known(other))
-    )
+    if one is other or _text_of(one) == _text_of(other):
+        return True
+    mine, its = known(one), known(other)
+    return mine is its or (mine is not None and its is not None and mine.same(its))
 
 
 def is_geographic(crs: Any) -> bool:
@@ -146,20 +224,28 @@ def is_geographic(crs: Any) -> bool:
     >>> is_geographic(None)
     False
     """
-    known = _known(crs)
-    return known is not None and bool(known.is_geographic)
+    system = known(crs)
+    return system is not None and system.kind == "geographic"
 
 
 def metres_of_unit(crs: Any) -> float:
-    """Return how many metres the unit of a projected reference system has; 1 without one."""
-    known = _known(crs)
-    if known is None:
+    """Return how many metres the unit of a projected reference system has; 1 without one.
+
+    Raises
+    ------
+    Refused
+        It is local, geocentric or vertical: its cells have no area.
+    """
+    system = known(crs)
+    if system is None:
         return 1.0
-    if not known.is_projected:
+    if system.kind != "projected":
         raise Refused(
-            f"area= needs a map in metres or feet, and the unit of {_shown(crs)} is not known"
+            f"cells have no area in a {system.kind} reference system, and the map has {system.name}: "
+            f"reproject it, or leave areas out",
+            "map",
         )
-    return float(known.linear_units_factor[1])
+    return system.unit
 
 
 def cell_area(unit: str, cell: tuple[float, float], crs: Any) -> tuple[float, float]:

@@ -1,2 +1,35 @@
 # SPDX-License-Identifier: Apache-2.0 OR GPL-2.0-or-later
-"""Rasters and arrays of other libraries as sources of the core."""
+"""Rasters, polygons and reference systems of other libraries, for the core: rasterio, fiona and pyproj, or GDAL's own Python."""
+
+from __future__ import annotations
+
+import importlib
+from typing import TYPE_CHECKING
+
+from ..core.errors import MissingLibrary
+
+if TYPE_CHECKING:
+    from ..core.crs import Crs
+
+__all__ = ["crs_of"]
+
+
+def crs_of(text: str) -> Crs:
+    """Return a reference system from its text: as pyproj knows it, or osr without pyproj.
+
+    Raises
+    ------
+    ValueError
+        The text is not understood.
+    MissingLibrary
+    """
+    for name in ("pyproj", "gdal"):
+        try:
+            module = importlib.import_module(f".{name}", __name__)
+        except ImportError:
+            continue
+        system: Crs = module.crs_of(text)
+        return system
+    raise MissingLibrary(
+        "pyproj", "gis", f"to understand the coordinate reference system {text[:60]!r}"
+    )

@@ -1,0 +1,92 @@
+# SPDX-License-Identifier: Apache-2.0 OR GPL-2.0-or-later
+"""The program that calls the core: a package, the command line or a plugin, with its words, its programs, and what watches a run."""
+
+from __future__ import annotations
+
+import contextlib
+import contextvars
+import os
+import sys
+import warnings
+from collections.abc import Callable, Iterator
+from dataclasses import dataclass
+from typing import Any, Optional
+
+__all__ = ["Host", "host", "option", "serving", "warn"]
+
+_PACKAGE = os.path.dirname(os.path.dirname(os.path.abspath(__file__)))
+
+
+def _warn(text: str) -> None:
+    """Warn, and point to the line that called the package."""
+    depth, frame = 1, sys._getframe(1)
+    while frame.f_back is not None and frame.f_code.co_filename.startswith(_PACKAGE):
+        depth, frame = depth + 1, frame.f_back
+    warnings.warn(text, stacklevel=depth)
+
+
+@dataclass(frozen=True)
+class Host:
+    """A caller of the core.
+
+    Attributes
+    ----------
+    words : {"python", "shell", "qgis"}
+        How it writes options.
+    warn : callable
+        Called with the text of a warning.
+    find : callable, optional
+        Returns the path of a program from its name; None: it is looked for where Python's packages have it.
+    watch : callable, optional
+        Called while a program runs; what it raises ends the run.
+    progress : callable, optional
+        Called with the share of the maps that was sent, from 0 to 1.
+    """
+
+    words: str = "python"
+    warn: Callable[[str], None] = _warn
+    find: Optional[Callable[[str], str]] = None
+    watch: Optional[Callable[[], None]] = None
+    progress: Optional[Callable[[float], None]] = None
+
+
+_host: contextvars.ContextVar[Host] = contextvars.ContextVar("rcell.host", default=Host())
+
+
+def host() -> Host:
+    """Return the host of this call."""
+    return _host.get()
+
+
+@contextlib.contextmanager
+def serving(caller: Host) -> Iterator[None]:
+    """Set the host for the calls in this block, in this thread."""
+    token = _host.set(caller)
+    try:
+        yield
+    finally:
+        _host.reset(token)
+
+
+def warn(text: str) -> None:
+    """Warn as the host does."""
+    host().warn(text)
+
+
+def option(name: str, value: Any = None) -> str:
+    """Return an option as people write it for this host, with a value if one is given.
+
+    Examples
+    --------
+    >>> option("zone_field"), option("crs", "EPSG:3035")
+    ('zone_field=', 'crs="EPSG:3035"')
+    >>> with serving(Host("shell")):
+    ...     option("zone_field"), option("crs", "EPSG:3035")
+    ('--zone-field', '--crs EPSG:3035')
+    """
+    words = host().words
+    if words == "python":
+        text = f'"{value}"' if isinstance(value, str) else value
+        return f"{name}=" if value is None else f"{name}={text}"
+    title = f"--{name.replace('_', '-')}" if words == "shell" else name.upper()
+    return title if value is None else f"{title} {value}"

@@ -1,0 +1,89 @@
+# SPDX-License-Identifier: Apache-2.0 OR GPL-2.0-or-later
+"""Reference systems of pyproj."""
+
+from __future__ import annotations
+
+import math
+from dataclasses import dataclass
+from typing import Any
+
+import pyproj
+
+from ..core.arrays import NDArray
+from ..core.crs import CONFIDENCE, Crs
+
+__all__ = ["PyprojCrs", "crs_of"]
+
+
+@dataclass(frozen=True, eq=False)
+class PyprojCrs(Crs):
+    """A reference system of pyproj."""
+
+    system: Any
+
+    def is_equal(self, other: Crs) -> bool:
+        """Return whether pyproj holds it equal to another one, whatever the order of their axes."""
+        assert isinstance(other, PyprojCrs)
+        return bool(self.system.equals(other.system, ignore_axis_order=True))
+
+    def points(
+        self, to: Crs, x: NDArray[Any], y: NDArray[Any]
+    ) -> tuple[NDArray[Any], NDArray[Any]]:
+        """Return points in another system; what lies outside of it is not finite."""
+        assert isinstance(to, PyprojCrs)
+        change = pyproj.Transformer.from_crs(self.system, to.system, always_xy=True)
+        moved: tuple[NDArray[Any], NDArray[Any]] = change.transform(x, y)
+        return moved
+
+
+def crs_of(text: str) -> PyprojCrs:
+    """Return the reference system of a text.
+
+    Raises
+    ------
+    ValueError
+        The text is not understood.
+
+    Examples
+    --------
+    >>> crs_of("EPSG:4326").same(crs_of("OGC:CRS84"))
+    True
+    """
+    try:
+        system = pyproj.CRS.from_user_input(text)
+    except pyproj.exceptions.CRSError as error:
+        raise ValueError(str(error)) from None
+    kind = _kind_of(system)
+    factor = system.axis_info[0].unit_conversion_factor if system.axis_info else math.radians(1)
+    ellipsoid = system.get_geod() if kind == "geographic" else None
+    return PyprojCrs(
+        wkt=str(system.to_wkt()),
+        codes=_codes_of(system),
+        title="" if system.name in ("unknown", "unnamed") else str(system.name),
+        kind=kind,
+        unit=float(factor),
+        ellipsoid=(math.nan, math.nan) if ellipsoid is None else (ellipsoid.a, ellipsoid.f),
+        system=system,
+    )
+
+
+def _kind_of(system: Any) -> str:
+    if system.is_geographic:
+        return "geographic"
+    if system.is_projected:
+        return "projected"
+    if system.is_geocentric:
+        return "geocentric"
+    return "vertical" if system.is_vertical else "local"
+
+
+def _codes_of(system: Any) -> tuple[str, ...]:
+    """Return the codes that a system surely has, as it names them itself first."""
+    own = system.to_authority(min_confidence=100)
+    codes = [own] if own else []
+    codes += [
+        (match.auth_name, match.code)
+        for match in system.list_authority(min_confidence=CONFIDENCE)
+        if match.confidence >= CONFIDENCE
+    ]
+    return tuple(dict.fromkeys(":".join(code) for code in codes))
