@@ -57,7 +57,8 @@ DOCUMENTS = [
     "docs/errors.md",
     "docs/grass.md",
     "examples/islands/README.md",
-    "docs/proofs.md",
+    "docs/validation.md",
+    "docs/compared.md",
     *(
         f"examples/{name}/README.md"
         for name in ("change", "woodland", "stream", "majority", "protected", "large-map")

@@ -26,6 +26,8 @@ MENU = {
         "rcell-join": "docs/rcell-join.md",
         "rcell-pipe": "docs/pipe.md",
         "From GRASS": "docs/grass.md",
+        "Compared with other tools": "docs/compared.md",
+        "Questions": "docs/faq.md",
     },
     "Examples": {
         "All examples": "examples/README.md",
@@ -40,6 +42,7 @@ MENU = {
     "Packages": {"Python": "docs/python.md", "R": "docs/r.md", "QGIS": "docs/qgis.md"},
     "About": {
         "What is proved": "docs/proofs.md",
+        "Validation": "docs/validation.md",
         "Theorems": "docs/theorems.md",
         "Speed": "docs/speed.md",
         "Changes": "CHANGELOG.md",
