@@ -11,7 +11,6 @@ It needs matplotlib and numpy (of Debian: python3-matplotlib).
 import argparse
 import os
 import subprocess
-import textwrap
 
 import matplotlib
 
@@ -39,8 +38,10 @@ CLASSES = {
 }
 PATCHES = "r.reclass input=landcover output=wood\n31 thru 39 = 1\nend\nr.clump -d input=wood output=patches\n"
 SEA = (0.87, 0.93, 0.97)
-LEAST_LABELLED = 20  # cells of a country that gets its name
-LONGEST_LINE = 18  # letters of a label
+LABELLED = 100  # cells of a country that gets its name
+# Where names would overlap, in rows and columns from the median of the cells.
+MOVED = {"Viet Nam": (-8, 18), "Cambodia": (3, -3), "Malaysia": (10, -22), "Thailand": (-2, -4)}
+SHORT = {"Lao People's Democratic Republic": "Laos"}
 PLATE = {"fc": "white", "alpha": 0.65, "lw": 0, "pad": 1}
 
 
@@ -60,11 +61,11 @@ def rcell(program, script, folder=ISLANDS, grid_word="country=archipelago.txt"):
     ).stdout
 
 
-def label(axes, cells, text):
-    rows, columns = np.nonzero(cells)
-    axes.text(
-        np.median(columns), np.median(rows), text, ha="center", va="center", fontsize=7, bbox=PLATE
-    )
+def label(axes, cells, text, size=7):
+    """Write a text on the median of some cells, moved if it is a name that would overlap another."""
+    row, column = (np.median(places) for places in np.nonzero(cells))
+    down, right = MOVED.get(text, (0, 0))
+    axes.text(column + right, row + down, text, ha="center", va="center", fontsize=size, bbox=PLATE)
 
 
 def draw_countries(axes, country, names):
@@ -76,22 +77,20 @@ def draw_countries(axes, country, names):
         vmax=country.max() + 0.5,
         interpolation="nearest",
     )
-    axes.set_title("the grid: land by country", fontsize=10)
+    axes.set_title("Countries, in cells of 16 km", fontsize=12)
     for code, name in names.items():
-        if (country == code).sum() > LEAST_LABELLED:
-            label(axes, country == code, textwrap.fill(name, LONGEST_LINE))
+        if (country == code).sum() > LABELLED:
+            label(axes, country == code, SHORT.get(name, name), 8)
 
 
 def draw_islands(axes, island, names):
     random = np.random.default_rng(3)
     colours = np.vstack([[SEA], 0.25 + 0.65 * random.random((island.max(), 3))])
     axes.imshow(colours[island], interpolation="nearest")
-    axes.set_title(
-        f"r.clump: {island.max()} connected areas of land, numbered and counted", fontsize=10
-    )
+    axes.set_title(f"{island.max()} connected areas of land, with their sizes", fontsize=12)
     for number, name in names.items():
-        area = f"{(island == number).sum() * SQUARE_KILOMETRES_OF_A_CELL:,}".replace(",", " ")
-        label(axes, island == number, f"{name}\n{area} km²")
+        area = (island == number).sum() * SQUARE_KILOMETRES_OF_A_CELL
+        label(axes, island == number, f"{name}\n{area:,} km²", 8)
 
 
 def islands(output, program):
@@ -127,10 +126,10 @@ def draw_hectares(axes, table):
         hectares,
         color=[CLASSES[int(code)][1] for code, _ in table],
     )
-    axes.bar_label(bars, fmt="%.2f ha", padding=3, fontsize=9)
+    axes.bar_label(bars, labels=[f"{area:g} ha" for area in hectares], padding=3, fontsize=9)
     axes.invert_yaxis()
     axes.set_xlim(0, 1.25 * max(hectares))
-    axes.set_title("r.stats -c: hectares of each class", fontsize=11)
+    axes.set_title("rcell-gis composition: hectares of each class", fontsize=11)
     axes.set_xticks([])
     for side in ("top", "right", "bottom"):
         axes.spines[side].set_visible(False)
@@ -147,7 +146,7 @@ def draw_patches(axes, patches, sizes):
     )
     without_ticks(axes, "r.clump -d: four patches of woodland")
     for number, cells in sizes:
-        label(axes, patches == int(number), f"{int(cells) * HECTARES_OF_A_CELL:.2f} ha")
+        label(axes, patches == int(number), f"{int(cells) * HECTARES_OF_A_CELL:g} ha")
 
 
 def study(output, program):
@@ -174,7 +173,7 @@ def study(output, program):
     figure.savefig(output)
 
 
-# What the picture of each example shows of the land cover: the map that its cells come from, and which part of it.
+# What the picture of each example shows of the land cover: its title, and the script whose map x it is.
 SMOOTH = (
     "r.mapcalc m = nmode(g[-1,-1],g[-1,0],g[-1,1],g[0,-1],g,g[0,1],g[1,-1],g[1,0],g[1,1])\n"
     "r.mapcalc x = if(isnull(g), null(), m)\n"
@@ -182,13 +181,22 @@ SMOOTH = (
 GROWN = "if(g == 21 && row() > 8 && col() > 11, 11, if(g == 23 && col() < 8, 32, g))"
 NEAR = "nmax(w[-1,-1],w[-1,0],w[-1,1],w[0,-1],w[0,1],w[1,-1],w[1,0],w[1,1])"
 EXAMPLES = {
-    "change": f"r.mapcalc later = {GROWN}\nr.mapcalc x = if(later != g, later, null())\n",
-    "woodland": "r.reclass input=g output=wood\n31 thru 39 = 1\nend\nr.clump -d input=wood output=p\n"
-    "r.mapcalc x = if(p == 1 || p == 4, g, null())\n",
-    "stream": f"r.mapcalc w = g == 51\nr.mapcalc n = {NEAR}\nr.mapcalc x = if(n == 1 || w == 1, g, null())\n",
-    "majority": SMOOTH,
-    "protected": "r.mapcalc x = if(isnull(zones), null(), g)\n",
-    "large-map": "r.mapcalc x = g\n",
+    "change": (
+        "Cells that changed, in their later class",
+        f"r.mapcalc later = {GROWN}\nr.mapcalc x = if(later != g, later, null())\n",
+    ),
+    "woodland": (
+        "Woods of at least half a hectare",
+        "r.reclass input=g output=wood\n31 thru 39 = 1\nend\nr.clump -d input=wood output=p\n"
+        "r.mapcalc x = if(p == 1 || p == 4, g, null())\n",
+    ),
+    "stream": (
+        "Water, and the cells next to it",
+        f"r.mapcalc w = g == 51\nr.mapcalc n = {NEAR}\nr.mapcalc x = if(n == 1 || w == 1, g, null())\n",
+    ),
+    "majority": ("Most frequent class of 3 by 3 cells", SMOOTH),
+    "protected": ("In the protection zones", "r.mapcalc x = if(isnull(zones), null(), g)\n"),
+    "large-map": ("Two tiles", "r.mapcalc x = g\n"),
 }
 
 
@@ -203,7 +211,7 @@ def draw_cover(axes, cover, title):
 
 def examples(folder, program):
     """The land cover of the study next to what each example shows of it."""
-    for name, script in EXAMPLES.items():
+    for name, (title, script) in EXAMPLES.items():
         words = [program, "/dev/stdin", "g=landcover.txt", "zones=zones.txt"]
         shown, whole = (
             grid(
@@ -219,8 +227,8 @@ def examples(folder, program):
             for text, of in ((script, "x"), ("", "g"))
         )
         figure, (left, right) = plt.subplots(1, 2, figsize=(9, 3), dpi=80)
-        draw_cover(left, whole, "land cover")
-        draw_cover(right, shown, "two tiles" if name == "large-map" else "shown by the example")
+        draw_cover(left, whole, "Land cover")
+        draw_cover(right, shown, title)
         if name == "large-map":
             right.axhline(6.5, color="black", linewidth=3)
         figure.tight_layout()
@@ -250,7 +258,8 @@ CHARTED = (
 
 def speed(output, _):
     tables = figures.tables_of_results()
-    rows = [tables[task, grids] for _, task, grids in CHARTED]
+    charted = sorted(CHARTED, key=lambda it: float(tables[it[1:]][1]))
+    rows = [tables[task, grids] for _, task, grids in charted]
     places, width = np.arange(len(rows)), 0.38
     figure, axes = plt.subplots(figsize=(11, 4.2), dpi=100)
     for shift, column, name, colour in (
@@ -265,11 +274,10 @@ def speed(output, _):
             color=colour,
         )
         axes.bar_label(bars, fmt="%.1f", fontsize=8)
-    axes.set_xticks(places, [title for title, _, _ in CHARTED], fontsize=8)
+    axes.set_xticks(places, [title for title, _, _ in charted], fontsize=8)
     axes.set_ylabel("CPU time, ms per million cells")
     axes.set_title(
-        "From the start of a program to its end, texts read and written (bench/RESULTS.md)",
-        fontsize=10,
+        "CPU time of seven tasks: rcell, and a C++ program written for each", fontsize=11
     )
     axes.legend(frameon=False)
     for side in ("top", "right"):
