@@ -2,7 +2,6 @@
 
 from __future__ import annotations
 
-import inspect
 import sys
 import tempfile
 import warnings
@@ -19,7 +18,7 @@ KINDS = [
     ("other region", rcell.OtherRegion),
     ("read failed", rcell.ReadFailed),
     ("bad map", rcell.BadMap),
-    ("refused", rcell.Refused),
+    ("refused", rcell.RcellError),
 ]
 
 
@@ -33,8 +32,6 @@ OPTIONS: dict[str, Callable[[str], Any]] = {
     **dict.fromkeys(("connectivity", "min_cells", "core_depth", "size"), int),
     "quantiles": lambda text: [float(part) for part in text.split(",")],
 }
-# Until the package has the new names.
-OLD_NAMES = {"min_cells": "least", "include_null": "null"}
 
 
 def plain(value: Any, digits: int = 12) -> str:
@@ -74,13 +71,8 @@ def types_of(frame: Any) -> str:
 
 def options_of(case: Case) -> dict[str, Any]:
     """The parameters of a call."""
-    known = inspect.signature(inspect.unwrap(getattr(rcell, case.call))).parameters
     return {
-        key
-        if key in known
-        else OLD_NAMES.get(key, key): case.maps[text]
-        if key in ("zones", "to")
-        else OPTIONS[key](text)
+        key: case.maps[text] if key in ("zones", "to") else OPTIONS[key](text)
         for key, text in case.options.items()
         if key not in ("table", "band")
     }
@@ -130,13 +122,13 @@ def written(case: Case, name: str) -> list[str]:
         return of_table(replace(case, script="r.stats -c -l input=x", maps={"x": path}))
 
 
-def refusal(error: rcell.Refused) -> list[str]:
+def refusal(error: Any) -> list[str]:
     kind = next(name for name, group in KINDS if isinstance(error, group))
-    found = [("kind", kind), ("source", error.source), ("line", error.line or None)]
+    found = [("kind", kind), ("source", error.source), ("line", getattr(error, "line", 0) or None)]
     if isinstance(error, rcell.BadMap):
         found += [("row", error.row), ("column", error.col)]
     else:
-        found += [("column", error.column)]
+        found += [("column", getattr(error, "column", None))]
     found.append(("text", error.text.split("\n")[0]))
     return [f"{name}: {value}" for name, value in found if value is not None]
 
@@ -148,7 +140,7 @@ def tried(case: Case) -> list[str]:
         warnings.simplefilter("ignore", rasterio.errors.NotGeoreferencedWarning)
         try:
             lines = answer(case)
-        except rcell.Refused as error:
+        except rcell.RcellError as error:
             lines = refusal(error)
         except Exception as error:
             lines = [f"error: {error!r}"]

@@ -220,7 +220,7 @@ def test_no_half_written_geotiff(tmp_path: pathlib.Path, monkeypatch: pytest.Mon
     grid = rcell.grid("", "lc", lc=land())
     with pytest.raises(rcell.WriteFailed, match="No such file"):
         grid.write(tmp_path / "missing" / "lc.tif")
-    with pytest.raises(rcell.Refused, match="written as .tif, .tiff or .txt"):
+    with pytest.raises(rcell.BadArgument, match="path must end in .tif, .tiff or .txt; got"):
         grid.write(tmp_path / "lc.jpg")
     (tmp_path / "old.tif").write_text("old")
     monkeypatch.setattr(

@@ -308,7 +308,7 @@ def test_what_is_no_map_is_refused(tmp_path: pathlib.Path, raster: Write) -> Non
         rcell.Region(1, 0, 1, 0, rows=1.5, cols=1)  # type: ignore[arg-type]
     assert "NUL" in str(refusal("a\0b"))
     for name, better in (("a=b", "a_b"), ("a-b", "a_b"), ("1", "m_1"), ("a\0", "a_")):
-        with pytest.raises(rcell.Refused, match=f"is not a name for a map: .* write {better}$"):
+        with pytest.raises(rcell.BadArgument, match=f"maps must have names of .* write {better}$"):
             rcell.run("", {name: [[1]]})
     stale = data_array()
     stale = stale.assign_coords(spatial_ref=0)
@@ -346,7 +346,7 @@ def _grid(folder: pathlib.Path, first: str) -> pathlib.Path:
 
 def test_classes_are_whole_numbers() -> None:
     assert rcell.patches(LAND, classes=[1.0]).equals(rcell.patches(LAND, classes=[1]))  # type: ignore[list-item]
-    with pytest.raises(rcell.Refused, match="classes= are whole numbers, not 1.9"):
+    with pytest.raises(rcell.BadArgument, match="classes must be whole numbers .*; got 1.9"):
         rcell.patches(LAND, classes=[1.9])  # type: ignore[list-item]
 
 
@@ -401,7 +401,9 @@ def test_a_map_without_a_reference_system_is_refused_next_to_one(raster: Write) 
         )
     assert crossed(given, array, crs=UTM) == crossed(array, array) == crossed(given, given)
     assert rcell.run("r.out.ascii input=m", m=array, crs=UTM).grids["m"].crs == UTM
-    with pytest.raises(rcell.Refused, match="crs= is no coordinate reference system: 'nonsense'"):
+    with pytest.raises(
+        rcell.BadArgument, match="crs must be a coordinate reference system; got 'nonsense'"
+    ):
         crossed(array, array, crs="nonsense")
 
 
@@ -480,7 +482,9 @@ def test_cells_centred_on_the_poles_have_the_area_of_the_ellipsoid() -> None:
 
 
 def test_areas_are_the_nearest_floats() -> None:
-    table = rcell.run(SCRIPT, m=(np.ones((1, 5), int), (30, 0, 0, 0, -30, 0))).tables[0]
+    table = rcell.run(
+        SCRIPT, m=(np.ones((1, 5), int), (30, 0, 0, 0, -30, 0)), crs="EPSG:25832"
+    ).tables[0]
     assert table.with_area("ha").rows == [(1, 5, 0.45)]
 
 
@@ -521,7 +525,7 @@ def test_the_program_judges_the_script_before_a_map_is_missed() -> None:
             assert (refused.value.text, refused.value.column) == ("bad byte at column 11", 11)
             assert str(refused.value).splitlines()[2] == " " * 12 + "^"
             assert refused.value.advice == "r.mapcalc x = lc * 2"
-    with pytest.raises(rcell.Refused, match="no map y: there are lc, x"):
+    with pytest.raises(rcell.BadArgument, match="got 'y', and there are lc, x"):
         rcell.grid("r.mapcalc x = lc * 2", "y", lc=LAND)
 
 

@@ -75,21 +75,26 @@ def test_composition_has_its_columns() -> None:
     assert rows(frame) == [
         (7, "north", 1, "wood", 2, 0.125, 200 / 3),
         (7, "north", 2, "water", 1, 0.0625, 100 / 3),
-        (8, "", 1, "wood", 3, 0.1875, 60.0),
-        (8, "", 2, "water", 2, 0.125, 40.0),
+        (8, None, 1, "wood", 3, 0.1875, 60.0),
+        (8, None, 2, "water", 2, 0.125, 40.0),
     ]
-    assert rows(rcell.composition(land(), area=None, null=True))[-1] == (None, "", 1, None)
-    assert list(rcell.composition(LAND, area="km2").columns) == [
+    assert rows(rcell.composition(land(), area=None, include_null=True))[-1] == (
+        None,
+        None,
+        1,
+        None,
+    )
+    assert list(rcell.composition(LAND, area="km2", crs=UTM).columns) == [
         "class",
         "cells",
         "area_km2",
         "percent",
     ]
-    assert rows(rcell.composition(land(), zones, area=None, null=True))[2] == (
+    assert rows(rcell.composition(land(), zones, area=None, include_null=True))[2] == (
         7,
         "north",
         None,
-        "",
+        None,
         1,
         None,
     )
@@ -104,7 +109,7 @@ def test_tables_beside_numpy(seed: int) -> None:
         assert percent == cells * 100 / int((both & (b.data == zone)).sum())
     assert rcell.composition(a, zones=b)["cells"].sum() == both.sum()
     every = both & ~c.mask
-    for x, y, z, cells, area, percent in rows(rcell.cross(a=a, b=b, c=c, area="m2")):
+    for x, y, z, cells, area, percent in rows(rcell.cross(a=a, b=b, c=c, area="m2", crs=UTM)):
         assert cells == area == int((every & (a.data == x) & (b.data == y) & (c.data == z)).sum())
         assert percent == cells * 100 / int(every.sum())
     found = pandas.crosstab(
@@ -128,13 +133,11 @@ def test_a_cross_table_of_words_of_the_call() -> None:
         "percent",
     ]
     assert frame["area_label"].tolist() == ["a", "b", "c"]
-    with pytest.raises(rcell.Refused, match="by the names of its maps, as {'lc': \"legend.csv\"}"):
-        rcell.cross(lc=LAND, labels={1: "wood"})  # type: ignore[dict-item]
-    assert rows(rcell.cross(a=land(), b=land(), area=None, null=True))[-1] == (
+    assert rows(rcell.cross(a=land(), b=land(), area=None, include_null=True))[-1] == (
         None,
-        "",
         None,
-        "",
+        None,
+        None,
         1,
         None,
     )
@@ -160,16 +163,16 @@ def test_change_is_that_of_pontius() -> None:
         "water",
         "town",
     ]
-    assert list(rcell.change(before, after).summary.columns)[1:] == [
+    assert list(rcell.change(before, after, crs=UTM).summary.columns)[1:] == [
         f"{part}_ha" for part in ("before", "after", "gain", "loss", "net", "swap", "persistence")
     ]
-    assert rcell.change(before, after).matrix.loc[1, 2] == 0.0001
+    assert rcell.change(before, after, crs=UTM).matrix.loc[1, 2] == 0.0001
 
 
 @pytest.mark.parametrize("seed", range(4))
 def test_change_beside_numpy(seed: int) -> None:
     maps = random_maps(seed, 3)
-    found = rcell.change(maps, years=[2000, 2006, 2012], area="m2")
+    found = rcell.change(maps, years=[2000, 2006, 2012], area="m2", crs=UTM)
     for first, last, before, after in ((2000, 2006, *maps[:2]), (2006, 2012, *maps[1:])):
         kept = ~(before.mask | after.mask)
         table = found.table[(found.table["year_from"] == first) & (found.table["year_to"] == last)]
@@ -193,19 +196,6 @@ def test_change_beside_numpy(seed: int) -> None:
     )
 
 
-def test_years_are_checked() -> None:
-    for words, told in (
-        ({"years": None}, "3 maps, and no years"),
-        ({"years": [1, 2]}, "3 maps, and 2 years"),
-        ({"years": [1, 2, 2]}, "has 2 twice"),
-        ({"years": [1, 2, 2.5]}, "whole numbers, not 2.5"),
-    ):
-        with pytest.raises(rcell.Refused, match=told):
-            rcell.change([LAND] * 3, **words)  # type: ignore[arg-type]
-    with pytest.raises(rcell.Refused, match="between two maps"):
-        rcell.change(LAND)
-
-
 # Patches
 
 
@@ -214,7 +204,7 @@ def test_patches_beside_scipy(connectivity: int) -> None:
     ndimage = pytest.importorskip("scipy.ndimage")
     for seed in range(5):
         a, zones = random_maps(seed, 2, 14, 3)
-        found = rcell.patches(a, connectivity, zones=zones, core_depth=2)
+        found = rcell.patches(a, connectivity, zones=zones, core_depth=2, crs=UTM)
         shape = ndimage.generate_binary_structure(2, connectivity // 4)
         assert len(found) == sum(
             ndimage.label((a.data == one) & ~a.mask, shape)[1] for one in (1, 2, 3)
@@ -241,7 +231,7 @@ def test_patches_measure_oblong_cells_and_feet() -> None:
     ]
     feet = rcell.Map([[1]], (10, 0, 0, 0, -10, 30), "EPSG:2263")
     assert rcell.patches(feet)["perimeter_m"][0] == pytest.approx(40 * 1200 / 3937)
-    assert list(rcell.patches(LAND, area=None).columns)[:6] == [
+    assert list(rcell.patches(LAND, area=None, crs=UTM).columns)[:6] == [
         "patch",
         "class",
         "cells",
@@ -249,13 +239,6 @@ def test_patches_measure_oblong_cells_and_feet() -> None:
         "core_cells",
         "west",
     ]
-    for words, told in (
-        ({"connectivity": 6}, "connectivity= is 4 or 8, not 6"),
-        ({"core_depth": 0}, "core_depth= is from 1 to 20, not 0"),
-        ({"classes": "31,32"}, "classes= is a list of whole numbers, as .31, 32., not '31,32'"),
-    ):
-        with pytest.raises(rcell.Refused, match=told):
-            rcell.patches(LAND, **words)  # type: ignore[arg-type]
 
 
 # Statistics by zone
@@ -286,7 +269,7 @@ def test_zonal_beside_numpy(seed: int) -> None:
 
 def test_quantiles_are_checked() -> None:
     for given in (1.5, -0.1, "x", float("nan")):
-        with pytest.raises(rcell.Refused, match="quantiles= are from 0 to 1"):
+        with pytest.raises(rcell.BadArgument, match="quantiles must be from 0 to 1"):
             rcell.zonal(LAND, LAND, [given])  # type: ignore[list-item]
     assert rcell.zonal(rcell.Map([[0]], nodata=0), [[1]]).empty
 
@@ -315,7 +298,7 @@ def test_majority_keeps_labels_and_checks_its_size() -> None:
     found = rcell.majority(land(colors={1: "#00ff00"}))
     assert (found.labels, found.colors) == (NAMES, {1: "#00ff00"})
     for size in (4, 1, 17, 3.0, "3"):
-        with pytest.raises(rcell.Refused, match="size= is odd, 3 to 15, not"):
+        with pytest.raises(rcell.BadArgument, match="size must be odd, from 3 to 15; got"):
             rcell.majority(LAND, size)  # type: ignore[arg-type]
 
 
@@ -377,7 +360,7 @@ def test_answers_in_degrees_weigh_their_rows() -> None:
         rcell.composition(a, area="km2")["area_km2"].tolist()
     )
     assert changed.matrix.to_numpy().sum() == pytest.approx(area.sum())
-    with pytest.warns(UserWarning, match="perimeters are not computed in degrees"):
+    with pytest.warns(UserWarning, match="lengths are not computed in degrees"):
         found = rcell.patches(a, area="km2")
     numbers = rcell.grid("r.clump input=a output=k", "k", a=a).array.filled(0)
     assert found["perimeter_m"].isna().all()
@@ -492,10 +475,6 @@ def test_polygons_that_are_refused(tmp_path: pathlib.Path) -> None:
         )
     with pytest.raises(rcell.Refused, match="no field x: there are name"):
         rcell.composition(land(), path, zone_field="x")
-    with pytest.raises(rcell.Refused, match="zones= is a raster"):
-        rcell.composition(land(), land(), zone_field="x")
-    with pytest.raises(rcell.Refused, match="zones= is not given"):
-        rcell.composition(land(), zone_field="x")
     with pytest.raises(rcell.ReadFailed, match="No such file"):
         rcell.composition(land(), "nowhere.gpkg")
     far = write_polygons(tmp_path / "far.gpkg", [(box(10, 0, 12, 3), {"name": "a"})])
@@ -571,7 +550,9 @@ def test_align_by_the_nearest_cell() -> None:
     ):
         rcell.align(source, to=half)
     assert rcell.align(source, to=half, resample="nearest").array.tolist() == [[None, None]]  # type: ignore[union-attr]
-    with pytest.raises(rcell.Refused, match="""resample= is "nearest", not 'cubic'"""):
+    with pytest.raises(
+        rcell.BadArgument, match="""resample must be "nearest" or None; got 'cubic'"""
+    ):
         rcell.align(source, to=half, resample="cubic")
     degrees = rcell.Map(np.zeros((3, 3), int), (1e-4, 0, 5.9998, 0, -1e-4, 1e-4), "EPSG:4326")
     with pytest.raises(rcell.OtherCrs):
@@ -637,23 +618,6 @@ def test_the_error_says_how_to_align(raster: Write) -> None:
 # Legends
 
 
-@pytest.mark.parametrize(
-    ("text", "told"),
-    [
-        ("", "is empty"),
-        ("1,wood\n", "no header value,label: the first line is '1,wood'"),
-        ("value,label\n1.5,x\n", "line 2: 1.5 is no whole number"),
-        ("value,label\n1,x\n2,y\n1,z\n", "line 4: the value 1 is there twice"),
-        ("value,label,colour\n1,x,red\n", "line 2: red is no colour as #rrggbb"),
-    ],
-)
-def test_legends_that_are_refused(tmp_path: pathlib.Path, text: str, told: str) -> None:
-    (tmp_path / "legend.csv").write_text(text)
-    with pytest.raises(rcell.Refused) as caught:
-        rcell.composition(LAND, labels=tmp_path / "legend.csv")
-    assert told in caught.value.text and caught.value.source == "labels"
-
-
 def test_legends_of_all_kinds(tmp_path: pathlib.Path, raster: Write) -> None:
     (tmp_path / "legend.csv").write_text(
         '\ufeffvalue,label,colour\n0,none,\n1,"wood, old",#00FF00\n2,water,#0000ff\n3,town,\n',
@@ -667,16 +631,12 @@ def test_legends_of_all_kinds(tmp_path: pathlib.Path, raster: Write) -> None:
     ):
         assert rcell.composition(LAND, labels=legend)["label"].tolist() == named
     with pytest.warns(UserWarning, match="labels: no label for 0, 3 of map"):
-        assert rcell.composition(LAND, labels={1: "a", 2: "b"})["label"].tolist() == [
-            "",
-            "a",
-            "b",
-            "",
-        ]
+        found = rcell.composition(LAND, labels={1: "a", 2: "b"})["label"]
+    assert found.tolist() == [pandas.NA, "a", "b", pandas.NA]
     style = '<qgis><pipe><rasterrenderer><colorPalette><paletteEntry value="{}" label="wood" color="#00aa00" alpha="255"/></colorPalette></rasterrenderer></pipe></qgis>'
     path = raster(LAND)
     (tmp_path / "map.qml").write_text(style.format(1))
-    assert rcell.composition(path)["label"].tolist() == ["", "wood", "", ""]
+    assert rcell.composition(path)["label"].tolist() == [pandas.NA, "wood", pandas.NA, pandas.NA]
     assert rcell.grid("", "m", m=path).colors == {1: "#00aa00"}
     with warnings.catch_warnings():
         warnings.simplefilter("ignore")
@@ -733,7 +693,7 @@ def test_an_attribute_table_has_labels_and_colours(raster: Write) -> None:
 
 def test_tables_read_back(tmp_path: pathlib.Path) -> None:
     table = inspect.unwrap(rcell.composition)(
-        land(), labels={1: 'a "quoted", b', 2: "p|q", 3: "c"}, null=True
+        land(), labels={1: 'a "quoted", b', 2: "p|q", 3: "c"}, include_null=True
     )
     assert table.csv().splitlines()[:2] == [
         "class,label,cells,area_ha,percent",
@@ -742,7 +702,7 @@ def test_tables_read_back(tmp_path: pathlib.Path) -> None:
     assert table.csv().splitlines()[-1] == ",,1,0.0625,"
     assert json.loads(table.json())[-1] == {
         "class": None,
-        "label": "",
+        "label": None,
         "cells": 1,
         "area_ha": 0.0625,
         "percent": None,

@@ -143,9 +143,10 @@ class Runs(unittest.TestCase):
             rcell.grid(script, "twice", lc=LAND).array.tolist(), (LAND.astype(int) * 2).tolist()
         )
         self.assertEqual(rcell.grid("", "lc", lc=LAND).array.tolist(), LAND.tolist())
-        with self.assertRaises(rcell.Refused) as caught:
+        with self.assertRaises(rcell.BadArgument) as caught:
             rcell.grid(script, "thrice", lc=LAND)
-        self.assertEqual(str(caught.exception), "arguments: no map thrice: there are lc, twice")
+        self.assertEqual(caught.exception.argument, "name")
+        self.assertIn("got 'thrice', and there are lc, twice", caught.exception.reason)
 
     def test_names_that_are_no_keywords(self) -> None:
         self.assertEqual(
@@ -154,9 +155,9 @@ class Runs(unittest.TestCase):
             .rows[0],
             (0, 0, 1),
         )
-        with self.assertRaises(rcell.Refused):
+        with self.assertRaises(rcell.BadArgument):
             rcell.run("", {"lc": LAND}, lc=LAND)
-        with self.assertRaises(rcell.Refused):
+        with self.assertRaises(rcell.BadArgument):
             rcell.run("")
 
     def test_grids_go_in_again(self) -> None:
@@ -204,9 +205,10 @@ class Runs(unittest.TestCase):
 
 def rows_of(answer: Any) -> list[tuple[Any, ...]]:
     """The rows of a DataFrame or a Table, a column for each name."""
-    return list(
-        answer.itertuples(index=False, name=None) if hasattr(answer, "itertuples") else answer.rows
-    )
+    if not hasattr(answer, "itertuples"):
+        return list(answer.rows)
+    listed = answer.astype(object).where(answer.notna(), None)
+    return list(listed.itertuples(index=False, name=None))
 
 
 class Patches(unittest.TestCase):
@@ -221,7 +223,7 @@ class Patches(unittest.TestCase):
                 (
                     k,
                     int(LAND[numbers == k][0]),
-                    {1: "wood"}.get(int(LAND[numbers == k][0]), ""),
+                    {1: "wood"}.get(int(LAND[numbers == k][0])),
                     int((numbers == k).sum()),
                 )
                 for k in range(1, numbers.max() + 1)
@@ -234,9 +236,8 @@ class Patches(unittest.TestCase):
                     "class",
                     "label",
                     "cells",
-                    "area_ha",
                     "perimeter_m",
-                    "core_ha",
+                    "core_cells",
                     "west",
                     "south",
                     "east",
@@ -250,7 +251,7 @@ class Patches(unittest.TestCase):
             rows, cols = random.integers(1, 15, 2).tolist()
             a = random_map(random, rows, cols, 3, 0.3)
             least = int(random.integers(1, 5))
-            whole, kept = rows_of(rcell.patches(a)), rows_of(rcell.patches(a, least=least))
+            whole, kept = rows_of(rcell.patches(a)), rows_of(rcell.patches(a, min_cells=least))
             self.assertEqual(kept, [row for row in whole if row[2] >= least])
             self.assertEqual(
                 rows_of(rcell.patches(a, classes=[1, 3])),
@@ -258,7 +259,7 @@ class Patches(unittest.TestCase):
             )
             numbers = rcell.grid("r.clump input=a output=k", "k", a=a).array.filled(0)
             for row in whole:
-                self.assertEqual(row[3:], (row[2] / 1e4, *measured(numbers == row[0])))
+                self.assertEqual(row[3:], (None, *measured(numbers == row[0])))
 
     def test_nothing(self) -> None:
         self.assertEqual(len(rcell.patches(LAND, classes=[])), 0)
@@ -266,7 +267,7 @@ class Patches(unittest.TestCase):
 
 
 def measured(inside: Any) -> tuple[float, ...]:
-    """The perimeter, the core of one step and the extent of some cells of side 1."""
+    """The core of one step and the extent of some cells of side 1."""
     wide = np.pad(inside, 1)
     sides = [
         wide[1:-1, 1:-1] & ~np.roll(wide, step, axis)[1:-1, 1:-1]
@@ -277,8 +278,7 @@ def measured(inside: Any) -> tuple[float, ...]:
     rows, cols = np.nonzero(inside)
     height = inside.shape[0]
     return (
-        float(sum(side.sum() for side in sides)),
-        core.sum() / 1e4,
+        int(core.sum()),
         float(cols.min()),
         height - rows.max() - 1.0,
         cols.max() + 1.0,
@@ -429,7 +429,7 @@ class Refusals(unittest.TestCase):
             *degrees,
             (
                 ("r.stats -c input=lc", {"area": "acre"}),
-                "area= is one of m2, ha, km2, and not 'acre'",
+                "area must be ha, km2, m2 or None; got 'acre'",
             ),
             (
                 ("r.stats input=lc", {"percent": True}),
@@ -448,7 +448,7 @@ class Refusals(unittest.TestCase):
                 "one table is asked for, and the script has no r.stats: rcell.run returns all outputs",
             ),
         ):
-            with self.subTest(told=told), self.assertRaises(rcell.Refused) as caught:
+            with self.subTest(told=told), self.assertRaises(rcell.RcellError) as caught:
                 rcell.table(words[0], lc=lc, **words[1])  # type: ignore[arg-type]
             self.assertIn(told, str(caught.exception))
 
@@ -715,10 +715,9 @@ class Programs(unittest.TestCase):
         self.assertEqual((caught.exception.row, caught.exception.col), (2_501, 8))
 
     def test_refused_before_it_is_read(self) -> None:
-        with self.assertRaises(rcell.Refused) as caught:
+        with self.assertRaises(rcell.BadArgument) as caught:
             rcell.run("", {"no-name": np.ones((3_000, 2_000), np.uint8)})
-        self.assertEqual(caught.exception.status, 2)
-        self.assertIn("'no-name' is not a name for a map", caught.exception.text)
+        self.assertIn("got 'no-name': write no_name", caught.exception.text)
 
 
 class Texts(unittest.TestCase):
@@ -826,7 +825,7 @@ class Files(unittest.TestCase):
     def test_nothing_half_written(self) -> None:
         with self.assertRaises(rcell.WriteFailed):
             self.grid.write("/nowhere/lc.txt")
-        with self.assertRaises(rcell.Refused):
+        with self.assertRaises(rcell.BadArgument):
             self.grid.write("lc.png")
         with tempfile.TemporaryDirectory() as folder:
             os.mkdir(f"{folder}/lc.txt")

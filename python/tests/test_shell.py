@@ -44,12 +44,22 @@ def test_composition(raster: Write, capfdbinary: Any, tmp_path: pathlib.Path) ->
         "3,c,2,0.125,18.181818181818183",
     ]
     assert (
-        main(["composition", path, "--area", "none", "--null", "--out", str(tmp_path / "t.json")])
+        main(
+            [
+                "composition",
+                path,
+                "--area",
+                "none",
+                "--include-null",
+                "--out",
+                str(tmp_path / "t.json"),
+            ]
+        )
         == 0
     )
     assert json.loads((tmp_path / "t.json").read_text())[-1] == {
         "class": None,
-        "label": "",
+        "label": None,
         "cells": 1,
         "percent": None,
     }
@@ -120,8 +130,19 @@ def test_the_shell_has_the_numbers_of_python(raster: Write, capfdbinary: Any) ->
             rcell.change([a, b, a], years=[1, 2, 3]).matrix.reset_index(),
         ),
         (
-            ["patches", a, "--connectivity", "8", "--zones", b, "--classes", "1,2", "--least", "2"],
-            rcell.patches(a, 8, zones=b, classes=[1, 2], least=2),
+            [
+                "patches",
+                a,
+                "--connectivity",
+                "8",
+                "--zones",
+                b,
+                "--classes",
+                "1,2",
+                "--min-cells",
+                "2",
+            ],
+            rcell.patches(a, 8, zones=b, classes=[1, 2], min_cells=2),
         ),
         (["zonal", a, b, "--quantiles", "0.25,0.5"], rcell.zonal(a, b, [0.25, 0.5])),
     ):
@@ -232,7 +253,7 @@ def test_maps_are_written_all_or_none(tmp_path: Any, capsys: Any) -> None:
         (
             ["run", "r.clump input=lc output=k", "lc=MAP", "--out", "j=j.tif"],
             2,
-            "arguments: no map j: there are lc, k",
+            "name must be a map of the script; got 'j', and there are lc, k",
         ),
         (
             ["run", "r.clump input=lc output=k", "lc=MAP", "--out", "k=/nowhere/k.tif"],
@@ -244,13 +265,13 @@ def test_maps_are_written_all_or_none(tmp_path: Any, capsys: Any) -> None:
             2,
             "arguments: MAP: the output file is the input file: choose another name",
         ),
-        (["majority", "MAP", "m.tif", "--size", "4"], 2, "arguments: size= is odd, 3 to 15, not 4"),
+        (["majority", "MAP", "m.tif", "--size", "4"], 2, "size must be odd, from 3 to 15; got 4"),
         (
             ["zonal", "MAP", "MAP", "--quantiles", "a"],
             2,
             "arguments: --quantiles are numbers from 0 to 1, not a",
         ),
-        (["change", "MAP"], 2, "arguments: change= is between two maps, or a list of maps"),
+        (["change", "MAP"], 2, "after must be a map, unless before is a list of maps; got None"),
         (
             ["composition", "MAP", "--labels", "/nowhere.csv"],
             4,

@@ -15,6 +15,7 @@ TYPE_CHECKING = False  # typing takes longer to import than all of this module
 
 __all__ = [
     "Aligned",
+    "BadArgument",
     "BadMap",
     "Change",
     "Grid",
@@ -62,6 +63,7 @@ if TYPE_CHECKING:
     from .core.columns import Pivot, StatsTable, Table
     from .core.composition import composition, cross
     from .core.errors import (
+        BadArgument,
         BadMap,
         Killed,
         MissingLibrary,
@@ -94,6 +96,7 @@ _MODULES = {
     ".core.columns": ("Pivot", "StatsTable", "Table"),
     ".core.composition": ("composition", "cross"),
     ".core.errors": (
+        "BadArgument",
         "BadMap",
         "Killed",
         "MissingLibrary",

@@ -15,7 +15,7 @@ import numpy as np
 from .core.protocol import NULL
 
 from .core.arrays import NDArray
-from .core.errors import Refused
+from .core.errors import BadArgument
 from .core.libraries import has, need
 from .core.sources import Map
 from .core.masked import MaskedCells, compressed, filled, mask_of, masked
@@ -189,7 +189,7 @@ class Grid:
         elif text.lower().endswith(".txt"):
             write_beside(text, self.text())
         else:
-            raise Refused(f"{text}: a map is written as .tif, .tiff or .txt", status=2)
+            raise BadArgument("path", f"must end in .tif, .tiff or .txt; got {text!r}")
         return text
 
     def text(self) -> bytes:

@@ -133,7 +133,7 @@ def _composition(words: argparse.Namespace) -> None:
         unwrap(composition)(
             words.map,
             area=_unit(words),
-            null=words.null,
+            include_null=words.include_null,
             **_options(words, "zones labels zone_labels zone_field crs"),
         ),
     )
@@ -147,7 +147,7 @@ def _cross(words: argparse.Namespace) -> None:
             words.given,
             area=_unit(words),
             labels=_pairs(words.labels),
-            null=words.null,
+            include_null=words.include_null,
             crs=words.crs,
         ),
     )
@@ -169,7 +169,7 @@ def _change(words: argparse.Namespace) -> None:
 def _patches(words: argparse.Namespace) -> None:
     words.given = {"map": words.map, **({"zones": words.zones} if words.zones else {})}
     rest = _options(
-        words, "connectivity zones classes least core_depth labels zone_labels zone_field crs"
+        words, "connectivity zones classes min_cells core_depth labels zone_labels zone_field crs"
     )
     _put(words, unwrap(patches)(words.map, area=_unit(words), **rest))
 
@@ -324,12 +324,12 @@ OPTIONS: dict[str, dict[str, dict[str, Any]]] = {
     "area": {
         "--area": {
             "choices": [*UNITS_OF_AREA, "none"],
-            "default": "ha",
-            "help": "the unit of areas; ha if not given",
+            "default": "auto",
+            "help": "the unit of areas; ha if not given and the map has a reference system",
         }
     },
     "labels": {"--labels": {"metavar": "LEGEND", "help": "the labels of the classes"}},
-    "null": {"--null": {"action": "store_true", "help": "adds what is null"}},
+    "null": {"--include-null": {"action": "store_true", "help": "adds what is null"}},
     "zones": {"--zones": {"metavar": "ZONES", "help": "a map, or polygons"}},
     "field": {
         "--zone-field": {
@@ -409,7 +409,7 @@ COMMANDS: dict[
                 "metavar": "CLASS,..",
                 "help": "patches of these classes alone",
             },
-            "--least": {
+            "--min-cells": {
                 "type": int,
                 "metavar": "CELLS",
                 "help": "patches of so many cells or more alone",

@@ -139,17 +139,21 @@ def test_maps_of_other_grids_are_refused(tif: MakeTif, scheduler: str) -> None:
 
 def test_requests_are_refused(tif: MakeTif, tmp_path: Path, scheduler: str) -> None:
     lc = tif("lc", CELLS)
-    with pytest.raises(rcell.Refused, match="the map lc is given twice"):
+    with pytest.raises(rcell.BadArgument, match="maps must be given once; got lc twice"):
         rcell.tiles.open({"lc": lc}, lc=lc)
-    with pytest.raises(rcell.Refused, match="at least one row and one column, not 0"):
+    with pytest.raises(rcell.BadArgument, match="size must be at least 1 row and 1 column; got 0"):
         rcell.tiles.open(size=0, lc=lc)
     with rcell.tiles.open({"size": lc}, size=(16, 20), scheduler=scheduler) as mosaic:
         assert len(mosaic.table("r.stats -c input=size")) == len(np.unique(CELLS))
-        with pytest.raises(rcell.Refused, match="no map lc: there are size"):
+        with pytest.raises(
+            rcell.BadArgument, match="name must be a map; got 'lc', and there are size"
+        ):
             mosaic.clump("lc", tmp_path / "x.tif")
         with pytest.raises(rcell.Refused, match="area= needs a table with cells"):
             mosaic.table("r.stats input=size", area="ha")
-        with pytest.raises(rcell.Refused, match="area= is one of m2, ha, km2"):
+        with pytest.raises(
+            rcell.BadArgument, match="area must be ha, km2, m2 or None; got 'acres'"
+        ):
             mosaic.table("r.stats -c input=size", area="acres")
 
 

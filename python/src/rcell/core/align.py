@@ -9,7 +9,7 @@ import numpy as np
 
 from .arrays import NDArray
 from .crs import are_same_crs, common_crs, known
-from .errors import BadMap, OtherCrs, OtherRegion, Refused
+from .errors import BadArgument, BadMap, OtherCrs, OtherRegion
 from .sources import Aligned, Cells, Map, Mask, Source, source_of
 from .masked import masked
 from .region import Region, Shift
@@ -56,7 +56,7 @@ def align(map: Any, to: Any, resample: str | None = None, *, crs: Any = None) ->
     ([[3, None]], Aligned(shift_rows=0, shift_columns=2, cells_used=1, cells_repeated=0, cells_lost=2))
     """
     if resample not in (None, "nearest"):
-        raise Refused(f'resample= is "nearest", not {resample!r}', status=2)
+        raise BadArgument("resample", f'must be "nearest" or None; got {resample!r}')
     source, like = source_of("map", map), source_of("to", to)
     try:
         known = common_crs({"to": like.crs, "map": source.crs}, crs)

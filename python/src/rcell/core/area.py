@@ -10,11 +10,14 @@ from typing import Any
 import numpy as np
 
 from .arrays import NDArray
-from .crs import UNITS_OF_AREA, cell_area, is_geographic, known, metres_of_unit
-from .errors import Refused
+from .crs import UNITS_OF_AREA, Crs, known, metres_of_unit
+from .errors import BadArgument, MissingLibrary, Refused
+from .host import option
 from .sources import Source
 
-__all__ = ["Measure", "measure_of", "row_areas"]
+__all__ = ["AUTO", "Measure", "measure_of", "row_areas", "unit_of"]
+
+AUTO = "auto"
 
 # The most that a row may reach beyond a pole, in cells: a half, and what rounding adds.
 _MOST_BEYOND = 0.5 + 1e-6
@@ -64,26 +67,27 @@ def row_areas(
 
 @dataclass(frozen=True)
 class Measure:
-    """The areas of cells, in a unit.
+    """What the cells of a map measure.
 
     Attributes
     ----------
     unit : str or None
-        None if no areas are requested.
+        The unit of areas; None for no areas.
     divisor : float
         The unit in square metres.
     cell : float
         The area of a cell of a projected map in square metres.
     by_row : array of float64 or None
-        The area of a cell of each row of a map in degrees, in square metres, if areas are requested.
-    is_geographic : bool
+        The area of a cell of each row of a map in degrees, in square metres, if there are areas.
+    metres : float or None
+        The length of the map's unit: NaN in degrees, None if it is not known.
     """
 
     unit: str | None
     divisor: float
     cell: float
     by_row: NDArray[np.float64] | None
-    is_geographic: bool
+    metres: float | None
 
     @property
     def column(self) -> str:
@@ -95,20 +99,69 @@ class Measure:
         return cells * self.cell / self.divisor
 
 
-def measure_of(unit: str | None, source: Source, crs: Any) -> Measure:
-    """Return the areas of a map's cells.
+def measure_of(area: Any, source: Source, crs: Any) -> Measure:
+    """Return what the cells of a map measure.
+
+    Parameters
+    ----------
+    area : {"auto", "ha", "km2", "m2"} or None
+        The unit; auto is hectares if there is a reference system, else no areas.
+    source : Source
+    crs : any
 
     Raises
     ------
+    BadArgument
+        There is no such unit, or no reference system.
     Refused
-        The unit of area, or the reference system's unit of length or angle, is unknown.
+        The reference system's unit of length or angle is unknown.
     """
-    is_in_degrees = is_geographic(crs)
-    if unit is None or (is_in_degrees and unit in UNITS_OF_AREA):
-        by_row = None if unit is None else _by_row(source, crs)
-        return Measure(unit, UNITS_OF_AREA.get(unit or "", 1.0), 1.0, by_row, is_in_degrees)
-    square_metres, divisor = cell_area(unit, (-source.transform[4], source.transform[0]), crs)
-    return Measure(unit, divisor, square_metres, None, False)
+    unit = unit_of(area, crs)
+    metres = _metres(crs, unit is not None)
+    divisor = UNITS_OF_AREA.get(unit or "", 1.0)
+    if unit is None or metres is None:
+        return Measure(unit, divisor, 1.0, None, metres)
+    if math.isnan(metres):
+        return Measure(unit, divisor, 1.0, _by_row(source, crs), metres)
+    width, height = source.transform[0], -source.transform[4]
+    return Measure(unit, divisor, height * width * metres**2, None, metres)
+
+
+def unit_of(area: Any, crs: Any) -> str | None:
+    """Return the unit of areas that a call asks for, None for no areas.
+
+    Examples
+    --------
+    >>> unit_of("auto", None) is None
+    True
+    """
+    if area is None or area == AUTO:
+        return None if area is None or crs is None else "ha"
+    if not isinstance(area, str) or area not in UNITS_OF_AREA:
+        raise BadArgument("area", f"must be ha, km2, m2 or None; got {area!r}")
+    if crs is None:
+        told = "needs a coordinate reference system, and the maps have none"
+        example = option("crs", "EPSG:25832")
+        raise BadArgument("area", f'"{area}" {told}: state it, for example {example}')
+    return area
+
+
+def _metres(crs: Any, is_needed: bool) -> float | None:
+    """Return the length of a reference system's unit: NaN in degrees, None if it is not known and not needed."""
+    system = known(crs) if is_needed or crs is None else _understood(crs)
+    if system is None:
+        return None
+    if system.kind == "geographic":
+        return math.nan
+    return metres_of_unit(crs) if is_needed or system.kind == "projected" else None
+
+
+def _understood(crs: Any) -> Crs | None:
+    """Return a reference system that is of use but not needed, None without a library that knows it."""
+    try:
+        return known(crs)
+    except MissingLibrary:
+        return None
 
 
 def _by_row(source: Source, crs: Any) -> NDArray[np.float64]:
@@ -123,8 +176,3 @@ def _by_row(source: Source, crs: Any) -> NDArray[np.float64]:
         source.region.rows,
         system.ellipsoid,
     )
-
-
-def metres(crs: Any) -> float:
-    """Return the length of a reference system's unit in metres; NaN in degrees."""
-    return math.nan if is_geographic(crs) else metres_of_unit(crs)

@@ -10,7 +10,7 @@ import numpy as np
 
 from .arrays import NDArray
 from .counting import Counts, Maps, label_columns
-from .errors import Refused
+from .errors import BadArgument
 from .legends import labels_of
 from .area import Measure
 from .columns import Column, Table
@@ -36,12 +36,12 @@ class Change:
     Examples
     --------
     >>> import numpy as np, rcell
-    >>> found = rcell.change(np.array([[1, 1, 2]]), np.array([[1, 2, 2]]), area="m2")
+    >>> found = rcell.change(np.array([[1, 1, 2]]), np.array([[1, 2, 2]]))
     >>> found.matrix  # doctest: +NORMALIZE_WHITESPACE
-    to      1    2
+    to    1  2
     from
-    1     1.0  1.0
-    2     0.0  1.0
+    1     1  1
+    2     0  1
     """
 
     def __init__(
@@ -51,16 +51,16 @@ class Change:
 
     @property
     def table(self) -> Any:
-        """A row for each change that occurs, with cells, area, and the percentage of the cells that are null in neither year.
+        """A row for each change that occurs, with cells, area, and the percentage of what is null in neither year.
 
         Examples
         --------
         >>> import numpy as np, rcell
-        >>> rcell.change(np.array([[1, 1, 2]]), np.array([[1, 2, 2]]), area="m2").table
-           from  to  cells  area_m2    percent
-        0     1   1      1      1.0  33.333333
-        1     1   2      1      1.0  33.333333
-        2     2   2      1      1.0  33.333333
+        >>> rcell.change(np.array([[1, 1, 2]]), np.array([[1, 2, 2]])).table
+           from  to  cells    percent
+        0     1   1      1  33.333333
+        1     1   2      1  33.333333
+        2     2   2      1  33.333333
         """
         return self.tables["table"].frame()
 
@@ -89,8 +89,8 @@ class Change:
         Examples
         --------
         >>> import numpy as np, rcell
-        >>> rcell.change(np.array([[1, 1, 2]]), np.array([[1, 2, 2]]), area="m2").summary.iloc[0, 1:].tolist()
-        [2.0, 1.0, 0.0, 1.0, -1.0, 0.0, 1.0]
+        >>> rcell.change(np.array([[1, 1, 2]]), np.array([[1, 2, 2]])).summary.iloc[0, 1:].tolist()
+        [2, 1, 0, 1, -1, 0, 1]
         """
         return self.tables["summary"].frame()
 
@@ -125,7 +125,7 @@ class _Pairs:
             else np.concatenate([pair.measured() for pair in self.pairs])
         )
         together = Counts(classes, np.concatenate([pair.cells for pair in self.pairs]), area)
-        percent = [pair.cells * 100.0 / max(int(pair.cells.sum()), 1) for pair in self.pairs]
+        percent = [pair.measured() * 100.0 / (pair.measured().sum() or 1) for pair in self.pairs]
         return Table(columns + together.columns(self._measure, np.concatenate(percent)))
 
     def matrix(self) -> tuple[Table, list[int]]:
@@ -198,7 +198,7 @@ class _Pairs:
     def _texts(self, title: str, classes: Numbers, labels: Mapping[int, str]) -> list[Column]:
         """Return the column of labels of a pair of years, if any map has labels."""
         made = label_columns(title, classes, labels, self._is_legend, title.removesuffix("_label"))
-        return made or ([Column(title, "label", [""] * classes.size)] if any(self.labels) else [])
+        return made or ([Column(title, "label", [None] * classes.size)] if any(self.labels) else [])
 
 
 def _names(classes: Numbers, labels: Mapping[int, str]) -> list[str]:
@@ -238,7 +238,7 @@ def change(
     after: Any = None,
     *,
     years: Iterable[int] | None = None,
-    area: str | None = "ha",
+    area: str | None = "auto",
     labels: Any = None,
     crs: Any = None,
 ) -> Change:
@@ -251,7 +251,7 @@ def change(
     years : iterable of int, optional
         The year of each map; required for more than two maps.
     area : {"ha", "km2", "m2"} or None
-        The unit of areas; None leaves them out.
+        The unit of areas, as in `composition`.
     labels : path, dict or DataFrame, optional
         The legend of all maps, which replaces their own labels, as in `composition`. By default, maps without labels get the labels of
         the first map that has some.
@@ -266,7 +266,9 @@ def change(
     Raises
     ------
     Refused
-        As for `run`, and if there is not one year for each map.
+        As for `run`.
+    BadArgument
+        There is not one year for each map.
 
     Examples
     --------
@@ -285,7 +287,7 @@ def change(
         )
         given = dict(zip(names, before))
     else:
-        raise Refused("change= is between two maps, or a list of maps", status=2)
+        raise BadArgument("after", "must be a map, unless before is a list of maps; got None")
     told = _checked(years, len(given))
     maps = Maps(given, crs)
     measure = maps.measure(area)
@@ -305,15 +307,16 @@ def _checked(years: Iterable[int] | None, maps: int) -> list[int] | None:
     """Return the years, after checking that there is one for each map."""
     if years is None and maps == 2:
         return None
-    told = [] if years is None else list(years)
-    for year in told:
+    if isinstance(years, str) or not (years is None or isinstance(years, Iterable)):
+        told = f"must be a list of whole numbers, for example [2000, 2020]; got {years!r}"
+        raise BadArgument("years", told)
+    found = [] if years is None else list(years)
+    for year in found:
         if not isinstance(year, numbers.Integral) or isinstance(year, bool):
-            raise Refused(f"years= are whole numbers, not {year!r}", status=2)
-        if told.count(year) > 1:
-            raise Refused(f"years= has {year} twice", status=2)
-    if len(told) != maps:
-        raise Refused(
-            f"years= has one year for each map: {maps} maps, and {len(told) or 'no'} years",
-            status=2,
-        )
-    return [int(year) for year in told]
+            raise BadArgument("years", f"must be whole numbers; got {year!r}")
+        if found.count(year) > 1:
+            raise BadArgument("years", f"must differ; got {year} twice")
+    if len(found) != maps:
+        told = f"must have one year for each map; got {len(found) or 'none'} for {maps} maps"
+        raise BadArgument("years", told)
+    return [int(year) for year in found]

@@ -16,6 +16,7 @@ import numpy as np
 from .protocol import NULL
 
 from .arrays import NDArray
+from .area import unit_of
 from .crs import cell_area
 from .errors import Refused
 
@@ -343,10 +344,11 @@ class StatsTable(Table):
         Examples
         --------
         >>> import numpy as np, rcell
-        >>> lc = rcell.Map(np.array([[1, 1, 2]]), transform := (100, 0, 0, 0, -100, 100))
+        >>> lc = rcell.Map(np.array([[1, 1, 2]]), (100, 0, 0, 0, -100, 100), crs="EPSG:25832")
         >>> rcell.run("r.stats -c input=lc", lc=lc).tables[0].with_area("ha").rows
         [(1, 2, 2.0), (2, 1, 1.0)]
         """
+        unit_of(unit, self.crs)
         square_metres, divisor = cell_area(unit, self.cell, self.crs)
         return replace(self, unit=unit, area=self._counted("area=") * square_metres / divisor)
 

@@ -11,7 +11,8 @@ from .protocol import NULL
 
 from .arrays import NDArray
 from .counting import Counts, Maps, places_of
-from .errors import Refused
+from .arguments import check_named_maps
+from .errors import BadArgument
 from .sources import named_once
 from .columns import Column, Table, framed
 
@@ -22,12 +23,12 @@ __all__ = ["composition", "cross"]
 def composition(
     map: Any,
     zones: Any = None,
-    area: str | None = "ha",
+    area: str | None = "auto",
     labels: Any = None,
     zone_labels: Any = None,
     *,
     zone_field: str | None = None,
-    null: bool = False,
+    include_null: bool = False,
     crs: Any = None,
 ) -> Table:
     """Count the cells of each class of a map, with areas and percentages, in total or by zone.
@@ -38,12 +39,13 @@ def composition(
     zones : map, or path of polygons, or GeoDataFrame, optional
         Polygons are rasterised with GDAL: a cell belongs to the polygon that contains its centre.
     area : {"ha", "km2", "m2"} or None
-        The unit of areas; None leaves them out. In degrees, areas are on the ellipsoid of the reference system.
+        The unit of areas; None leaves them out. If it is not given, areas are in hectares if the map's reference system says how long a
+        unit is, and left out if the map has none. In degrees, areas are on the ellipsoid of the reference system.
     labels, zone_labels : path, dict or DataFrame, optional
         A legend that replaces the labels of the map, or of the zones: a CSV `value,label`, a QML, or labels by value.
     zone_field : str, optional
         The field of the polygons with the ids or names of the zones.
-    null : bool
+    include_null : bool
         Whether to add the cells that are null.
     crs : any, optional
         The reference system of maps that have none.
@@ -52,7 +54,7 @@ def composition(
     -------
     pandas.DataFrame
         Columns `zone` and `zone_label` (with zones), `class`, `label` (if there are labels), `cells`, `area_ha`, and `percent` of the
-        non-null cells of the zone.
+        non-null part of the zone: of its area, or without areas of its cells.
 
     Raises
     ------
@@ -63,7 +65,7 @@ def composition(
     --------
     >>> import numpy as np, rcell
     >>> lc = rcell.Map(np.array([[1, 1, 2], [3, 2, 2]]), (100, 0, 0, 0, -100, 200), labels={1: "wood", 2: "water", 3: "town"})
-    >>> rcell.composition(lc)
+    >>> rcell.composition(lc, crs="EPSG:25832")
        class  label  cells  area_ha    percent
     0      1   wood      2      2.0  33.333333
     1      2  water      3      3.0  50.000000
@@ -72,7 +74,7 @@ def composition(
     maps = Maps({"map": map}, crs, zones, zone_field)
     measure = maps.measure(area)
     names = ["map"] if zones is None else ["zones", "map"]
-    found = maps.counts([names], measure, null)[0]
+    found = maps.counts([names], measure, include_null)[0]
     if zones is not None:
         found = found.where(found.classes[:, 0] != NULL)
     columns = maps.columns("class", found.classes[:, -1], "map", labels, "label")
@@ -82,13 +84,14 @@ def composition(
 
 
 def _percent(found: Counts, groups: NDArray[np.int64]) -> NDArray[np.float64]:
-    """Return the percentages of the non-null cells of each group of consecutive rows, NaN for null."""
-    counted = np.where((found.classes == NULL).any(axis=1), 0, found.cells)
+    """Return the percentages of the non-null part of each group of consecutive rows, NaN for null."""
+    is_null = (found.classes == NULL).any(axis=1)
+    counted = np.where(is_null, 0, found.measured())
     if not counted.size:
         return np.empty(0)
     first = places_of(groups)
     totals = np.repeat(np.add.reduceat(counted, first), np.diff([*first, counted.size]))
-    return np.where(counted == 0, np.nan, found.cells * 100.0 / np.maximum(totals, 1))
+    return np.where(is_null, np.nan, counted * 100.0 / np.where(totals == 0, 1, totals))
 
 
 @framed
@@ -96,9 +99,9 @@ def cross(
     maps: Mapping[str, Any] | None = None,
     /,
     *,
-    area: str | None = "ha",
+    area: str | None = "auto",
     labels: Mapping[str, Any] | None = None,
-    null: bool = False,
+    include_null: bool = False,
     crs: Any = None,
     **named: Any,
 ) -> Table:
@@ -109,10 +112,10 @@ def cross(
     maps : mapping, optional
         Maps by name, as in `named`; for names that are parameters of this call.
     area : {"ha", "km2", "m2"} or None
-        The unit of areas; None leaves them out.
+        The unit of areas, as in `composition`.
     labels : mapping, optional
         Legends by the names of the maps, each as in `composition`.
-    null : bool
+    include_null : bool
         Whether to add combinations with null.
     crs : any, optional
         The reference system of maps that have none.
@@ -122,8 +125,8 @@ def cross(
     Returns
     -------
     pandas.DataFrame
-        For each map a column `NAME`, and `NAME_label` if it has labels; then `cells`, `area_ha`, and `percent` of the cells that are
-        null in no map.
+        For each map a column `NAME`, and `NAME_label` if it has labels; then `cells`, `area_ha`, and `percent` of the area, or
+        without areas of the cells, that is null in no map.
 
     Raises
     ------
@@ -134,22 +137,26 @@ def cross(
     --------
     >>> import numpy as np, rcell
     >>> a, b = np.array([[1, 1, 2]]), np.array([[7, 8, 8]])
-    >>> rcell.cross(a=a, b=b, area="m2")
-       a  b  cells  area_m2    percent
-    0  1  7      1      1.0  33.333333
-    1  1  8      1      1.0  33.333333
-    2  2  8      1      1.0  33.333333
+    >>> rcell.cross(a=a, b=b)
+       a  b  cells    percent
+    0  1  7      1  33.333333
+    1  1  8      1  33.333333
+    2  2  8      1  33.333333
     """
+    check_named_maps(maps, named, ("area", "labels", "include_null", "crs"))
     given = named_once(maps, named)
     legends = {} if labels is None else labels
     if not isinstance(legends, Mapping) or set(legends) - set(given):
-        raise Refused(
-            f"labels= of a cross table are by the names of its maps, as {{{next(iter(given), 'a')!r}: \"legend.csv\"}}",
-            status=2,
+        met = (
+            next(iter(set(legends) - set(given)), labels)
+            if isinstance(legends, Mapping)
+            else labels
         )
+        told = f'must be by the names of the maps; got {met!r}: write {{{next(iter(given))!r}: "legend.csv"}}'
+        raise BadArgument("labels", told)
     crossed = Maps(given, crs)
     measure = crossed.measure(area)
-    found = crossed.counts([list(given)], measure, null)[0]
+    found = crossed.counts([list(given)], measure, include_null)[0]
     columns: list[Column] = []
     for place, name in enumerate(given):
         columns += crossed.columns(name, found.classes[:, place], name, legends.get(name))

@@ -12,7 +12,7 @@ import numpy as np
 from .protocol import NULL
 
 from .arrays import NDArray
-from .errors import Refused
+from .errors import BadArgument
 from .legends import labels_of
 from .sources import Source, source_of, sources_of
 from .area import Measure, measure_of
@@ -88,9 +88,7 @@ class Maps:
             first = next(iter(given.values()))
             given["zones"] = source_of("zones", zones_of(zones, zone_field, first, crs))
         elif zone_field is not None:
-            raise Refused(
-                "zone_field= names a field of polygons, and zones= is not given", status=2
-            )
+            raise BadArgument("zone_field", "is for polygons, and zones is not given")
         self.sources: dict[str, Source]
         self.sources, self.crs = sources_of(given, crs, {**maps, "zones": zones})
         self.first = next(iter(self.sources.values()))
@@ -111,10 +109,8 @@ class Maps:
         lines = ["r.mapcalc row = row()"] if rows else []
         for names in tables:
             if len(names) + len(rows) > MOST_MAPS:
-                raise Refused(
-                    f"{len(names)} maps, and a table has at most {MOST_MAPS - len(rows)}{' in degrees' if rows else ''}",
-                    status=2,
-                )
+                most = f"{MOST_MAPS - len(rows)}{' in degrees' if rows else ''}"
+                raise BadArgument("maps", f"must be at most {most}; got {len(names)}")
             lines.append(f"r.stats {flags} input={','.join([*rows, *names])}")
         return [counts_of(values, measure) for values in self.tables("\n".join(lines))]
 
@@ -170,4 +166,4 @@ def label_columns(
             f"labels: no label for {', '.join(map(str, lacking[:_SHOWN]))}{more} of {name}",
             stacklevel=5,
         )
-    return [Column(title, "label", [labels.get(code, "") for code in classes.tolist()])]
+    return [Column(title, "label", [labels.get(code) for code in classes.tolist()])]

@@ -8,7 +8,7 @@ from dataclasses import dataclass
 from typing import Any, Mapping
 
 from .arrays import NDArray
-from .errors import BadMap, MissingLibrary, OtherCrs, Refused
+from .errors import BadArgument, BadMap, MissingLibrary, OtherCrs, Refused
 from .host import option
 
 __all__ = [
@@ -186,9 +186,8 @@ def common_crs(maps: Mapping[str, Any], stated: Any = None, warp: str = "gdalwar
     try:
         common = _checked("arguments", stated)
     except BadMap:
-        raise Refused(
-            f"crs= is no coordinate reference system: {str(stated)[:_SHOWN]!r}", status=2
-        ) from None
+        told = f"must be a coordinate reference system; got {str(stated)[:_SHOWN]!r}"
+        raise BadArgument("crs", told) from None
     systems = {name: _checked(name, crs) for name, crs in maps.items()}
     first = next((name for name, crs in systems.items() if crs is not None), None)
     if first is None:
@@ -270,7 +269,7 @@ def cell_area(unit: str, cell: tuple[float, float], crs: Any) -> tuple[float, fl
     (625.0, 10000.0)
     """
     if unit not in UNITS_OF_AREA:
-        raise Refused(f"area= is one of {', '.join(UNITS_OF_AREA)}, and not {unit!r}", status=2)
+        raise BadArgument("area", f"must be ha, km2, m2 or None; got {unit!r}")
     if is_geographic(crs):
         raise Refused(_BY_ROWS)
     return cell[0] * cell[1] * metres_of_unit(crs) ** 2, UNITS_OF_AREA[unit]

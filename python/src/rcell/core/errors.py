@@ -5,9 +5,11 @@ from __future__ import annotations
 
 from typing import Any
 
+from .host import option
 from .protocol import Fault
 
 __all__ = [
+    "BadArgument",
     "BadMap",
     "Killed",
     "MissingLibrary",
@@ -40,15 +42,47 @@ class RcellError(Exception):
     """
 
 
+class BadArgument(RcellError, ValueError):
+    """An argument of a call is invalid, and nothing was returned.
+
+    Parameters
+    ----------
+    argument : str
+        Its name.
+    reason : str
+        What is wrong, with the value met.
+
+    Examples
+    --------
+    >>> import numpy as np, rcell
+    >>> try:
+    ...     rcell.majority(np.array([[1, 2]]), size=4)
+    ... except rcell.BadArgument as error:
+    ...     print(error, error.argument, sep=" | ")
+    size must be odd, from 3 to 15; got 4 | size
+    """
+
+    source = "arguments"
+
+    def __init__(self, argument: str, reason: str) -> None:
+        super().__init__(argument, reason)
+        self.argument = argument
+        self.reason = reason
+        self.text = f"{option(argument).rstrip('=')} {reason}"
+
+    def __str__(self) -> str:
+        return self.text
+
+
 class Refused(Fault, RcellError):
-    """A map, a script or a request is invalid, and nothing was returned.
+    """A map or a script is invalid, and nothing was returned.
 
     Parameters
     ----------
     text : str
         What is wrong; errors of the program have its own text.
     source : str
-        The name of the map, or `script`, `output` or `arguments`.
+        The name of the map, or `script`, `labels` or `output`.
     line : int
         The line of the source, from 1; 0 if the error belongs to no line.
     status : int

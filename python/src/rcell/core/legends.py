@@ -1,23 +1,34 @@
 # SPDX-License-Identifier: Apache-2.0 OR GPL-2.0-or-later
-"""Legends: labels and colours of classes, from a CSV, a QML, a raster, a dict or a DataFrame."""
+"""Legends: labels and colours of classes, of a CSV or TSV, a style of QGIS, a raster, or in memory."""
 
 from __future__ import annotations
 
 import csv
+import io
 import numbers
 import os
 import re
-import xml.etree.ElementTree as ElementTree
-from typing import Any, Iterable, Mapping, NamedTuple
+from typing import Any, Dict, Iterable, Iterator, List, Mapping, NamedTuple, Optional, Tuple
+from xml.parsers import expat
 
+from .errors import BadArgument, ReadFailed, Refused
 from .files import opened
-from .errors import ReadFailed, Refused
 
-__all__ = ["Legend", "labels_of", "legend_of", "legend_of_qml"]
+__all__ = [
+    "Legend",
+    "labels_of",
+    "legend_of",
+    "legend_of_qml",
+    "is_missing",
+    "rows_of_file",
+    "whole_number",
+]
 
+LARGEST_CLASS = 2_147_483_647
 _COLOR = re.compile(r"#[0-9a-fA-F]{6}")
-_WHOLE = re.compile(r"[+-]?[0-9]+")
 _COLOR_NAMES = ("colour", "color")
+_STYLE, _TEXTS = ".qml", (".csv", ".tsv", ".tab", ".txt", "")
+_UNWRITABLE = "\0"
 
 
 class Legend(NamedTuple):
@@ -30,8 +41,17 @@ class Legend(NamedTuple):
         As `#rrggbb`.
     """
 
-    labels: dict[int, str]
-    colors: dict[int, str]
+    labels: Dict[int, str]
+    colors: Dict[int, str]
+
+
+class Entry(NamedTuple):
+    """A class of a legend, and its place in the legend for errors."""
+
+    place: str
+    value: Any
+    label: Any
+    color: Any
 
 
 def labels_of(given: Any) -> Mapping[int, str]:
@@ -39,7 +59,7 @@ def labels_of(given: Any) -> Mapping[int, str]:
 
     Examples
     --------
-    >>> labels_of({1: "wood"})
+    >>> labels_of({1: "wood", 2: None})
     {1: 'wood'}
     """
     return legend_of(given).labels
@@ -50,137 +70,254 @@ def legend_of(given: Any) -> Legend:
 
     Parameters
     ----------
-    given : path, dict or DataFrame
-        A CSV with the header `value,label[,colour]`, a QML of QGIS, or a raster with labels; a dict of labels by value; a DataFrame
-        with the columns `value`, `label` and optionally `colour`.
+    given : path, dict, Series or DataFrame
+        A CSV or TSV with the columns `value` and `label` and optionally `colour`, a style of QGIS (`.qml`), or a raster with labels;
+        labels by value; a DataFrame with these columns.
 
     Raises
     ------
     Refused
-        A value is not a whole number or occurs twice, a colour is invalid, the header is missing, or the file is empty.
+        A value is not a whole number or occurs twice, a colour is invalid, or the header is missing; with the line.
+    ReadFailed
+        The file cannot be opened.
+    BadArgument
+        It is nothing of this.
     """
     if isinstance(given, (str, os.PathLike)):
         return _of_path(os.fspath(given))
     if isinstance(given, Mapping):
-        return _of_rows((f"{value!r}", (value, label, "")) for value, label in given.items())
+        return _of_entries(Entry(repr(value), value, label, None) for value, label in given.items())
     if hasattr(given, "columns") and hasattr(given, "itertuples"):
-        names = [str(name) for name in given.columns]
-        at = _columns_of(names, f"the columns are {', '.join(names)}")
-        rows = given.itertuples(index=False, name=None)
-        return _of_rows((f"row {number}", _picked(row, at)) for number, row in enumerate(rows, 1))
-    raise _refused(f"is a path, a dict or a DataFrame, not a {type(given).__name__}")
+        return _of_frame(given)
+    if hasattr(given, "items") and hasattr(given, "index"):
+        return _of_entries(Entry(repr(value), value, label, None) for value, label in given.items())
+    raise BadArgument("labels", f"must be a path, a dict, a Series or a DataFrame; got {given!r}")
 
 
 def _of_path(path: str) -> Legend:
-    lower = path.lower()
-    if lower.endswith(".qml"):
+    ending = os.path.splitext(path)[1].lower()
+    if ending == _STYLE:
         return legend_of_qml(path)
-    if lower.endswith((".csv", ".txt")):
-        return _of_csv(path)
+    if ending in _TEXTS:
+        return _of_entries(_entries_of_file(path))
     from .sources import source_of
 
     source = source_of("labels", path)
     if not source.labels:
-        raise _refused(f"{path} has no labels: a legend is a CSV, a QML or a raster with labels")
+        raise _refused(
+            f"{path} has no labels: a legend is a CSV, a TSV, a QML or a raster with labels"
+        )
     return Legend(dict(source.labels), dict(source.colors))
 
 
-def _of_csv(path: str) -> Legend:
+def _entries_of_file(path: str) -> Iterator[Entry]:
+    for place, row in rows_of_file("labels", path, ("value", "label"), _COLOR_NAMES):
+        yield Entry(place, row["value"], row["label"], row.get("colour") or row.get("color"))
+
+
+def _of_frame(frame: Any) -> Legend:
+    titles = [str(name) for name in frame.columns]
+    at = _columns_of("labels", titles, ("value", "label"), "the columns are " + ", ".join(titles))
+    color = next((at[name] for name in _COLOR_NAMES if name in at), None)
+    rows = enumerate(frame.itertuples(index=False, name=None), 1)
+    return _of_entries(
+        Entry(
+            f"row {number}",
+            row[at["value"]],
+            row[at["label"]],
+            None if color is None else row[color],
+        )
+        for number, row in rows
+    )
+
+
+# Texts with a header
+
+
+def rows_of_file(
+    source: str, path: str, needed: Tuple[str, ...], optional: Tuple[str, ...] = ()
+) -> Iterator[Tuple[str, Dict[str, str]]]:
+    """Yield the rows of a CSV or TSV as fields by the titles of its header, each with its place.
+
+    Titles may have any case and order, other columns are ignored, and lines without a field are skipped.
+
+    Raises
+    ------
+    ReadFailed
+        The file cannot be opened.
+    Refused
+        A column is missing, a line is not UTF-8, or has a field too many.
+    """
+    lines = _lines_of(source, path)
+    if not lines:
+        raise Refused(f"{path} is empty", source, status=1)
+    delimiter = "\t" if "\t" in lines[0] else ","
+    rows = csv.reader(lines, delimiter=delimiter)
+    header = next(rows)
+    told = f"line 1 is {lines[0].strip()!r}"
+    if len(header) == 1 and ";" in header[0]:
+        told += ", which is separated by ';': save it with commas"
+    at = _columns_of(source, header, needed, told)
+    wanted = {name: at[name] for name in (*needed, *optional) if name in at}
+    while True:
+        first = rows.line_num + 1
+        try:
+            row = next(rows, None)
+        except csv.Error as error:
+            raise Refused(f"line {first}: {error}", source, status=1) from None
+        if row is None:
+            return
+        if not any(map(str.strip, row)):
+            continue
+        if any(map(str.strip, row[len(header) :])):
+            text = f"{len(row)} fields under a header of {len(header)}"
+            raise Refused(
+                f"line {first}: {text}: put a label with a comma in quotes", source, status=1
+            )
+        yield f"line {first}", {
+            name: row[place] if place < len(row) else "" for name, place in wanted.items()
+        }
+
+
+def _lines_of(source: str, path: str) -> List[str]:
+    """Return the lines of a text in UTF-8."""
     opened(path)
     try:
-        with open(path, encoding="utf-8-sig", newline="") as file:
-            lines = csv.reader(file)
-            header = next(lines, None)
-            if header is None:
-                raise _refused(f"{path} is empty")
-            at = _columns_of(header, f"the first line is {','.join(header)!r}")
-            rows = ((f"line {lines.line_num}", row) for row in lines if row)
-            return _of_rows(
-                (place, _picked(_narrow(place, row, len(header)), at)) for place, row in rows
-            )
-    except (OSError, ValueError, csv.Error) as error:
-        raise ReadFailed(
-            "labels", f"cannot open: {path}: {getattr(error, 'strerror', None) or error}"
-        ) from None
+        with open(path, "rb") as file:
+            content = file.read()
+    except (OSError, ValueError) as error:
+        told = getattr(error, "strerror", None) or error
+        raise ReadFailed(source, f"cannot open: {path}: {told}") from None
+    if content[:2] in (b"\xff\xfe", b"\xfe\xff"):
+        raise Refused(f"{path} is UTF-16: save it as UTF-8 (in Excel: CSV UTF-8)", source, status=1)
+    try:
+        text = content.decode("utf-8-sig")
+    except UnicodeDecodeError as error:
+        line = content.count(b"\n", 0, error.start) + 1
+        cure = "save it as UTF-8 (in Excel: CSV UTF-8), or convert it, for example from Latin-1 with iconv -f latin1 -t utf8"
+        raise Refused(f"line {line} is not UTF-8: {cure}", source, status=1) from None
+    return list(io.StringIO(text, newline=""))
 
 
-def _columns_of(names: list[str], told: str) -> tuple[int, int, int | None]:
-    """Return the indices of the columns value, label and colour."""
-    titles = [name.strip().lower() for name in names]
-    if "value" not in titles or "label" not in titles:
-        raise _refused(f"no header value,label: {told}")
-    color = next((titles.index(name) for name in _COLOR_NAMES if name in titles), None)
-    return titles.index("value"), titles.index("label"), color
+def _columns_of(
+    source: str, titles: List[str], needed: Tuple[str, ...], told: str
+) -> Dict[str, int]:
+    """Return the places of columns by their titles in small letters."""
+    at: Dict[str, int] = {}
+    for place, title in enumerate(titles):
+        at.setdefault(title.strip().lower(), place)
+    if any(name not in at for name in needed):
+        raise Refused(f"no header with {' and '.join(needed)}: {told}", source, status=1)
+    return at
 
 
-def _narrow(place: str, row: list[str], most: int) -> list[str]:
-    """Return a row of a CSV, after checking that no label is cut at a comma."""
-    if any(map(str.strip, row[most:])):
-        raise _refused(
-            f"{place}: {len(row)} fields under a header of {most}: put a label with a comma in quotes"
-        )
-    return row
+# Classes
 
 
-def _picked(row: Any, at: tuple[int, int, int | None]) -> tuple[Any, Any, Any]:
-    value, label, color = (
-        row[place] if place is not None and place < len(row) else "" for place in at
-    )
-    return value, label, color
-
-
-def _of_rows(rows: Iterable[tuple[str, tuple[Any, Any, Any]]]) -> Legend:
-    """Return a legend of values, labels and colours, each with its place for errors."""
+def _of_entries(entries: Iterable[Entry]) -> Legend:
     legend = Legend({}, {})
-    for place, (given, label, color) in rows:
-        value = _whole(place, given)
-        if value in legend.labels:
-            raise _refused(f"{place}: the value {value} is there twice")
-        legend.labels[value] = "" if label is None or label != label else str(label).strip()
-        if isinstance(color, str) and color.strip():
-            if not _COLOR.fullmatch(color.strip()):
-                raise _refused(f"{place}: {color.strip()} is no colour as #rrggbb")
-            legend.colors[value] = color.strip().lower()
+    places: Dict[int, str] = {}
+    for entry in entries:
+        if isinstance(entry.value, str) and not entry.value.strip():
+            raise _refused(f"{entry.place}: a label without a value")
+        value = whole_number(entry.value)
+        if value is None:
+            raise _refused(f"{entry.place}: {entry.value!s} is not a whole number")
+        if abs(value) > LARGEST_CLASS:
+            raise _refused(f"{entry.place}: {value} is beyond {LARGEST_CLASS} either way")
+        if value in places:
+            raise _refused(
+                f"{entry.place}: the value {value} is there twice, first in {places[value]}"
+            )
+        places[value] = entry.place
+        label = _text(entry.label)
+        if _UNWRITABLE in label:
+            raise _refused(f"{entry.place}: a label with the character NUL")
+        if label:
+            legend.labels[value] = label
+        color = _text(entry.color)
+        if color and not _COLOR.fullmatch(color):
+            raise _refused(f"{entry.place}: {color} is not a colour such as #00ff00")
+        if color:
+            legend.colors[value] = color.lower()
     return legend
 
 
-def _whole(place: str, given: Any) -> int:
-    if isinstance(given, str) and _WHOLE.fullmatch(given.strip()):
-        return int(given)
-    if isinstance(given, numbers.Real) and given % 1 == 0:
-        return int(given)
-    raise _refused(f"{place}: {given!s} is no whole number")
+def is_missing(given: Any) -> bool:
+    """Return whether a value is None, NaN or the missing value of pandas."""
+    try:
+        return given is None or bool(given != given)
+    except TypeError:
+        return True
+
+
+def _text(given: Any) -> str:
+    """Return a field as text; empty if it is missing."""
+    return "" if is_missing(given) else str(given).strip()
+
+
+def whole_number(given: Any) -> Optional[int]:
+    """Return the whole number that a text or a number is, or None.
+
+    Examples
+    --------
+    >>> [whole_number(given) for given in (1.0, " +2.00 ", "1e3", "1.5", True, float("nan"), "0x1f")]
+    [1, 2, None, None, None, None, None]
+    """
+    if isinstance(given, str):
+        found = re.fullmatch(r"([+-]?[0-9]+)(\.0*)?", given.strip(), re.ASCII)
+        return int(found[1]) if found else None
+    if isinstance(given, bool) or not isinstance(given, numbers.Real):
+        return None
+    return int(given) if given - given == 0 and given == int(given) else None
+
+
+# Styles of QGIS
 
 
 def legend_of_qml(path: str) -> Legend:
-    """Return the legend of a QGIS style: the entries of a palette, or the items of a colour ramp."""
+    """Return the legend of a style of QGIS: the entries of a palette, or the items of a colour ramp.
+
+    Raises
+    ------
+    ReadFailed
+        The file cannot be opened.
+    Refused
+        It is not a style, it declares entities, or the value of a class is not a whole number.
+    """
+    palette: List[Entry] = []
+    ramp: List[Entry] = []
+    parser = expat.ParserCreate()
+    above: List[str] = []
+
+    def begin(tag: str, fields: Dict[str, str]) -> None:
+        place = f"line {parser.CurrentLineNumber}"
+        entry = Entry(place, fields.get("value", ""), fields.get("label"), fields.get("color"))
+        if tag == "paletteEntry":
+            palette.append(entry)
+        elif tag == "item" and above[-1:] == ["colorrampshader"]:
+            ramp.append(entry)
+        above.append(tag)
+
+    def refuse(name: str, *_: Any) -> None:
+        raise _refused(f"{path} declares the entity {name}: styles have no entities")
+
+    parser.StartElementHandler = begin
+    parser.EndElementHandler = lambda tag: above.pop()
+    parser.EntityDeclHandler = refuse
     opened(path)
     try:
-        root = ElementTree.parse(path).getroot()
+        with open(path, "rb") as file:
+            parser.ParseFile(file)
     except (OSError, ValueError) as error:
-        raise ReadFailed(
-            "labels", f"cannot open: {path}: {getattr(error, 'strerror', None) or error}"
-        ) from None
-    except ElementTree.ParseError as error:
-        raise _refused(f"{path} is no style of QGIS: {error}") from None
-    entries = root.findall(".//paletteEntry") or root.findall(".//colorrampshader/item")
-    if not entries:
-        raise _refused(f"{path} has no entries of a palette")
-    kept = (entry for entry in entries if _is_whole(entry.get("value", "")))
-    return _of_rows(
-        (
-            f"value {entry.get('value')}",
-            (float(entry.get("value", "")), entry.get("label", ""), entry.get("color", "")),
-        )
-        for entry in kept
-    )
-
-
-def _is_whole(text: str) -> bool:
-    try:
-        return float(text).is_integer()
-    except ValueError:
-        return False
+        told = getattr(error, "strerror", None) or error
+        raise ReadFailed("labels", f"cannot open: {path}: {told}") from None
+    except expat.ExpatError as error:
+        told = expat.errors.messages[error.code]
+        raise _refused(f"{path} is not a style of QGIS: line {error.lineno}: {told}") from None
+    if not palette and not ramp:
+        raise _refused(f"{path} has no classes: neither a palette nor a colour ramp")
+    return _of_entries(palette or ramp)
 
 
 def _refused(text: str) -> Refused:

@@ -8,7 +8,7 @@ import numbers
 from typing import Any
 
 from .scripts import grids_of, run_of
-from .errors import Refused
+from .errors import BadArgument
 from ..raster import Grid
 from .sources import source_of
 
@@ -41,7 +41,9 @@ def majority(map: Any, size: int = 3, fill: bool = False, *, crs: Any = None) ->
     Raises
     ------
     Refused
-        As for `run`, and if the size is even or out of range.
+        As for `run`.
+    BadArgument
+        The size is even or out of range.
 
     Examples
     --------
@@ -50,7 +52,7 @@ def majority(map: Any, size: int = 3, fill: bool = False, *, crs: Any = None) ->
     [[1, 2, 2], [1, 2, 2]]
     """
     if not isinstance(size, numbers.Integral) or size not in SIZES:
-        raise Refused(f"size= is odd, {SIZES[0]} to {SIZES[-1]}, not {size!r}", status=2)
+        raise BadArgument("size", f"must be odd, from {SIZES[0]} to {SIZES[-1]}; got {size!r}")
     source = source_of("map", map)
     [found] = grids_of(
         run_of(majority_script(int(size), fill), {"map": source}, crs=crs), ["majority"]

@@ -3,8 +3,7 @@
 
 from __future__ import annotations
 
-import numbers
-import warnings
+import math
 from typing import Any, Iterable
 
 import numpy as np
@@ -13,11 +12,12 @@ from .protocol import NULL
 
 from .arrays import NDArray
 from .counting import Maps, places_of
-from .errors import Refused
-from .area import Measure, metres
+from .arguments import check_connectivity, classes_of, whole_number_of
+from .area import Measure
+from .host import warn
 from .columns import Column, Table, framed
 
-__all__ = ["check_connectivity", "patches"]
+__all__ = ["patches"]
 
 MOST_CORE_DEPTH = 20
 # Of the sides of a cell on the border of its patch, up to two are ends (north, south) and up to two are flanks (west, east).
@@ -30,10 +30,10 @@ Integers = NDArray[np.int64]
 def patches(
     map: Any,
     connectivity: int = 4,
-    area: str | None = "ha",
+    area: str | None = "auto",
     zones: Any = None,
     classes: Iterable[int] | None = None,
-    least: int | None = None,
+    min_cells: int | None = None,
     core_depth: int = 1,
     *,
     labels: Any = None,
@@ -49,12 +49,12 @@ def patches(
     connectivity : {4, 8}
         4 connects cells that share an edge, 8 also cells that share a corner.
     area : {"ha", "km2", "m2"} or None
-        The unit of areas; None leaves them out and adds `core_cells`.
+        The unit of areas, as in `composition`. Without areas there is a column `core_cells`.
     zones : map, or path of polygons, or GeoDataFrame, optional
         As in `composition`. A patch gets the zone with most of its cells; ties go to the smaller zone.
     classes : iterable of int, optional
         Lists only patches of these classes. Patches keep their numbers.
-    least : int, optional
+    min_cells : int, optional
         Lists only patches with at least so many cells. Patches keep their numbers.
     core_depth : int
         A cell is in the core if all cells within so many steps, across edges, are in its patch.
@@ -70,17 +70,19 @@ def patches(
     pandas.DataFrame
         Columns `patch`, `class`, `label`, `cells`, `area_ha`, `perimeter_m`, `core_ha`, `west`, `south`, `east`, `north`, and with zones
         `zone` and `zone_label`. The perimeter includes sides to other patches, to null and along the map's edge; in degrees it is NaN,
-        with a warning.
+        with a warning, and so it is without a reference system.
 
     Raises
     ------
     Refused
-        As for `run`, and for arguments out of range.
+        As for `run`.
+    BadArgument
+        An argument is out of range.
 
     Examples
     --------
     >>> import numpy as np, rcell
-    >>> lc = rcell.Map(np.array([[5, 5, 7, 5]]), (10, 0, 0, 0, -10, 10))
+    >>> lc = rcell.Map(np.array([[5, 5, 7, 5]]), (10, 0, 0, 0, -10, 10), crs="EPSG:25832")
     >>> rcell.patches(lc, area="m2").iloc[:, :5]
        patch  class  cells  area_m2  perimeter_m
     0      1      5      2    200.0         60.0
@@ -88,41 +90,30 @@ def patches(
     2      3      5      1    100.0         40.0
     """
     check_connectivity(connectivity)
-    if not (isinstance(core_depth, numbers.Integral) and 1 <= core_depth <= MOST_CORE_DEPTH):
-        raise Refused(f"core_depth= is from 1 to {MOST_CORE_DEPTH}, not {core_depth!r}", status=2)
-    if isinstance(classes, (str, bytes)):
-        raise Refused(
-            f"classes= is a list of whole numbers, as [31, 32], not {classes!r}", status=2
-        )
-    listed = None if classes is None else [_class_of(one) for one in classes]
+    depth = whole_number_of("core_depth", core_depth, 1, MOST_CORE_DEPTH)
+    fewest = 1 if min_cells is None else whole_number_of("min_cells", min_cells, 1)
+    listed = classes_of(classes)
     maps = Maps({"map": map}, crs, zones, zone_field)
     measure = maps.measure(area)
-    if measure.is_geographic:
-        warnings.warn("perimeters are not computed in degrees", stacklevel=3)
+    if measure.metres is not None and math.isnan(measure.metres):
+        warn("lengths are not computed in degrees")
     by_row = measure.by_row is not None
-    tables = maps.tables(_script(connectivity, listed, core_depth, zones is not None, by_row))
+    tables = maps.tables(_script(connectivity, listed, depth, zones is not None, by_row))
     sides, core, by_rows, by_cols = tables[:4]
-    found = _Patches(sides, least or 0)
+    found = _Patches(sides, fewest)
     columns = [
         Column("patch", "class", found.numbers),
         *maps.columns("class", found.classes, "map", labels, "label"),
         Column("cells", "count", found.cells),
     ]
-    columns += _areas(found, measure, by_rows if by_row else None, core)
-    columns.insert(
-        -1,
-        Column("perimeter_m", "measure", found.perimeter(maps.first.transform, metres(maps.crs))),
-    )
+    unit = math.nan if measure.metres is None else measure.metres
+    perimeter = Column("perimeter_m", "measure", found.perimeter(maps.first.transform, unit))
+    areas = _areas(found, measure, by_rows if by_row else None, core)
+    columns += [*areas[:-1], perimeter, areas[-1]]
     columns += found.extents(by_rows, by_cols, maps.first.transform)
     if zones is not None:
         columns += maps.columns("zone", found.zones(tables[4]), "zones", zone_labels)
     return Table(columns)
-
-
-def check_connectivity(connectivity: Any) -> None:
-    """Raise Refused unless a connectivity is 4 or 8."""
-    if connectivity not in (4, 8) or isinstance(connectivity, bool):
-        raise Refused(f"connectivity= is 4 or 8, not {connectivity!r}", status=2)
 
 
 def _script(
@@ -168,13 +159,13 @@ class _Patches:
     ----------
     sides : array of int64
         Patch, class, sides on the border of the patch, and cells.
-    least : int
+    fewest : int
     """
 
-    def __init__(self, sides: Integers, least: int) -> None:
+    def __init__(self, sides: Integers, fewest: int) -> None:
         first = places_of(sides[:, 0])
         cells = np.add.reduceat(sides[:, 3], first) if first.size else np.empty(0, np.int64)
-        kept = cells >= least
+        kept = cells >= fewest
         self.numbers, self.classes, self.cells = (
             sides[first[kept], 0],
             sides[first[kept], 1],
@@ -257,9 +248,3 @@ def _areas(
         Column(f"{name}_{measure.unit}", "measure", values)
         for name, values in zip(("area", "core"), areas)
     ]
-
-
-def _class_of(given: Any) -> int:
-    if isinstance(given, numbers.Real) and given == given and given == int(given):
-        return int(given)
-    raise Refused(f"classes= are whole numbers, not {given!r}", status=2)

@@ -9,7 +9,8 @@ from typing import Any, Iterable, Mapping, overload
 
 from .protocol import Statement
 
-from .errors import Refused
+from .arguments import check_named_maps, check_script
+from .errors import BadArgument, Refused
 from ..raster import Grid
 from .sources import Source, named_once, sources_of
 from .programs import Output, execute, planned
@@ -80,6 +81,10 @@ class Result(Sequence["StatsTable | Grid"]):
         return f"<Result: {told or 'no output'}>"
 
 
+# The words of the calls that take maps by name.
+WORDS = ("area", "percent", "pivot", "crs")
+
+
 class _Run:
     """A script over maps, and what its results need to know of them."""
 
@@ -90,6 +95,8 @@ class _Run:
         named: Mapping[str, Any],
         crs: Any = None,
     ) -> None:
+        check_script(script)
+        check_named_maps(maps, named, WORDS)
         self.script = script
         self.sources: dict[str, Source]
         self.sources, self.crs = sources_of(named_once(maps, named), crs)
@@ -211,7 +218,7 @@ def table(
         As in `run`.
     area : {"m2", "ha", "km2"}, optional
         Adds a column of areas. A map in degrees is an error, since the area of a cell differs from row to row: `composition` and
-        `cross` weigh the rows. A map without a reference system is taken to be in metres.
+        `cross` weigh the rows. So is a map without a reference system.
     percent : bool
         Adds a column of percentages of all cells of the table.
     pivot : bool
@@ -324,7 +331,8 @@ def outputs_with(of: _Run, names: Sequence[str]) -> list[StatsTable | Grid]:
     """Return the outputs of a run, and after them some of its maps."""
     for name in names:
         if name not in of.sources and name not in of.made:
-            raise Refused(
-                f"no map {name}: there are {', '.join([*of.sources, *of.made])}", status=2
+            known = ", ".join([*of.sources, *of.made])
+            raise BadArgument(
+                "name", f"must be a map of the script; got {name!r}, and there are {known}"
             )
     return of.outputs(wanted=names)

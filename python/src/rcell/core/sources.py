@@ -19,7 +19,7 @@ from .protocol import NULL
 
 from .arrays import ArrayLike, NDArray
 from .crs import common_crs
-from .errors import BadMap, OtherRegion, Refused
+from .errors import BadArgument, BadMap, OtherRegion
 from .labels import checked_labels
 from .masked import as_bools, data_of, is_masked_array, mask_of
 from .region import Region, Shift, Transform, six_numbers
@@ -543,13 +543,13 @@ _NAME = re.compile(r"[A-Za-z_][A-Za-z0-9_.]{0,63}")
 
 
 def check_names(names: Iterable[str]) -> None:
-    """Raise Refused for the first text that cannot be the name of a map."""
+    """Raise BadArgument for the first text that cannot be the name of a map."""
     for name in names:
         if not (isinstance(name, str) and _NAME.fullmatch(name)):
             better = re.sub(r"[^A-Za-z0-9_.]", "_", str(name))[:64]
             better = better if _NAME.fullmatch(better) else f"m_{better[:60]}"
-            told = f"{name!r} is not a name for a map: 1 to 64 letters, digits, _ and ., a letter or _ first; write {better}"
-            raise Refused(told, status=2)
+            told = f"must have names of 1 to 64 letters, digits, _ and ., a letter or _ first; got {name!r}: write {better}"
+            raise BadArgument("maps", told)
 
 
 def named_once(maps: Any, named: Mapping[str, Any]) -> dict[str, Any]:
@@ -560,7 +560,7 @@ def named_once(maps: Any, named: Mapping[str, Any]) -> dict[str, Any]:
         maps = variables_of(maps)
     twice = set(maps or {}) & set(named)
     if twice:
-        raise Refused(f"the map {min(twice)} is given twice", status=2)
+        raise BadArgument("maps", f"must be given once; got {min(twice)} twice")
     return {**(maps or {}), **named}
 
 
@@ -585,7 +585,7 @@ def sources_of(
         The region of a map differs from the first; the text says which edges differ, by how much, and how to align it.
     """
     if not maps:
-        raise Refused('no map is given: name them, as lc="landcover.tif"', status=2)
+        raise BadArgument("maps", 'must be given by name, for example a="a.tif"; got none')
     check_names(maps)
     sources = {name: source_of(name, given) for name, given in maps.items()}
     common = common_crs({name: source.crs for name, source in sources.items()}, crs)

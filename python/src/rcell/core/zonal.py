@@ -10,7 +10,7 @@ import numpy as np
 
 from .arrays import NDArray
 from .counting import Maps, places_of
-from .errors import Refused
+from .errors import BadArgument
 from .columns import Column, Table, framed
 
 __all__ = ["zonal"]
@@ -54,7 +54,9 @@ def zonal(
     Raises
     ------
     Refused
-        As for `run`, and if a quantile is not from 0 to 1.
+        As for `run`.
+    BadArgument
+        A quantile is not from 0 to 1.
 
     Examples
     --------
@@ -65,6 +67,9 @@ def zonal(
     0     1      2  827  413.5      412      415      2.25  413.5
     1     2      1  420  420.0      420      420      0.00  420.0
     """
+    if isinstance(quantiles, str) or not isinstance(quantiles, Iterable):
+        told = f"must be a list of numbers from 0 to 1, for example [0.5]; got {quantiles!r}"
+        raise BadArgument("quantiles", told)
     asked = [(_title(quantile), float(quantile)) for quantile in quantiles]
     maps = Maps({"values": values}, crs, zones, zone_field)
     entries = maps.tables("r.stats -c -n input=zones,values")[0]
@@ -85,7 +90,7 @@ def _title(quantile: Any) -> str:
         number = -1.0
     percentage = Decimal(repr(number)) * 100
     if not 0 <= number <= 1:
-        raise Refused(f"quantiles= are from 0 to 1, not {quantile!r}", status=2)
+        raise BadArgument("quantiles", f"must be from 0 to 1; got {quantile!r}")
     text = f"{percentage:f}"
     return "q" + (text.rstrip("0").rstrip(".") if "." in text else text).replace(".", "_")
 

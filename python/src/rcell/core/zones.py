@@ -14,7 +14,7 @@ import numpy as np
 from .arrays import NDArray
 from .crs import common_crs
 from .files import opened
-from .errors import BadMap, ReadFailed, Refused
+from .errors import BadArgument, BadMap, ReadFailed, Refused
 from .libraries import need
 from .region import Transform
 from .sources import MAX_CATEGORY, ArrayMap, Source
@@ -145,7 +145,7 @@ def zones_of(given: Any, field: str | None, like: Source, crs: Any = None) -> An
     polygons = _polygons(given, field)
     if polygons is None:
         if field is not None:
-            raise Refused("zone_field= names a field of polygons, and zones= is a raster", status=2)
+            raise BadArgument("zone_field", "is for polygons, and zones is a raster")
         return given
     common_crs({"map": like.crs, "zones": polygons.crs}, crs, "ogr2ogr")
     if not polygons.shapes:

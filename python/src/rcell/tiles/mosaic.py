@@ -17,7 +17,7 @@ import numpy as np
 from ..core.files import check_output
 from ..core.protocol import NULL
 
-from ..core.errors import RcellError, Refused
+from ..core.errors import BadArgument, RcellError, Refused
 from ..core.joiner import check_files, find_joiner
 from ..core.sources import named_once
 from ..core.patches import check_connectivity
@@ -131,7 +131,7 @@ def open_mosaic(
     """
     given = named_once(maps, named)
     if size is not None and min(np.atleast_1d(size)) < 1:
-        raise Refused(f"a tile has at least one row and one column, not {size}", status=2)
+        raise BadArgument("size", f"must be at least 1 row and 1 column; got {size}")
     mosaic = Mosaic(
         open_maps(given, crs),
         (size, size) if isinstance(size, int) else size,
@@ -480,7 +480,9 @@ class Mosaic:
 
     def _file(self, name: str) -> MapFile | MapCells:
         if name not in self._files:
-            raise Refused(f"no map {name}: there are {', '.join(self._files)}", status=2)
+            raise BadArgument(
+                "name", f"must be a map; got {name!r}, and there are {', '.join(self._files)}"
+            )
         return self._files[name]
 
     def _refuse_inputs(self, path: str | os.PathLike[str] | None) -> None:
