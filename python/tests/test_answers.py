@@ -2,6 +2,7 @@
 
 from __future__ import annotations
 
+import importlib
 import os
 import pathlib
 import subprocess
@@ -14,7 +15,7 @@ from hypothesis import given, settings
 from hypothesis import strategies as st
 
 import rcell
-from rcell.core import labels as labels_of_files
+from rcell.core.labels import write_labels
 
 from .conftest import LAND, TRANSFORM
 
@@ -151,7 +152,6 @@ def test_a_geotiff_has_all_that_the_map_has(tmp_path: pathlib.Path) -> None:
         assert (dataset.dtypes, dataset.nodata, dataset.crs.to_epsg()) == (("uint8",), 255, 32632)
         assert tuple(dataset.transform)[:6] == TRANSFORM
         assert dataset.read(1, masked=True).tolist() == grid.array.tolist()
-    assert labels_of_files.read_labels(path, 1) == NAMES
     again = rcell.grid("", "lc", lc=path)
     assert (again.array.tolist(), again.labels, again.transform) == (
         grid.array.tolist(),
@@ -194,26 +194,44 @@ def test_a_large_geotiff_is_tiled(tmp_path: pathlib.Path) -> None:
         assert dataset.profile["tiled"] and dataset.read_masks(1).max() == 0
 
 
-@pytest.mark.parametrize("with_gdal", [True, False])
 @pytest.mark.parametrize("labels", [NAMES, {-5: "below", 100_000: "far", 3: "ä & <b>"}])
-def test_labels_with_and_without_gdal(
-    raster: Write, monkeypatch: pytest.MonkeyPatch, labels: dict[int, str], with_gdal: bool
-) -> None:
-    if not with_gdal:
-        monkeypatch.setattr(labels_of_files, "has", lambda library: False)
+def test_labels_are_written_where_gdal_reads_them(raster: Write, labels: dict[int, str]) -> None:
     path = raster(LAND)
-    if with_gdal:
-        pytest.importorskip("osgeo")
-        labels_of_files.write_labels(path, labels)
+    assert write_labels(path, labels) == f"{path}.aux.xml"
+    assert rcell.grid("", "m", m=path).labels == labels
+    gdal = pytest.importorskip("osgeo.gdal")
+    dataset = gdal.Open(path)
+    table = dataset.GetRasterBand(1).GetDefaultRAT()
+    names = dataset.GetRasterBand(1).GetRasterCategoryNames()
+    read = [table.GetValueAsString(row, 1) for row in range(3)] if table else names
+    assert set(labels.values()) <= set(read)
+    assert write_labels(path, {}) is None
+
+
+@pytest.mark.parametrize("library", ["rasterio", "gdal"])
+@pytest.mark.parametrize("driver", ["GTiff", "HFA"])
+@pytest.mark.parametrize("has_table", [False, True])
+def test_labels_of_files_are_read_alike_by_both_libraries(
+    tmp_path: pathlib.Path, library: str, driver: str, has_table: bool
+) -> None:
+    gdal = pytest.importorskip("osgeo.gdal")
+    path = str(tmp_path / ("map.tif" if driver == "GTiff" else "map.img"))
+    dataset = gdal.GetDriverByName(driver).Create(path, 2, 1, 1, gdal.GDT_Byte)
+    band = dataset.GetRasterBand(1)
+    if has_table:
+        table = gdal.RasterAttributeTable()
+        table.CreateColumn("Value", gdal.GFT_Integer, gdal.GFU_MinMax)
+        table.CreateColumn("Class_Name", gdal.GFT_String, gdal.GFU_Name)
+        table.SetRowCount(3)
+        for row, name in enumerate(["", "wood", "ä & <b>"]):
+            table.SetValueAsInt(row, 0, row)
+            table.SetValueAsString(row, 1, name)
+        band.SetDefaultRAT(table)
     else:
-        with pytest.warns(UserWarning, match="labels are in .*map.tif.aux.xml"):
-            labels_of_files.write_labels(path, labels)
-    assert labels_of_files.read_labels(path, 1) == labels
-    monkeypatch.undo()
-    assert labels_of_files.read_labels(path, 1) == labels, "as GDAL reads them"
-    assert labels_of_files._read_beside(path, 1) == labels
-    assert labels_of_files.write_labels(path, {}) is None
-    assert labels_of_files._read_beside(path, 2) == {}
+        band.SetRasterCategoryNames(["", "wood", "ä & <b>"])
+    del band, dataset
+    reader = importlib.import_module(f"rcell.readers.{library}")
+    assert reader.open_raster("m", path).labels == {1: "wood", 2: "ä & <b>"}
 
 
 def test_no_half_written_geotiff(tmp_path: pathlib.Path, monkeypatch: pytest.MonkeyPatch) -> None:

@@ -8,12 +8,14 @@ import pathlib
 import subprocess
 import sys
 import time
+import xml.etree.ElementTree as ElementTree
 from typing import Any, Callable
 
 import numpy as np
 import pytest
 
 import rcell
+from rcell.core.labels import legend_of_band
 
 from .conftest import LAND, TRANSFORM
 
@@ -216,14 +218,11 @@ def test_labels_that_no_file_can_hold_are_not_written(tmp_path: pathlib.Path) ->
     }
 
 
-def test_labels_of_what_is_no_category_are_left_out(
-    tmp_path: pathlib.Path, raster: Write, monkeypatch: pytest.MonkeyPatch
-) -> None:
+def test_labels_of_what_is_no_category_are_left_out() -> None:
     flags = data_array(
         attrs={"flag_values": [1.0, 1.5, np.nan, 2.0**31, -3.0], "flag_meanings": "a b c d e"}
     )
     assert rcell.grid("", "m", m=flags).labels == {1: "a", -3: "e"}
-    path = raster(LAND)
     rows = "".join(
         f"<Row><F>{value}</F><F>{value}</F></Row>"
         for value in ("1", "nan", "1e400", "x", "3000000000", "1.5")
@@ -235,11 +234,8 @@ def test_labels_of_what_is_no_category_are_left_out(
     table = (
         f"<GDALRasterAttributeTable>{fields}{rows}<Row><F>2</F></Row></GDALRasterAttributeTable>"
     )
-    pathlib.Path(f"{path}.aux.xml").write_text(
-        f"<PAMDataset><PAMRasterBand band='1'>{table}</PAMRasterBand></PAMDataset>"
-    )
-    monkeypatch.setattr("rcell.core.labels.has", lambda name: name != "osgeo")
-    assert rcell.grid("", "m", m=path).labels == {1: "1"}
+    band = ElementTree.fromstring(f"<VRTRasterBand>{table}</VRTRasterBand>")
+    assert legend_of_band(band, "map.tif").labels == {1: "1"}
 
 
 def test_chunks_of_unknown_size_are_refused() -> None:
@@ -420,7 +416,7 @@ def test_a_reference_system_that_is_not_understood_is_refused(
     with pytest.raises(rcell.Refused, match="in degrees the area of a cell differs"):
         rcell.table(SCRIPT, m=compound, area="ha")
     modules: dict[str, Any] = sys.modules
-    for name in ("pyproj", "gdal"):
+    for name in ("pyproj", "osr"):
         monkeypatch.setitem(modules, f"rcell.readers.{name}", None)
     other = rcell.Map([[1, 1]], (1, 0, 10, 0, -1, 50), "EPSG:4267")
     assert rcell.run(SCRIPT, m=other)[0].rows == [(1, 2)]
@@ -446,7 +442,7 @@ def test_a_reference_system_that_is_not_understood_is_refused(
         ("EPSG:25832", "EPSG:32632", False),
     ],
 )
-@pytest.mark.parametrize("library", ["pyproj", "gdal"])
+@pytest.mark.parametrize("library", ["pyproj", "osr"])
 def test_reference_systems_are_the_same_whatever_their_spelling(
     library: str, one: str, other: str, is_same: bool
 ) -> None:
@@ -463,7 +459,7 @@ def test_reference_systems_are_the_same_whatever_their_spelling(
         ('LOCAL_CS["site",UNIT["metre",1]]', "local"),
     ],
 )
-@pytest.mark.parametrize("library", ["pyproj", "gdal"])
+@pytest.mark.parametrize("library", ["pyproj", "osr"])
 def test_systems_without_a_plane_have_no_areas(library: str, crs: str, kind: str) -> None:
     assert importlib.import_module(f"rcell.readers.{library}").crs_of(crs).kind == kind
     with pytest.raises(rcell.Refused, match=f"cells have no area in a {kind} reference system"):

@@ -27,6 +27,7 @@ NEEDS = {
 
 MODULES = {
     "rcell.readers.gdal": ("osgeo",),
+    "rcell.readers.osr": ("osgeo",),
     "rcell.readers.pyproj": ("pyproj",),
     "rcell.xarray": ("xarray", "distributed"),
 }

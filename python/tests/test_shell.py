@@ -17,7 +17,7 @@ import pytest
 
 import rcell
 from rcell import shell
-from rcell.core import labels as labels_of_files
+from rcell.core.labels import write_labels
 from rcell.__main__ import main
 
 from .conftest import LAND
@@ -35,7 +35,7 @@ def said(capfdbinary: Any) -> tuple[str, str]:
 
 def test_composition(raster: Write, capfdbinary: Any, tmp_path: pathlib.Path) -> None:
     path = raster(LAND, nodata=0)
-    labels_of_files.write_labels(path, NAMES)
+    write_labels(path, NAMES)
     assert main(["composition", path]) == 0
     assert said(capfdbinary)[0].splitlines() == [
         "class,label,cells,area_ha,percent",

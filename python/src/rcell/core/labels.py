@@ -1,9 +1,5 @@
 # SPDX-License-Identifier: Apache-2.0 OR GPL-2.0-or-later
-"""Labels of the categories of a raster: GDAL's category names and its attribute tables.
-
-rasterio has no call for them. GDAL's own Python (`osgeo`) reads and writes them if it is installed; without it they are
-read from and written to the file `.aux.xml` next to the raster, where GDAL keeps them.
-"""
+"""Labels and colours of the categories of a raster: GDAL's category names, attribute tables, colour tables, and styles of QGIS."""
 
 from __future__ import annotations
 
@@ -11,21 +7,23 @@ import contextlib
 import numbers
 import os
 import re
-import warnings
 import xml.etree.ElementTree as ElementTree
-from typing import Any, Mapping
-
-from . import attributes
-from .protocol import NULL
+from collections.abc import Iterable, Mapping, Sequence
+from typing import Any, Optional
 
 from .errors import BadMap, RcellError
 from .legends import Legend, legend_of_qml
-from .libraries import has, need
+from .protocol import NULL
 
-__all__ = ["checked_labels", "read_labels", "read_legend", "write_labels"]
+__all__ = ["checked_labels", "flags_of", "legend_of_band", "write_labels"]
 
 # Columns of attribute tables, in GDAL's numbers.
+_INTEGER, _TEXT = 0, 2
+_USAGE_NAME, _USAGE_VALUE = 2, 5
+_VALUE_USAGES = (_USAGE_VALUE, 3)
 _USAGES_RGB = (6, 7, 8)
+# Category names are a list from 0 on. For larger or negative categories, an attribute table is smaller.
+_MOST_NAMES = 1 << 16
 # NUL, and lone surrogates.
 _UNWRITABLE = re.compile("[\0\ud800-\udfff]")
 
@@ -65,37 +63,44 @@ def checked_labels(name: str, labels: Any) -> dict[int, str]:
     return {int(category): label for category, label in labels.items()}
 
 
-def read_labels(path: str, band: int) -> dict[int, str]:
-    """Return the labels of a band of a raster; empty if it has none.
-
-    Examples
-    --------
-    >>> read_labels("/nowhere.tif", 1)
-    {}
-    """
-    return _read_by_gdal(path, band) if has("osgeo") else _read_beside(path, band)
-
-
-def read_legend(path: str, dataset: Any, band: int) -> Legend:
-    """Return the labels and colours of a band of an open raster.
+def legend_of_band(band: ElementTree.Element, path: str) -> Legend:
+    """Return the labels and colours of a band of a raster, from GDAL's description of the raster as a VRT.
 
     Labels are category names, the names of an attribute table, CF's `flag_meanings`, or a style of QGIS next to the raster;
     colours are from a colour table, an attribute table, or the style.
+
+    Parameters
+    ----------
+    band : Element
+        The element `VRTRasterBand`.
+    path : str
+        The path of the raster.
+
+    Examples
+    --------
+    >>> names = "<CategoryNames><Category/><Category>wood</Category></CategoryNames>"
+    >>> legend_of_band(ElementTree.fromstring(f"<VRTRasterBand>{names}</VRTRasterBand>"), "lc.tif").labels
+    {1: 'wood'}
     """
-    style = Legend({}, {})
-    beside = os.path.splitext(path)[0] + ".qml"
-    if os.path.isfile(beside):
-        with contextlib.suppress(RcellError):  # a style of another kind is no legend
-            style = legend_of_qml(beside)
-    tags = dataset.tags(band)
+    table = _Attributes.of(band)
+    tags = {tag.get("key"): tag.text for tag in band.findall("Metadata/MDI")}
+    names = [name.text or "" for name in band.findall("CategoryNames/Category")]
+    style = _style_beside(path)
     labels = (
-        read_labels(path, band)
+        {category: name for category, name in enumerate(names) if name}
+        or table.labels()
         or flags_of(tags.get("flag_values"), tags.get("flag_meanings"))
         or style.labels
     )
-    return Legend(
-        labels, _color_table(dataset, band, labels) or _attribute_colors(path, band) or style.colors
-    )
+    return Legend(labels, _color_table(band, labels) or table.colors() or style.colors)
+
+
+def _style_beside(path: str) -> Legend:
+    beside = os.path.splitext(path)[0] + ".qml"
+    if os.path.isfile(beside):
+        with contextlib.suppress(RcellError):  # a style of another kind is no legend
+            return legend_of_qml(beside)
+    return Legend({}, {})
 
 
 def flags_of(values: Any, meanings: Any) -> dict[int, str]:
@@ -114,53 +119,97 @@ def flags_of(values: Any, meanings: Any) -> dict[int, str]:
         else list(values)
     )
     words = str(meanings).split() if meanings else []
-    return attributes.labels_of_rows(zip(codes, words)) if len(codes) == len(words) else {}
+    return _labels_of_rows(zip(codes, words)) if len(codes) == len(words) else {}
 
 
-def _color_table(dataset: Any, band: int, labels: Mapping[int, str]) -> dict[int, str]:
+def _color_table(band: ElementTree.Element, labels: Mapping[int, str]) -> dict[int, str]:
     """Return the colours of a colour table; black means that a category has no colour."""
-    try:
-        table = dataset.colormap(band)
-    except ValueError:
-        return {}
+    colors = [
+        [int(entry.get(f"c{place}", "0")) for place in (1, 2, 3)]
+        for entry in band.findall("ColorTable/Entry")
+    ]
     return {
-        code: "#%02x%02x%02x" % rgba[:3]
-        for code, rgba in table.items()
-        if code in labels or any(rgba[:3])
+        code: "#" + bytes(color).hex()
+        for code, color in enumerate(colors)
+        if code in labels or any(color)
     }
 
 
-def _attribute_colors(path: str, band: int) -> dict[int, str]:
-    """Return the colours of an attribute table, read with GDAL's Python."""
-    if not has("osgeo"):
-        return {}
-    gdal = need("osgeo.gdal", "gis", "to read colours")
-    with _Exceptions(gdal):
-        try:
-            opened = gdal.Open(path)  # the table is gone when the dataset is
-        except RuntimeError:
+class _Attributes:
+    """The attribute table of a band; empty if it has none."""
+
+    def __init__(self, usages: list[int], titles: list[str], rows: list[list[str]]) -> None:
+        self.usages = usages
+        self.titles = titles
+        self.rows = [row for row in rows if len(row) == len(usages)]
+
+    @classmethod
+    def of(cls, band: ElementTree.Element) -> _Attributes:
+        """Return the attribute table of a band."""
+        table = band.find("GDALRasterAttributeTable")
+        if table is None:
+            return cls([], [], [])
+        fields = table.findall("FieldDefn")
+        return cls(
+            [_category_of(field.findtext("Usage", "0")) or 0 for field in fields],
+            [field.findtext("Name", "") for field in fields],
+            [[cell.text or "" for cell in row.findall("F")] for row in table.findall("Row")],
+        )
+
+    def _column(self, usages: Sequence[int], titles: Sequence[str]) -> Optional[int]:
+        """Return the first column with one of some usages, or else with a usual title."""
+        for place, usage in enumerate(self.usages):
+            if usage in usages:
+                return place
+        for place, title in enumerate(self.titles):
+            if title.lower() in titles:
+                return place
+        return None
+
+    def labels(self) -> dict[int, str]:
+        """Return the names of its values."""
+        value = self._column(_VALUE_USAGES, ("value",))
+        name = self._column(
+            (_USAGE_NAME,), ("class_name", "class_names", "name", "label", "category")
+        )
+        if value is None or name is None:
             return {}
-        table = opened.GetRasterBand(band).GetDefaultRAT()
-    if table is None:
-        return {}
-    places = range(table.GetColumnCount())
-    usages = [table.GetUsageOfCol(at) for at in places]
-    value = attributes.columns_of(usages, [table.GetNameOfCol(at) for at in places])[0]
-    if value is None or not set(_USAGES_RGB) <= set(usages):
-        return {}
-    columns = [usages.index(usage) for usage in _USAGES_RGB]
-    rows = (
-        [
-            table.GetValueAsString(row, value),
-            "#" + bytes(table.GetValueAsInt(row, at) & 255 for at in columns).hex(),
-        ]
-        for row in range(table.GetRowCount())
-    )
-    return attributes.labels_of_rows(rows)
+        return _labels_of_rows((row[value], row[name]) for row in self.rows)
+
+    def colors(self) -> dict[int, str]:
+        """Return the colours of its values."""
+        value = self._column(_VALUE_USAGES, ("value",))
+        if value is None or not set(_USAGES_RGB) <= set(self.usages):
+            return {}
+        places = [self.usages.index(usage) for usage in _USAGES_RGB]
+        return _labels_of_rows(
+            (row[value], "#" + bytes((_category_of(row[at]) or 0) & 255 for at in places).hex())
+            for row in self.rows
+        )
+
+
+def _labels_of_rows(rows: Iterable[Sequence[Any]]) -> dict[int, str]:
+    """Return labels by category, from pairs of a number or its text and a label.
+
+    Examples
+    --------
+    >>> _labels_of_rows([("1", "wood"), ("1.5", "heath"), ("2", "")])
+    {1: 'wood'}
+    """
+    pairs = ((_category_of(number), label) for number, label in rows)
+    return {category: label for category, label in pairs if category is not None and label}
+
+
+def _category_of(number: Any) -> Optional[int]:
+    """Return the category that a number is or a text spells, or None."""
+    with contextlib.suppress(TypeError, ValueError, OverflowError):
+        if float(number).is_integer() and abs(float(number)) < -NULL:
+            return int(float(number))
+    return None
 
 
 def write_labels(path: str, labels: Mapping[int, str]) -> str | None:
-    """Write the labels of the first band of a raster.
+    """Write the labels of the first band of a raster to the file `.aux.xml` next to it, where GDAL keeps them.
 
     Parameters
     ----------
@@ -171,22 +220,25 @@ def write_labels(path: str, labels: Mapping[int, str]) -> str | None:
     Returns
     -------
     str or None
-        The file next to the raster that now has them.
+        The file that now has them; None if there are no labels.
 
     Raises
     ------
     OSError
-        Where they could not be written whole.
+        They could not be written completely.
     """
     if not labels:
         return None
-    if has("osgeo"):
-        _write_by_gdal(path, labels)
-    else:
-        _write_beside(path, labels)
     beside = path + ".aux.xml"
-    if not os.path.exists(beside):
-        return None
+    root = _root_of(beside)
+    band = ElementTree.SubElement(root, "PAMRasterBand", band="1")
+    if min(labels) >= 0 and max(labels) < _MOST_NAMES:
+        names = ElementTree.SubElement(band, "CategoryNames")
+        for category in range(max(labels) + 1):
+            ElementTree.SubElement(names, "Category").text = labels.get(category, "")
+    else:
+        _put_table(band, labels)
+    ElementTree.ElementTree(root).write(beside, encoding="utf-8")
     try:
         ElementTree.parse(beside)
     except ElementTree.ParseError as error:
@@ -194,111 +246,23 @@ def write_labels(path: str, labels: Mapping[int, str]) -> str | None:
     return beside
 
 
-# With GDAL
-
-
-def _quiet_gdal() -> Any:
-    return need("osgeo.gdal", "gis", "to read labels")
-
-
-class _Exceptions:
-    """GDAL's exceptions for a while, the setting of the process put back after it."""
-
-    def __init__(self, gdal: Any) -> None:
-        self._gdal, self._were_used = gdal, bool(gdal.GetUseExceptions())
-
-    def __enter__(self) -> None:
-        self._gdal.UseExceptions()
-
-    def __exit__(self, *_: object) -> None:
-        if not self._were_used:
-            self._gdal.DontUseExceptions()
-
-
-def _read_by_gdal(path: str, band: int) -> dict[int, str]:
-    gdal = _quiet_gdal()
-    with _Exceptions(gdal):
-        try:
-            dataset = gdal.Open(path)
-        except RuntimeError:
-            return {}
-        return attributes.labels_of_band(dataset.GetRasterBand(band))
-
-
-def _write_by_gdal(path: str, labels: Mapping[int, str]) -> None:
-    gdal = _quiet_gdal()
-    with _Exceptions(gdal):
-        dataset = gdal.Open(os.fsencode(path))  # as text it may only be UTF-8
-        attributes.put_labels(gdal, dataset.GetRasterBand(1), labels)
-        dataset.FlushCache()
-
-
-# In a file next to the raster
-
-
-def _bands_beside(path: str) -> ElementTree.Element | None:
-    for candidate in (path + ".aux.xml", path):
-        try:
-            root = ElementTree.parse(candidate).getroot()
-        except (OSError, ElementTree.ParseError, ValueError):
-            continue
-        if root.tag in ("PAMDataset", "VRTDataset"):
+def _root_of(beside: str) -> ElementTree.Element:
+    """Return what a file next to a raster has already."""
+    with contextlib.suppress(OSError, ElementTree.ParseError):
+        root = ElementTree.parse(beside).getroot()
+        if root.tag == "PAMDataset":
             return root
-    return None
+    return ElementTree.Element("PAMDataset")
 
 
-def _read_beside(path: str, band: int) -> dict[int, str]:
-    root = _bands_beside(path)
-    if root is None:
-        return {}
-    for element in [*root.findall("PAMRasterBand"), *root.findall("VRTRasterBand")]:
-        if element.get("band") == str(band):
-            names = [name.text or "" for name in element.findall("CategoryNames/Category")]
-            if any(names):
-                return {category: name for category, name in enumerate(names) if name}
-            table = element.find("GDALRasterAttributeTable")
-            return {} if table is None else _labels_of_element(table)
-    return {}
-
-
-def _labels_of_element(table: ElementTree.Element) -> dict[int, str]:
-    fields = table.findall("FieldDefn")
-    usages = [attributes.category_of(field.findtext("Usage", "0")) or 0 for field in fields]
-    value, name = attributes.columns_of(usages, [field.findtext("Name", "") for field in fields])
-    if value is None or name is None:
-        return {}
-    rows = [[cell.text or "" for cell in row.findall("F")] for row in table.findall("Row")]
-    return attributes.labels_of_rows(
-        (row[value], row[name]) for row in rows if max(value, name) < len(row)
-    )
-
-
-def _write_beside(path: str, labels: Mapping[int, str]) -> None:
-    root = _bands_beside(path)
-    if root is None or root.tag != "PAMDataset":
-        root = ElementTree.Element("PAMDataset")
-    band = ElementTree.SubElement(root, "PAMRasterBand", band="1")
-    if attributes.fit_names(labels):
-        names = ElementTree.SubElement(band, "CategoryNames")
-        for name in attributes.names_of(labels):
-            ElementTree.SubElement(names, "Category").text = name
-    else:
-        table = ElementTree.SubElement(band, "GDALRasterAttributeTable", tableType="thematic")
-        for at, (title, kind, usage) in enumerate(
-            [
-                ("Value", attributes.INTEGER, attributes.USAGE_VALUE),
-                ("Class_Name", attributes.TEXT, attributes.USAGE_NAME),
-            ]
-        ):
-            field = ElementTree.SubElement(table, "FieldDefn", index=str(at))
-            for tag, text in (("Name", title), ("Type", str(kind)), ("Usage", str(usage))):
-                ElementTree.SubElement(field, tag).text = text
-        for at, (category, label) in enumerate(sorted(labels.items())):
-            row = ElementTree.SubElement(table, "Row", index=str(at))
-            ElementTree.SubElement(row, "F").text = str(category)
-            ElementTree.SubElement(row, "F").text = label
-    ElementTree.ElementTree(root).write(path + ".aux.xml", encoding="utf-8")
-    warnings.warn(
-        f"GDAL's Python is not installed: the labels are in {path}.aux.xml, which GDAL reads",
-        stacklevel=4,
-    )
+def _put_table(band: ElementTree.Element, labels: Mapping[int, str]) -> None:
+    table = ElementTree.SubElement(band, "GDALRasterAttributeTable", tableType="thematic")
+    columns = [("Value", _INTEGER, _USAGE_VALUE), ("Class_Name", _TEXT, _USAGE_NAME)]
+    for place, (title, kind, usage) in enumerate(columns):
+        field = ElementTree.SubElement(table, "FieldDefn", index=str(place))
+        for tag, text in (("Name", title), ("Type", str(kind)), ("Usage", str(usage))):
+            ElementTree.SubElement(field, tag).text = text
+    for place, (category, label) in enumerate(sorted(labels.items())):
+        row = ElementTree.SubElement(table, "Row", index=str(place))
+        ElementTree.SubElement(row, "F").text = str(category)
+        ElementTree.SubElement(row, "F").text = label

@@ -139,7 +139,7 @@ def open_path(name: str, path: str | os.PathLike[str]) -> Source:
 
 
 def _raster(name: str, path: str) -> Source:
-    from ..readers.rasterio import open_raster
+    from ..readers import open_raster
 
     return open_raster(name, path)
 

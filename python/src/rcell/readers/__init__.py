@@ -10,8 +10,30 @@ from ..core.errors import MissingLibrary
 
 if TYPE_CHECKING:
     from ..core.crs import Crs
+    from ..core.sources import Source
 
-__all__ = ["crs_of"]
+__all__ = ["crs_of", "open_raster"]
+
+
+def open_raster(name: str, path: str) -> Source:
+    """Return a file that rasterio opens as a map, or that GDAL's own Python opens without rasterio.
+
+    Raises
+    ------
+    ReadFailed
+        It cannot be opened.
+    BadMap
+        It cannot be a map.
+    MissingLibrary
+    """
+    for library in ("rasterio", "gdal"):
+        try:
+            module = importlib.import_module(f".{library}", __name__)
+        except ImportError:
+            continue
+        source: Source = module.open_raster(name, path)
+        return source
+    raise MissingLibrary("rasterio", "gis", "to read a raster")
 
 
 def crs_of(text: str) -> Crs:
@@ -23,7 +45,7 @@ def crs_of(text: str) -> Crs:
         The text is not understood.
     MissingLibrary
     """
-    for name in ("pyproj", "gdal"):
+    for name in ("pyproj", "osr"):
         try:
             module = importlib.import_module(f".{name}", __name__)
         except ImportError:

@@ -1,122 +1,318 @@
 # SPDX-License-Identifier: Apache-2.0 OR GPL-2.0-or-later
-"""Reference systems of GDAL's own Python, osgeo."""
+"""Rasters that GDAL's own Python opens, as maps: they are read in blocks of rows, never as a whole."""
 
 from __future__ import annotations
 
-import contextlib
+import functools
 import math
-from collections.abc import Iterator
-from dataclasses import dataclass
-from typing import Any
+import xml.etree.ElementTree as ElementTree
+from collections.abc import Iterator, Mapping, Sequence
+from dataclasses import dataclass, field, replace
+from typing import Any, Optional
 
 import numpy as np
-from osgeo import gdal, osr
+from osgeo import gdal, gdal_array
 
-from ..core.arrays import NDArray
-from ..core.crs import CONFIDENCE, Crs
+from ..core.errors import BadMap, ReadFailed
+from ..core.files import opened
+from ..core.labels import legend_of_band
+from ..core.legends import Legend
+from ..core.region import Region, Transform, check_upright
+from ..core.sources import (
+    BLOCK_CELLS,
+    Block,
+    Cells,
+    Mask,
+    checked,
+    in_region,
+    is_converted,
+    nodata_of,
+    type_of,
+)
+from .osr import quiet
 
-__all__ = ["OsrCrs", "crs_of", "quiet"]
+__all__ = ["RasterMap", "open_dataset", "open_raster"]
 
-
-@contextlib.contextmanager
-def quiet() -> Iterator[None]:
-    """Silence GDAL's messages on standard error in this thread; its exceptions stay as others have set them."""
-    gdal.PushErrorHandler("CPLQuietErrorHandler")
-    try:
-        yield
-    finally:
-        gdal.PopErrorHandler()
-
-
-# Reference systems
-
-_EXCEPT_AXES = [
-    "IGNORE_DATA_AXIS_TO_SRS_AXIS_MAPPING=YES",
-    "CRITERION=EQUIVALENT_EXCEPT_AXIS_ORDER_GEOGCRS",
-]
-
-
-@dataclass(frozen=True, eq=False)
-class OsrCrs(Crs):
-    """A reference system of osr."""
-
-    system: Any
-
-    def is_equal(self, other: Crs) -> bool:
-        """Return whether osr holds it equal to another one, whatever the order of their axes."""
-        assert isinstance(other, OsrCrs)
-        with quiet():
-            return bool(self.system.IsSame(other.system, _EXCEPT_AXES))
-
-    def points(
-        self, to: Crs, x: NDArray[Any], y: NDArray[Any]
-    ) -> tuple[NDArray[Any], NDArray[Any]]:
-        """Return points in another system; what lies outside of it is not finite."""
-        assert isinstance(to, OsrCrs)
-        with quiet():
-            change = osr.CoordinateTransformation(self.system, to.system)
-            moved = np.array(change.TransformPoints(np.column_stack([x.ravel(), y.ravel()])))
-        return moved[:, 0].reshape(x.shape), moved[:, 1].reshape(x.shape)
+# Ranges of values that are null, both ends included.
+Ranges = Sequence[tuple[float, float]]
 
 
-def crs_of(text: str) -> OsrCrs:
-    """Return the reference system of a text.
+def open_dataset(name: str, path: str) -> Any:
+    """Return an open dataset.
 
     Raises
     ------
-    ValueError
-        The text is not understood.
+    ReadFailed
+        The dataset cannot be opened.
     """
-    system = osr.SpatialReference()
+    gdal.ErrorReset()
+    try:
+        with quiet():
+            dataset = gdal.Open(path)
+        text = gdal.GetLastErrorMsg()
+    except RuntimeError as error:
+        dataset, text = None, str(error)
+    if dataset is None:
+        raise ReadFailed(name, f"cannot open: {text or path}")
+    opened(*dataset.GetFileList() or [])
+    return dataset
+
+
+def open_raster(
+    name: str,
+    path: str,
+    band: Optional[int] = None,
+    null_ranges: Ranges = (),
+    uses_nodata: bool = True,
+) -> RasterMap:
+    """Return a band of a raster as a map; without a band, the raster must have only one.
+
+    Parameters
+    ----------
+    name, path, band
+    null_ranges : sequence of pairs of float
+        Further values that are null, from and to.
+    uses_nodata : bool
+        Whether the nodata value of the file is null.
+
+    Raises
+    ------
+    ReadFailed
+        The raster cannot be opened.
+    BadMap
+        The raster has several bands, scaled values, a rotated transform, or control points instead of a transform.
+    """
+    dataset = open_dataset(name, path)
     with quiet():
-        try:
-            is_known = system.SetFromUserInput(text) == 0
-        except RuntimeError:
-            is_known = False
-    if not is_known:
-        raise ValueError(f"not a reference system: {text}")
-    system.SetAxisMappingStrategy(osr.OAMS_TRADITIONAL_GIS_ORDER)
-    kind = _kind_of(system)
-    is_geographic = kind == "geographic"
-    inverse = system.GetInvFlattening() if is_geographic else 0.0
-    unit = system.GetAngularUnits() if is_geographic else math.nan
-    title = system.GetName() or ""
-    return OsrCrs(
-        wkt=str(system.ExportToWkt(["FORMAT=WKT2_2019"])),
-        codes=_codes_of(system),
-        title="" if title in ("unknown", "unnamed") else title,
-        kind=kind,
-        unit=system.GetLinearUnits() if kind == "projected" else unit,
-        ellipsoid=(
-            system.GetSemiMajor() if is_geographic else math.nan,
-            1 / inverse if inverse else 0.0 if is_geographic else math.nan,
-        ),
-        system=system,
+        return _map_of(name, path, dataset, band, null_ranges, uses_nodata)
+
+
+def _map_of(
+    name: str,
+    path: str,
+    dataset: Any,
+    band: Optional[int],
+    null_ranges: Ranges,
+    uses_nodata: bool,
+) -> RasterMap:
+    layer = dataset.GetRasterBand(_only_band(name, dataset) if band is None else band)
+    if layer is None:
+        count = dataset.RasterCount
+        raise BadMap(name, f"has {count} band{'' if count == 1 else 's'}, and no band {band}")
+    _check_values(name, layer)
+    transform, is_upside_down = _upright(name, dataset)
+    rows, cols = dataset.RasterYSize, dataset.RasterXSize
+    system = dataset.GetSpatialRef()
+    dtype = _dtype_of(layer)
+    alpha = next((at for at in _alphas(dataset) if at != layer.GetBand()), None)
+    masks = (0, gdal.GMF_PER_DATASET, gdal.GMF_PER_DATASET | gdal.GMF_NODATA)
+    return RasterMap(
+        name=name,
+        path=path,
+        band=layer.GetBand(),
+        region=in_region(name, Region.from_transform, transform, rows, cols),
+        transform=transform,
+        crs=None if system is None else system.ExportToWkt(["FORMAT=WKT2_2019"]),
+        file_type=dtype,
+        file_nodata=layer.GetNoDataValue() if uses_nodata else None,
+        null_ranges=tuple(null_ranges),
+        has_mask=layer.GetMaskFlags() in masks,
+        alpha=alpha,
+        is_upside_down=is_upside_down,
+        block_rows=layer.GetBlockSize()[1],
+        files=tuple(dataset.GetFileList() or ()),
     )
 
 
-def _kind_of(system: Any) -> str:
-    if system.IsGeographic():
-        return "geographic"
-    if system.IsProjected():
-        return "projected"
-    if system.IsGeocentric():
-        return "geocentric"
-    return "vertical" if system.IsVertical() else "local"
+@dataclass(frozen=True)
+class RasterMap:
+    """A band of a raster as a map; made by `open_raster`.
 
+    Attributes
+    ----------
+    name, path, band
+    region : Region
+    transform : tuple of six float
+        With its rows from north to south.
+    crs : str or None
+    file_type : numpy type
+    file_nodata : float, int or None
+    null_ranges : tuple of pairs of float
+    has_mask : bool
+        Whether the band has a mask of its own, or one for all bands.
+    alpha : int or None
+        The band that marks transparent cells, which are null.
+    is_upside_down : bool
+        Whether its rows go from south to north in the file.
+    block_rows : int
+    files : tuple of str
+    legend : Legend, optional
+        Labels and colours in place of the labels and colours of the file.
+    """
 
-def _codes_of(system: Any) -> tuple[str, ...]:
-    """Return the codes that a system surely has, as it names them itself first."""
-    codes = [(system.GetAuthorityName(None), system.GetAuthorityCode(None))]
-    with quiet():
+    name: str
+    path: str
+    band: int
+    region: Region
+    transform: Transform
+    crs: Optional[str]
+    file_type: np.dtype[Any]
+    file_nodata: Optional[float]
+    null_ranges: tuple[tuple[float, float], ...]
+    has_mask: bool
+    alpha: Optional[int]
+    is_upside_down: bool
+    block_rows: int
+    files: tuple[str, ...]
+    legend: Legend = field(default_factory=lambda: Legend({}, {}))
+
+    def with_labels(self, labels: Mapping[int, str]) -> RasterMap:
+        """Return the map with other labels."""
+        return replace(self, legend=Legend(dict(labels), self.legend.colors))
+
+    @property
+    def dtype(self) -> np.dtype[Any]:
+        """The type of its blocks."""
+        return type_of(self.file_type)
+
+    @property
+    def nodata(self) -> int | None:
+        """The value of its blocks that is null."""
+        return nodata_of(self.file_type, self.file_nodata)
+
+    @property
+    def is_masked(self) -> bool:
+        """Whether its blocks have masks."""
+        is_masked = self.has_mask or self.alpha is not None or bool(self.null_ranges)
+        return is_masked and not is_converted(self.file_type)
+
+    @property
+    def labels(self) -> Mapping[int, str]:
+        """Labels of its categories."""
+        return self.legend.labels or self._legend_of_file.labels
+
+    @property
+    def colors(self) -> Mapping[int, str]:
+        """Colours of its categories."""
+        return self.legend.colors or self._legend_of_file.colors
+
+    @functools.cached_property
+    def _legend_of_file(self) -> Legend:
+        dataset = open_dataset(self.name, self.path)
+        with quiet():
+            described = gdal.GetDriverByName("VRT").CreateCopy("", dataset, 0)
+            text = described.GetMetadata("xml:VRT")[0]
+        bands = ElementTree.fromstring(text).findall("VRTRasterBand")
+        return legend_of_band(bands[self.band - 1], self.path)
+
+    def blocks(self) -> Iterator[Block]:
+        """Yield the rows from north to south, in blocks that fit the blocks of the file.
+
+        Raises
+        ------
+        ReadFailed
+            A part of the file is broken.
+        BadMap
+            A cell is not a whole number in range.
+        """
+        rows, cols = self.region.shape
+        step = max(1, BLOCK_CELLS // cols)
+        step = max(step - step % self.block_rows, min(step, self.block_rows))
+        dataset = open_dataset(self.name, self.path)
+        for row in range(0, rows, step):
+            count = min(step, rows - row)
+            cells, null = self._read(dataset, row, count)
+            yield checked(self.name, cells, null, self.file_nodata, row)
+
+    def _read(self, dataset: Any, row: int, rows: int) -> tuple[Cells, Optional[Mask]]:
+        """Return some rows, and which of their cells a mask, transparency or a range makes null."""
+        top = self.region.rows - row - rows if self.is_upside_down else row
+        bands = [dataset.GetRasterBand(self.band)]
+        if self.has_mask:
+            bands.append(bands[0].GetMaskBand())
+        if self.alpha is not None:
+            bands.append(dataset.GetRasterBand(self.alpha))
+        gdal.ErrorReset()
         try:
-            matches = system.FindMatches() or []
-        except RuntimeError:
-            matches = []
-    codes += [
-        (match.GetAuthorityName(None), match.GetAuthorityCode(None))
-        for match, confidence in matches
-        if confidence >= CONFIDENCE
+            with quiet():
+                read = [band.ReadAsArray(0, top, self.region.cols, rows) for band in bands]
+            text = gdal.GetLastErrorMsg()
+        except RuntimeError as error:
+            read, text = [None], str(error)
+        if any(cells is None for cells in read):
+            told = f"rows {row + 1} to {row + rows} cannot be read: {text or self.path}"
+            raise ReadFailed(self.name, told)
+        cells, *masks = [part[::-1] for part in read] if self.is_upside_down else read
+        nulls = [mask == 0 for mask in masks]
+        nulls += [_within(cells, low, high) for low, high in self.null_ranges]
+        return cells, np.logical_or.reduce(nulls) if nulls else None
+
+
+def _within(cells: Cells, low: float, high: float) -> Mask:
+    """Return where cells are in a range: by whole numbers, since floats do not have all of 64 bits."""
+    if cells.dtype.kind in "iu":
+        limits = np.iinfo(cells.dtype)
+        if low > limits.max or high < limits.min:
+            return np.zeros(cells.shape, np.bool_)
+        low = math.ceil(low) if low > limits.min else int(limits.min)
+        high = math.floor(high) if high < limits.max else int(limits.max)
+        if low > high:
+            return np.zeros(cells.shape, np.bool_)
+    return (cells >= low) & (cells <= high)
+
+
+def _alphas(dataset: Any) -> list[int]:
+    """Return the bands that mark transparent cells."""
+    bands = range(1, dataset.RasterCount + 1)
+    return [
+        band
+        for band in bands
+        if dataset.GetRasterBand(band).GetColorInterpretation() == gdal.GCI_AlphaBand
     ]
-    named = [f"{register}:{code}" for register, code in codes if register and code]
-    return tuple(dict.fromkeys(named))
+
+
+def _only_band(name: str, dataset: Any) -> int:
+    """Return the only band that is not an alpha band."""
+    alphas = _alphas(dataset)
+    bands = [band for band in range(1, dataset.RasterCount + 1) if band not in alphas]
+    if len(bands) != 1:
+        raise BadMap(name, f"has {len(bands)} bands: choose one")
+    return bands[0]
+
+
+def _check_values(name: str, band: Any) -> None:
+    """Raise BadMap if the values of a band are scaled, or complex."""
+    scale, offset = band.GetScale(), band.GetOffset()
+    if scale not in (None, 1.0) or offset not in (None, 0.0):
+        told = f"each cell times {1.0 if scale is None else scale:g}, plus {offset or 0.0:g}"
+        raise BadMap(name, f"its values are scaled: {told}; write them out as whole numbers first")
+    if gdal.DataTypeIsComplex(band.DataType):
+        kind = gdal.GetDataTypeName(band.DataType)
+        raise BadMap(name, f"not a map of whole numbers: its cells are of the type {kind}")
+
+
+def _dtype_of(band: Any) -> np.dtype[Any]:
+    # Before its version 3.7, GDAL has no type for bytes with a sign, and marks them; their cells come with the sign.
+    if band.GetMetadataItem("PIXELTYPE", "IMAGE_STRUCTURE") == "SIGNEDBYTE":
+        return np.dtype(np.int8)
+    return np.dtype(gdal_array.GDALTypeCodeToNumericTypeCode(band.DataType))
+
+
+def _upright(name: str, dataset: Any) -> tuple[Transform, bool]:
+    """Return the transform with rows from north to south, and whether the file has them the other way.
+
+    Without a transform, cells have side 1 and the bottom left corner is at 0, 0.
+    """
+    rows = dataset.RasterYSize
+    given = dataset.GetGeoTransform(can_return_null=True)
+    if given is None:
+        if dataset.GetGCPCount():
+            raise BadMap(name, "has ground control points and no transform: warp it first")
+        return (1.0, 0.0, 0.0, 0.0, -1.0, float(rows)), False
+    west, width, b, north, d, height = given
+    is_upside_down = height > 0 and not b and not d
+    if is_upside_down:
+        north, height = north + height * rows, -height
+    transform = (width, b, west, d, height, north)
+    check_upright(name, transform)
+    return transform, is_upside_down

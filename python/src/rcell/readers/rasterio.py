@@ -15,7 +15,7 @@ import numpy as np
 
 from ..core.files import opened
 from ..core.errors import BadMap, RcellError, ReadFailed
-from ..core.labels import read_legend
+from ..core.labels import legend_of_band
 from ..core.legends import Legend
 from ..core.libraries import need
 from ..core.sources import (
@@ -169,16 +169,30 @@ class Layer:
         )
 
 
+def _described(dataset: Any) -> ElementTree.Element:
+    """Return GDAL's description of a raster as a VRT, which says what rasterio does not."""
+    with need("rasterio.io", "gis", _PURPOSE).MemoryFile(ext=".vrt") as memory:
+        need("rasterio.shutil", "gis", _PURPOSE).copy(dataset, memory.name, driver="VRT")
+        return ElementTree.fromstring(memory.read())
+
+
+def _band_of(dataset: Any, band: int) -> ElementTree.Element:
+    return _described(dataset).findall("VRTRasterBand")[band - 1]
+
+
 def _of_64_bits(dataset: Any, band: int) -> tuple[str, int | None]:
-    """Return the exact type and nodata value of a band of 64 bits, from GDAL's description of the raster as a VRT.
+    """Return the exact type and nodata value of a band of 64 bits.
 
     rasterio itself has nodata as a float, and before 1.4 swaps the two 64-bit types.
     """
-    with need("rasterio.io", "gis", _PURPOSE).MemoryFile(ext=".vrt") as memory:
-        need("rasterio.shutil", "gis", _PURPOSE).copy(dataset, memory.name, driver="VRT")
-        layer = ElementTree.fromstring(memory.read()).findall("VRTRasterBand")[band - 1]
+    layer = _band_of(dataset, band)
     nodata = layer.findtext("NoDataValue")
     return str(layer.get("dataType")).lower(), None if nodata is None else int(nodata)
+
+
+def legend_of_file(path: str, band: int) -> Legend:
+    """Return the labels and colours of a band of a file."""
+    return legend_of_band(_band_of(open_dataset(path, path), band), path)
 
 
 @dataclass(frozen=True)
@@ -263,7 +277,7 @@ class RasterMap:
 
     @functools.cached_property
     def _legend(self) -> Legend:
-        return read_legend(self.labels_path, self.dataset, self.layer.band)
+        return legend_of_band(_band_of(self.dataset, self.layer.band), self.labels_path)
 
     def blocks(self) -> Iterator[Block]:
         """Yield the rows from north to south, in blocks that fit the blocks of the file."""
@@ -331,7 +345,7 @@ def upright(name: str, dataset: Any) -> tuple[Transform, bool]:
         The transform is rotated, has columns from east to west, or is given by control points.
     """
     a, b, c, d, e, f = transform = six_numbers(name, dataset.transform)
-    if transform == _IDENTITY:
+    if transform == _IDENTITY and _described(dataset).find("GeoTransform") is None:
         if dataset.gcps[0]:
             raise BadMap(name, "has ground control points and no transform: warp it first")
         return (1.0, 0.0, 0.0, 0.0, -1.0, float(dataset.height)), False

@@ -15,11 +15,17 @@ from ..core.edges import differences_of
 
 from ..core.crs import common_crs, wkt_of
 from ..core.errors import BadMap, OtherRegion
-from ..core.labels import read_labels
 from ..core.libraries import need
 from ..core.sources import ArrayMap, check_computed, check_names, checked, nodata_of
 from ..core.masked import unmasked
-from ..readers.rasterio import Layer, only_band, open_dataset, told_of_reading, upright
+from ..readers.rasterio import (
+    Layer,
+    legend_of_file,
+    only_band,
+    open_dataset,
+    told_of_reading,
+    upright,
+)
 from ..core.region import Region, Transform, edges_of_transform, units_of
 from ..readers.xarray import flat_of, is_lazy, variables_of
 from .joining import Rectangle
@@ -201,7 +207,7 @@ class Maps:
         """Return the labels that a map has."""
         file = self.files[name]
         return (
-            read_labels(file.path, file.layer.band)
+            legend_of_file(file.path, file.layer.band).labels
             if isinstance(file, MapFile)
             else self.labels[name]
         )

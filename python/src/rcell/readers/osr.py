@@ -1,0 +1,120 @@
+# SPDX-License-Identifier: Apache-2.0 OR GPL-2.0-or-later
+"""Reference systems of GDAL's own Python."""
+
+from __future__ import annotations
+
+import contextlib
+import math
+from collections.abc import Iterator
+from dataclasses import dataclass
+from typing import Any
+
+import numpy as np
+from osgeo import gdal, osr
+
+from ..core.arrays import NDArray
+from ..core.crs import CONFIDENCE, Crs
+
+__all__ = ["OsrCrs", "crs_of", "quiet"]
+
+
+@contextlib.contextmanager
+def quiet() -> Iterator[None]:
+    """Silence GDAL's messages on standard error in this thread; its exceptions stay as others have set them."""
+    gdal.PushErrorHandler("CPLQuietErrorHandler")
+    try:
+        yield
+    finally:
+        gdal.PopErrorHandler()
+
+
+_EXCEPT_AXES = [
+    "IGNORE_DATA_AXIS_TO_SRS_AXIS_MAPPING=YES",
+    "CRITERION=EQUIVALENT_EXCEPT_AXIS_ORDER_GEOGCRS",
+]
+
+
+@dataclass(frozen=True, eq=False)
+class OsrCrs(Crs):
+    """A reference system of osr."""
+
+    system: Any
+
+    def is_equal(self, other: Crs) -> bool:
+        """Return whether osr holds it equal to another one, whatever the order of their axes."""
+        assert isinstance(other, OsrCrs)
+        with quiet():
+            return bool(self.system.IsSame(other.system, _EXCEPT_AXES))
+
+    def points(
+        self, to: Crs, x: NDArray[Any], y: NDArray[Any]
+    ) -> tuple[NDArray[Any], NDArray[Any]]:
+        """Return points in another system; what lies outside of it is not finite."""
+        assert isinstance(to, OsrCrs)
+        with quiet():
+            change = osr.CoordinateTransformation(self.system, to.system)
+            moved = np.array(change.TransformPoints(np.column_stack([x.ravel(), y.ravel()])))
+        return moved[:, 0].reshape(x.shape), moved[:, 1].reshape(x.shape)
+
+
+def crs_of(text: str) -> OsrCrs:
+    """Return the reference system of a text.
+
+    Raises
+    ------
+    ValueError
+        The text is not understood.
+    """
+    system = osr.SpatialReference()
+    with quiet():
+        try:
+            is_known = system.SetFromUserInput(text) == 0
+        except RuntimeError:
+            is_known = False
+    if not is_known:
+        raise ValueError(f"not a reference system: {text}")
+    system.SetAxisMappingStrategy(osr.OAMS_TRADITIONAL_GIS_ORDER)
+    kind = _kind_of(system)
+    is_geographic = kind == "geographic"
+    inverse = system.GetInvFlattening() if is_geographic else 0.0
+    unit = system.GetAngularUnits() if is_geographic else math.nan
+    title = system.GetName() or ""
+    return OsrCrs(
+        wkt=str(system.ExportToWkt(["FORMAT=WKT2_2019"])),
+        codes=_codes_of(system),
+        title="" if title in ("unknown", "unnamed") else title,
+        kind=kind,
+        unit=system.GetLinearUnits() if kind == "projected" else unit,
+        ellipsoid=(
+            system.GetSemiMajor() if is_geographic else math.nan,
+            1 / inverse if inverse else 0.0 if is_geographic else math.nan,
+        ),
+        system=system,
+    )
+
+
+def _kind_of(system: Any) -> str:
+    if system.IsGeographic():
+        return "geographic"
+    if system.IsProjected():
+        return "projected"
+    if system.IsGeocentric():
+        return "geocentric"
+    return "vertical" if system.IsVertical() else "local"
+
+
+def _codes_of(system: Any) -> tuple[str, ...]:
+    """Return the codes that a system surely has, as it names them itself first."""
+    codes = [(system.GetAuthorityName(None), system.GetAuthorityCode(None))]
+    with quiet():
+        try:
+            matches = system.FindMatches() or []
+        except RuntimeError:
+            matches = []
+    codes += [
+        (match.GetAuthorityName(None), match.GetAuthorityCode(None))
+        for match, confidence in matches
+        if confidence >= CONFIDENCE
+    ]
+    named = [f"{register}:{code}" for register, code in codes if register and code]
+    return tuple(dict.fromkeys(named))
