@@ -28,6 +28,7 @@ SHARED = (
     "grids.py",
     "listing.py",
     "mending.py",
+    "printing.py",
     "messages.json",
     "process.py",
     "protocol.py",

@@ -28,7 +28,7 @@ import rcell
 from made_maps import geotiff, land_and_zones
 from page import load, put
 from ten import majority
-from rcell.core import programs
+from rcell.core import programs, runs
 from rcell.core.protocol import request
 
 DEGREES = (0.001, 0.0, 5.0, 0.0, -0.001, 50.0)
@@ -65,7 +65,7 @@ class Recorder:
 
     def record(self, call: Task) -> None:
         """Run a call and keep its requests."""
-        asked = programs._frames
+        asked = runs._frames
 
         def recording(
             script: str, maps: Mapping[str, Any], wanted: Sequence[str] = (), *rest: Any
@@ -74,17 +74,15 @@ class Recorder:
             lines = [script, *(f"r.out.ascii input={name}" for name in wanted)]
             with open(self.requests[-1], "wb") as file:
                 file.writelines(
-                    request(
-                        [programs._sent(*each) for each in maps.items()], "\n".join(lines).encode()
-                    )
+                    request([runs._sent(*each) for each in maps.items()], "\n".join(lines).encode())
                 )
             return asked(script, maps, wanted, *rest)
 
-        programs._frames = recording  # type: ignore[assignment]
+        runs._frames = recording  # type: ignore[assignment]
         try:
             call()
         finally:
-            programs._frames = asked
+            runs._frames = asked
 
     def program(self) -> None:
         """Run the program as the call did."""

@@ -15,7 +15,7 @@ from rasterio.windows import Window
 import rcell.tiles
 from made_maps import STRIP, land_cover_array
 from rcell.core.sources import source_of
-from rcell.core.programs import execute
+from rcell.core.runs import execute
 from watching import MILLION, Figures, Watch, measured, processor
 
 __all__ = ["ALL", "NMODE", "SUM", "TABLE", "answers", "answers_of_array", "grass_maps", "undivided"]

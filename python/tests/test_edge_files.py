@@ -316,7 +316,7 @@ def test_programs_are_not_found_through_relative_folders(room: pathlib.Path) -> 
     code = "import os, rcell.core.programs as p; print([it for it in p.candidates('rcell') if os.path.realpath(os.path.dirname(it)) == os.getcwd()])"
     for path in (".:/nowhere", ":/nowhere", "/nowhere:"):
         assert shell(room, f"PATH={path} {sys.executable} -c {shlex.quote(code)}").stdout == "[]\n"
-    ran = shell(room, TABLE, RCELL="rcell")
+    ran = shell(room, TABLE, RCELL="rcell", RCELL_PIPE=programs.find_pipe())
     assert (
         ran.stderr
         == f"rcell-gis: {stranger} is not a program rcell of a version that this package knows\n"

@@ -16,7 +16,8 @@ import numpy as np
 import rcell
 from rcell.raster import Grid
 from rcell.core.libraries import has
-from rcell.core.programs import execute, find_pipe, planned
+from rcell.core.programs import find_pipe
+from rcell.core.runs import execute, planned
 from rcell.core import protocol
 
 
@@ -621,9 +622,37 @@ class Programs(unittest.TestCase):
             with self.assertRaises(rcell.MissingProgram):
                 find(path)
 
+    def test_rcell_pipe_needs_no_rcell(self) -> None:
+        with tempfile.TemporaryDirectory() as folder:
+            os.symlink(find_pipe(), f"{folder}/rcell-pipe")
+            code = "import rcell; print(rcell.run('r.stats -c input=a', a=[[1, 1]])[0].rows)"
+            ran = subprocess.run(
+                [sys.executable, "-c", code],
+                env={"PATH": folder, "PYTHONPATH": os.pathsep.join(sys.path)},
+                capture_output=True,
+                text=True,
+            )
+        self.assertEqual((ran.stdout, ran.stderr), ("[(1, 2)]\n", ""))
+
+    def test_a_text_grid_is_read_where_proc_is_not_mounted(self) -> None:
+        good = f'case "$1 $2" in */dev/* | */proc/*) exit 9 ;; esac\nexec {rcell.program()} "$@"'
+        with tempfile.TemporaryDirectory() as folder:
+            path = f"{folder}/grid"
+            with open(path, "w") as file:
+                file.write("north: 1\nsouth: 0\neast: 2\nwest: 0\nrows: 1\ncols: 2\n1 *\n")
+            before = os.environ.get("RCELL")
+            os.environ["RCELL"] = self.program(good)
+            try:
+                os.environ["RCELL_PIPE"] = find_pipe(f"{os.path.dirname(before or '')}/rcell-pipe")
+                found = rcell.run("r.stats -c input=a", a=path).tables[0].rows
+            finally:
+                os.environ.pop("RCELL_PIPE")
+                os.environ.pop("RCELL") if before is None else os.environ.update(RCELL=before)
+        self.assertEqual(found, [(1, 1), (None, 1)])
+
     def test_nowhere(self) -> None:
         code = "import os, rcell.core.programs as p\np.sysconfig.get_path = lambda *_: '/nowhere'\np.sys.executable = '/nowhere/python'\n"
-        tried = "for find in (p.find_program, p.find_pipe):\n    try: find()\n    except p.MissingProgram as e: print(e)\n    p.find_program = lambda: '/nowhere/rcell'"
+        tried = "for find in (p.find_program, p.find_pipe):\n    try: find()\n    except p.MissingProgram as e: print(e)"
         environment = {"PATH": "/nowhere", "PYTHONPATH": os.pathsep.join(sys.path)}
         ran = subprocess.run(
             [sys.executable, "-c", code + tried], env=environment, capture_output=True, text=True
@@ -632,7 +661,7 @@ class Programs(unittest.TestCase):
             ran.stdout.splitlines(),
             [
                 "the program rcell was not found: neither in the environment variable RCELL, nor next to this Python, nor on the path",
-                "the program rcell-pipe was not found: neither in the environment variable RCELL_PIPE, nor next to rcell, nor on the path",
+                "the program rcell-pipe was not found: neither in the environment variable RCELL_PIPE, nor next to this Python, nor on the path",
             ],
             ran.stderr,
         )

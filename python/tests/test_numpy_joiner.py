@@ -16,7 +16,7 @@ from rcell.core import joiner
 from rcell.core.counts import Counts, TooManyCells, counts_of
 from rcell.core.joiner import border_of, joined, joined_sizes, numbering_of
 from rcell.core.sources import ArrayMap
-from rcell.core.programs import execute, printed as printed_by_rcell
+from rcell.core.runs import execute, printed as printed_by_rcell
 from rcell.core.region import Region
 from rcell.core.protocol import NULL
 from tests.merging import merge
@@ -313,7 +313,7 @@ class Programs(unittest.TestCase):
     def test_nowhere(self) -> None:
         code = (
             "import rcell.core.programs as p, rcell.core.joiner as j\np.sysconfig.get_path = lambda *_: '/nowhere'\np.sys.executable = '/nowhere/python'\n"
-            "p.find_program = lambda: '/nowhere/rcell'\ntry: j.find_joiner()\nexcept p.MissingProgram as e: print(e)"
+            "try: j.find_joiner()\nexcept p.MissingProgram as e: print(e)"
         )
         ran = subprocess.run(
             [sys.executable, "-c", code],
@@ -321,7 +321,7 @@ class Programs(unittest.TestCase):
             capture_output=True,
             text=True,
         )
-        told = "the program rcell-join was not found: neither in the environment variable RCELL_JOIN, nor next to rcell, nor on the path\n"
+        told = "the program rcell-join was not found: neither in the environment variable RCELL_JOIN, nor next to this Python, nor on the path\n"
         self.assertEqual(ran.stdout, told, ran.stderr)
 
     def test_missing_and_wrong(self) -> None:

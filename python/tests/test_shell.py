@@ -332,11 +332,11 @@ def test_the_command_line_as_a_process(raster: Write) -> None:
     for words in refused:
         ran = call(*words)
         assert (ran.returncode, ran.stdout, ran.stderr.count("\n")) == (2, "", 1)
-    environment["RCELL"] = "/nowhere/rcell"
+    environment["RCELL_PIPE"] = "/nowhere/rcell-pipe"
     missing = call("composition", path)
     assert (missing.returncode, missing.stderr) == (
         2,
-        "rcell-gis: the program /nowhere/rcell is not there, or may not be executed\n",
+        "rcell-gis: the program /nowhere/rcell-pipe is not there, or may not be executed\n",
     )
 
 

@@ -229,17 +229,19 @@ def hostile_grid(chance):
     return (text[: chance.randint(1, len(text))] if chance.random() < 0.2 else text).encode("utf-8")
 
 
-def fault_of_grid(listing, model, chance):
+def fault_of_grid(listing, printing, model, chance):
     """The helpers and packages take what rcell takes, with the same cells."""
     text = hostile_grid(chance)
     try:
-        with listing.printed_grid(f"{ROOT}/bin/rcell", "m", iter([text])) as grid:
+        with printing.spooled([text]) as path, listing.printed_grid(
+            f"{ROOT}/bin/rcell", path
+        ) as grid:
             found = [
                 None if cell == listing.NULL else cell
                 for block in grid.blocks
                 for cell in block.ravel().tolist()
             ]
-    except listing.Rejected:
+    except printing.Rejected:
         return None
     try:
         wanted = [cell for row in model.read_map(b"m", text).rows for cell in row]
@@ -359,7 +361,7 @@ def main():
     resource.setrlimit(resource.RLIMIT_AS, (MEMORY, MEMORY))
     import model_grids
     import rcell_tif
-    from rcell.core import listing
+    from rcell.core import listing, printing
 
     aaigrid = loaded("rcell-aaigrid")
     with tempfile.TemporaryDirectory(prefix="rcell-hostile-") as folder:
@@ -374,7 +376,7 @@ def main():
                 "grid",
                 settings.count,
                 settings.seed,
-                lambda chance: fault_of_grid(listing, model_grids, chance),
+                lambda chance: fault_of_grid(listing, printing, model_grids, chance),
             ),
         ]
         try:

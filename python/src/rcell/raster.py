@@ -206,7 +206,7 @@ class Grid:
         >>> rcell.run("r.out.ascii input=lc", lc=np.array([[5, 7]]))[0].text().splitlines()[-1]
         b'5 7'
         """
-        from .core.programs import grid_text
+        from .core.runs import grid_text
 
         return grid_text(Map(self.array, self.region).source("map"))
 

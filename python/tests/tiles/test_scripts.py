@@ -4,7 +4,7 @@ from __future__ import annotations
 
 import pytest
 
-from rcell.core.programs import planned
+from rcell.core.runs import planned
 from rcell.tiles._scripts import Reach, TileScript, counting
 from rcell.tiles.joining import Rectangle
 

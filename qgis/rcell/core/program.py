@@ -264,8 +264,6 @@ def _text_blocks(
         raise MissingProgram(
             f"{name} is a grid of rcell, and the program rcell, which reads it, is not next to {program}"
         )
-    with _errors_of(path, "", [name]), open(raster.path, "rb") as file, printed_grid(
-        path, name, iter(lambda: file.read(1 << 20), b""), watch=watch
-    ) as grid:
+    with _errors_of(path, "", [name]), printed_grid(path, raster.path, watch=watch) as grid:
         for rows in grid.blocks:
             yield rows, None

@@ -16,7 +16,7 @@ from .errors import BadArgument
 from .legends import labels_of
 from .sources import Source, source_of, sources_of
 from .area import Measure, measure_of
-from .programs import execute
+from .runs import execute
 from .columns import Column
 from .zones import zones_of
 

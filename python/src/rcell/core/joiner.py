@@ -24,7 +24,8 @@ from .process import Started, above_standard, close, pipe
 from .counts import TooManyCells, counts_of, numbers_of
 from .errors import Killed, MissingProgram, OutOfMemory, WriteFailed, WrongProgram
 from .sources import Source
-from .programs import PROBE_SECONDS, find_beside, grid_text
+from .programs import PROBE_SECONDS, find_beside
+from .runs import grid_text
 
 __all__ = ["border_of", "check_files", "find_joiner", "joined", "joined_sizes", "numbering_of"]
 

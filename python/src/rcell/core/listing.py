@@ -8,7 +8,6 @@ and what rcell-join prints, tables and numberings, whose formats are in docs/rce
 from __future__ import annotations
 
 import contextlib
-import os
 import re
 from collections.abc import Callable, Iterator
 from itertools import chain
@@ -16,8 +15,8 @@ from typing import TYPE_CHECKING, NamedTuple, Optional
 
 import numpy as np
 
-from .protocol import NULL, NoAnswer, Rejected, asked, failure_of
-from .process import Started, close, pipe
+from .printing import printed
+from .protocol import NULL, NoAnswer
 
 if TYPE_CHECKING:
     from numpy.typing import NDArray
@@ -33,7 +32,6 @@ _HEADER = re.compile(
     rb"north: (.*)\nsouth: (.*)\neast: (.*)\nwest: (.*)\nrows: (\d+)\ncols: (\d+)\n"
 )
 _HEADER_BYTES = 1 << 8
-_MESSAGE = re.compile(r"rcell: [^:]*:(\d+): (.*)")
 
 
 def numbers_of(text: bytes, width: int) -> NDArray[np.int64]:
@@ -75,53 +73,25 @@ class PrintedGrid(NamedTuple):
 @contextlib.contextmanager
 def printed_grid(
     program: str,
-    name: str,
-    sent: Iterator[bytes],
+    path: str,
     seconds: Optional[float] = None,
     watch: Optional[Callable[[], None]] = None,
 ) -> Iterator[PrintedGrid]:
-    """Send the text of a grid to rcell, and read what it prints of it; parameters and errors are the same as in `pipe.run`.
-
-    Parameters
-    ----------
-    program : str
-        The path of rcell.
-    name : str
-        Of the map.
-    sent : iterator of bytes
-        The text. The program reads all of it before it prints anything.
-    seconds, watch
-    """
-    script, writer = pipe()
-    try:
-        os.write(writer, b"r.out.ascii input=%s\n" % name.encode())
-        close(writer)
-        with asked(
-            [program, f"/dev/fd/{script}", f"{name}=/dev/stdin"], sent, seconds, watch, [script]
-        ) as process:
-            pieces, text, found = process.pieces(), b"", None
-            while not found and len(text) < _HEADER_BYTES and (piece := next(pieces, b"")):
-                text += piece
-                found = _HEADER.match(text)
-            if not found:
-                raise _failure(process) if len(text) < _HEADER_BYTES else NoAnswer(
-                    f"no grid: {text[:60]!r}"
-                )
-            *edges, rows, cols = map(bytes.decode, found.groups())
-            yield PrintedGrid(
-                tuple(edges),
-                int(rows),
-                int(cols),
-                _blocks(process, chain([text[found.end() :]], pieces), int(rows), int(cols)),
-            )
-    finally:
-        close(script)
+    """Read what rcell prints of a grid; parameters and errors are the same as in `printing.printed`."""
+    with printed(program, path, seconds, watch) as pieces:
+        text, found = b"", None
+        while not found and len(text) < _HEADER_BYTES and (piece := next(pieces, b"")):
+            text += piece
+            found = _HEADER.match(text)
+        if not found:
+            raise NoAnswer(f"no grid: {text[:60]!r}")
+        *edges, rows, cols = map(bytes.decode, found.groups())
+        rest = chain([text[found.end() :]], pieces)
+        yield PrintedGrid(tuple(edges), int(rows), int(cols), _blocks(rest, int(rows), int(cols)))
 
 
-def _blocks(
-    process: Started, pieces: Iterator[bytes], rows: int, cols: int
-) -> Iterator[NDArray[np.int32]]:
-    """Yield so many rows, if the program ends well after them."""
+def _blocks(pieces: Iterator[bytes], rows: int, cols: int) -> Iterator[NDArray[np.int32]]:
+    """Yield so many rows."""
     rest = b""
     for piece in pieces:
         lines, end, rest = (rest + piece).rpartition(b"\n")
@@ -131,16 +101,5 @@ def _blocks(
             raise NoAnswer(f"too many rows: {piece[:60]!r}")
         if end:
             yield block
-    if rows or rest or process.end()[0]:
-        raise _failure(process)
-
-
-def _failure(process: Started) -> Exception:
-    """Return the error of a program whose output has ended."""
-    status, message = process.end()
-    found = _MESSAGE.match(message.decode("utf-8", "surrogateescape"))
-    return (
-        Rejected(status, "request", 0, int(found[1]), 0, found[2])
-        if status > 0 and found
-        else failure_of(status, message)
-    )
+    if rows or rest:
+        raise NoAnswer(f"too few rows: {rest[:60]!r}")

@@ -13,7 +13,7 @@ from .arguments import check_named_maps, check_script
 from .errors import BadArgument, Refused
 from ..raster import Grid
 from .sources import Source, named_once, sources_of
-from .programs import Output, execute, planned
+from .runs import Output, execute, planned
 from .columns import StatsTable
 
 __all__ = ["Result", "grid", "grids_of", "outputs_with", "run", "run_of", "table"]

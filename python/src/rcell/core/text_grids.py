@@ -3,6 +3,7 @@
 
 from __future__ import annotations
 
+import contextlib
 import io
 import os
 import re
@@ -15,9 +16,11 @@ from typing import Any, Iterator, Mapping
 import numpy as np
 
 from .listing import printed_grid
+from .printing import spooled
+from .programs import find_program, program_errors
 from .protocol import NULL
 
-from .files import opened
+from .files import opened, read_some
 from .errors import BadMap, ReadFailed
 from .sources import Block, Source, in_region
 from .region import Region, Transform, units_of
@@ -73,26 +76,16 @@ class TextMap:
         Refused
             rcell rejects the grid.
         """
-        from .programs import find_program, program_errors
-
-        path = find_program()
-        with program_errors("", [self.name], path), printed_grid(
-            path, self.name, self._pieces()
-        ) as grid:
-            for rows in grid.blocks:
+        program = find_program()
+        with contextlib.ExitStack() as kept:
+            path = self.path
+            if self.stream is not None:
+                stream = kept.enter_context(self.stream)
+                rest = iter(lambda: read_some(stream.fileno(), 1 << 20), b"")
+                path = kept.enter_context(spooled(chain([self.held], rest)))
+            kept.enter_context(program_errors("", [self.name], program))
+            for rows in kept.enter_context(printed_grid(program, path)).blocks:
                 yield Block(rows, None)
-
-    def _pieces(self) -> Iterator[bytes]:
-        """Yield the text."""
-        with self.stream or _opened(self.name, self.path) as stream:
-            yield from chain([self.held], iter(lambda: stream.read(1 << 20), b""))
-
-
-def _opened(name: str, path: str) -> io.FileIO:
-    try:
-        return io.FileIO(path)
-    except OSError as error:
-        raise ReadFailed(name, f"cannot open: {path}: {error.strerror}") from None
 
 
 def open_path(name: str, path: str | os.PathLike[str]) -> Source:

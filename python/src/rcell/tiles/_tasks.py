@@ -15,7 +15,7 @@ from ..core.counts import counts_of
 from ..core.errors import OutOfMemory
 from ..core.joiner import border_of, joined
 from ..core.sources import ArrayMap, Source
-from ..core.programs import execute, grids, printed
+from ..core.runs import execute, grids, printed
 from ..core.region import Region
 from ..core.columns import StatsTable
 from ._scripts import NO_REACH, Reach, Statement, TileScript

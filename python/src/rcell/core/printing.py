@@ -1,0 +1,83 @@
+# SPDX-License-Identifier: Apache-2.0 OR GPL-2.0-or-later
+"""Text grids: rcell reads a grid of a user, and prints it in one form.
+
+This is the only module that starts `rcell`: rcell-pipe does all else, and its requests have maps as bytes. It goes once a
+request takes text grids.
+"""
+
+from __future__ import annotations
+
+import contextlib
+import os
+import re
+import tempfile
+from collections.abc import Callable, Iterable, Iterator
+from typing import Optional
+
+from .process import Started
+from .protocol import NotStarted, Rejected, failure_of
+
+__all__ = ["printed", "spooled"]
+
+_SCRIPT = b"r.out.ascii input=grid\n"
+_MESSAGE = re.compile(r"rcell: [^:]*:(\d+): (.*)")
+
+
+@contextlib.contextmanager
+def spooled(pieces: Iterable[bytes]) -> Iterator[str]:
+    """Keep a text in a file of its own until the block ends, since a program opens paths alone.
+
+    Examples
+    --------
+    >>> with spooled([b"a", b"b"]) as path:
+    ...     print(open(path).read())
+    ab
+    """
+    descriptor, path = tempfile.mkstemp(prefix="rcell-")
+    try:
+        with open(descriptor, "wb") as file:
+            file.writelines(pieces)
+        yield path
+    finally:
+        os.unlink(path)
+
+
+@contextlib.contextmanager
+def printed(
+    program: str,
+    path: str,
+    seconds: Optional[float] = None,
+    watch: Optional[Callable[[], None]] = None,
+) -> Iterator[Iterator[bytes]]:
+    """Let rcell read a grid, and yield what it prints of it, piece by piece; that is whole if nothing is raised.
+
+    Parameters
+    ----------
+    program : str
+        The path of rcell.
+    path : str
+        The grid.
+    seconds, watch
+        As in `protocol.run`; so are the errors.
+    """
+    with tempfile.TemporaryDirectory(prefix="rcell-") as folder:
+        script, grid = (os.path.join(folder, name) for name in ("script", "grid"))
+        with open(script, "wb") as file:
+            file.write(_SCRIPT)
+        os.symlink(os.path.abspath(path), grid)  # rcell opens no name that is not UTF-8
+        try:
+            process = Started([program, script, f"grid={grid}"], seconds=seconds, watch=watch)
+        except OSError as error:
+            raise NotStarted(error.errno, error.strerror, program) from None
+        with process:
+            yield _pieces(process)
+
+
+def _pieces(process: Started) -> Iterator[bytes]:
+    yield from process.pieces()
+    status, message = process.end()
+    found = _MESSAGE.match(message.decode("utf-8", "surrogateescape"))
+    if status > 0 and found:
+        raise Rejected(status, "request", 0, int(found[1]), 0, found[2])
+    if status:
+        raise failure_of(status, message)
