@@ -2,13 +2,15 @@
 
 from __future__ import annotations
 
+import os
 import pathlib
 import re
 import shutil
 import tempfile
 from dataclasses import dataclass, field, replace
 
-HERE = pathlib.Path(__file__).resolve().parent
+# The folder with `cases` and `rasters`, which may be another one than this.
+HERE = pathlib.Path(os.environ.get("RCELL_CASES") or pathlib.Path(__file__).resolve().parent)
 TABLES = ("composition", "cross", "change", "patches", "zonal", "adjacency")
 MAPS = ("majority", "align", "reclass", "clump")
 ANSWERS = (*TABLES, *MAPS)

@@ -17,6 +17,7 @@ HERE = pathlib.Path(__file__).resolve().parent
 os.environ.setdefault("QT_QPA_PLATFORM", "offscreen")
 sys.path[:0] = [str(HERE.parent / "qgis"), "/usr/share/qgis/python/plugins"]
 
+from cases import HERE as FOLDER
 from cases import ANSWERS, MAPS, POLYGONS, Case, Scratch, cases, copied, kind_of, notes
 from osgeo import gdal
 from qgis.core import (
@@ -226,7 +227,7 @@ def main() -> None:
     plugin.initProcessing()
     with tempfile.TemporaryDirectory(prefix="R\u00e4ume von QGIS ") as room:
         # QGIS leaves statistics next to a raster that it opens.
-        shutil.copytree(HERE / "rasters", f"{room}/rasters")
+        shutil.copytree(FOLDER / "rasters", f"{room}/rasters")
         shutil.copytree(HERE.parent / "examples/rasters", f"{room}/rasters", dirs_exist_ok=True)
         for case in (it for it in cases() if it.is_for("qgis")):
             if case.outs:

@@ -1,7 +1,7 @@
 # Runs the table of cases on the package for R: prints `case NAME`, and below it what came out, each line after a blank.
 
 suppressMessages(library(rcell))
-here <- normalizePath(commandArgs(TRUE)[[1]])
+here <- normalizePath(Sys.getenv("RCELL_CASES"))
 kinds <- c(rcell_other_crs = "other crs", rcell_other_region = "other region", rcell_read_failed = "read failed", rcell_bad_map = "bad map", rcell_refused = "refused")
 
 # The lines of each key: that after its colon, or those that are indented below it.

@@ -1,6 +1,6 @@
 #!/bin/sh
-# Runs the table of cases, and some random rasters, on the packages that are installed, over bin/rcell. The last line is
-# 'N passed, M failed, K skipped'.
+# Runs the table of cases, random calls (CALLS of each package, or 100) and some random rasters on the packages that are installed,
+# over bin/rcell. The last line is 'N passed, M failed, K skipped'.
 cd "$(dirname "$0")/.." || exit 1
 room=$(mktemp -d) || exit 1
 trap 'rm -rf "$room"' EXIT
@@ -12,9 +12,11 @@ if command -v Rscript > /dev/null; then
     export R_LIBS="$room/library"
 fi
 add 'the table of cases' /usr/bin/python3 fronts/run.py "$@"
-if /usr/bin/python3 -c 'import numpy, osgeo' 2> /dev/null; then
+if /usr/bin/python3 -c 'import numpy, osgeo, scipy' 2> /dev/null; then
+    add 'random calls' /usr/bin/python3 fronts/random_calls.py --count "${CALLS:-100}" "$@"
+    add 'old mistakes in random calls' /usr/bin/python3 fronts/random_calls.py --plants
     add 'random rasters' /usr/bin/python3 fronts/random_rasters.py "$@"
 else
-    skip fronts/rasters 'GDAL for Python or numpy is not installed' python3-gdal python3-numpy
+    skip fronts/rasters 'GDAL for Python, numpy or scipy is not installed' python3-gdal python3-numpy python3-scipy
 fi
 closing

@@ -309,6 +309,8 @@ STYLES = {
     "entity.qml": '<!DOCTYPE qgis [<!ENTITY w "wood">]>\n'
     + PALETTE.format(ENTRIES.format(1).replace('"wood"', '"&w;"')),
     "broken.qml": PALETTE.format(ENTRIES.format(1)).replace("</qgis>", ""),
+    "qgis.qml": "<!DOCTYPE qgis PUBLIC 'http://mrcc.com/qgis.dtd' 'SYSTEM'>\n"
+    + PALETTE.format(ENTRIES.format(1)),
     "no_classes.qml": "<qgis><pipe/></qgis>\n",
     "twice.qml": PALETTE.format(ENTRIES.format(2)),
 }

@@ -81,16 +81,17 @@ PACKAGES = {
 COMMANDS = {
     "python": [sys.executable, str(HERE / "front_python.py")],
     "shell": [sys.executable, str(HERE / "front_shell.py")],
-    "r": ["Rscript", str(HERE / "front_r.R"), str(HERE)],
+    "r": ["Rscript", str(HERE / "front_r.R")],
     "qgis": [sys.executable, str(HERE / "front_qgis.py")],
     "grass": [sys.executable, str(HERE / "front_grass.py")],
 }
 
 
-def found_by(front: str) -> tuple[dict[str, list[str]], str]:
-    """Return the results of a package by case, and its other output."""
+def found_by(front: str, folder: pathlib.Path = HERE) -> tuple[dict[str, list[str]], str]:
+    """Return the results of a package by case of a folder, and its other output."""
+    known = {**environment(), "RCELL_CASES": str(folder)}
     ran = subprocess.run(
-        COMMANDS[front], env=environment(), capture_output=True, encoding="utf-8", errors="replace"
+        COMMANDS[front], env=known, capture_output=True, encoding="utf-8", errors="replace"
     )
     found: dict[str, list[str]] = {}
     name = ""

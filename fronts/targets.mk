@@ -1,4 +1,5 @@
 # make fronts    installs what the packages need of Debian, builds, checks and tests R (and QGIS if it is there); then the table of cases
+#                and random calls, CALLS=N of each package
 # make fronts-cases  runs the table of cases on the packages that are installed
 
 .PHONY: fronts fronts-cases

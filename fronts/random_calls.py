@@ -1,0 +1,576 @@
+"""Random calls of the packages next to a reference that shares nothing with them (reference.py).
+
+    /usr/bin/python3 fronts/random_calls.py [--count N] [--seed N] [--from N] [--plants] [FRONT...]
+
+Each call is a case of the form that cases.py reads, over random files; `--count` is for each package. A call is equal, or rejected as the
+documents say, or different; a different one is printed as a case, and its files are kept. `--plants` brings old mistakes back, one at
+a time, and sees that they are found. The last line is 'N passed, M failed, K skipped'.
+"""
+
+from __future__ import annotations
+
+import argparse
+import copy
+import math
+import os
+import pathlib
+import re
+import shutil
+import sys
+import tempfile
+from collections import Counter
+from dataclasses import dataclass, field, replace
+from typing import Any, Callable, Sequence
+
+import numpy as np
+import random_inputs as inputs
+import reference
+from random_inputs import Made, one_of
+from random_plants import PLANTS
+from reference import Frame, Raster, Refusal
+from run import MISSING, PACKAGES, found_by
+
+FRONTS = ("python", "shell", "qgis", "r")
+BATCH = 250
+EXACT = 1e-9
+ID_DIGITS = 11
+PLANT_CALLS = 600
+ROOM = "/dev/shm" if os.access("/dev/shm", os.W_OK) else None
+GOOD = ("equal", "refused")
+# A call that a front does not have.
+ABSENT = re.compile("has no attribute|was not found|Algorithm .* not found|invalid choice")
+AREAS = ("", "", "none", "ha", "km2", "m2")
+STATED = "EPSG:32632"
+Lines = list[str]
+
+
+@dataclass
+class Trial:
+    """A call, and what must come out.
+
+    Attributes
+    ----------
+    maps : dict of str to Made
+    words : list of str
+        The words of the call.
+    answer : list of str or None
+        None if the call must be rejected.
+    reason : str
+        Why it must be.
+    refused : dict of str to str
+        Why a package rejects it.
+    """
+
+    name: str
+    maps: dict[str, Made]
+    words: list[str]
+    answer: Lines | None = None
+    reason: str = ""
+    refused: dict[str, str] = field(default_factory=dict)
+
+    def text(self) -> str:
+        """The call as a case."""
+        maps = " ".join(f"{name}={made.file}" for name, made in self.maps.items())
+        lines = [
+            f"# {self.reason or 'A random call.'}",
+            f"maps: {maps}",
+            f"call: {' '.join(self.words)}",
+        ]
+        if self.answer is None:
+            return "\n".join([*lines, "refused:\n"])
+        lines += ["answer:", *(f"  {line}" for line in self.answer)]
+        lines += [f"refused {front}:" for front in self.refused]
+        return "\n".join([*lines, ""])
+
+    def judged(self, front: str, found: Lines) -> str:
+        """Whether a result is `equal`, `refused` as documented, `different`, or `absent` as the call is."""
+        if found[0].startswith("error") and ABSENT.search(found[0]):
+            return "absent"
+        is_refused = any(line.startswith("text: ") for line in found) and found[0][:5] != "error"
+        if self.answer is None or front in self.refused:
+            return "refused" if is_refused else "different"
+        return "equal" if are_equal(self.answer, found) else "different"
+
+
+def are_equal(wanted: Lines, found: Lines) -> bool:
+    """Whether lines are the same but for the last digits of measures."""
+    if wanted[:1] != found[:1] or len(wanted) != len(found):
+        return False
+    rows = [(one.split("|"), other.split("|")) for one, other in zip(wanted, found)]
+    if any(len(one) != len(other) for one, other in rows):
+        return False
+    columns = zip(*([*zip(one, other)] for one, other in rows if len(one) == len(rows[0][0])))
+    return all(map(are_near, columns)) and all(
+        one == other for one, other in rows if len(one) != len(rows[0][0])
+    )
+
+
+def are_near(column: Sequence[tuple[str, str]]) -> bool:
+    """Whether the values of a column are the same, measures in all but their last digits."""
+    numbers = [(number_of(one), number_of(other)) for one, other in column]
+    largest = max((abs(one) for one, _ in numbers if one is not None), default=0.0)
+    return all(
+        texts[0] == texts[1]
+        or (
+            one is not None
+            and other is not None
+            and not (is_id(texts[0]) and is_id(texts[1]))
+            and math.isclose(one, other, rel_tol=EXACT, abs_tol=EXACT * largest)
+        )
+        for texts, (one, other) in zip(column, numbers)
+    )
+
+
+def is_id(text: str) -> bool:
+    """Whether a text is a whole number of so few digits that all of them count."""
+    return text.lstrip("-").isdigit() and len(text) <= ID_DIGITS
+
+
+def number_of(text: str) -> float | None:
+    """A finite number; None for anything else."""
+    try:
+        value = float(text)
+    except ValueError:
+        return None
+    return value if math.isfinite(value) else None
+
+
+# Calls
+
+
+class Calls:
+    """Makes random calls over files of a folder."""
+
+    def __init__(self, folder: pathlib.Path, seed: int) -> None:
+        self.folder, self.seed = folder, seed
+
+    def trial(self, number: int) -> Trial:
+        """The call of a number."""
+        self.random: Any = np.random.default_rng([self.seed, number])
+        self.name = f"c{self.seed}_{number}"
+        kind = one_of(self.random, [*MAKERS, *MORE])
+        self.frame = inputs.frame_of(self.random)
+        self.found = Trial(self.name, {}, [kind])
+        try:
+            self.found.answer = MAKERS[kind](self)
+        except Refusal as error:
+            self.found.reason = str(error)
+        for made in self.found.maps.values():
+            self.found.refused.update(made.refused)
+        if len(self.found.refused) == len(FRONTS):
+            self.found.answer, self.found.reason = None, next(iter(self.found.refused.values()))
+        return self.found
+
+    # Parts of calls
+
+    def chance(self, share: float) -> bool:
+        return bool(self.random.random() < share)
+
+    def option(self, name: str, value: Any) -> None:
+        self.found.words.append(f"{name}={value}")
+
+    def add(self, name: str, made: Made, is_word: bool = True) -> Made:
+        self.found.maps[name] = made
+        self.found.words += [name] * is_word
+        return made
+
+    def raster(self, name: str, is_word: bool = True, frame: Frame | None = None) -> Made:
+        """A raster, which rarely has no reference system."""
+        has_system = not self.chance(0.03)
+        made = inputs.raster_of(
+            self.random, self.folder, f"{self.name}_{name}", frame or self.frame, crs=has_system
+        )
+        return self.add(name, made, is_word)
+
+    def zones(self, is_word: bool = False) -> Made:
+        """Zones: a raster or polygons."""
+        system = self.frame.system
+        is_plane = system.metres is not None or system.angle is not None
+        if not is_plane or self.chance(0.25):
+            return self.raster("zone", is_word)
+        made = inputs.zones_of(self.random, self.folder, f"{self.name}_zone", self.frame)
+        return self.add("zone", made, is_word)
+
+    def settled(self) -> None:
+        """State a reference system perhaps, and give all maps the one that they have in common."""
+        systems = {made.system for made in self.found.maps.values()}
+        known = next((it for it in systems if it.text), inputs.NONE)
+        stated = inputs.NONE
+        if (
+            inputs.NONE in systems
+            and self.chance(0.5)
+            and " " not in known.text
+            and known is not inputs.LOCAL
+        ):
+            stated = known if known.text else inputs.METRES
+            self.option("crs", stated.text)
+        elif inputs.NONE in systems and known.text:
+            raise Refusal("one map has no reference system")
+        system = known if known.text else stated
+        for made in self.found.maps.values():
+            if made.held is not None:
+                made.held = replace(made.held, frame=replace(made.held.frame, system=system))
+        self.frame = replace(self.frame, system=system)
+
+    def held(self, name: str) -> Raster:
+        """The cells of a map; polygons become zones now."""
+        made = self.found.maps[name]
+        if made.held is None:
+            if made.zone_field:
+                self.option("zone_field", made.zone_field)
+            made.held = reference.zones_of(made.features, bool(made.zone_field), self.frame)
+        return made.held
+
+    def zoned(self) -> Raster | None:
+        """Zones as an option, perhaps."""
+        if "zone" not in self.found.maps:
+            return None
+        self.option("zones", "zone")
+        return self.held("zone")
+
+    def area(self) -> str:
+        area = str(one_of(self.random, AREAS))
+        if area:
+            self.option("area", area)
+        return area
+
+    def legend(self, option: str, held: Raster | None, share: float = 0.35) -> Any:
+        """The labels of a legend, which is given perhaps; None if it is not."""
+        codes = [] if held is None else np.unique(held.cells[~held.null]).tolist()
+        if not codes or len(codes) > 30 or not self.chance(share):
+            return None
+        file, labels = inputs.legend_of(self.random, self.folder, f"{self.name}_{option}", codes)
+        self.option(option, file)
+        if labels is None:
+            raise Refusal("a legend that is not right")
+        return labels
+
+    def picked(self, name: str, good: Sequence[Any], bad: Sequence[Any]) -> Any:
+        """An option that is rarely out of its range; None if it is left out."""
+        if self.chance(0.3):
+            return None
+        is_bad = self.chance(0.02)
+        value = one_of(self.random, bad if is_bad else good)
+        self.option(name, value)
+        if is_bad:
+            raise Refusal(f"{name} is out of its range")
+        return value
+
+    def selection(self, held: Raster) -> tuple[int, Any, int]:
+        """Connectivity, classes and the smallest size of patches."""
+        connectivity = self.picked("connectivity", (4, 8), (5, 0)) or 4
+        classes = None
+        codes = np.unique(held.cells[~held.null]).tolist()
+        if codes and self.chance(0.3):
+            classes = sorted({one_of(self.random, codes), one_of(self.random, [*codes, 99])})
+            self.option("classes", ",".join(map(str, classes)))
+        return connectivity, classes, self.picked("min_cells", (1, 2, 5), (-1,)) or 1
+
+
+def composition(calls: Calls) -> Lines:
+    calls.raster("lc")
+    if calls.chance(0.8):
+        calls.zones()
+    calls.settled()
+    zones, lc = calls.zoned(), calls.held("lc")
+    nulls = calls.chance(0.3)
+    if nulls:
+        calls.option("include_null", "yes")
+    labels, zone_labels = calls.legend("labels", lc), calls.legend("zone_labels", zones, 0.2)
+    return reference.composition(
+        lc, zones, area=calls.area(), nulls=nulls, labels=labels, zone_labels=zone_labels
+    )
+
+
+def cross(calls: Calls) -> Lines:
+    names = ["a", "b", "c"][: int(calls.random.integers(2, 4))]
+    for name in names:
+        calls.raster(name)
+    calls.settled()
+    nulls = calls.chance(0.3)
+    if nulls:
+        calls.option("include_null", "yes")
+    return reference.cross(
+        {name: calls.held(name) for name in names}, area=calls.area(), nulls=nulls
+    )
+
+
+def change(calls: Calls) -> Lines:
+    names = ["a", "b", "c"][: int(calls.random.integers(2, 4))]
+    maps = [calls.raster(name).held for name in names]
+    shared: dict[int, str] = {}
+    for it in maps:
+        assert it is not None
+        shared = shared or it.labels
+    calls.settled()
+    years: list[int] = []
+    if len(names) > 2 or calls.chance(0.4):
+        years = sorted(calls.random.permutation(range(1980, 2030))[: len(names)].tolist())
+        calls.option("years", ",".join(map(str, years)))
+    part = one_of(calls.random, ("table", "matrix", "summary"))
+    calls.option("table", part)
+    labels = calls.legend("labels", calls.held("a"), 0.5)
+    if labels is None and any(calls.held(name).labels not in ({}, shared) for name in names):
+        labels = calls.legend("labels", calls.held("a"), 1.0)  # one set of labels for all years
+    area = calls.area()
+    return reference.change(
+        [calls.held(name) for name in names], years, area=area, labels=labels, part=part
+    )
+
+
+def patches(calls: Calls) -> Lines:
+    calls.raster("lc")
+    if calls.chance(0.5):
+        calls.zones()
+    calls.settled()
+    zones, lc = calls.zoned(), calls.held("lc")
+    connectivity, classes, least = calls.selection(lc)
+    depth = calls.picked("core_depth", (1, 2, 3), (0, 21)) or 1
+    labels, zone_labels = calls.legend("labels", lc), calls.legend("zone_labels", zones, 0.2)
+    return reference.patches(
+        lc,
+        zones,
+        area=calls.area(),
+        connectivity=connectivity,
+        classes=classes,
+        min_cells=least,
+        core_depth=depth,
+        labels=labels,
+        zone_labels=zone_labels,
+    )
+
+
+def zonal(calls: Calls) -> Lines:
+    calls.raster("value")
+    calls.zones(True)
+    calls.settled()
+    values, zones = calls.held("value"), calls.held("zone")
+    quantiles = [0.5]
+    if calls.chance(0.6):
+        pool = calls.random.permutation([0, 0.05, 0.25, 0.5, 0.75, 0.9, 0.025, 1]).tolist()
+        quantiles = pool[: int(calls.random.integers(1, 4))]
+        calls.option("quantiles", ",".join(map(str, quantiles)))
+    return reference.zonal(
+        values, zones, quantiles=quantiles, zone_labels=calls.legend("zone_labels", zones, 0.2)
+    )
+
+
+def majority(calls: Calls) -> Lines:
+    calls.raster("lc")
+    calls.settled()
+    size, fill = calls.picked("size", (3, 5, 7, 13, 15), (4, 1, 17)) or 3, calls.chance(0.3)
+    if fill:
+        calls.option("fill", "yes")
+    return reference.majority(calls.held("lc"), size=size, fill=fill)
+
+
+def align(calls: Calls) -> Lines:
+    frame = calls.frame
+    calls.raster("lc")
+    rows, cols = (int(size) for size in calls.random.integers(1, 12, 2))
+    down, across = (int(it) for it in calls.random.integers(-6, 7, 2))
+    part = one_of(calls.random, (0.0, 0.0, 0.0, 0.25))
+    scale = one_of(calls.random, (1.0, 1.0, 1.0, 2.0, 0.5))
+    if calls.chance(0.15):
+        down, across = down + frame.rows, across + 2 * frame.cols + 12
+    if frame.system.angle is not None and part == 0:
+        scale = 1.0
+    to = Frame(
+        rows,
+        cols,
+        frame.west + frame.width * (across + part),
+        frame.north - frame.height * (down + part),
+        frame.width * scale,
+        frame.height * scale,
+        frame.system,
+    )
+    calls.raster("to", False, to)
+    calls.option("to", "to")
+    calls.settled()
+    resample = "nearest" if calls.chance(0.6) else ""
+    if resample:
+        calls.option("resample", resample)
+    to_held = calls.held("to")
+    return reference.align(calls.held("lc"), to_held.frame, resample=resample)
+
+
+def reclass(calls: Calls) -> Lines:
+    calls.raster("lc")
+    calls.settled()
+    lc = calls.held("lc")
+    codes = np.unique(lc.cells[~lc.null]).tolist()
+    rules: dict[int, int | None] = {
+        code: one_of(calls.random, (None, 1, 2, -7, 500)) for code in codes if calls.chance(0.85)
+    }
+    rules = rules or {1: 2}
+    lines = ["value,new"] + [f"{code},{'' if new is None else new}" for code, new in rules.items()]
+    file = f"{calls.name}_rules.csv"
+    (calls.folder / file).write_text("\n".join(lines) + "\n")
+    calls.option("rules", file)
+    other = one_of(calls.random, ("", "keep", "null"))
+    if other:
+        calls.option("other", other)
+    return reference.reclass(lc, rules=rules, other=other)
+
+
+def clump(calls: Calls) -> Lines:
+    calls.raster("lc")
+    calls.settled()
+    lc = calls.held("lc")
+    connectivity, classes, least = calls.selection(lc)
+    return reference.clump(lc, connectivity=connectivity, classes=classes, min_cells=least)
+
+
+def adjacency(calls: Calls) -> Lines:
+    calls.raster("lc")
+    calls.settled()
+    lc = calls.held("lc")
+    return reference.adjacency(lc, labels=calls.legend("labels", lc))
+
+
+MAKERS: dict[str, Callable[[Calls], Lines]] = {
+    "composition": composition,
+    "cross": cross,
+    "change": change,
+    "patches": patches,
+    "zonal": zonal,
+    "majority": majority,
+    "align": align,
+    "reclass": reclass,
+    "clump": clump,
+    "adjacency": adjacency,
+}
+
+# Calls that are drawn more often: polygons, legends and matrices are where packages differ.
+MORE = ("composition", "composition", "zonal", "change", "patches")
+
+
+# Runs
+
+
+def made(folder: pathlib.Path, seed: int, numbers: Sequence[int]) -> list[Trial]:
+    """Make calls and their files."""
+    for name in ("cases", "rasters"):
+        (folder / name).mkdir(parents=True)
+    calls = Calls(folder / "rasters", seed)
+    trials = [calls.trial(number) for number in numbers]
+    for trial in trials:
+        (folder / "cases" / f"{trial.name}.case").write_text(trial.text(), encoding="utf-8")
+    return trials
+
+
+def compared(
+    front: str, folder: pathlib.Path, trials: Sequence[Trial]
+) -> tuple[Counter[str], list[str]]:
+    """Count the outcomes of calls in a package, and print the different ones; return their names too."""
+    found, told = found_by(front, folder)
+    counts: Counter[str] = Counter()
+    wrong = []
+    for trial in trials:
+        lines = [
+            line for line in found.get(trial.name, []) if line[:8] not in ("warned: ", "types: i")
+        ]
+        outcome = trial.judged(front, lines or ["error: nothing came out"])
+        counts[outcome] += 1
+        if outcome == "different":
+            wrong.append(trial.name)
+            print(
+                f"fronts: {front}: {trial.name}",
+                trial.text(),
+                "  found:",
+                *(f"    {line}" for line in lines[:30]),
+                sep="\n",
+            )
+    if len(found) < len(trials):
+        print(f"fronts: {front} ended early:", told[-2000:])
+    return counts, wrong
+
+
+def run(front_names: Sequence[str], count: int, seed: int, start: int) -> tuple[int, int]:
+    """Run calls in batches on all packages; return how many are right, and how many differ."""
+    totals: dict[str, Counter[str]] = {front: Counter() for front in front_names}
+    room = tempfile.mkdtemp(prefix="calls-", dir=ROOM)
+    for first in range(start, start + count, BATCH):
+        folder = pathlib.Path(room, str(first))
+        trials = made(folder, seed, range(first, min(first + BATCH, start + count)))
+        wrong: list[str] = []
+        for front in front_names:
+            counts, names = compared(front, folder, trials)
+            totals[front] += counts
+            wrong += names
+        tidy(folder, wrong)
+    for front, counts in totals.items():
+        parts = ", ".join(
+            f"{counts[it]} {it}" for it in ("equal", "refused", "absent", "different")
+        )
+        print(
+            f"fronts: {front}: {sum(counts.values())} random calls: {parts}; seed {seed}, from {start}"
+        )
+    failed = sum(counts["different"] for counts in totals.values())
+    if failed:
+        print(f"fronts: the files are in {room}")
+    else:
+        shutil.rmtree(room)
+    return sum(sum(it.values()) for it in totals.values()) - failed, failed
+
+
+def tidy(folder: pathlib.Path, wrong: Sequence[str]) -> None:
+    """Remove the files of calls that did not differ."""
+    for path in [*folder.glob("cases/*"), *folder.glob("rasters/*")]:
+        if not any(path.name.startswith((f"{name}_", f"{name}.")) for name in wrong):
+            path.unlink()
+
+
+def try_plants(seed: int) -> int:
+    """Bring each old mistake back in calls that Python has right, and return how many are not found."""
+    missed = 0
+    with tempfile.TemporaryDirectory(dir=ROOM) as room:
+        trials = made(pathlib.Path(room, "right"), seed, range(PLANT_CALLS))
+        found, _ = found_by("python", pathlib.Path(room, "right"))
+        right = [it for it in trials if it.judged("python", found.get(it.name, ["error"])) in GOOD]
+        print(f"fronts: {len(right)} of {len(trials)} random calls are right; seed {seed}")
+        for name, plant in PLANTS.items():
+            folder = pathlib.Path(room, name)
+            shutil.copytree(pathlib.Path(room, "right", "rasters"), folder / "rasters")
+            (folder / "cases").mkdir()
+            changed = [it for it in copy.deepcopy(right) if plant.spoil(folder / "rasters", it)]
+            for trial in changed:
+                path = folder / "cases" / f"{trial.name}.case"
+                path.write_text(trial.text(), encoding="utf-8")
+            spoiled = found_by("python", folder)[0] if changed else {}
+            seen = [
+                it.name
+                for it in changed or right
+                if it.judged("python", plant.tamper({**found, **spoiled}[it.name])) not in GOOD
+            ]
+            print(
+                f"fronts: plant {name} ({plant.told}): seen in {len(seen)} calls: {', '.join(seen[:3])}"
+            )
+            missed += not seen
+    print(f"{len(PLANTS) - missed} passed, {missed} failed, 0 skipped")
+    return missed
+
+
+def main() -> int:
+    options = argparse.ArgumentParser()
+    options.add_argument("--count", type=int, default=100)
+    options.add_argument("--seed", type=int, default=1)
+    options.add_argument("--from", type=int, default=0, dest="start", metavar="NUMBER")
+    options.add_argument("--plants", action="store_true")
+    options.add_argument("fronts", nargs="*", metavar="FRONT")
+    asked = options.parse_args()
+    if asked.plants:
+        return 1 if try_plants(asked.seed) else 0
+    named = [name for name in asked.fronts or FRONTS if name in FRONTS]
+    missing = {name: MISSING[name]() for name in named}
+    for name in filter(missing.get, named):
+        print(f"skipped  fronts/{name}: {missing[name]}; install: apt-get install {PACKAGES[name]}")
+    fronts = [name for name in named if not missing[name]]
+    passed, failed = run(fronts, asked.count, asked.seed, asked.start)
+    skipped = asked.count * (len(named) - len(fronts))
+    print(f"{passed} passed, {failed} failed, {skipped} skipped")
+    return 1 if failed else 0
+
+
+if __name__ == "__main__":
+    sys.exit(main())
