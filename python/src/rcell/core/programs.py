@@ -108,7 +108,10 @@ def _probe(path: str) -> None:
     """Let rcell read and print a grid of three cells once."""
     try:
         with spooled([_PROBE_GRID]) as grid, printed(path, grid, PROBE_SECONDS) as pieces:
-            is_known = b"".join(pieces) == _PRINTED
+            text = b""
+            while _PRINTED.startswith(text) and (piece := next(pieces, b"")):
+                text += piece
+            is_known = text == _PRINTED
     except (protocol.Rejected, protocol.Killed, protocol.NoAnswer):
         is_known = False
     except TimeoutError:
