@@ -8,7 +8,7 @@ import contextvars
 import os
 import sys
 import warnings
-from collections.abc import Callable, Iterator
+from collections.abc import Callable, Iterator, Sequence
 from dataclasses import dataclass
 from typing import Any, Optional
 
@@ -41,6 +41,8 @@ class Host:
         Called while a program runs; what it raises ends the run.
     progress : callable, optional
         Called with the share of the maps that was sent, from 0 to 1.
+    started : callable, optional
+        Called with a script and the names of its maps before the script is run.
     """
 
     words: str = "python"
@@ -48,6 +50,7 @@ class Host:
     find: Optional[Callable[[str], str]] = None
     watch: Optional[Callable[[], None]] = None
     progress: Optional[Callable[[float], None]] = None
+    started: Optional[Callable[[str, Sequence[str]], None]] = None
 
 
 _host: contextvars.ContextVar[Host] = contextvars.ContextVar("rcell.host", default=Host())

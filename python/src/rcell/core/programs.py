@@ -11,6 +11,7 @@ from typing import Callable, Iterator, Optional, Union
 
 from . import protocol
 from .errors import Killed, MissingProgram, OutOfMemory, Refused, WrongProgram
+from .host import host
 from .printing import printed, spooled
 from .process import found_on_path
 
@@ -64,7 +65,7 @@ def find_beside(
 ) -> str:
     """Return the path of a program.
 
-    Looked for in this order: the argument, an environment variable, next to the program that RCELL names, the scripts of this
+    The host may say where it is. Looked for in this order: the argument, an environment variable, next to the program that RCELL names, the scripts of this
     installation of Python (where the wheel puts it), the path.
 
     Raises
@@ -74,6 +75,9 @@ def find_beside(
     WrongProgram
         It does not work as this package needs it.
     """
+    find = host().find
+    if program is None and find is not None:
+        return find(name)
     path = os.fspath(program) if program is not None else os.environ.get(variable)
     if not path:
         beside = os.path.join(os.path.dirname(os.path.abspath(os.environ.get("RCELL", ""))), name)

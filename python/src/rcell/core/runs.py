@@ -4,12 +4,13 @@
 from __future__ import annotations
 
 from dataclasses import dataclass
-from typing import Any, Iterable, Mapping, Sequence
+from typing import Any, Iterable, Iterator, Mapping, Sequence
 
 import numpy as np
 
 from . import protocol
 from .arrays import NDArray
+from .host import host
 from .programs import Path, find_pipe, program_errors
 from .protocol import NULL
 from .sources import ArrayMap, Source
@@ -85,18 +86,14 @@ def planned(
     """Return what each statement of a script reads, makes and needs, over maps of some names; the errors are the same as in `execute`."""
     known = list(names)
     with program_errors(script, known, path := find_pipe(program)):
-        return protocol.plan(path, known, protocol.script_bytes(script))
+        return protocol.plan(path, known, protocol.script_bytes(script), watch=host().watch)
 
 
 def printed(script: str, maps: Mapping[str, Source], *, program: Path | None = None) -> bytes:
     """Return what rcell prints for a script; arguments and errors are the same as in `execute`."""
     with program_errors(script, list(maps), path := find_pipe(program)):
         return b"".join(
-            protocol.text(
-                path,
-                [_sent(name, source) for name, source in maps.items()],
-                protocol.script_bytes(script),
-            )
+            protocol.text(path, _sent(maps), protocol.script_bytes(script), watch=host().watch)
         )
 
 
@@ -130,32 +127,51 @@ def _frames(
 ) -> list[protocol.Frame]:
     """Return the frames of a script, and then the frames of some of its maps."""
     lines = [script, *(f"r.out.ascii input={name}" for name in wanted)]
+    started = host().started
+    if started is not None:
+        started(script, list(maps))
     with program_errors(script, list(maps), path := find_pipe(program)):
-        return protocol.run(
-            path,
-            [_sent(name, source) for name, source in maps.items()],
-            protocol.script_bytes("\n".join(lines)),
-        )
+        words = protocol.script_bytes("\n".join(lines))
+        return protocol.run(path, _sent(maps), words, watch=host().watch)
 
 
-def _sent(name: str, source: Source) -> protocol.Map:
-    """Return a map for the program; its blocks are sent unchanged, one after another."""
-    kind = source.dtype.kind + str(8 * source.dtype.itemsize)
-    blocks = (
-        protocol.Block(
-            block.cells.data, None if block.null is None else block.null.view(np.uint8).data
+def _sent(maps: Mapping[str, Source]) -> list[protocol.Map]:
+    """Return maps for the program; their blocks are sent unchanged, one after another."""
+    progress = _Progress(sum(source.region.rows * source.region.cols for source in maps.values()))
+    return [
+        protocol.Map(
+            name,
+            source.region.edges,
+            *source.region.shape,
+            source.dtype.kind + str(8 * source.dtype.itemsize),
+            _pieces(source, progress),
+            source.nodata,
+            source.is_masked,
         )
-        for block in source.blocks()
-    )
-    return protocol.Map(
-        name,
-        source.region.edges,
-        *source.region.shape,
-        kind,
-        blocks,
-        source.nodata,
-        source.is_masked,
-    )
+        for name, source in maps.items()
+    ]
+
+
+def _pieces(source: Source, progress: _Progress) -> Iterator[protocol.Block]:
+    for block in source.blocks():
+        null = None if block.null is None else block.null.view(np.uint8).data
+        yield protocol.Block(block.cells.data, null)
+        progress.add(block.cells.size)
+
+
+class _Progress:
+    """Reports the share of the cells that were sent to the host."""
+
+    def __init__(self, cells: int) -> None:
+        self._cells = cells
+        self._sent = 0
+
+    def add(self, cells: int) -> None:
+        """Count cells that were sent."""
+        self._sent += cells
+        report = host().progress
+        if report is not None:
+            report(self._sent / self._cells)
 
 
 def _output(frame: protocol.Frame, is_own: bool) -> Output:

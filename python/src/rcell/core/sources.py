@@ -9,7 +9,6 @@ import numbers
 import os
 import re
 import sys
-import warnings
 from dataclasses import dataclass, field
 from typing import Any, Iterable, Iterator, Mapping, NamedTuple, Protocol, Sequence
 
@@ -19,6 +18,7 @@ from .protocol import NULL
 
 from .arrays import ArrayLike, NDArray
 from .crs import common_crs
+from .host import warn
 from .errors import BadArgument, BadMap, OtherRegion
 from .labels import checked_labels
 from .masked import as_bools, data_of, is_masked_array, mask_of
@@ -216,9 +216,8 @@ def checked(
         return Block(cells, null)
     kept = np.where(is_null, cells.dtype.type(0), cells)
     if cells.dtype == np.float32 and np.abs(kept).max() > _EXACT_FLOAT32:
-        warnings.warn(
-            f"{name}: floats of 32 bits are not exact beyond {_EXACT_FLOAT32}, and the map has larger values",
-            stacklevel=2,
+        warn(
+            f"{name}: floats of 32 bits are not exact beyond {_EXACT_FLOAT32}, and the map has larger values"
         )
     return Block(np.where(is_null, np.int32(NULL), kept.astype(np.int32)), None)
 

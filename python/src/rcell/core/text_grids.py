@@ -22,6 +22,7 @@ from .protocol import NULL
 
 from .files import opened, read_some
 from .errors import BadMap, ReadFailed
+from .host import host
 from .sources import Block, Source, in_region
 from .region import Region, Transform, units_of
 
@@ -84,7 +85,7 @@ class TextMap:
                 rest = iter(lambda: read_some(stream.fileno(), 1 << 20), b"")
                 path = kept.enter_context(spooled(chain([self.held], rest)))
             kept.enter_context(program_errors("", [self.name], program))
-            for rows in kept.enter_context(printed_grid(program, path)).blocks:
+            for rows in kept.enter_context(printed_grid(program, path, watch=host().watch)).blocks:
                 yield Block(rows, None)
 
 
