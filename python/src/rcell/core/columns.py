@@ -9,7 +9,17 @@ import json
 from collections import Counter
 from dataclasses import dataclass, field, replace
 from functools import cached_property, wraps
-from typing import Any, Callable, Iterable, Iterator, Literal, Mapping, NamedTuple, ParamSpec
+from typing import (
+    TYPE_CHECKING,
+    Any,
+    Callable,
+    Iterable,
+    Iterator,
+    Literal,
+    Mapping,
+    NamedTuple,
+    Union,
+)
 
 import numpy as np
 
@@ -22,8 +32,12 @@ from .errors import Refused
 
 __all__ = ["Column", "Pivot", "StatsTable", "Table", "framed", "shortest"]
 
-Value = int | float | str | None
-Words = ParamSpec("Words")
+if TYPE_CHECKING:
+    from typing import ParamSpec
+
+    Words = ParamSpec("Words")
+
+Value = Union[int, float, str, None]
 # The most rows that a notebook shows.
 SHOWN_ROWS = 20
 

@@ -36,10 +36,9 @@ Path = Union[str, "os.PathLike[str]"]
 
 def candidates(name: str) -> Iterator[str]:
     """Yield where a program of this name is: among the scripts of this installation of Python, next to it, on the path."""
-    folders = [
-        sysconfig.get_path("scripts", scheme)
-        for scheme in (sysconfig.get_default_scheme(), sysconfig.get_preferred_scheme("user"))
-    ]
+    folders = [sysconfig.get_path("scripts")]
+    if "posix_user" in sysconfig.get_scheme_names():
+        folders.append(sysconfig.get_path("scripts", "posix_user"))
     for folder in (*folders, os.path.dirname(sys.executable or "")):
         path = os.path.join(folder, name)
         if os.path.isabs(folder) and os.path.isfile(path):
