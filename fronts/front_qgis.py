@@ -121,9 +121,11 @@ def parameters_of(case: Case) -> dict[str, Any]:
     if case.call == "zonal":
         parameters["ZONES"] = layers[1]
     for key, text in case.options.items():
-        name = key.upper()
+        name = {"rules": "RULES_FILE"}.get(key, key.upper())
         if known is not None and not known.parameterDefinition(name):
             name = OLD_NAMES.get(name, name)
+        if known is not None and name == "RULES_FILE" and not known.parameterDefinition(name):
+            raise LookupError("Algorithm rcell:reclass of a file not found")
         if key != "table":
             parameters[name] = (
                 layer_of(case, text)

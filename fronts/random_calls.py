@@ -37,7 +37,7 @@ ID_DIGITS = 11
 PLANT_CALLS = 600
 ROOM = "/dev/shm" if os.access("/dev/shm", os.W_OK) else None
 GOOD = ("equal", "refused")
-# A call that a front does not have.
+# A call that a package does not have.
 ABSENT = re.compile("has no attribute|was not found|Algorithm .* not found|invalid choice")
 AREAS = ("", "", "none", "ha", "km2", "m2")
 STATED = "EPSG:32632"
@@ -186,6 +186,8 @@ class Calls:
         """Zones: a raster or polygons."""
         system = self.frame.system
         is_plane = system.metres is not None or system.angle is not None
+        if not is_word:
+            self.option("zones", "zone")
         if not is_plane or self.chance(0.25):
             return self.raster("zone", is_word)
         made = inputs.zones_of(self.random, self.folder, f"{self.name}_zone", self.frame)
@@ -222,11 +224,8 @@ class Calls:
         return made.held
 
     def zoned(self) -> Raster | None:
-        """Zones as an option, perhaps."""
-        if "zone" not in self.found.maps:
-            return None
-        self.option("zones", "zone")
-        return self.held("zone")
+        """The zones, if there are any."""
+        return self.held("zone") if "zone" in self.found.maps else None
 
     def area(self) -> str:
         area = str(one_of(self.random, AREAS))

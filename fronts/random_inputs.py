@@ -330,12 +330,13 @@ def ring_of(random: Any, frame: Frame) -> list[tuple[float, float]]:
 
 def zones_of(random: Any, folder: pathlib.Path, name: str, frame: Frame) -> Made:
     """Random polygons in a file."""
-    endings = [it for it in DRIVERS if it != "geojson" or frame.system.text.startswith("EPSG")]
+    has_code = frame.system.text.startswith("EPSG")
+    endings = [it for it in DRIVERS if it not in ("geojson", "shp") or has_code]
     ending = one_of(random, endings)
     kind = one_of(random, [it for it in ("", *KINDS) if it != "bool" or ending not in ("shp",)])
     count = int(random.integers(1, 6))
     values = values_of(random, kind, count) if kind else [None] * count
-    if ending == "shp":
+    if ending in ("shp", "geojson"):  # files of fewer digits
         values = [round(it, 6) if isinstance(it, float) else it for it in values]
     features = []
     for place, value in enumerate(values):
