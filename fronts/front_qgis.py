@@ -200,6 +200,8 @@ def refusal(message: str) -> list[str]:
     if re.match("There were errors executing the algorithm|.*Algorithm .* not found", first):
         return [f"error: {message}"]
     place, _, text = first.partition(": ")
+    if not text:  # an error of QGIS itself
+        place, text = "", place
     source, _, line = place.partition(", line ")
     cell = re.search(r"the cell at row (\d+), column (\d+)", text)
     # The mark is below its column, two blanks farther to the right.

@@ -97,6 +97,8 @@ def write_missing() -> None:
     nothing = dict.fromkeys(values)
     for ending in DRIVERS:
         write_layer(f"missing.{ending}", fields, [(box(LEFT), values), (box(ALL), nothing)])
+        if ending == "fgb":
+            continue  # it has no features without geometry
         shapes = [(None, {"number": 7}), (box(LEFT), {"number": 8}), (box(RIGHT), {"number": 9})]
         write_layer(f"no_geometry.{ending}", {"number": "int"}, shapes)
     for ending in ("shp", "fgb"):

@@ -342,6 +342,10 @@ def zones_of(random: Any, folder: pathlib.Path, name: str, frame: Frame) -> Made
     for place, value in enumerate(values):
         parts = None if random.random() < 0.1 else [[ring_of(random, frame)]]
         features.append(Feature(place + (ending == "gpkg"), parts, value))
+    if ending == "fgb":  # GDAL leaves features without geometry out
+        features = [it for it in features if it.parts is not None]
+        for place, it in enumerate(features):
+            it.fid = place
     if ending == "gpkg" and random.random() < 0.3:
         for place, it in enumerate(features):
             it.fid = place * 3 + 2
