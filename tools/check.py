@@ -138,7 +138,6 @@ LATE = [
         ],
         has_counts=False,
     ),
-    Part("laws", "laws of a report, on outputs", [tool("model/laws")]),
     Part(
         "objects",
         "the objects that the programs were linked from",

@@ -2,7 +2,7 @@
 
     python3 tools/lint [--write | --words] [RULE..]
 
-Each rule has its findings, one a line, and a file of exceptions, lint/exceptions/RULE.txt. A finding that the file does not
+Each rule has its findings, one a line, and may have a file of exceptions, lint/exceptions/RULE.txt. A finding that the file does not
 list is an error, and so is a line of the file that is no finding any more: the list may only shrink. Rules that count list a
 number a file, which may only fall. The documents and messages for users have no retired word (prose.py); pages keep to their
 lengths and have no sentence in common (pages.py).
@@ -70,12 +70,14 @@ def total(rule, lines):
 
 
 def write_exceptions(rule, comments, findings, allowed):
-    """Writes the findings as the exceptions, unless there would be more of them."""
+    """Write the findings as the exceptions, unless there would be more; a rule without any has no file."""
     path = HERE / "exceptions" / f"{rule}.txt"
-    if path.exists() and any(
-        "not listed" in it or "at most" in it for it in faults_of(rule, findings, allowed)
-    ):
+    faults = faults_of(rule, findings, allowed)
+    if any("not listed" in it or "at most" in it for it in faults):
         print(f"{rule}: the list would grow, and is left as it is")
+        return
+    if not findings:
+        path.unlink(missing_ok=True)
         return
     path.write_text("".join(f"{line}\n" for line in [*comments, *findings]), encoding="utf-8")
 
