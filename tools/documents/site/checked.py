@@ -109,9 +109,9 @@ def check(root, out):
         passed += not found
         faults += [f"{name}: {fault}" for fault in found]
     results, _ = opened(f"{(out / 'search.html').as_uri()}?q=r.clump")
-    found = re.search(r'id="search-results">(.*?)</ol>', results, re.DOTALL)
-    is_found = bool(found and 'href="commands.html"' in found[1])
+    first = re.search(r'id="search-results"><li><a href="([^"]*)"', results)
+    is_found = bool(first and first[1] == "commands.html#rclump")
     passed += is_found
-    faults += [] if is_found else ["search.html?q=r.clump: the page of commands is not found"]
+    faults += [] if is_found else ["search.html?q=r.clump: the section of the command is not first"]
     print("".join(f"{fault}\n" for fault in faults) + f"{passed} passed, {len(faults)} failed")
     return 1 if faults else 0

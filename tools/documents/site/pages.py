@@ -1,36 +1,22 @@
-"""The pages of the site: the Markdown of the repository under the names of the site, references and manual pages."""
+"""The pages of the site: the Markdown of the repository under the names of the site, a landing page, and the index of the search."""
 import html
-import inspect
 import json
 import os
 import pathlib
 import re
 import shutil
 import subprocess
-import sys
 
+import reference
 import spans
 
 HERE = pathlib.Path(__file__).resolve().parent
 # The pages in the order of the menu: heading, then title and file of the repository.
 MENU = {
-    "Learn": {
+    "Start": {
+        "Overview": "README.md",
         "Tutorial": "docs/tutorial.md",
-        "How to": "docs/howto.md",
-        "Large maps": "docs/large-maps.md",
-        "Cheat sheet": "docs/cheatsheet.md",
-    },
-    "Reference": {
-        "Commands": "docs/commands.md",
-        "Errors": "docs/errors.md",
-        "rcell-join": "docs/rcell-join.md",
-        "rcell-pipe": "docs/pipe.md",
-        "From GRASS": "docs/grass.md",
-        "Compared with other tools": "docs/compared.md",
-        "Questions": "docs/faq.md",
-    },
-    "Examples": {
-        "All examples": "examples/README.md",
+        "Examples": "examples/README.md",
         "Change": "examples/change/README.md",
         "Woodland": "examples/woodland/README.md",
         "Stream": "examples/stream/README.md",
@@ -39,48 +25,71 @@ MENU = {
         "A large map": "examples/large-map/README.md",
         "Islands": "examples/islands/README.md",
     },
-    "Packages": {"Python": "docs/python.md", "R": "docs/r.md", "QGIS": "docs/qgis.md"},
-    "About": {
+    "Guides": {
+        "How to": "docs/howto.md",
+        "Large maps": "docs/large-maps.md",
+        "Python": "docs/python.md",
+        "R": "docs/r.md",
+        "QGIS": "docs/qgis.md",
+        "From GRASS": "docs/grass.md",
+        "Compared with other tools": "docs/compared.md",
+        "Questions": "docs/faq.md",
+    },
+    "Reference": {
+        "Commands": "docs/commands.md",
+        "Cheat sheet": "docs/cheatsheet.md",
+        "Errors": "docs/errors.md",
+        "rcell-join": "docs/rcell-join.md",
+        "rcell-pipe": "docs/pipe.md",
+    },
+    "Trust": {
         "What is proved": "docs/proofs.md",
         "Validation": "docs/validation.md",
         "Theorems": "docs/theorems.md",
         "Speed": "docs/speed.md",
-        "Changes": "CHANGELOG.md",
-        "Licence": "LICENSE.md",
-        "Contributing": "CONTRIBUTING.md",
-        "Security": "SECURITY.md",
-        "Code of conduct": "CODE_OF_CONDUCT.md",
-        "Example rasters": "examples/rasters/README.md",
         "Benchmarks": "bench/RESULTS.md",
         "Hostile use": "bench/hostile.md",
     },
-    "Sources": {"Architecture": "docs/architecture.md", "Decisions": "docs/DECISIONS.md"},
+    "Project": {
+        "Changes": "CHANGELOG.md",
+        "Licence": "LICENSE.md",
+        "Contributing": "CONTRIBUTING.md",
+        "Architecture": "docs/architecture.md",
+        "Decisions": "docs/DECISIONS.md",
+        "Security": "SECURITY.md",
+        "Code of conduct": "CODE_OF_CONDUCT.md",
+        "Example rasters": "examples/rasters/README.md",
+    },
 }
 PICTURES = {
-    "study.png": ("A land-cover study", "tutorial.html"),
-    "landcover.png": ("A map drawn with GDAL", "howto.html"),
     "islands-islands.png": ("Islands of South-East Asia", "islands.html"),
+    "study.png": ("A land-cover study", "tutorial.html"),
+    "qgis-result.png": ("Patches in QGIS", "qgis.html"),
+    "qgis-dialog.png": ("A cross table in QGIS", "qgis.html"),
+    "qgis-model.png": ("A model in QGIS", "qgis.html"),
     "change-picture.png": ("Change between two years", "change.html"),
     "woodland-picture.png": ("Large woods", "woodland.html"),
     "stream-picture.png": ("Along a stream", "stream.html"),
     "majority-picture.png": ("Majority filter", "majority.html"),
     "protected-picture.png": ("Protected zones", "protected.html"),
-    "qgis-result.png": ("Patches in QGIS", "qgis.html"),
-    "qgis-dialog.png": ("A cross table in QGIS", "qgis.html"),
-    "qgis-model.png": ("A model in QGIS", "qgis.html"),
+    "landcover.png": ("A map drawn with GDAL", "howto.html"),
     "speed.png": ("Compared with C++", "speed.html"),
 }
+SCRIPTS = ("site.css", "search.js", "copy.js")
 EXTENSIONS = ["tables", "fenced_code"]
+# How much more or less than others a page counts in the search.
+WEIGHTS = {"commands.html": 2, "results.html": 0.1, "hostile.html": 0.1, "changelog.html": 0.1}
 FILE = re.compile(r"^```\w+ file=(\S+)", re.MULTILINE)
 LINK = re.compile(r"(!?\[[^\]]*\])\(([^)\s#]*)(#[^)\s]*)?\)")
+HEADING = re.compile(r'<h([1-3]) id="([^"]*)">(.*?)</h\1>', re.DOTALL)
 
 
 def named(root):
     """The pages that are there, each as a path below the root with its name in the site."""
-    found = {"README.md": "index.md"}
+    found = {"README.md": "overview.md"}
     for titles in MENU.values():
         for name in titles.values():
-            if (root / name).exists():
+            if name not in found and (root / name).exists():
                 own = pathlib.Path(name)
                 found[name] = (
                     f"{own.parent.name}.md" if own.name == "README.md" else own.name.lower()
@@ -112,6 +121,7 @@ def linked(text, name, root, names):
 def page_text(root, name, names):
     """The Markdown of a page for mkdocs; a block to be saved has the name of its file above it."""
     text = linked((root / name).read_text(encoding="utf-8"), name, root, names)
+    text = re.sub(r"\A# rcell$", "# Overview", text, flags=re.MULTILINE)
     text = FILE.sub(r'<div class="file">\1</div>\n\n\g<0>', text)
     return spans.as_html(re.sub(r"^```(\w+) [^\n]*$", r"```\1", text, flags=re.MULTILINE))
 
@@ -142,16 +152,17 @@ def lay_out(root, folder):
         *(root / "examples").glob("*/*.png"),
     ]:
         shutil.copy(picture, folder / picture_name(picture.relative_to(root)))
-    for name in ("site.css", "search.js"):
+    for name in SCRIPTS:
         shutil.copy(HERE / name, folder)
+    (folder / "index.md").write_text(landing(root), encoding="utf-8")
     (folder / "search.md").write_text(SEARCH, encoding="utf-8")
     (folder / "gallery.md").write_text(gallery(), encoding="utf-8")
     (folder / "api").mkdir()
-    (folder / "api" / "python.md").write_text(python_reference(root), encoding="utf-8")
-    (folder / "api" / "r.md").write_text(r_reference(root), encoding="utf-8")
+    (folder / "api" / "python.md").write_text(reference.python(root), encoding="utf-8")
+    (folder / "api" / "r.md").write_text(reference.r(root), encoding="utf-8")
     (folder / "man").mkdir()
-    for page in manual_pages(root):
-        (folder / "man" / f"{page.stem}.md").write_text(manual(page), encoding="utf-8")
+    for page in reference.manual_pages(root):
+        (folder / "man" / f"{page.stem}.md").write_text(reference.manual(page), encoding="utf-8")
 
 
 SEARCH = """# Search
@@ -163,112 +174,93 @@ SEARCH = """# Search
 """
 
 
+def landing(root):
+    """The first page: what rcell is, with numbers of the README, and one call in four languages."""
+    readme = (root / "README.md").read_text(encoding="utf-8")
+    lines = re.search(r"for a table of r\.stats (\d+) lines", readme)[1]
+    row = re.search(r"^\| table .*\|$", readme, re.MULTILINE)[0].split("|")
+    text = (HERE / "landing.md").read_text(encoding="utf-8")
+    for key, value in (("LINES", lines), ("RCELL", row[5].strip()), ("GRASS", row[6].strip())):
+        text = text.replace(f"@{key}@", value)
+    return re.sub(r"^```(\w+) [^\n]*$", r"```\1", text, flags=re.MULTILINE)
+
+
 def gallery():
     figures = [
-        f'<figure><a href="{page}"><img src="{name}" alt="{title}"></a><figcaption>{title}</figcaption></figure>'
+        f'<figure><a href="{page}"><img src="{name}" alt="{title}"></a>'
+        f'<figcaption><a href="{page}">{title}</a></figcaption></figure>'
         for name, (title, page) in PICTURES.items()
     ]
     return '# Gallery\n\n<div class="gallery">\n' + "\n".join(figures) + "\n</div>\n"
 
 
-def manual_pages(root):
-    return sorted([*(root / "docs").glob("*.1"), *(root / "helpers").glob("*.1")])
-
-
-def manual(page):
-    """A manual page as the text that man shows."""
-    shown = subprocess.run(
-        ["groff", "-man", "-Tutf8", "-P-c", "-P-b", "-P-u", "-rLL=78n", "-K", "utf8", str(page)],
-        capture_output=True,
-        text=True,
-        check=True,
-    )
-    text = re.sub(r"\x1b\[[\d;]*m|.\x08", "", shown.stdout)
-    return f"# {page.stem}\n\n<pre>{html.escape(text.strip())}</pre>\n"
-
-
-def python_reference(root):
-    """The public names of the Python package with their docstrings."""
-    sys.path.insert(0, str(root / "python" / "src"))
-    import rcell
-
-    parts = ["# Python reference\n"]
-    for name in rcell.__all__:
-        thing = getattr(rcell, name)
-        if name.startswith("__") or not inspect.getdoc(thing):
-            continue
-        try:
-            signature = (
-                str(inspect.signature(thing))
-                if callable(thing) and not (inspect.isclass(thing) and issubclass(thing, Exception))
-                else ""
-            )
-        except ValueError:
-            signature = ""
-        parts.append(
-            f"## rcell.{name}\n\n<pre>{html.escape(f'rcell.{name}{signature}')}</pre>\n\n<pre>{html.escape(inspect.getdoc(thing))}</pre>\n"
-        )
-    return "\n".join(parts)
-
-
-def r_reference(root):
-    """The help pages of the R package, as R shows them."""
-    parts = ["# R reference\n"]
-    for page in sorted((root / "r" / "rcell" / "man").glob("*.Rd")):
-        shown = subprocess.run(
-            ["R", "CMD", "Rd2txt", str(page)], capture_output=True, text=True, check=True
-        ).stdout
-        parts.append(
-            f"## {page.stem}\n\n<pre>{html.escape(re.sub(r'_.', '', shown.replace('_' + chr(8), '')).strip())}</pre>\n"
-        )
-    return "\n".join(parts)
+def said_by(root, *words):
+    return subprocess.run(
+        words, cwd=root, capture_output=True, text=True, check=False
+    ).stdout.strip()
 
 
 def configuration(root, folder):
     """The configuration of mkdocs."""
     names = named(root)
-    menu = [{"Home": "index.md"}]
-    menu += [
+    menu = [
         {heading: [{title: names[name]} for title, name in titles.items() if name in names]}
         for heading, titles in MENU.items()
     ]
     by_heading = {heading: pages for entry in menu for heading, pages in entry.items()}
-    by_heading["Packages"] += [{"Python reference": "api/python.md"}, {"R reference": "api/r.md"}]
+    by_heading["Start"].append({"Gallery": "gallery.md"})
     by_heading["Reference"] += [
-        {f"{page.stem}(1)": f"man/{page.stem}.md"} for page in manual_pages(root)
+        {"Python reference": "api/python.md"},
+        {"R reference": "api/r.md"},
+        *({f"{it.stem}(1)": f"man/{it.stem}.md"} for it in reference.manual_pages(root)),
     ]
-    by_heading["Learn"].append({"Gallery": "gallery.md"})
-    menu.append({"Search": "search.md"})
+    version = (root / "VERSION").read_text(encoding="utf-8").strip()
+    commit = said_by(root, "git", "log", "-1", "--format=%h of %cs")
     return json.dumps(
         {
             "site_name": "rcell",
+            "site_description": "Proved tables, patches and map algebra for categorical rasters",
+            "copyright": f"rcell {version}, from commit {commit}. Apache-2.0 OR GPL-2.0-or-later.",
             "docs_dir": str(folder),
-            "nav": menu,
+            "nav": [{"Home": "index.md"}, *menu],
             "plugins": [],
             "use_directory_urls": False,
             "extra_css": ["site.css"],
+            "extra_javascript": ["copy.js"],
             "theme": {"name": "mkdocs", "highlightjs": False, "custom_dir": str(HERE / "theme")},
             "markdown_extensions": EXTENSIONS,
         }
     )
 
 
+def words_of(text):
+    """The words of HTML, without its tags."""
+    return html.unescape(re.sub(r"\s+", " ", re.sub(r"<[^>]*>", " ", text))).strip()
+
+
+def sections_of(name, text):
+    """The sections of a page for the search: address, title of the page, own title, text. A reference has finer ones."""
+    deepest = 3 if name.startswith("api/") else 2
+    headings = [it for it in HEADING.finditer(text) if int(it[1]) <= deepest]
+    page = words_of(headings[0][3]) if headings else name
+    for heading, following in zip(headings, [*headings[1:], None]):
+        end = following.start() if following else len(text)
+        yield {
+            "url": name if heading is headings[0] else f"{name}#{heading[2]}",
+            "page": page,
+            "title": words_of(heading[3]),
+            "text": words_of(text[heading.end() : end]),
+            "weight": WEIGHTS.get(name, 1),
+        }
+
+
 def add_index(out):
-    """Write the index of the search: the title, address and text of each page, as a script."""
+    """Write the index of the search as a script."""
     found = []
     for path in sorted(out.rglob("*.html")):
         name = path.relative_to(out).as_posix()
-        text = path.read_text(encoding="utf-8")
-        main = re.search(r'role="main">(.*?)<footer', text, re.DOTALL)
-        if main is None or name in ("404.html", "search.html"):
-            continue
-        title = re.search(r"<h1[^>]*>(.*?)</h1>", main[1], re.DOTALL)
-        plain = html.unescape(re.sub(r"\s+", " ", re.sub(r"<[^>]*>", " ", main[1]))).strip()
-        found.append(
-            {
-                "url": name,
-                "title": html.unescape(re.sub(r"<[^>]*>", "", title[1])) if title else name,
-                "text": plain,
-            }
-        )
-    (out / "search_index.js").write_text(f"const pages = {json.dumps(found)};\n", encoding="utf-8")
+        main = re.search(r'role="main">(.*?)<footer', path.read_text(encoding="utf-8"), re.DOTALL)
+        if main is not None and name not in ("404.html", "search.html", "index.html"):
+            found += sections_of(name, main[1])
+    script = f"const sections = {json.dumps(found)};\n"
+    (out / "search_index.js").write_text(script, encoding="utf-8")
