@@ -1,29 +1,33 @@
 # SPDX-License-Identifier: Apache-2.0 OR GPL-2.0-or-later
 
-# make           proves and builds the programs, bin/rcell, bin/rcell-join and bin/rcell-pipe; JOBS=1 if memory is short
-# make install   puts the programs, helpers, manual pages, documents and examples below PREFIX (/usr/local; DESTDIR goes before it)
-# make uninstall removes them
-# make try       compiles and runs the example; nothing is proved, and nothing is put into bin/ (two minutes)
-# make example   proves and builds bin/rcell alone, and runs it on the land cover of examples/land-cover
-#                OBJECTS=FILE, for make and make example: takes the proved objects of a release if they are of exactly these sources
+# make           proves and builds rcell, rcell-join and rcell-pipe into bin/; JOBS=1 if memory is short
+# make try       compiles rcell without proofs and runs an example (two minutes)
+# make test      compiles all programs without proofs into test-bin/, and runs every test that needs no proof (ten minutes)
+# make check     the gate: every proof, edit and test, the programs, documents, release and packages
+#                PARTS="lint documents" runs these parts alone, also of make test; PARTS=list names them
+# make lint      checks sources and documents against the rules (seconds)
 # make documents runs each example of the documents on the programs in bin/, and compares
-# make check     the gate: every proof, then the programs, documents, release and packages
-#                PARTS="lint documents" runs these parts alone, PARTS=list names them
+# make edits     tries all wrong bodies and turned definitions: the proofs have to fail; OF="rcell cell_cats" those of these crates
+# make reading   prints the definitions to believe, in reading order; COMMAND=r.stats for one command
+# make example   proves and builds bin/rcell alone, and counts the land cover of examples/land-cover
+# make install   puts what is built below PREFIX (/usr/local; DESTDIR goes before it); make uninstall removes it
+# make dist      makes the release in dist/: tarball, packages, wheel, objects, bill of materials
+# make python r qgis grass-check   builds and tests these packages
+# make clean     removes all that was built
+# make help-all  prints all targets: benchmarks, pictures, hostile runs, parts of the packages
+
+# make example   and make: OBJECTS=FILE takes the proved objects of a release if they are of exactly these sources
 # make static    links the programs as bin/NAME-static, which run on any Linux on x86-64
-# make dist      makes the release in dist/: tarball, package of Debian, wheel, packages for R and QGIS, objects, bill of materials
 # make debian11  runs the release's quick start in a root of Debian 11 (as root, with debootstrap)
-# make edits     tries all edits: each must be rejected; OF="rcell cell_cats" those of these crates
 # make hostile   attacks the program: memory, reads, writes and bytes fail in turn, and the largest inputs (an hour)
 # make fuzz      runs it on random input next to a plain model for SECONDS=60, from SEED=
 # make bench     times each task next to C++, and doubles one dimension after another; BENCH=--short takes five minutes
 # make figures   measures all that bench/RESULTS.md shows and writes it there, into README.md and into docs/speed.png (an hour)
 # make pictures  draws the pictures of the documents
 # make exchange  compares the program and the documents with GRASS and GDAL, if they are installed
-# make clean     removes all that was built
-# make help      prints this
 
 # A folder that has targets of its own (python/, r/, qgis/, grass/) names them in its file targets.mk, with such lines for
-# `make help`. Packages of Debian that a target needs are installed by `tools/debian.sh PACKAGE...`.
+# `make help-all`. Packages of Debian that a target needs are installed by `tools/debian.sh PACKAGE...`.
 
 PREFIX ?= /usr/local
 DESTDIR ?=
@@ -37,7 +41,8 @@ PICTURES = /usr/bin/python3 tools/documents/pictures.py
 CRATES = $(filter-out %_tests %/cell_core_test_maps,$(wildcard crates/*))
 SOURCES = crates.txt $(shell find $(wildcard $(CRATES:%=%/src) $(CRATES:%=%/specs) $(CRATES:%=%/proofs)) -type f)
 
-.PHONY: all try install uninstall example documents check static dist debian11 edits hostile fuzz bench figures pictures exchange clean help
+.PHONY: all try test install uninstall example documents check static dist debian11 edits hostile fuzz bench figures pictures exchange clean
+.PHONY: help help-all
 
 all: bin/rcell bin/rcell-join bin/rcell-pipe
 
@@ -50,7 +55,11 @@ bin/rcell bin/rcell-join bin/rcell-pipe &: $(SOURCES)
 
 try:
 	@sh tools/needs.sh
-	@python3 tools/build/try.py
+	@python3 tools/build/unproved.py --example rcell
+
+test:
+	@sh tools/needs.sh git || { echo '0 passed, 1 failed, 0 skipped'; exit 1; }
+	@python3 tools/check.py --unproved $(PARTS)
 
 # It stands on no source, so that it needs no kit: what is built is installed, also where a source is newer.
 install:
@@ -116,9 +125,12 @@ exchange: bin/rcell
 	python3 tools/grass/exchange.py
 
 clean:
-	rm -rf bin dist bench/out crates/*/out
+	rm -rf bin test-bin dist bench/out crates/*/out
 
 help:
+	@awk '/^# (make|   )/ { print substr($$0, 3); printed = 1; next } printed { exit }' Makefile
+
+help-all:
 	@sed -n 's/^# \(make\|   \)/\1/p' $(MAKEFILE_LIST)
 
 -include */targets.mk

@@ -18,6 +18,7 @@ from cases import Case, cases
 
 HERE = pathlib.Path(__file__).resolve().parent
 REPOSITORY = HERE.parent
+PROGRAMS = os.environ.get("RCELL_BIN", str(REPOSITORY / "bin"))
 FRONTS = ("python", "shell", "r", "qgis", "grass")
 
 
@@ -25,7 +26,7 @@ def environment() -> dict[str, str]:
     known = {
         "PYTHONDONTWRITEBYTECODE": "1",
         "LC_ALL": "C.UTF-8",
-        "RCELL": os.environ.get("RCELL") or str(REPOSITORY / "bin/rcell"),
+        "RCELL": os.environ.get("RCELL") or f"{PROGRAMS}/rcell",
     }
     return {**os.environ, **known, "PYTHONPATH": str(REPOSITORY / "python/src")}
 

@@ -3,7 +3,7 @@
 # and if GRASS is installed a short session. The last line is 'N passed, M failed, K skipped'.
 #     gate.sh [PROGRAM]
 cd "$(dirname "$0")/.." || exit 1
-program=$(realpath "${1:-bin/rcell}")
+program=$(realpath "${1:-${RCELL_BIN:-bin}/rcell}")
 pipe=$(dirname "$program")/rcell-pipe
 room=$(mktemp -d) || exit 1
 trap 'rm -rf "$room"' EXIT

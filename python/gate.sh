@@ -7,7 +7,7 @@ room=$(mktemp -d) || exit 1
 trap 'rm -rf "$room"' EXIT
 . tools/counting.sh
 python=/usr/bin/python3
-export RCELL="$PWD/bin/rcell" PYTHONPATH="$PWD/python/src" PYTHONDONTWRITEBYTECODE=1
+export RCELL="${RCELL_BIN:-$PWD/bin}/rcell" PYTHONPATH="$PWD/python/src" PYTHONDONTWRITEBYTECODE=1
 cd python || exit 1
 
 has() {

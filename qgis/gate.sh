@@ -5,7 +5,7 @@ cd "$(dirname "$0")/.." || exit 1
 python=/usr/bin/python3
 room=$(mktemp -d) || exit 1
 trap 'rm -rf "$room"' EXIT
-export RCELL="$PWD/bin/rcell" PYTHONDONTWRITEBYTECODE=1 LC_ALL=C.UTF-8 QT_QPA_PLATFORM=offscreen HOME="$room" XDG_RUNTIME_DIR="$room"
+export RCELL="${RCELL_BIN:-$PWD/bin}/rcell" PYTHONDONTWRITEBYTECODE=1 LC_ALL=C.UTF-8 QT_QPA_PLATFORM=offscreen HOME="$room" XDG_RUNTIME_DIR="$room"
 . tools/counting.sh
 
 if "$python" -c 'import numpy, osgeo.gdal' 2> /dev/null; then

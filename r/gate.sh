@@ -10,7 +10,7 @@ missing=$(Rscript --vanilla -e 'for (p in c("terra", "data.table", "processx", "
 if [ -z "$missing" ]; then
     mkdir "$room/library"
     check 'the package is installed' R CMD INSTALL --no-docs --no-byte-compile --no-test-load --library="$room/library" r/rcell
-    export RCELL="$PWD/bin/rcell" R_LIBS="$room/library" LC_ALL=C.UTF-8 PYTHONPATH="$PWD/python/src" PYTHONDONTWRITEBYTECODE=1
+    export RCELL="${RCELL_BIN:-$PWD/bin}/rcell" R_LIBS="$room/library" LC_ALL=C.UTF-8 PYTHONPATH="$PWD/python/src" PYTHONDONTWRITEBYTECODE=1
     add 'tests of the package' Rscript --no-save --no-restore --no-site-file r/gate.R r/rcell/inst/tinytest
 else
     # shellcheck disable=SC2046

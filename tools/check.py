@@ -2,21 +2,23 @@
 """The gate: every proof, then the proved programs on the cases, the documents and the release, and each package.
 
     check.py [--complete] [PART..]
+    check.py --unproved [PART..]      only what needs no proof, on programs that are compiled here without proofs (`make test`)
 
-Without names all parts are run; `list` prints their names. A part is a program that ends in 'N passed, M failed' or
+Without names all parts are run; `list` prints their names. The programs are in bin/, or where RCELL_BIN says. A part is a program that ends in 'N passed, M failed' or
 'N passed, M failed, K skipped' on standard output; its standard error is shown and never counted. What is not installed is
 skipped, with a line 'skipped  PART: NEEDS; install: apt-get install PACKAGES'. At the end there is a table of the parts with
 their processor seconds, and a closing line of all counts: the status is 0 if nothing failed and, with --complete, nothing was
 skipped. The closing line of a whole run is kept in bin/gate, where PROVED.txt of the release finds it.
 """
 import argparse
+import functools
 import os
 import re
-import resource
 import signal
 import subprocess
 import sys
 import time
+from concurrent.futures import ThreadPoolExecutor
 from dataclasses import dataclass
 
 sys.path.insert(1, f"{os.path.dirname(os.path.abspath(__file__))}/build")
@@ -41,6 +43,7 @@ class Part:
     commands: list
     has_counts: bool = True
     needs_programs: bool = True
+    needs_proofs: bool = False
 
 
 @dataclass
@@ -93,6 +96,7 @@ PROOFS = Part(
     "each proof, each test, and the wrong bodies that matter most",
     [["rt", "ci"]],
     needs_programs=False,
+    needs_proofs=True,
 )
 LATE = [
     Part(
@@ -100,6 +104,7 @@ LATE = [
         "wrong bodies and turned definitions that the proofs must refuse",
         [tool("build/edits.py")],
         needs_programs=False,
+        needs_proofs=True,
     ),
     Part(
         "cases",
@@ -143,9 +148,13 @@ LATE = [
         "the objects that the programs were linked from",
         [tool("build/objects.py")],
         has_counts=False,
+        needs_proofs=True,
     ),
     Part(
-        "release", "the release, without the kit and the sources", [tool("build/check_release.py")]
+        "release",
+        "the release, without the kit and the sources",
+        [tool("build/check_release.py")],
+        needs_proofs=True,
     ),
     *[
         Part(front, f"what {front}/ has of its own", [["sh", f"{front}/gate.sh"]])
@@ -153,11 +162,7 @@ LATE = [
     ],
 ]
 PARTS = [*EARLY, PROOFS, *LATE]
-
-
-def processor_seconds():
-    used = resource.getrusage(resource.RUSAGE_CHILDREN)
-    return used.ru_utime + used.ru_stime
+LONGEST = ["documents", "python", "hostile", "fronts", "cases", "models", "lint"]
 
 
 def counts_of(lines, status, has_counts):
@@ -170,15 +175,16 @@ def counts_of(lines, status, has_counts):
     return passed, max(failed, int(status != 0)), max(skipped, listed)
 
 
-def run(part):
-    """Runs a part and shows what it prints."""
-    print(f"== {part.name}: {part.tries}", flush=True)
-    result, begun = Result(part.name), processor_seconds()
+def run(part, show=print):
+    """Runs a part and shows what it prints, line by line."""
+    show(f"== {part.name}: {part.tries}")
+    result = Result(part.name)
     for command in part.commands:
         words = [f"{build.kit()}/toolchain/bin/clang" if it == CLANG else it for it in command]
         with subprocess.Popen(
             words,
             cwd=ROOT,
+            env={**os.environ, "RCELL_BIN": programs()},
             stdin=subprocess.DEVNULL,
             stdout=subprocess.PIPE,
             text=True,
@@ -187,25 +193,34 @@ def run(part):
             lines = []
             for line in ran.stdout:
                 lines.append(line)
-                print(line, end="", flush=True)
+                show(line.removesuffix("\n"))
+            _, status, used = os.wait4(ran.pid, 0)
+            ran.returncode = os.waitstatus_to_exitcode(status)
+        result.seconds += used.ru_utime + used.ru_stime
         result.add(*counts_of(lines, ran.returncode, part.has_counts))
         result.note = next(
             (NOTE.sub("", it).strip() for it in reversed(lines) if NOTE.match(it)), result.note
         )
-    result.seconds = processor_seconds() - begun
     return result
+
+
+def programs():
+    """The folder of the programs."""
+    return os.path.abspath(os.environ.get("RCELL_BIN", f"{ROOT}/bin"))
+
+
+def has_programs():
+    return all(os.path.exists(f"{programs()}/{name}") for name in build.PROGRAMS.values())
 
 
 def run_all(parts):
     """Runs parts in order, to the first that the others cannot do without."""
     results = []
     for part in parts:
-        if part.needs_programs and not all(
-            os.path.exists(f"{ROOT}/bin/{name}") for name in build.PROGRAMS.values()
-        ):
-            print(f"{part.name}: a program is missing in bin/: run make first")
+        if part.needs_programs and not has_programs():
+            print(f"{part.name}: a program is missing in {programs()}: run make first")
             return [*results, Result(part.name, failed=1)]
-        results.append(run(part))
+        results.append(run(part, functools.partial(print, flush=True)))
         if part in [*EARLY, PROOFS] and results[-1].failed:
             return results
         if part is PROOFS:
@@ -214,6 +229,38 @@ def run_all(parts):
             for crate in build.crates_of(build.PROGRAMS):
                 crate.note_proved()
     return results
+
+
+def run_unproved(part):
+    """Runs a part on programs that are not proved, and shows what it prints when it has ended; a part about proofs is skipped."""
+    if part.needs_proofs:
+        print(f"{SKIPPED}{part.name}: it is about proofs; run: make check", flush=True)
+        return Result(part.name, skipped=1)
+    lines, begun = [], time.monotonic()
+    result = run(part, lines.append)
+    print(*lines, f"{part.name} ended after {time.monotonic() - begun:.0f} s", sep="\n", flush=True)
+    return result
+
+
+def compiled():
+    """Compiles the programs without proofs, and returns what came of it."""
+    unproved = Part(
+        "programs",
+        "the programs compile without proofs",
+        [tool("build/unproved.py")],
+        has_counts=False,
+    )
+    return run(unproved, functools.partial(print, flush=True))
+
+
+def run_all_unproved(parts):
+    """Runs parts side by side on programs that are compiled here, those that take longest first."""
+    results = [compiled()]
+    if results[0].failed:
+        return results
+    order = sorted(parts, key=lambda it: LONGEST.index(it.name) if it.name in LONGEST else 99)
+    with ThreadPoolExecutor(len(os.sched_getaffinity(0))) as pool:
+        return results + list(pool.map(run_unproved, order))
 
 
 def said_by(*words):
@@ -281,6 +328,9 @@ def main():
     words.add_argument(
         "--complete", action="store_true", help="what is skipped counts as a failure of the run"
     )
+    words.add_argument(
+        "--unproved", action="store_true", help="only what needs no proof, on unproved programs"
+    )
     words.add_argument("parts", nargs="*", metavar="PART")
     given, begun = words.parse_args(), time.monotonic()
     names = [part.name for part in PARTS]
@@ -291,13 +341,16 @@ def main():
         words.error(
             f"no part is called {' '.join(sorted(unknown))}; the parts are {' '.join(names)}"
         )
-    results = run_all([part for part in PARTS if not given.parts or part.name in given.parts])
+    parts = [part for part in PARTS if not given.parts or part.name in given.parts]
+    if given.unproved:
+        os.environ["RCELL_BIN"] = f"{ROOT}/test-bin"
+    results = run_all_unproved(parts) if given.unproved else run_all(parts)
     passed, failed, skipped = (
         sum(getattr(it, key) for it in results) for key in ("passed", "failed", "skipped")
     )
     closing = f"{passed} passed, {failed} failed, {skipped} skipped"
     print(table(results, time.monotonic() - begun))
-    if len(results) == len(PARTS):
+    if len(results) == len(PARTS) and not given.unproved:
         keep_closing(results, closing)
     print(closing, flush=True)
     return 1 if failed or (given.complete and skipped) else 0

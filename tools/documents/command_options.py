@@ -19,6 +19,7 @@ import sys
 import tempfile
 
 ROOT = os.path.abspath(f"{__file__}/../../..")
+BIN = os.environ.get("RCELL_BIN", f"{ROOT}/bin")
 DOCUMENT, PAGE = "docs/commands.md", "docs/rcell.1"
 DOCUMENT_OF_JOINER, PAGE_OF_JOINER = "docs/rcell-join.md", "docs/rcell-join.1"
 COMMANDS = ("r.reclass", "r.clump", "r.stats", "r.out.ascii")
@@ -324,8 +325,8 @@ def main():
     words = argparse.ArgumentParser(
         description="Compares the flags and keys of the documents with those of the programs."
     )
-    words.add_argument("--program", default=f"{ROOT}/bin/rcell")
-    words.add_argument("--joiner", default=f"{ROOT}/bin/rcell-join")
+    words.add_argument("--program", default=f"{BIN}/rcell")
+    words.add_argument("--joiner", default=f"{BIN}/rcell-join")
     given = words.parse_args()
     passed, wrong = check(given.program, given.joiner)
     print("".join(f"{fault}\n" for fault in wrong) + f"{passed} passed, {len(wrong)} failed")

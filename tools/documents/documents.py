@@ -34,6 +34,7 @@ import tempfile
 from dataclasses import dataclass, field
 
 ROOT = os.path.abspath(f"{__file__}/../../..")
+BIN = os.environ.get("RCELL_BIN", f"{ROOT}/bin")
 sys.path.insert(1, f"{ROOT}/tools/grass")
 
 import citations
@@ -401,9 +402,9 @@ def main():
     words = argparse.ArgumentParser(
         description=__doc__, formatter_class=argparse.RawDescriptionHelpFormatter
     )
-    words.add_argument("--program", default=f"{ROOT}/bin/rcell")
-    words.add_argument("--joiner", default=f"{ROOT}/bin/rcell-join")
-    words.add_argument("--pipe", default=f"{ROOT}/bin/rcell-pipe")
+    words.add_argument("--program", default=f"{BIN}/rcell")
+    words.add_argument("--joiner", default=f"{BIN}/rcell-join")
+    words.add_argument("--pipe", default=f"{BIN}/rcell-pipe")
     words.add_argument("--write", action="store_true")
     words.add_argument("--texts", action="store_true")
     words.add_argument("documents", nargs="*")

@@ -27,6 +27,7 @@ import sys
 import tempfile
 
 ROOT = os.path.abspath(f"{__file__}/../../..")
+BIN = os.environ.get("RCELL_BIN", f"{ROOT}/bin")
 sys.path.insert(1, f"{ROOT}/tools/documents")
 
 import differences
@@ -35,7 +36,7 @@ import pairs
 import runs
 import tasks
 
-PROGRAM = f"{ROOT}/bin/rcell"
+PROGRAM = f"{BIN}/rcell"
 HEADER = "north: {n}\nsouth: {s}\neast: {e}\nwest: {w}\nrows: {r}\ncols: {c}\n"
 GRIDS = {
     "land cover": HEADER.format(n=3, s=0, e=4, w=0, r=3, c=4) + "1 1 2 *\n1 2 2 2\n3 3 1 1\n",

@@ -13,6 +13,7 @@ import tempfile
 from dataclasses import dataclass
 
 ROOT = os.path.abspath(f"{__file__}/../../..")
+BIN = os.environ.get("RCELL_BIN", f"{ROOT}/bin")
 DOCUMENT = "docs/grass.md"
 COUNT = 42
 SECONDS = 600
@@ -204,7 +205,7 @@ def compared(program):
 
 
 def main():
-    program = os.path.abspath(sys.argv[1] if len(sys.argv) > 1 else f"{ROOT}/bin/rcell")
+    program = os.path.abspath(sys.argv[1] if len(sys.argv) > 1 else f"{BIN}/rcell")
     passed = failed = 0
     for pair in pairs():
         with tempfile.TemporaryDirectory() as room:

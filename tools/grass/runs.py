@@ -21,7 +21,7 @@ import tempfile
 
 sys.path.insert(1, os.path.abspath(f"{__file__}/../../model"))
 
-from compare import ROOT, keep, write
+from compare import BIN, keep, write
 from model import is_skipped, script_lines
 from model_grids import BLANKS, Answer
 from shared_cases import SharedMaker
@@ -217,7 +217,7 @@ def main():
     words.add_argument("--runs", type=int, required=True)
     words.add_argument("--seed", type=int, default=1)
     words.add_argument("--first", type=int, default=0)
-    words.add_argument("--program", default=f"{ROOT}/bin/rcell")
+    words.add_argument("--program", default=f"{BIN}/rcell")
     words.add_argument("--keep", metavar="FOLDER")
     settings = words.parse_args()
     if not shutil.which("grass"):

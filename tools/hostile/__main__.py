@@ -36,7 +36,7 @@ import sizes
 import texts
 from case_texts import Report, cases_of
 from cases import build_shim
-from compare import ROOT, Program
+from compare import BIN, ROOT, Program
 
 ALL = 10**9
 
@@ -98,6 +98,20 @@ PARTS = {
     "times": of_sizes(sizes.growing),
 }
 NOT_SHORT = ("inputs", "memory", "times")
+# What is left out of a program that was compiled without proofs, and why.
+NOT_UNPROVED = {
+    "tests": "only the gate builds the tests of the crates",
+    "stack": "an unproved program takes more of the stack",
+}
+
+
+def is_unproved(program):
+    """Whether a program was compiled without proofs: tools/build/unproved.py says so next to it."""
+    try:
+        with open(f"{program}.origin", encoding="utf-8") as file:
+            return file.read().startswith("NOT proved")
+    except FileNotFoundError:
+        return False
 
 
 def processor_seconds():
@@ -109,7 +123,7 @@ def settings_of(words):
         description=__doc__, formatter_class=argparse.RawDescriptionHelpFormatter
     )
     parser.add_argument("--short", action="store_true")
-    parser.add_argument("--program", default=f"{ROOT}/bin/rcell")
+    parser.add_argument("--program", default=f"{BIN}/rcell")
     parser.add_argument("--seed", type=int, default=1)
     parser.add_argument("--keep", default=os.path.join(tempfile.gettempdir(), "rcell-hostile"))
     parser.add_argument("--clang", required=True)
@@ -145,6 +159,9 @@ def main():
         program = Program(settings.program, room)
         cases = cases_of(f"{room}/cases")
         for part in settings.parts:
+            if part in NOT_UNPROVED and is_unproved(settings.program):
+                print(f"skipped  hostile/{part}: {NOT_UNPROVED[part]}")
+                continue
             begun, spent = time.monotonic(), processor_seconds()
             PARTS[part](report, program, shims, cases, settings)
             print(

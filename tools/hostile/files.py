@@ -23,6 +23,7 @@ import traceback
 from fractions import Fraction
 
 ROOT = os.path.abspath(f"{__file__}/../../..")
+BIN = os.environ.get("RCELL_BIN", f"{ROOT}/bin")
 sys.path[:0] = [f"{ROOT}/tools/model", f"{ROOT}/helpers", f"{ROOT}/python/src"]
 sys.dont_write_bytecode = True
 GREATEST = 2**31 - 1
@@ -233,9 +234,7 @@ def fault_of_grid(listing, printing, model, chance):
     """The helpers and packages take what rcell takes, with the same cells."""
     text = hostile_grid(chance)
     try:
-        with printing.spooled([text]) as path, listing.printed_grid(
-            f"{ROOT}/bin/rcell", path
-        ) as grid:
+        with printing.spooled([text]) as path, listing.printed_grid(f"{BIN}/rcell", path) as grid:
             found = [
                 None if cell == listing.NULL else cell
                 for block in grid.blocks
@@ -282,9 +281,7 @@ def ways_of_tiff(helper, gdal, rcell):
     def by_helper(path):
         written = []
         dataset = gdal.Open(path)
-        helper.write_grid(
-            f"{ROOT}/bin/rcell-pipe", dataset, helper.one_band(dataset), written.append
-        )
+        helper.write_grid(f"{BIN}/rcell-pipe", dataset, helper.one_band(dataset), written.append)
         return cells_of(b"".join(written))
 
     def by_package(path):
@@ -391,7 +388,7 @@ def main():
         else:
             import rcell
 
-            os.environ.setdefault("RCELL", f"{ROOT}/bin/rcell")
+            os.environ.setdefault("RCELL", f"{BIN}/rcell")
             gdal.UseExceptions()
             ways = ways_of_tiff(rcell_tif, gdal, rcell)
             counts.append(

@@ -25,6 +25,7 @@ import tempfile
 from typing import IO, Any, Iterator, Mapping
 
 ROOT = os.path.abspath(f"{__file__}/../../..")
+BIN = os.environ.get("RCELL_BIN", f"{ROOT}/bin")
 sys.path.insert(1, f"{ROOT}/tools/model")
 
 import cases
@@ -484,8 +485,8 @@ def main() -> int:
         description="Runs rcell-join beside a plain model of it, and beside rcell over maps that are not cut."
     )
     words.add_argument("clang", nargs="?")
-    words.add_argument("--program", default=f"{ROOT}/bin/rcell-join")
-    words.add_argument("--rcell", default=f"{ROOT}/bin/rcell")
+    words.add_argument("--program", default=f"{BIN}/rcell-join")
+    words.add_argument("--rcell", default=f"{BIN}/rcell")
     words.add_argument("--runs", type=int, default=2000, help="sets of tables")
     words.add_argument("--maps", type=int, default=350, help="random maps")
     words.add_argument("--seed", type=int, default=1)

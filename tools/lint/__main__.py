@@ -1,39 +1,32 @@
-"""Lints the crates: `make lint`, in seconds and without a proof.
+"""Lints the crates, documents and Python: `make lint`, in seconds and without a proof.
 
     python3 tools/lint [--write | --words] [RULE..]
 
-Each rule has its findings, one a line, and may have a file of exceptions, lint/exceptions/RULE.txt. A finding that the file does not
-list is an error, and so is a line of the file that is no finding any more: the list may only shrink. Rules that count list a
-number a file, which may only fall. The documents and messages for users have no retired word (prose.py); pages keep to their
-lengths and have no sentence in common (pages.py).
+Each rule has its findings, one a line, and its lines in exceptions.txt. A finding that is not there is an error, and so is a line
+that is no finding any more: the lists may only shrink. Rules that count list a number a file or crate, which may only fall. The
+documents and messages for users have no retired word (prose.py); pages keep to their lengths and have no sentence in common
+(pages.py). Rules are tried side by side. Python files that passed are kept by their sums (passed.py), and not tried again.
 
-With --write the files are written as the findings are, which is for the commit that takes findings away; a file that would grow
-is left as it is. --words prints the retired words of docstrings and comments. The last line is 'N passed, M failed'.
+With --write the lists are written as the findings are, which is for the commit that takes findings away; a list that would grow
+is left as it is. --words prints the retired words of docstrings and comments. The last line is 'N passed, M failed, K skipped'.
 """
 import argparse
 import pathlib
 import shutil
 import subprocess
 import sys
+from concurrent.futures import ProcessPoolExecutor
 
+import exceptions
 import pages
+import passed
 import prose
 import rules
 
-HERE = pathlib.Path(__file__).resolve().parent
-ROOT = HERE.parent.parent
+ROOT = pathlib.Path(__file__).resolve().parent.parent.parent
 MANUAL = ".1"  # the ending of a manual page
-
-
-def exceptions_of(rule):
-    """The lines of a rule's file of exceptions, without comments."""
-    path = HERE / "exceptions" / f"{rule}.txt"
-    if not path.exists():
-        return [], []
-    lines = path.read_text(encoding="utf-8").splitlines()
-    return [it for it in lines if it.startswith("#")], [
-        it for it in lines if it and not it.startswith("#")
-    ]
+# These use one graph of citations, which takes longer than the rules.
+TOGETHER = [("uncited", "dead_lemmas")]
 
 
 def as_counts(lines):
@@ -49,7 +42,7 @@ def faults_of(rule, findings, allowed):
             f"{key}: {found[key]}, and at most {listed.get(key, 0)} are listed" for key in grown
         ]
         if rule == rules.words.__name__:
-            more += [place for key in grown for place in prose.retired_by_file()[key]]
+            more += [place for key in grown for place in prose.retired_in_comments(key)]
         fewer = [
             f"{key}: {found.get(key, 0)}, fewer than the {number} listed (lower the list: make lint WRITE=1)"
             for key, number in listed.items()
@@ -69,21 +62,15 @@ def total(rule, lines):
     return sum(as_counts(lines).values()) if rule in rules.COUNTED else len(lines)
 
 
-def write_exceptions(rule, comments, findings, allowed):
-    """Write the findings as the exceptions, unless there would be more; a rule without any has no file."""
-    path = HERE / "exceptions" / f"{rule}.txt"
-    faults = faults_of(rule, findings, allowed)
-    if any("not listed" in it or "at most" in it for it in faults):
+def write_exceptions(rule, findings, allowed):
+    """Writes the findings as the exceptions, unless there would be more of them."""
+    if any("not listed" in it or "at most" in it for it in faults_of(rule, findings, allowed)):
         print(f"{rule}: the list would grow, and is left as it is")
-        return
-    if not findings:
-        path.unlink(missing_ok=True)
-        return
-    path.write_text("".join(f"{line}\n" for line in [*comments, *findings]), encoding="utf-8")
+    elif findings != allowed:
+        exceptions.write(rule, findings)
 
 
-def python_faults():
-    """Errors of black, flake8 and mypy, and how many of the three programs are not installed."""
+def python_files():
     tracked = subprocess.run(
         ["git", "ls-files", "*.py", "helpers/rcell-*"],
         cwd=ROOT,
@@ -91,39 +78,82 @@ def python_faults():
         text=True,
         check=True,
     )
-    sources = [path for path in tracked.stdout.splitlines() if not path.endswith(MANUAL)]
-    faults, skipped = [], 0
-    checks = (
-        ["black", "--check", "--quiet", *sources],
-        ["flake8", *sources],
-        ["mypy", "--no-error-summary", "tools/lint"],
-    )
-    for words in checks:
-        if not shutil.which(words[0]):
-            skipped += 1
-            print(
-                f"skipped  lint: {words[0]} is not installed; install: apt-get install {words[0]}"
-            )
-            continue
-        done = subprocess.run(words, cwd=ROOT, capture_output=True, text=True, check=False)
-        if done.returncode:
-            faults += done.stdout.splitlines() or [
-                f"{words[0]}: some files are not formatted: black ."
-            ]
-    return faults, skipped
+    return [
+        it
+        for it in tracked.stdout.splitlines()
+        if not it.endswith(MANUAL) and (ROOT / it).is_file()
+    ]
 
 
-def prose_faults():
-    """What is wrong with the English of the documents."""
-    faults = prose.faults() + pages.faults()
+def faults_of_tool(tool):
+    """Errors of black, flake8 or mypy; None if it is not installed."""
+    if not shutil.which(tool):
+        return None
+    settings = [ROOT / ".flake8", ROOT / "pyproject.toml"]
+    files = python_files()
+    if tool == "mypy":
+        # It reads files in terms of one another.
+        files = [it for it in files if it.startswith("tools/lint/")]
+        settings += [ROOT / it for it in files]
+    known = passed.Passed(passed.tool(tool, *settings), ROOT)
+    left = [it for it in files if not known.has(it)]
+    if not left:
+        return []
+    words = {
+        "black": ["black", "--check", "--quiet", *left],
+        "flake8": ["flake8", *left],
+        "mypy": ["mypy", "--no-error-summary", "tools/lint"],
+    }[tool]
+    done = subprocess.run(words, cwd=ROOT, capture_output=True, text=True, check=False)
+    if done.returncode:
+        return done.stdout.splitlines() or [f"{tool}: some files are not formatted: black ."]
+    known.keep(left)
+    return []
+
+
+TOOLS = ("black", "flake8", "mypy")
+
+
+def findings_of(names):
+    """The findings of some rules, each list by its rule; a tool for Python and the prose are tasks as well."""
+    tasks = {**rules.ALL, "prose": lambda: prose.faults() + pages.faults()}
+    return {it: faults_of_tool(it) if it in TOOLS else tasks[it]() for it in names}
+
+
+def all_findings(names):
+    """The findings of rules, by rule, tried side by side."""
+    shared = [tuple(it for it in group if it in names) for group in TOGETHER]
+    alone = [(it,) for it in names if not any(it in group for group in shared)]
+    with ProcessPoolExecutor() as pool:
+        parts = list(pool.map(findings_of, [it for it in [*shared, *alone] if it]))
+    return {rule: found for part in parts for rule, found in part.items()}
+
+
+def report(rule, findings, is_written):
+    """Prints what a rule found, and returns whether all is well."""
+    allowed = exceptions.of(rule)
+    if is_written:
+        write_exceptions(rule, findings, allowed)
+        allowed = exceptions.of(rule)
+    faults = faults_of(rule, findings, allowed)
     for fault in faults:
-        print(f"prose: {fault}")
-    if pending := prose.pending_counts():
-        print(
-            "prose: pages not written anew yet: "
-            + ", ".join(f"{name} {count}" for name, count in pending.items())
-        )
-    return faults
+        print(f"{rule}: {fault}")
+    print(
+        f"{rule}: {total(rule, findings)} found, {total(rule, allowed)} listed{'' if faults else ', good'}"
+    )
+    return not faults
+
+
+def report_others(found):
+    """Prints the errors in Python files and in the documents, and returns which are well and how many tools are not installed."""
+    missing = [it for it in TOOLS if found[it] is None]
+    for tool in missing:
+        print(f"skipped  lint: {tool} is not installed; install: apt-get install {tool}")
+    python = [fault for tool in TOOLS for fault in found[tool] or []]
+    for what, faults in (("python", python), ("prose", found["prose"])):
+        for fault in faults:
+            print(f"{what}: {fault}")
+    return [not python, not found["prose"]], len(missing)
 
 
 def main():
@@ -139,40 +169,16 @@ def main():
     )
     words = parser.parse_args()
     if words.words:
-        print(
-            "".join(f"{place}\n" for found in prose.retired_by_file().values() for place in found),
-            end="",
-        )
+        print(*(it for name in prose.retired_by_file() for it in prose.retired_in_comments(name)))
         return 0
-    failed = 0
-    for rule in words.rules or rules.ALL:
-        findings = rules.ALL[rule]()
-        comments, allowed = exceptions_of(rule)
-        if words.write:
-            write_exceptions(
-                rule,
-                comments or [f"# {rules.ALL[rule].__doc__.splitlines()[0]}"],
-                findings,
-                allowed,
-            )
-            comments, allowed = exceptions_of(rule)
-        faults = faults_of(rule, findings, allowed)
-        failed += bool(faults)
-        for fault in faults:
-            print(f"{rule}: {fault}")
-        print(
-            f"{rule}: {total(rule, findings)} found, {total(rule, allowed)} listed{'' if faults else ', good'}"
-        )
-    of_python, skipped = ([], 0) if words.rules else python_faults()
-    for fault in of_python:
-        print(f"python: {fault}")
-    failed += bool(of_python)
-    of_prose = [] if words.rules else prose_faults()
-    failed += bool(of_prose)
-    print(
-        f"{len(words.rules or rules.ALL) + 2 * (not words.rules) - failed} passed, {failed} failed, {skipped} skipped"
-    )
-    return 1 if failed else 0
+    names = words.rules or [*rules.ALL]
+    found = all_findings([*TOOLS, "prose", *names] if not words.rules else names)
+    well, skipped = [report(rule, found[rule], words.write) for rule in names], 0
+    if not words.rules:
+        others, skipped = report_others(found)
+        well += others
+    print(f"{sum(well)} passed, {len(well) - sum(well)} failed, {skipped} skipped")
+    return 0 if all(well) else 1
 
 
 if __name__ == "__main__":

@@ -13,6 +13,8 @@ import re
 import subprocess
 import tokenize
 
+import passed
+
 ROOT = pathlib.Path(__file__).resolve().parent.parent.parent
 MEAN_WORDS, LONG, MOST_LONG, VERY_LONG, MOST_VERY_LONG = 18, 25, 0.10, 45, 0.01
 # For those who change the program, not for those who use it.
@@ -26,8 +28,6 @@ FOR_DEVELOPERS = {
     "qgis/README.md",
     "grass/README.md",
 }
-# Pages that have not been written anew yet. None is added.
-PENDING = set((pathlib.Path(__file__).parent / "pending.txt").read_text(encoding="utf-8").split())
 # Folders whose messages are checked, and the table of causes that rcell-explain and the packages print.
 MESSAGES_OF, CAUSES = (
     re.compile(
@@ -197,8 +197,6 @@ def faults():
     """What is wrong with the documents for users, one a line."""
     found = list(phrases_in_sources())
     for name in documents():
-        if name in PENDING:
-            continue
         found += [
             f"{name}:{number}: '{word}' is retired: {instead}"
             for number, word, instead in retired_in(plain(name))
@@ -250,21 +248,14 @@ def retired_in_comments(name):
             yield f"{name}:{number}: '{word}' is retired: {instead}"
 
 
-@functools.cache
 def retired_by_file():
-    """The retired words of docstrings and comments, by file."""
-    found = {
-        name: list(retired_in_comments(name))
-        for name in tracked()
-        if PYTHON.fullmatch(name) or pathlib.Path(name).suffix in COMMENT_OF
-    }
-    return {name: words for name, words in found.items() if words}
-
-
-def pending_counts():
-    """How many retired words the pages have that are not written anew yet."""
-    return {
-        name: sum(1 for _ in retired_in(plain(name)))
-        for name in sorted(PENDING)
-        if (ROOT / name).is_file()
-    }
+    """The number of retired words in the docstrings and comments of each file that has some."""
+    rules = [pathlib.Path(__file__), pathlib.Path(__file__).parent / "retired.txt"]
+    known = passed.Passed(b"".join(path.read_bytes() for path in rules), ROOT)
+    sources = [
+        it for it in tracked() if PYTHON.fullmatch(it) or pathlib.Path(it).suffix in COMMENT_OF
+    ]
+    left = [it for it in sources if not known.has(it)]
+    found = {name: sum(1 for _ in retired_in_comments(name)) for name in left}
+    known.keep([name for name, count in found.items() if not count])
+    return {name: count for name, count in found.items() if count}

@@ -1,14 +1,16 @@
 """The rules of the lint. Each is a function that returns its findings, one a line; the first line of its doc says what they are."""
-import pathlib
+import functools
 import re
 import subprocess
 from collections import Counter, defaultdict
 
+import commits as commits_of_history
+import exceptions
 import licences as licences_of_files
 import prose
 import sources
 
-CLAUSE_COLUMNS, LONGEST_CLAUSE, PROOF_COLUMNS = 100, 120, 120
+CLAUSE_COLUMNS, LONGEST_CLAUSE, SPECS_COLUMNS, PROOF_COLUMNS = 100, 120, 120, 120
 MOST_FUNCTIONS, MOST_CODE, MOST_PROOFS = 100, 1600, 5000
 # Names that mean the same wherever they are: Rust's own, and the ones that std's traits ask for.
 COMMON_FUNCTIONS = {"new", "len", "get", "next", "from", "is_empty", "bytes", "drop", "clone"}
@@ -58,12 +60,22 @@ def widest_clauses():
     return counted(counts)
 
 
+def wide_lines(kind, most):
+    """The numbers of lines of more columns, by crate."""
+    counts = Counter()
+    for crate, _, text in sources.read_files(kind):
+        counts[crate] += sum(1 for line in text.split("\n") if len(line) > most)
+    return counted(counts)
+
+
+def wide_specs():
+    """Lines of definitions over 120 columns, by crate."""
+    return wide_lines("specs", SPECS_COLUMNS)
+
+
 def wide_proofs():
     """Lines of proofs over 120 columns, by crate."""
-    counts = Counter()
-    for crate, _, text in sources.read_files("proofs"):
-        counts[crate] += sum(1 for line in text.split("\n") if len(line) > PROOF_COLUMNS)
-    return counted(counts)
+    return wide_lines("proofs", PROOF_COLUMNS)
 
 
 def crate_limits():
@@ -104,13 +116,8 @@ def undocumented():
 
 
 def names_alike():
-    """The names that are meant to be in several files, as kind and name; tools/lint/names_alike.txt says why of each."""
-    lines = (
-        (pathlib.Path(__file__).resolve().parent / "names_alike.txt")
-        .read_text(encoding="utf-8")
-        .splitlines()
-    )
-    return {line.partition(": ")[0] for line in lines if line and not line.startswith("#")}
+    """The names that are meant to be in several files, as kind and name."""
+    return {line.partition(": ")[0] for line in exceptions.of("names_alike")}
 
 
 def in_several(places, what):
@@ -124,7 +131,7 @@ def in_several(places, what):
         if f"{what} {name}" not in alike
     ]
     return found + [
-        f"{it}: in names_alike.txt, and in one file"
+        f"{it}: under names_alike in exceptions.txt, and in one file"
         for it in sorted(alike)
         if it.startswith(f"{what} ") and it.partition(" ")[2] not in several
     ]
@@ -172,6 +179,7 @@ def names():
     ]
 
 
+@functools.cache
 def citations(kinds):
     """Who cites what among definitions: from (module, name) or None, what a proof or a source cites, to (module, name) pairs."""
     edges = defaultdict(set)
@@ -353,7 +361,7 @@ def symbolic_links():
 
 def words():
     """Retired words in docstrings and comments, by file."""
-    return counted({name: len(found) for name, found in prose.retired_by_file().items()})
+    return counted(prose.retired_by_file())
 
 
 ALL = {
@@ -361,6 +369,7 @@ ALL = {
     for it in (
         wide_clauses,
         widest_clauses,
+        wide_specs,
         wide_proofs,
         crate_limits,
         undocumented,
@@ -374,6 +383,7 @@ ALL = {
         symbolic_links,
         licences_of_files.licences,
         words,
+        commits_of_history.commits,
     )
 }
-COUNTED = {"wide_clauses", "widest_clauses", "wide_proofs", "words"}
+COUNTED = {"wide_clauses", "widest_clauses", "wide_specs", "wide_proofs", "words"}

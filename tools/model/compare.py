@@ -26,6 +26,7 @@ from made_cases import Made, make
 from made_stretches import make_stretches
 
 ROOT = os.path.abspath(f"{__file__}/../../..")
+BIN = os.environ.get("RCELL_BIN", f"{ROOT}/bin")
 MAKERS = {"any": make, "stretches": make_stretches}
 PIECES = [
     1,
@@ -212,7 +213,7 @@ def main():
     words.add_argument("--runs", type=int)
     words.add_argument("--seed", type=int, default=1)
     words.add_argument("--first", type=int, default=0)
-    words.add_argument("--program", default=f"{ROOT}/bin/rcell")
+    words.add_argument("--program", default=f"{BIN}/rcell")
     words.add_argument("--keep", default=os.path.join(tempfile.gettempdir(), "rcell-differences"))
     words.add_argument("--maps", choices=list(MAKERS), default="any", metavar="KIND")
     words.add_argument("--pieces", metavar="CLANG")

@@ -21,7 +21,7 @@ from dataclasses import replace
 from typing import Callable, Sequence
 
 import model
-from compare import ROOT, Program, answer_of_model, keep, kind_of
+from compare import BIN, ROOT, Program, answer_of_model, keep, kind_of
 from case_texts import LONGEST_WHOLE, cases_of
 from made_cases import ODD_BYTES, Made, ScriptMaker, make
 from made_stretches import make_stretches
@@ -309,7 +309,7 @@ def main():
     parser.add_argument("--seconds", type=float, default=60)
     parser.add_argument("--seed", type=int, default=int(time.time()))
     parser.add_argument("--first", type=int, default=0)
-    parser.add_argument("--program", default=f"{ROOT}/bin/rcell")
+    parser.add_argument("--program", default=f"{BIN}/rcell")
     parser.add_argument("--keep", default=os.path.join(tempfile.gettempdir(), "rcell-fuzz"))
     settings = parser.parse_args()
     settings.keep = os.path.abspath(settings.keep)

@@ -45,6 +45,7 @@ from pipe_model import (
 )
 
 ROOT = os.path.abspath(f"{__file__}/../../..")
+BIN = os.environ.get("RCELL_BIN", f"{ROOT}/bin")
 SIZES = [(1, 1), (1, 70), (3, 5), (7, 130), (40, 1), (9, 64), (5, 65), (2, 3), (4, 4)]
 LABELS = [b"wood", b"a b", b"x", b"l\xc3\xa4nge"]
 STATUS_DONE, STATUS_REJECTED, STATUS_MEMORY, STATUS_FAILED = 0, 1, 3, 4
@@ -519,8 +520,8 @@ def main() -> int:
         description=__doc__, formatter_class=argparse.RawDescriptionHelpFormatter
     )
     words.add_argument("clang", nargs="?")
-    words.add_argument("--program", default=f"{ROOT}/bin/rcell-pipe")
-    words.add_argument("--rcell", default=f"{ROOT}/bin/rcell")
+    words.add_argument("--program", default=f"{BIN}/rcell-pipe")
+    words.add_argument("--rcell", default=f"{BIN}/rcell")
     words.add_argument("--runs", type=int, default=1000)
     words.add_argument("--seed", type=int, default=1)
     given, count = words.parse_args(), cases.Count()

@@ -430,9 +430,9 @@ def check_errors(tests: Tests) -> None:
 
 
 def main() -> int:
-    root = os.path.abspath(f"{__file__}/../../..")
+    programs = os.environ.get("RCELL_BIN", os.path.abspath(f"{__file__}/../../../bin"))
     parser = argparse.ArgumentParser()
-    parser.add_argument("--program", default=os.path.join(root, "bin", "rcell-pipe"))
+    parser.add_argument("--program", default=f"{programs}/rcell-pipe")
     parser.add_argument("--runs", type=int, default=500)
     parser.add_argument("--seed", type=int, default=1)
     settings = parser.parse_args()

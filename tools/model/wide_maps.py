@@ -13,7 +13,7 @@ import tempfile
 
 import cases
 import numpy as np
-from compare import PIECES, ROOT, Program
+from compare import BIN, PIECES, Program
 from made_cases import Made
 
 NULL = -(2**31)
@@ -143,7 +143,7 @@ def main():
     parser.add_argument("--maps", type=int, default=100)
     parser.add_argument("--seed", type=int, default=1)
     parser.add_argument("--first", type=int, default=0)
-    parser.add_argument("--program", default=f"{ROOT}/bin/rcell")
+    parser.add_argument("--program", default=f"{BIN}/rcell")
     parser.add_argument("--pieces", metavar="CLANG")
     wanted = parser.parse_args()
     with tempfile.TemporaryDirectory(prefix="rcell-wide-") as room:

@@ -20,7 +20,7 @@ settings.load_profile("tiles")
 rasterio: Any = pytest.importorskip("rasterio")
 distributed: Any = pytest.importorskip("distributed")
 
-PROGRAM = Path(__file__).parents[3] / "bin" / "rcell"
+PROGRAM = Path(os.environ.get("RCELL_BIN", Path(__file__).parents[3] / "bin"), "rcell")
 
 if "RCELL" not in os.environ and PROGRAM.exists():
     os.environ["RCELL"] = str(PROGRAM)
