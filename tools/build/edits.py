@@ -43,6 +43,7 @@ NO_FUNCTION = re.compile(r"error: `\w+` has no function `\w+::([^`]+)`")
 KINDS = ("values", "goal", "written")
 BYTES_OF_A_CHECK = 4 << 30  # at most
 ROUNDS_IN_COMPANY = 2
+MOST_IN_COMPANY = 24  # a larger check waits for more callees that are not proved
 
 
 @dataclass
@@ -134,7 +135,9 @@ def groups_of(edits, one_by_one):
         fits = (
             it
             for it in groups
-            if not it[0].is_outside and not any(edit.functions & other.functions for other in it)
+            if len(it) < MOST_IN_COMPANY
+            and not it[0].is_outside
+            and not any(edit.functions & other.functions for other in it)
         )
         group = None if is_alone else next(fits, None)
         if group is None:
