@@ -179,7 +179,7 @@ def landing(root):
     readme = (root / "README.md").read_text(encoding="utf-8")
     lines = re.search(r"for a table of r\.stats (\d+) lines", readme)[1]
     row = re.search(r"^\| table .*\|$", readme, re.MULTILINE)[0].split("|")
-    text = (HERE / "landing.md").read_text(encoding="utf-8")
+    text = (HERE / "landing.txt").read_text(encoding="utf-8")
     for key, value in (("LINES", lines), ("RCELL", row[5].strip()), ("GRASS", row[6].strip())):
         text = text.replace(f"@{key}@", value)
     return re.sub(r"^```(\w+) [^\n]*$", r"```\1", text, flags=re.MULTILINE)
