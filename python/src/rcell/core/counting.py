@@ -3,7 +3,6 @@
 
 from __future__ import annotations
 
-import warnings
 from dataclasses import dataclass
 from typing import Any, Mapping, Sequence
 
@@ -12,6 +11,7 @@ import numpy as np
 from .protocol import NULL
 
 from .arrays import NDArray
+from .host import warn
 from .errors import BadArgument
 from .legends import labels_of
 from .sources import Source, source_of, sources_of
@@ -121,7 +121,9 @@ class Maps:
         labels = self.sources[name].labels if legend is None else labels_of(legend)
         return [
             Column(title, "class", classes),
-            *label_columns(label.format(title), classes, labels, legend is not None, name),
+            *label_columns(
+                label.format(title), classes, labels, legend is not None, self.sources[name].name
+            ),
         ]
 
 
@@ -162,8 +164,5 @@ def label_columns(
     lacking = sorted(set(np.unique(classes).tolist()) - set(labels) - {NULL}) if is_legend else []
     if lacking:
         more = f", and {len(lacking) - _SHOWN} more" if len(lacking) > _SHOWN else ""
-        warnings.warn(
-            f"labels: no label for {', '.join(map(str, lacking[:_SHOWN]))}{more} of {name}",
-            stacklevel=5,
-        )
+        warn(f"labels: no label for {', '.join(map(str, lacking[:_SHOWN]))}{more} of {name}")
     return [Column(title, "label", [labels.get(code) for code in classes.tolist()])]

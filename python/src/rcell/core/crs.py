@@ -9,7 +9,7 @@ from typing import Any, Mapping
 
 from .arrays import NDArray
 from .errors import BadArgument, BadMap, MissingLibrary, OtherCrs, Refused
-from .host import option
+from .host import host, option
 
 __all__ = [
     "UNITS_OF_AREA",
@@ -159,7 +159,12 @@ def _named(crs: Any) -> tuple[str, str]:
     return ("WKT", _text_of(crs)[:_SHOWN]) if system is None else (system.code, system.name)
 
 
-def common_crs(maps: Mapping[str, Any], stated: Any = None, warp: str = "gdalwarp") -> Any:
+def common_crs(
+    maps: Mapping[str, Any],
+    stated: Any = None,
+    warp: str = "gdalwarp",
+    titles: Mapping[str, str] | None = None,
+) -> Any:
     """Return the reference system that maps have in common.
 
     Parameters
@@ -170,6 +175,8 @@ def common_crs(maps: Mapping[str, Any], stated: Any = None, warp: str = "gdalwar
         The one that maps without one are said to have.
     warp : str
         The program of GDAL that reprojects them.
+    titles : mapping of str to str, optional
+        The names of the maps in messages, if they are others.
 
     Raises
     ------
@@ -193,18 +200,26 @@ def common_crs(maps: Mapping[str, Any], stated: Any = None, warp: str = "gdalwar
     if first is None:
         return common
     common = systems[first] if common is None else common
+    titles = titles or {name: name for name in maps}
     for name, crs in systems.items():
         if crs is None and stated is None:
             code, title = _named(common)
-            text = f"it has no coordinate reference system, and `{first}` has {title}"
-            raise OtherCrs(name, f"{text}: state it with {option('crs', code)}")
+            text = f"it has no coordinate reference system, and `{titles[first]}` has {title}"
+            raise OtherCrs(titles[name], f"{text}: state it with {option('crs', code)}")
         if crs is not None and not are_same_crs(crs, common):
             code, title = _named(common)
-            has = f"that of `{first}` is" if stated is None else f"{option('crs')} is"
+            has = f"that of `{titles[first]}` is" if stated is None else f"{option('crs')} is"
             text = f"its coordinate reference system is {_named(crs)[1]}, and {has} {title}"
-            hint = f"reproject one of them first, as with {warp} -t_srs {code}"
-            raise OtherCrs(name, f"{text}: {hint}")
+            hint = f"reproject one of them first, as with {_warping(warp, code)}"
+            raise OtherCrs(titles[name], f"{text}: {hint}")
     return common
+
+
+def _warping(program: str, code: str) -> str:
+    """Return what reprojects a map or polygons, as the host names it."""
+    if host().words == "qgis":
+        return "Warp (reproject)" if program == "gdalwarp" else "Reproject layer"
+    return f"{program} -t_srs {code}"
 
 
 def are_same_crs(one: Any, other: Any) -> bool:

@@ -18,7 +18,7 @@ from .protocol import NULL
 
 from .arrays import ArrayLike, NDArray
 from .crs import common_crs
-from .host import warn
+from .host import host, warn
 from .errors import BadArgument, BadMap, OtherRegion
 from .labels import checked_labels
 from .masked import as_bools, data_of, is_masked_array, mask_of
@@ -69,6 +69,10 @@ class Block:
 
 class Source(Protocol):
     """A map as the program needs it."""
+
+    @property
+    def name(self) -> str:
+        """Its name in messages."""
 
     @property
     def region(self) -> Region:
@@ -587,28 +591,40 @@ def sources_of(
         raise BadArgument("maps", 'must be given by name, for example a="a.tif"; got none')
     check_names(maps)
     sources = {name: source_of(name, given) for name, given in maps.items()}
-    common = common_crs({name: source.crs for name, source in sources.items()}, crs)
+    titles = {name: source.name for name, source in sources.items()}
+    common = common_crs({name: source.crs for name, source in sources.items()}, crs, titles=titles)
     first_name, first = next(iter(sources.items()))
     for name, source in sources.items():
         if source.region != first.region:
-            told = "; ".join(first.region.differences(source.region))
-            text = f"not of the region of `{first_name}`, and nothing is resampled: {told}"
-            fault = OtherRegion(
-                name, f"{text}\n  {first_name}: {first.region}\n  {name}: {source.region}"
-            )
-            nearest = (
-                ""
-                if Shift.between(source.transform, first.transform, first.region.shape).is_whole
-                else ', resample="nearest"'
-            )
+            fault = _other_region(first, source)
             mine, its = (_written(of, (given or maps)[of]) for of in (name, first_name))
-            fault.advice = f"{name}=rcell.align({mine}, to={its}{nearest})"
+            is_whole = Shift.between(source.transform, first.transform, first.region.shape).is_whole
+            fault.advice = _alignment(name, mine, its, is_whole)
             raise fault
     return sources, common
 
 
+def _other_region(first: Source, source: Source) -> OtherRegion:
+    """Return the error of a map whose region differs from the first."""
+    told = "; ".join(first.region.differences(source.region))
+    text = f"not of the region of `{first.name}`, and nothing is resampled: {told}"
+    regions = f"  {first.name}: {first.region}\n  {source.name}: {source.region}"
+    return OtherRegion(source.name, f"{text}\n{regions}")
+
+
+def _alignment(name: str, mine: str, its: str, is_whole: bool) -> str:
+    """Return the call that brings a map onto the grid of the first."""
+    if host().words == "qgis":
+        nearest = "" if is_whole else " and RESAMPLE nearest"
+        return f"rcell:align with INPUT {mine}, TO {its}{nearest}"
+    nearest = "" if is_whole else ', resample="nearest"'
+    return f"{name}=rcell.align({mine}, to={its}{nearest})"
+
+
 def _written(name: str, given: Any) -> str:
     """Return a map as a caller would write it: its path, or its name."""
+    if host().words == "qgis":
+        return f'"{given.name}"'
     return (
         json.dumps(os.fspath(given), ensure_ascii=False)
         if isinstance(given, (str, os.PathLike))
