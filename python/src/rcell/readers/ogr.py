@@ -1,0 +1,149 @@
+# SPDX-License-Identifier: Apache-2.0 OR GPL-2.0-or-later
+"""Polygons that GDAL's own Python opens."""
+
+from __future__ import annotations
+
+import math
+from collections.abc import Iterator, Sequence
+from dataclasses import dataclass
+from typing import Any, Optional
+
+import numpy as np
+from osgeo import gdal, ogr
+
+from ..core.arrays import NDArray
+from ..core.errors import BadMap, ReadFailed, Refused
+from ..core.files import opened
+from ..core.region import Transform
+from ..core.zones import Feature
+from .osr import quiet
+
+__all__ = ["OgrLayer", "burn", "feature_of", "open_layer"]
+
+_INTEGERS = (ogr.OFTInteger, ogr.OFTInteger64)
+
+
+def open_layer(name: str, path: str, layer: Optional[str] = None) -> OgrLayer:
+    """Return a layer of a vector file; without a name, the file must have only one.
+
+    Raises
+    ------
+    ReadFailed
+        The file cannot be opened.
+    Refused
+        It has several layers, or none of this name.
+    """
+    try:
+        with quiet():
+            source = gdal.OpenEx(path, gdal.OF_VECTOR)
+            text = gdal.GetLastErrorMsg()
+    except RuntimeError as error:
+        source, text = None, str(error)
+    if source is None:
+        raise ReadFailed(name, f"cannot open: {text or path}")
+    opened(*source.GetFileList() or [path])
+    names = [source.GetLayer(place).GetName() for place in range(source.GetLayerCount())]
+    if layer is None and len(names) > 1:
+        told = f"has the layers {', '.join(names)}: choose one, as {path}|layername={names[0]}"
+        raise Refused(told, name)
+    if not names or layer is not None and layer not in names:
+        raise Refused(f"no layer {layer}: there are {', '.join(names) or 'none'}", name)
+    return OgrLayer(name, source, layer or names[0])
+
+
+@dataclass(frozen=True)
+class OgrLayer:
+    """A layer of a vector file, as `core.zones` takes it."""
+
+    name: str
+    source: Any
+    layer: str
+
+    @property
+    def crs(self) -> Optional[str]:
+        """Its reference system as well-known text, or None."""
+        system = self.source.GetLayerByName(self.layer).GetSpatialRef()
+        return None if system is None else str(system.ExportToWkt(["FORMAT=WKT2_2019"]))
+
+    @property
+    def fields(self) -> list[str]:
+        """The names of its fields."""
+        definition = self.source.GetLayerByName(self.layer).GetLayerDefn()
+        places = range(definition.GetFieldCount())
+        return [definition.GetFieldDefn(place).GetName() for place in places]
+
+    def features(self, field: Optional[str]) -> Iterator[Feature]:
+        """Yield the features in their order, with their values of a field."""
+        layer = self.source.GetLayerByName(self.layer)
+        layer.ResetReading()
+        for feature in layer:
+            place = -1 if field is None else feature.GetFieldIndex(field)
+            value = _value_of(feature, place) if place >= 0 else None
+            geometry = feature.GetGeometryRef()
+            wkb = b"" if geometry is None else bytes(geometry.ExportToWkb())
+            yield feature_of(self.name, feature.GetFID(), value, wkb)
+
+    def burn(
+        self, shapes: Sequence[tuple[Any, int]], transform: Transform, shape: tuple[int, int]
+    ) -> NDArray[np.int32]:
+        """Return a grid with the number of the last geometry that contains each cell's centre, 0 for none."""
+        return burn(shapes, transform, shape)
+
+
+def _value_of(feature: Any, place: int) -> Any:
+    """Return the value of a field as Python has it, None if it is missing."""
+    if not feature.IsFieldSetAndNotNull(place):
+        return None
+    definition = feature.GetFieldDefnRef(place)
+    if definition.GetSubType() == ogr.OFSTBoolean:
+        return bool(feature.GetFieldAsInteger(place))
+    if definition.GetType() in _INTEGERS:
+        return feature.GetFieldAsInteger64(place)
+    if definition.GetType() == ogr.OFTReal:
+        value = feature.GetFieldAsDouble(place)
+        return None if math.isnan(value) else value
+    return feature.GetFieldAsString(place)
+
+
+def feature_of(name: str, number: Any, value: Any, wkb: bytes) -> Feature:
+    """Return a feature from its geometry as well-known bytes, empty for none; curves become lines.
+
+    Raises
+    ------
+    BadMap
+        The bytes are not a geometry.
+    """
+    if not wkb:
+        return Feature(number, value, "", None)
+    with quiet():
+        geometry = ogr.CreateGeometryFromWkb(wkb)
+    if geometry is None:
+        raise BadMap(name, f"feature {number} has a geometry that cannot be read")
+    if geometry.HasCurveGeometry():
+        geometry = geometry.GetLinearGeometry()
+    if geometry.IsEmpty():
+        return Feature(number, value, "", None)
+    kind = ogr.GeometryTypeToName(ogr.GT_Flatten(geometry.GetGeometryType()))
+    return Feature(number, value, kind.replace(" ", ""), geometry)
+
+
+def burn(
+    shapes: Sequence[tuple[Any, int]], transform: Transform, shape: tuple[int, int]
+) -> NDArray[np.int32]:
+    """Return a grid with the number of the last geometry that contains each cell's centre, 0 for none."""
+    source = ogr.GetDriverByName("Memory").CreateDataSource("polygons")
+    layer = source.CreateLayer("polygons")
+    layer.CreateField(ogr.FieldDefn("number", ogr.OFTInteger))
+    for geometry, number in shapes:
+        feature = ogr.Feature(layer.GetLayerDefn())
+        feature.SetGeometry(geometry)
+        feature.SetField("number", number)
+        layer.CreateFeature(feature)
+    rows, cols = shape
+    target = gdal.GetDriverByName("MEM").Create("", cols, rows, 1, gdal.GDT_Int32)
+    width, b, west, d, height, north = transform
+    target.SetGeoTransform((west, width, b, north, d, height))
+    with quiet():
+        gdal.RasterizeLayer(target, [1], layer, options=["ATTRIBUTE=number"])
+    burnt: NDArray[np.int32] = target.ReadAsArray()
+    return burnt
