@@ -8,7 +8,7 @@ import contextvars
 import os
 import sys
 import warnings
-from collections.abc import Callable, Iterator, Sequence
+from collections.abc import Callable, Iterator, Mapping
 from dataclasses import dataclass
 from typing import Any, Optional
 
@@ -42,7 +42,7 @@ class Host:
     progress : callable, optional
         Called with the share of the maps that was sent, from 0 to 1.
     started : callable, optional
-        Called with a script and the names of its maps before the script is run.
+        Called with a script and its maps by name before the script is run.
     """
 
     words: str = "python"
@@ -50,7 +50,7 @@ class Host:
     find: Optional[Callable[[str], str]] = None
     watch: Optional[Callable[[], None]] = None
     progress: Optional[Callable[[float], None]] = None
-    started: Optional[Callable[[str, Sequence[str]], None]] = None
+    started: Optional[Callable[[str, Mapping[str, Any]], None]] = None
 
 
 _host: contextvars.ContextVar[Host] = contextvars.ContextVar("rcell.host", default=Host())

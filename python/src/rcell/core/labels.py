@@ -231,7 +231,9 @@ def write_labels(path: str, labels: Mapping[int, str]) -> str | None:
         return None
     beside = path + ".aux.xml"
     root = _root_of(beside)
-    band = ElementTree.SubElement(root, "PAMRasterBand", band="1")
+    band = root.find("PAMRasterBand[@band='1']")
+    if band is None:
+        band = ElementTree.SubElement(root, "PAMRasterBand", band="1")
     if min(labels) >= 0 and max(labels) < _MOST_NAMES:
         names = ElementTree.SubElement(band, "CategoryNames")
         for category in range(max(labels) + 1):

@@ -129,7 +129,7 @@ def _frames(
     lines = [script, *(f"r.out.ascii input={name}" for name in wanted)]
     started = host().started
     if started is not None:
-        started(script, list(maps))
+        started(script, maps)
     with program_errors(script, list(maps), path := find_pipe(program)):
         words = protocol.script_bytes("\n".join(lines))
         return protocol.run(path, _sent(maps), words, watch=host().watch)

@@ -8,7 +8,7 @@ import io
 import os
 import re
 import stat
-from dataclasses import dataclass, field
+from dataclasses import dataclass, field, replace
 from fractions import Fraction
 from itertools import chain
 from typing import Any, Iterator, Mapping
@@ -26,7 +26,7 @@ from .host import host
 from .sources import Block, Source, in_region
 from .region import Region, Transform, units_of
 
-__all__ = ["TextMap", "open_path"]
+__all__ = ["TextMap", "is_grid", "open_path"]
 
 # Room for a header of six short lines, and for blank lines before it.
 HEADER_BYTES = 1 << 16
@@ -64,6 +64,10 @@ class TextMap:
     dtype: np.dtype[Any] = np.dtype(np.int32)
     is_masked: bool = False
 
+    def with_labels(self, labels: Mapping[int, str]) -> TextMap:
+        """Return the map with other labels."""
+        return replace(self, labels=labels)
+
     @property
     def transform(self) -> Transform:
         """The transform for results."""
@@ -87,6 +91,13 @@ class TextMap:
             kept.enter_context(program_errors("", [self.name], program))
             for rows in kept.enter_context(printed_grid(program, path, watch=host().watch)).blocks:
                 yield Block(rows, None)
+
+
+def is_grid(path: str) -> bool:
+    """Return whether a file begins as a text grid."""
+    with contextlib.suppress(OSError, ValueError), open(path, "rb") as file:
+        return _FIRST_LINE.match(file.read(64)) is not None
+    return False
 
 
 def open_path(name: str, path: str | os.PathLike[str]) -> Source:

@@ -18,7 +18,7 @@ from ..core.region import Transform
 from ..core.zones import Feature
 from .osr import quiet
 
-__all__ = ["OgrLayer", "burn", "feature_of", "open_layer"]
+__all__ = ["OgrLayer", "bounds_of", "burn", "feature_of", "open_layer"]
 
 _INTEGERS = (ogr.OFTInteger, ogr.OFTInteger64)
 
@@ -89,6 +89,10 @@ class OgrLayer:
         """Return a grid with the number of the last geometry that contains each cell's centre, 0 for none."""
         return burn(shapes, transform, shape)
 
+    def bounds(self, geometry: Any) -> tuple[float, float, float, float]:
+        """Return west, south, east and north of a geometry."""
+        return bounds_of(geometry)
+
 
 def _value_of(feature: Any, place: int) -> Any:
     """Return the value of a field as Python has it, None if it is missing."""
@@ -125,6 +129,12 @@ def feature_of(name: str, number: Any, value: Any, wkb: bytes) -> Feature:
         return Feature(number, value, "", None)
     kind = ogr.GeometryTypeToName(ogr.GT_Flatten(geometry.GetGeometryType()))
     return Feature(number, value, kind.replace(" ", ""), geometry)
+
+
+def bounds_of(geometry: Any) -> tuple[float, float, float, float]:
+    """Return west, south, east and north of a geometry."""
+    west, east, south, north = geometry.GetEnvelope()
+    return west, south, east, north
 
 
 def burn(
