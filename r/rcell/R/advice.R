@@ -1,6 +1,6 @@
 # SPDX-License-Identifier: Apache-2.0 OR GPL-2.0-or-later
-# Which word of a line is wrong, and what to write instead. The code of rcell-explain finds both; it is in this package, or in Python's.
-# Without Python nothing is said.
+# Which word of a line is wrong, and what to write instead. The code of rcell-explain finds both; it
+# is in this package, or in Python's. Without Python there is no advice.
 
 ADVICE_SECONDS <- 5
 ADVICE_CODE <- "
@@ -23,11 +23,15 @@ advice_on <- function(program, lines, line, text, names) {
   # An error of the advice must not hide the message.
   tryCatch({
     writeLines(lines, path, useBytes = TRUE)
-    words <- c("-B", "-c", ADVICE_CODE, system.file("python", package = "rcell"), program, path, line, sub(" at column [0-9]+$", "", text), names)
-    said <- run(python, words, timeout = ADVICE_SECONDS)$stdout
-    Encoding(said) <- "UTF-8"
-    column <- as.integer(sub("\n.*", "", said))
-    list(bad = if (column > 0L) list(word = word_at(lines[[line]], column), column = column), text = sub("^[0-9]+\n", "", said))
+    words <- c(
+      "-B", "-c", ADVICE_CODE, system.file("python", package = "rcell"), program, path, line,
+      sub(" at column [0-9]+$", "", text), names
+    )
+    printed <- run(python, words, timeout = ADVICE_SECONDS)$stdout
+    Encoding(printed) <- "UTF-8"
+    column <- as.integer(sub("\n.*", "", printed))
+    bad <- if (column > 0L) list(word = word_at(lines[[line]], column), column = column)
+    list(bad = bad, text = sub("^[0-9]+\n", "", printed))
   }, error = function(e) nothing)
 }
 

@@ -1,17 +1,25 @@
 # SPDX-License-Identifier: Apache-2.0 OR GPL-2.0-or-later
-# Coordinate reference systems: maps of one call have one.
+# Coordinate reference systems: the maps of one call have one.
+
+# So far may two systems be apart at a place, in their units, and still be one.
+SAME_PLACE <- 1e-6
+PLACES <- as.matrix(expand.grid(x = seq(-175, 175, by = 5), y = seq(-85, 85, by = 5)))
 
 # The system that `crs=` states for maps that have none, as well-known text; "" if it states none.
-stated_crs <- function(given) {
-  if (is.null(given)) return("")
-  bad <- function(e) refuse(sprintf("crs= is no coordinate reference system: '%s'", paste(format(given), collapse = " ")), status = 2L)
-  if (!is.character(given) || length(given) != 1L || is.na(given) || !nzchar(given)) bad()
-  text <- tryCatch(crs(given), error = bad, warning = bad)
+stated_crs <- function(crs) {
+  if (is.null(crs)) return("")
+  bad <- function(e) {
+    text <- sprintf("crs= is no coordinate reference system: '%s'", paste(format(crs), collapse = " "))
+    refuse(text, status = 2L)
+  }
+  if (!is.character(crs) || length(crs) != 1L || is.na(crs) || !nzchar(crs)) bad()
+  text <- tryCatch(crs(crs), error = bad, warning = bad)
   if (nzchar(text)) text else bad()
 }
 
 with_stated <- function(source, stated) {
   if (!nzchar(source$crs)) source$crs <- stated
+  source$state <- new.env(parent = emptyenv())
   source
 }
 
@@ -29,38 +37,103 @@ check_crs <- function(sources, stated) {
 
 lacks_crs <- function(name, first) {
   code <- crs_facts(first$crs)$code
-  text <- sprintf("it has no coordinate reference system, and %s has %s: state it with crs=%s", first$name, crs_name(first$crs),
-    if (nzchar(code)) sprintf("\"%s\"", code) else "")
+  stated <- if (nzchar(code)) sprintf("\"%s\"", code) else ""
+  text <- "it has no coordinate reference system, and %s has %s: state it with crs=%s"
+  text <- sprintf(text, first$name, crs_name(first$crs), stated)
   bad_map(name, text, class = "rcell_other_crs")
 }
 
-other_crs <- function(source, first) {
+other_crs <- function(source, first, tool = "gdalwarp") {
   code <- crs_facts(first$crs)$code
-  mine <- if (first$name == "crs=") "crs= is" else sprintf("that of %s is", first$name)
-  text <- sprintf("its coordinate reference system is %s, and %s %s: reproject one of them first, as with terra::project%s",
-    crs_name(source$crs), mine, crs_name(first$crs), if (nzchar(code)) paste(" or gdalwarp -t_srs", code) else "")
+  other <- if (first$name == "crs=") "crs= is" else sprintf("that of %s is", first$name)
+  command <- if (nzchar(code)) sprintf(" or %s -t_srs %s", tool, code) else ""
+  text <- paste(
+    "its coordinate reference system is %s, and %s %s:",
+    "reproject one of them first, for example with terra::project%s"
+  )
+  text <- sprintf(text, crs_name(source$crs), other, crs_name(first$crs), command)
   bad_map(source$name, text, class = "rcell_other_crs")
 }
 
 # The name of a system, its code ("" if it has none) and how PROJ would spell it.
 crs_facts <- function(wkt) {
-  raster <- rast(nrows = 1, ncols = 1, xmin = 0, xmax = 1, ymin = 0, ymax = 1, crs = wkt)
+  raster <- rast(nrows = 1, ncols = 1, xmin = 0, xmax = 1, ymin = 0, ymax = 1)
+  crs(raster, warn = FALSE) <- wkt
   known <- crs(raster, describe = TRUE)
   code <- paste(known$authority, known$code, sep = ":")
-  list(name = known$name, code = if (anyNA(c(known$authority, known$code))) "" else code,
-    proj = sub(" +towgs84=0,0,0,0,0,0,0", "", crs(raster, proj = TRUE), fixed = TRUE), raster = raster)
+  proj <- sub(" +towgs84=0,0,0,0,0,0,0", "", crs(raster, proj = TRUE), fixed = TRUE)
+  list(
+    name = known$name, code = if (anyNA(c(known$authority, known$code))) "" else code,
+    proj = proj, raster = raster
+  )
 }
 
 crs_name <- function(wkt) {
   known <- crs_facts(wkt)
-  name <- if (is.na(known$name) || known$name == "unknown") "a system without a name" else known$name
+  name <- known$name
+  if (is.na(name)) name <- title_in(wkt)
+  if (name %in% c("", "unknown")) {
+    name <- if (nzchar(known$proj)) known$proj else "a system without a name"
+  }
   if (nzchar(known$code)) sprintf("%s (%s)", known$code, name) else name
 }
 
-# terra takes two spellings of one system for two if only one of them has codes: then the names and PROJ's spellings decide.
+# The first quoted text of a well-known text: the name of the system.
+title_in <- function(wkt) {
+  title <- regmatches(wkt, regexec("^[A-Za-z_]+ *[[(] *\"([^\"]*)\"", wkt))[[1]]
+  if (length(title) == 2L) title[[2]] else ""
+}
+
+# Return whether two systems are one, whatever the order of their axes: their datum and ellipsoid are one,
+# and PROJ gives places all over the earth the same coordinates. (terra also calls systems equal that
+# differ in their datum alone, and unequal whose methods have two names.)
 same_crs <- function(one, other) {
   if (identical(one, other)) return(TRUE)
-  a <- crs_facts(one)
-  b <- crs_facts(other)
-  isTRUE(compareGeom(a$raster, b$raster, stopOnError = FALSE)) || (identical(a$name, b$name) && identical(a$proj, b$proj))
+  kinds <- vapply(c(one, other), kind_of_crs, "")
+  if (kinds[[1]] != kinds[[2]]) return(FALSE)
+  if (kinds[[1]] == "other") {
+    grids <- lapply(c(one, other), function(wkt) crs_facts(wkt)$raster)
+    return(isTRUE(compareGeom(grids[[1]], grids[[2]], stopOnError = FALSE)))
+  }
+  same_earth(one, other) && same_places(one, other)
+}
+
+same_earth <- function(one, other) {
+  datums <- lapply(c(one, other), datum_of)
+  if (!nzchar(datums[[1]]) || datums[[1]] != datums[[2]]) return(FALSE)
+  shapes <- lapply(c(one, other), function(wkt) unlist(ellipsoid_of(wkt)))
+  is_compound <- grepl("^(COMPOUNDCRS|COMPD_CS)", c(one, other))
+  is_compound[[1]] == is_compound[[2]] && isTRUE(all.equal(shapes[[1]], shapes[[2]]))
+}
+
+# The name of the datum of a well-known text, without the marks in which its spellings differ.
+datum_of <- function(wkt) {
+  form <- "(DATUM|ENSEMBLE|TRF)\\[\"([^\"]*)\""
+  datum <- regmatches(wkt, regexec(form, wkt))[[1]]
+  if (length(datum) < 3L) return("")
+  tolower(gsub("^D_| ensemble$|[^A-Za-z0-9]", "", datum[[3]]))
+}
+
+same_places <- function(one, other) {
+  coordinates <- lapply(c(one, other), function(wkt) {
+    failed <- function(e) matrix(NA_real_, nrow(PLACES), 2L)
+    tryCatch(suppressWarnings(project(PLACES, "EPSG:4326", wkt)), error = failed)
+  })
+  apart <- abs(coordinates[[1]] - coordinates[[2]])
+  is_known <- lapply(coordinates, is.finite)
+  any(is_known[[1]]) && identical(is_known[[1]], is_known[[2]]) &&
+    all(apart[is_known[[1]]] <= SAME_PLACE)
+}
+
+# What coordinates are: "degrees" for latitude and longitude, "projected", "none" without a system,
+# or "other" for local, geocentric and vertical systems.
+kind_of_crs <- function(wkt) {
+  if (!nzchar(wkt)) return("none")
+  flat <- gsub("[\r\n]+ *", "", wkt)
+  inner <- sub("^(BOUNDCRS\\[SOURCECRS\\[|(COMPOUNDCRS|COMPD_CS)\\[\"[^\"]*\", *)", "", flat)
+  if (inner != flat) return(kind_of_crs(inner))
+  if (grepl("^(DERIVED)?PROJ(ECTED)?(CRS|CS)\\[", flat)) return("projected")
+  if (grepl("^GEOG(RAPHIC)?(CRS|CS)\\[", flat)) return("degrees")
+  is_on_ellipsoid <- grepl("^GEOD(ETIC)?CRS\\[", flat) && grepl("CS\\[ellipsoidal", flat)
+  if (is_on_ellipsoid) "degrees" else "other"
 }

@@ -7,8 +7,10 @@ PIECE_BYTES <- 4194304L
 SIDECARS <- c(".msk", ".aux.xml", ".ovr")
 
 check_filename <- function(filename, overwrite) {
-  if (!is.character(filename) || length(filename) != 1L || is.na(filename)) refuse("filename= is one path", status = 2L)
-  if (!isTRUE(overwrite) && !isFALSE(overwrite)) refuse("overwrite= is TRUE or FALSE", status = 2L)
+  if (!is.character(filename) || length(filename) != 1L || is.na(filename)) {
+    refuse(sprintf("filename= must be one path; got %s", shown(filename)), status = 2L)
+  }
+  check_flag(overwrite, "overwrite")
   if (!nzchar(filename)) return(invisible())
   filename <- native_path(filename)
   target <- linked_path(filename)
@@ -21,15 +23,23 @@ check_filename <- function(filename, overwrite) {
   if (file.exists(target) && file.access(target, 2L) != 0L) write_failed(filename, "Permission denied")
 }
 
-# Reject an output file that is also an input.
-check_inputs <- function(filename, sources) {
+# Return the files that the sources of a call are read from.
+inputs_of <- function(sources) files_of(unlist(lapply(sources, `[[`, "files")))
+
+# Reject an output file, with the files next to it that are replaced with it, that is also an input.
+check_inputs <- function(filename, inputs) {
   if (!nzchar(filename)) return(invisible())
-  target <- normalizePath(linked_path(native_path(filename)), mustWork = FALSE)
-  for (source in sources) {
-    if (nzchar(source$path) && identical(normalizePath(native_path(source$path), mustWork = FALSE), target)) {
-      refuse("the output file is the input file: give another filename=", status = 2L)
-    }
+  absolute <- function(paths) {
+    normalizePath(vapply(paths, native_path, "", USE.NAMES = FALSE), mustWork = FALSE)
   }
+  target <- linked_path(native_path(filename))
+  same <- intersect(absolute(paste0(target, c("", SIDECARS))), absolute(inputs))
+  if (!length(same)) return(invisible())
+  if (!identical(same[[1]], absolute(target))) {
+    text <- "%s, which is read, would be replaced with the output file: give another filename="
+    refuse(sprintf(text, same[[1]]), status = 2L)
+  }
+  refuse("the output file is the input file: give another filename=", status = 2L)
 }
 
 # Write a file: `fill` gets a function that writes bytes or 32-bit integers.
@@ -54,14 +64,16 @@ write_file <- function(path, fill) {
 check_size <- function(path, size) {
   there <- file.size(path)
   if (!identical(as.numeric(there), as.numeric(size))) {
-    write_failed(path, sprintf("%.0f of its %.0f bytes are there, the disk may be full", if (is.na(there)) 0 else there, size))
+    text <- "%.0f of its %.0f bytes are there, the disk may be full"
+    write_failed(path, sprintf(text, if (is.na(there)) 0 else there, size))
   }
 }
 
 # Return a path for the system as bytes, since in the C locale R cannot write letters beyond ASCII.
 native_path <- function(path) {
   if (!validEnc(path)) {
-    refuse(sprintf("%s: terra takes no path that is not UTF-8: rename the file", iconv(path, "UTF-8", "UTF-8", "byte")), status = 2L)
+    text <- "%s: terra takes no path that is not UTF-8: rename the file"
+    refuse(sprintf(text, iconv(path, "UTF-8", "UTF-8", "byte")), status = 2L)
   }
   if (is_ascii_locale() && Encoding(path) == "UTF-8") Encoding(path) <- "unknown"
   path.expand(path)
@@ -111,23 +123,27 @@ written <- function(raster, filename) {
   # A device has no ending that would give terra the format.
   path <- file.path(room$path, if (is_stream) "map.tif" else basename(target))
   failed <- function(e) write_failed(filename, told(e))
-  tryCatch(withCallingHandlers(with_path(path, writeRaster(raster, path, datatype = "INT4S")), warning = without_colours), error = failed, warning = failed)
+  write <- function() with_path(path, writeRaster(raster, path, datatype = "INT4S"))
+  tryCatch(withCallingHandlers(write(), warning = without_colours), error = failed, warning = failed)
   check_whole(raster, path, filename)
   if (is_stream) {
     copy_to_stream(path, target, filename)
     return(raster)
   }
   replace_files(room$path, target, filename)
-  found <- with_path(filename, rast(filename))
+  stored <- with_path(filename, rast(filename))
   # terra takes a map without a system for one in degrees if its edges are within 180 by 90.
-  if (!nzchar(crs(raster))) crs(found) <- ""
-  found
+  if (!nzchar(crs(raster))) crs(stored) <- ""
+  stored
 }
 
-# Create a folder that only this user can open. If this process is killed, another process removes it.
+# Create a folder that only this user can open. If this process is killed, another process removes
+# it.
 private_folder <- function(beside, filename) {
   path <- tempfile(".rcell-", tmpdir = beside)
-  if (!dir.create(path, showWarnings = FALSE, mode = "0700")) write_failed(filename, "its folder takes no file")
+  if (!dir.create(path, showWarnings = FALSE, mode = "0700")) {
+    write_failed(filename, "its folder takes no file")
+  }
   script <- "trap '' HUP INT TERM; cat > /dev/null; rm -rf -- \"$1\""
   guard <- process$new("/bin/sh", c("-c", script, "sh", path), stdin = "|", cleanup = FALSE)
   remove <- function() {
@@ -137,17 +153,20 @@ private_folder <- function(beside, filename) {
   list(path = path, remove = remove)
 }
 
-# Rename the files of a folder to their names next to the target, the target last. Old files next to it are removed, or restored
-# if the target cannot be replaced.
+# Rename the files of a folder to their names next to the target, the target last. Old files next to
+# it are removed, or restored if the target cannot be replaced.
 replace_files <- function(room, target, filename) {
   made <- list.files(room, all.files = TRUE, no.. = TRUE)
   main <- basename(target)
-  if (file.exists(target)) Sys.chmod(file.path(room, main), file.mode(target), use_umask = FALSE)
+  if (file.exists(target)) {
+    Sys.chmod(file.path(room, main), file.mode(target), use_umask = FALSE)
+  }
   old <- Filter(file.exists, paste0(target, SIDECARS))
   aside <- file.path(room, sprintf("old%d", seq_along(old)))
   is_moved <- suppressWarnings(file.rename(old, aside))
   for (name in c(setdiff(made, main), main)) {
-    if (all(is_moved) && suppressWarnings(file.rename(file.path(room, name), file.path(dirname(target), name)))) next
+    place <- file.path(dirname(target), name)
+    if (all(is_moved) && suppressWarnings(file.rename(file.path(room, name), place))) next
     unlink(file.path(dirname(target), setdiff(made, main)))
     suppressWarnings(file.rename(aside[is_moved], old[is_moved]))
     write_failed(filename, "it cannot be renamed")
@@ -185,8 +204,10 @@ check_whole <- function(raster, path, filename) {
   count <- max(1L, BLOCK_CELLS %/% as.integer(ncol(raster)))
   for (row in seq(1L, as.integer(nrow(raster)), by = count)) {
     rows <- min(count, as.integer(nrow(raster)) - row + 1L)
-    cells <- tryCatch(lapply(list(raster, again), readValues, row = row, nrows = rows), error = failed, warning = failed)
-    if (!identical(is.na(cells[[1]]), is.na(cells[[2]])) || any(cells[[1]] != cells[[2]], na.rm = TRUE)) {
+    read <- function(raster) readValues(raster, row = row, nrows = rows)
+    cells <- tryCatch(lapply(list(raster, again), read), error = failed, warning = failed)
+    has_nulls <- identical(is.na(cells[[1]]), is.na(cells[[2]]))
+    if (!has_nulls || any(cells[[1]] != cells[[2]], na.rm = TRUE)) {
       write_failed(filename, "what was written is not what was to be written")
     }
   }

@@ -10,7 +10,8 @@ HAS_NODATA <- 1L
 COMMANDS <- c("r.mapcalc", "r.reclass", "r.clump", "r.stats", "r.out.ascii")
 FLAGS <- c("c", "l", "1", "n", "N")
 BITS_OF_FLAGS <- c(1L, 2L, 4L, 8L, 16L)
-# What a plan says of each map that a statement reads, and that it needs, and of a call of row() and its like.
+# What a plan says of each map that a statement reads, and that it needs, and of a call of row() and
+# its like.
 BYTES_OF_MARGINS <- c(32L, 33L)
 BYTES_OF_CALL <- 17L
 # Columns, rows, north, type, null, file, first byte, bytes a cell and bytes a row.
@@ -26,14 +27,15 @@ short_text <- function(text) {
   c(as.raw(length(bytes)), bytes)
 }
 
-# Cells go as integers of 32 bits, in which NA has the bits of -2147483648. It is the nodata value, an integer of 64 bits. Labels
-# stay here: they may be any text.
+# Cells go as integers of 32 bits, in which NA has the bits of -2147483648. It is the nodata value,
+# an integer of 64 bits. Labels stay here: they may be any text.
 map_head <- function(name, region) {
   c(short_text(name), unlist(lapply(region$edges, short_text)), bytes_of(c(region$rows, region$cols)),
     as.raw(c(TYPE_I32, HAS_NODATA)), bytes_of(c(NA, -1L, 0L)))
 }
 
-# A request is a function that writes its bytes by calls of another one. A source has `cells`, or a raster that is read in blocks of rows.
+# A request is a function that writes its bytes by calls of another one. A source has `cells`, or a
+# raster that is read in blocks of rows.
 run_request <- function(sources, script) function(write) {
   write(c(REQUEST_MAGIC, bytes_of(length(sources))))
   for (source in sources) {
@@ -52,7 +54,8 @@ script_bytes <- function(lines) {
   c(bytes_of(length(text)), text)
 }
 
-# Read the fields of a response one after another. `wrong` is called if the file ends within a field.
+# Read the fields of a response one after another. `wrong` is called if the file ends within a
+# field.
 reader_of <- function(from, path, wrong) {
   at <- 0
   end <- file.size(path)
@@ -89,7 +92,8 @@ reader_of <- function(from, path, wrong) {
     is_at_end = function() at == end)
 }
 
-# A raster of the cells in a file, null as NA. GDAL reads them, since each cell that R has in between costs as much as that again.
+# A raster of the cells in a file, null as NA. GDAL reads them, since each cell that R has in
+# between costs as much as that again.
 raster_at <- function(path, begin, rows, cols, is_small) {
   header <- paste0(path, ".vrt")
   on.exit(unlink(header))
@@ -128,8 +132,8 @@ grid_frame <- function(reader) {
   list(line = line, maps = name, raster = reader$raster(size[[1]], size[[2]], is_small))
 }
 
-# A statement: whether it writes a frame, the map that it makes, its flags, its maps, the combination after which a table begins, and
-# the labels that its rules give.
+# A statement: whether it writes a frame, the map that it makes, its flags, its maps, the
+# combination after which a table begins, and the labels that its rules give.
 plan_frame <- function(reader) {
   line <- as.integer(reader$numbers())
   head <- as.integer(reader$bytes(2))
@@ -166,7 +170,8 @@ end_frame <- function(reader) {
 
 FRAMES <- list(TABL = table_frame, CELL = table_frame, GRID = grid_frame, PLAN = plan_frame, DONE = end_frame)
 
-# Return the frames of a response, the last of which is DONE. `wrong` is called if it is invalid or incomplete.
+# Return the frames of a response, the last of which is DONE. `wrong` is called if it is invalid or
+# incomplete.
 read_response <- function(path, wrong) {
   from <- file(path, "rb")
   on.exit(close(from))

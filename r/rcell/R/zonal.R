@@ -1,35 +1,47 @@
 # SPDX-License-Identifier: Apache-2.0 OR GPL-2.0-or-later
 # Statistics of the values of a map by zone, from the table of zones and values.
 
-rcell_zonal <- function(values, zones, quantiles = 0.5, zone_labels = NULL, zone_field = NULL, crs = NULL, program = NULL) {
-  if (!is.numeric(quantiles) || anyNA(quantiles) || any(quantiles < 0 | quantiles > 1)) {
-    refuse(sprintf("quantiles= are from 0 to 1, not %s", paste(format(quantiles), collapse = " ")), status = 2L)
+MEASURES <- c("cells", "sum", "mean", "minimum", "maximum", "variance")
+
+rcell_zonal <- function(values, zones, quantiles = 0.5, zone_labels = NULL, zone_field = NULL,
+                        layer = NULL, crs = NULL) {
+  is_share <- is.numeric(quantiles) && all(quantiles >= 0 & quantiles <= 1) %in% TRUE
+  if (length(quantiles) && !is_share) {
+    refuse(sprintf("quantiles= are from 0 to 1, not %s", shown(quantiles)), status = 2L)
   }
-  sources <- zoned_sources(values, zones, zone_field, crs, "values")
+  sources <- zoned_sources(values, zones, zone_field, layer, crs, "values")
   zone_labels <- labels_from(zone_labels, sources$zones$labels, "zone_labels")
-  table <- count_cells(sources, list(c("zones", "values")), program = program)[[1]]
+  table <- count_cells(sources, list(c("zones", "values")))[[1]]
   zone <- unique(table$codes[[1]])
   check_legend(zone_labels, zone, "zones", "zone_labels")
   rows <- split(seq_along(table$cells), match(table$codes[[1]], zone))
-  found <- vapply(unname(rows), function(at) statistics(table$codes[[2]][at], as.numeric(table$cells[at]), quantiles), numeric(6L + length(quantiles)))
-  columns <- lapply(seq_len(nrow(found)), function(at) found[at, ])
-  names(columns) <- c("cells", "sum", "mean", "minimum", "maximum", "variance", quantile_titles(quantiles))
+  numbers <- as.numeric(table$codes[[2]])
+  statistics <- vapply(unname(rows), function(row) {
+    statistics_of(numbers[row], as.numeric(table$cells[row]), quantiles)
+  }, numeric(length(MEASURES) + length(quantiles)))
+  columns <- lapply(seq_len(nrow(statistics)), function(measure) statistics[measure, ])
+  names(columns) <- unique_titles(c(MEASURES, quantile_titles(quantiles)))
   columns$cells <- as.integer(columns$cells)
   frame_of(c(coded("zone", zone, zone_labels), columns))
 }
 
 # Of values in ascending order and how many cells have each.
-statistics <- function(values, cells, quantiles) {
+statistics_of <- function(values, cells, quantiles) {
   count <- sum(cells)
-  mean <- sum(values * cells) / count
-  until <- cumsum(cells)
+  sum <- sum(values * cells)
+  mean <- sum / count
+  variance <- sum(cells * (values - mean)^2) / count
+  last <- cumsum(cells)
+  value_at <- function(place) values[findInterval(place, last, left.open = TRUE) + 1L]
   places <- (count - 1) * quantiles
-  value_at <- function(place) values[findInterval(place, until, left.open = TRUE) + 1L]
   low <- value_at(floor(places) + 1)
   high <- value_at(pmin(floor(places) + 2, count))
-  c(count, sum(values * cells), mean, values[[1]], values[[length(values)]], sum(cells * (values - mean)^2) / count,
-    low + (high - low) * (places - floor(places)))
+  between <- low + (high - low) * (places - floor(places))
+  c(count, sum, mean, values[[1]], values[[length(values)]], variance, between)
 }
 
-# As q50, and q2_5 for 0.025.
-quantile_titles <- function(quantiles) if (length(quantiles)) paste0("q", sub(".", "_", vapply(100 * quantiles, function(q) sprintf("%.10g", q), ""), fixed = TRUE))
+# Such as q50, and q2_5 for 0.025.
+quantile_titles <- function(quantiles) {
+  if (!length(quantiles)) return(character())
+  paste0("q", sub(".", "_", sprintf("%.10g", 100 * quantiles), fixed = TRUE))
+}

@@ -5,7 +5,7 @@
 \title{Tables, Patches and Overlays of Land Cover by the Proved Program rcell}
 \description{
 The composition of maps, cross tables, change between years, patches with sizes and perimeters, statistics by zone, majorities,
-alignment, adjacency matrices, reclassifications and map algebra of rasters of whole numbers. Rasters of \pkg{terra} go in; data frames and rasters of \pkg{terra} come out; all cells are counted by the
+alignment, adjacencies, new classes and map algebra of rasters of whole numbers. Rasters of \pkg{terra} go in; data frames and rasters of \pkg{terra} come out; all cells are counted by the
 program rcell, which is proved from the bytes of its input to the bytes of its output. What the package adds is tested and not
 proved: that the cells of a raster become the bytes of the same cells, that the bytes that come back are read as they are meant, and
 that labels, areas and percentages are joined to the right rows.
@@ -16,7 +16,7 @@ A map is given by its name. It is one of:
 \item a \code{SpatRaster} of one layer, in memory or of a file;
 \item a path, URL or \code{/vsi..} path of anything that terra opens;
 \item a path of a grid of the program's own form, which the program rcell reads;
-\item a matrix of numbers: cells of side 1, the bottom left corner at 0, 0, no reference system.
+\item a matrix of numbers: cells of side 1, the bottom left corner at 0, 0, no reference system, and so no areas unless \code{crs=} states one.
 }
 Cells are whole numbers from -2147483647 to 2147483647; \code{NA} and \code{NaN} are null. Floats are accepted if they are whole
 numbers; a transparent cell (an alpha band of 0) is null. Files that terra reads otherwise than they are cause an error: rotated rasters,
@@ -50,7 +50,7 @@ its end.
 }
 \seealso{
 \code{\link{rcell_composition}}, \code{\link{rcell_cross}}, \code{\link{rcell_change}}, \code{\link{rcell_patches}}, \code{\link{rcell_zonal}},
-\code{\link{rcell_majority}}, \code{\link{rcell_align}}, \code{\link{rcell_adjacency}}; scripts: \code{\link{rcell_table}},
+\code{\link{rcell_majority}}, \code{\link{rcell_align}}, \code{\link{rcell_adjacency}}, \code{\link{rcell_reclass}}, \code{\link{rcell_clump}}; scripts: \code{\link{rcell_table}},
 \code{\link{rcell_run}}, \code{\link{rcell_grid}}; \code{\link{rcell_program}}
 }
 \examples{

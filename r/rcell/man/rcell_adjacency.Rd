@@ -1,17 +1,20 @@
 \name{rcell_adjacency}
 \alias{rcell_adjacency}
-\title{Which Classes Lie beside Each Other}
-\description{Count the pairs of cells that share an edge, by their classes.}
+\title{Which Classes Share Sides of Cells}
+\description{Count the sides that the cells of each pair of classes share, and measure their border.}
 \usage{
-rcell_adjacency(x, program = NULL)
+rcell_adjacency(x, labels = NULL, crs = NULL)
 }
 \arguments{
 \item{x}{a map: a \code{SpatRaster}, a path or a matrix; see \code{\link{rcell-package}}.}
-\item{program}{as in \code{\link{rcell_run}}.}
+\item{labels}{as in \code{\link{rcell_composition}}.}
+\item{crs}{as in \code{\link{rcell_run}}.}
 }
 \value{
-A symmetric matrix of class by class with the labels, or else the categories, as its names. Each pair is counted both ways, so that
-the diagonal has each pair of equal cells twice. Pairs with a null are left out; a class whose cells touch no other cell has zeros.
+A data frame: \code{class}, \code{label}, \code{neighbour}, \code{neighbour_label} (the labels if there are any), \code{sides} and
+\code{border_m}, the length of these sides in metres. Each pair of classes is listed once, the smaller class first. A class with itself
+counts the sides between its own cells, once. Sides to null and to the edge of the map are left out. \code{border_m} is \code{NA} in
+degrees, with a warning, and without a reference system.
 }
 \examples{
 rcell_adjacency(matrix(c(5, 7, 5, 5, 5, 7), 2, byrow = TRUE))

@@ -3,8 +3,7 @@
 \title{Align a Map with Another}
 \description{Put a map on the grid of another one, so that both can be used in one call.}
 \usage{
-rcell_align(x, to, resample = NULL, filename = "", overwrite = FALSE, crs = NULL,
-            program = NULL)
+rcell_align(x, to, resample = NULL, filename = "", overwrite = FALSE, crs = NULL)
 }
 \arguments{
 \item{x}{the map to move: a \code{SpatRaster}, a path or a matrix; see \code{\link{rcell-package}}.}
@@ -12,7 +11,7 @@ rcell_align(x, to, resample = NULL, filename = "", overwrite = FALSE, crs = NULL
 \item{resample}{\code{NULL}: only cut and extended, by whole cells; a shift by part of a cell, other cells or another coordinate reference
 system cause an error. \code{"nearest"}: each new cell is the cell in which its centre lies, on a border the southern or eastern one.}
 \item{filename, overwrite}{as in \code{\link{rcell_grid}}.}
-\item{crs, program}{as in \code{\link{rcell_run}}.}
+\item{crs}{as in \code{\link{rcell_run}}.}
 }
 \value{
 A \code{SpatRaster} with the labels of \code{x}. Its attribute \code{"aligned"} is a data frame of one row: \code{shift_rows} and \code{shift_columns}, the row and the

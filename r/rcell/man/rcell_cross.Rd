@@ -3,22 +3,21 @@
 \title{A Cross Table of Maps}
 \description{Count the cells of each combination of the classes of two or more maps.}
 \usage{
-rcell_cross(..., area = "ha", labels = NULL, null = FALSE, crs = NULL, maps = list(),
-            program = NULL)
+rcell_cross(..., area, labels = NULL, include_null = FALSE, crs = NULL, maps = list())
 }
 \arguments{
-\item{...}{maps by name, as \code{lc = "landcover.tif"}; see \code{\link{rcell-package}}. At most 16, or 15 with areas in degrees.}
+\item{...}{maps by name, for example \code{lc = "landcover.tif"}; see \code{\link{rcell-package}}. At most 16, or 15 with areas in degrees.}
 \item{area}{as in \code{\link{rcell_composition}}.}
-\item{labels}{a list of legends by the names of the maps, as \code{list(lc = "legend.csv")}; each as in \code{\link{rcell_composition}}.}
-\item{null}{whether combinations with cells without data are listed as well.}
-\item{crs, maps, program}{as in \code{\link{rcell_run}}.}
+\item{labels}{a list of legends by the names of the maps, for example \code{list(lc = "legend.csv")}; each as in \code{\link{rcell_composition}}.}
+\item{include_null}{whether combinations with cells without data are listed as well.}
+\item{crs, maps}{as in \code{\link{rcell_run}}.}
 }
 \value{
 A data frame: for each map a column of its name, and \code{NAME_label} if it has labels; then \code{cells}, \code{area_ha} (or the other unit) and
-\code{percent}, of all cells that have data in every map. Combinations that do not occur have no row.
+\code{percent}, of the area, or else of the cells, that have data in every map. Combinations that do not occur have no row.
 }
 \examples{
 lc <- matrix(c(1, 1, 2, 3, 2, 2), 2, byrow = TRUE)
 soil <- matrix(c(7, 7, 8, 7, 8, 8), 2, byrow = TRUE)
-rcell_cross(lc = lc, soil = soil, area = "m2")
+rcell_cross(lc = lc, soil = soil)
 }

@@ -4,18 +4,18 @@
 \description{Run a script, and return one of its maps as a raster.}
 \usage{
 rcell_grid(.script, .name, ..., filename = "", overwrite = FALSE,
-           crs = NULL, maps = list(), program = NULL)
+           crs = NULL, maps = list())
 }
 \arguments{
 \item{.script}{the lines of the script. Its outputs are ignored; it needs none.}
 \item{.name}{a map that the script makes, or an input map.}
-\item{...}{maps by name, as \code{lc = "landcover.tif"}; see \code{\link{rcell-package}}.}
+\item{...}{maps by name, for example \code{lc = "landcover.tif"}; see \code{\link{rcell-package}}.}
 \item{filename}{the file to write, with terra's \code{writeRaster} and the type INT4S. The file gets its name only when it is complete and
 was read again; after an error nothing is left of it, and an old file is unchanged. Links are followed. A device or a pipe is written to,
-not replaced. The file cannot be an input.}
+not replaced. The file cannot be one that the call reads: a raster, a file next to it, the source of a virtual raster.}
 \item{overwrite}{whether a file of this name may be replaced. The new file has the permissions of the old one; masks, labels and
 overviews next to the old one (\code{.msk}, \code{.aux.xml}, \code{.ovr}) are removed.}
-\item{crs, maps, program}{as in \code{\link{rcell_run}}.}
+\item{crs, maps}{as in \code{\link{rcell_run}}.}
 }
 \value{
 A \code{SpatRaster} with the extent and the reference system of the first map. Its levels are the labels of the rules that made the map,

@@ -4,14 +4,14 @@
 \description{Give each cell the most frequent class of the square around it.}
 \usage{
 rcell_majority(x, size = 3, fill = FALSE, filename = "", overwrite = FALSE,
-               crs = NULL, program = NULL)
+               crs = NULL)
 }
 \arguments{
 \item{x}{a map: a \code{SpatRaster}, a path or a matrix; see \code{\link{rcell-package}}.}
 \item{size}{the side of the square in cells, odd, 3 to 15.}
 \item{fill}{whether cells without data get the class of their neighbours; else they stay without data.}
 \item{filename, overwrite}{as in \code{\link{rcell_grid}}.}
-\item{crs, program}{as in \code{\link{rcell_run}}.}
+\item{crs}{as in \code{\link{rcell_run}}.}
 }
 \details{
 Cells without data do not count, nor do cells outside the map. Of several most frequent classes the smallest is taken.

@@ -3,10 +3,7 @@
 \title{The Program That Counts}
 \description{Return the path of the program \command{rcell-pipe}, which runs all scripts.}
 \usage{
-rcell_program(program = NULL)
-}
-\arguments{
-\item{program}{the path of a program; \code{NULL} looks for one.}
+rcell_program()
 }
 \details{
 It is the first of: the path in the option \code{rcell.program}, the path in the environment variable \code{RCELL_PIPE}, the program

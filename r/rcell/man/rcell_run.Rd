@@ -3,15 +3,14 @@
 \title{Run a Script over Maps}
 \description{Run a script over maps of one region, and return all its outputs.}
 \usage{
-rcell_run(.script, ..., crs = NULL, maps = list(), program = NULL)
+rcell_run(.script, ..., crs = NULL, maps = list())
 }
 \arguments{
 \item{.script}{the lines of the script, as one text or a vector of lines. It comes first and is given without a name.}
-\item{...}{maps by name, as \code{lc = "landcover.tif"}; see \code{\link{rcell-package}}.}
-\item{crs}{the coordinate reference system of maps that have none, as \code{"EPSG:3035"} or well-known text. It is required if some maps
+\item{...}{maps by name, for example \code{lc = "landcover.tif"}; see \code{\link{rcell-package}}.}
+\item{crs}{the coordinate reference system of maps that have none, for example \code{"EPSG:3035"} or well-known text. It is required if some maps
 of a call have one and others, such as a matrix or an rcell grid, have none.}
 \item{maps}{maps by name in a list, for names that are arguments of this function.}
-\item{program}{the path of the program; see \code{\link{rcell_program}}.}
 }
 \details{
 The commands are \code{r.mapcalc}, \code{r.reclass}, \code{r.clump}, \code{r.stats} and \code{r.out.ascii}, named after modules of GRASS.

@@ -41,7 +41,7 @@ part <- rast(transparent)[[1]]
 window(part) <- ext(500020, 500040, 5399960, 5400000)
 expect_identical(counts(part), data.frame(x = c(3L, NA), cells = 1L))
 three <- write_vrt("three.vrt", c(grey, band("cells.raw", 2), band("alpha.raw", 3, inner = "<ColorInterp>Alpha</ColorInterp>")))
-expect_identical(refusal(counts(three))$text, "has 2 layers: give one, as x[[1]]")
+expect_identical(refusal(counts(three))$text, "has 2 layers: give one, for example x[[1]]")
 expect_identical(counts(rast(three)[[2]]), expected)
 
 # Complex cells, whose imaginary part terra drops.
@@ -76,7 +76,7 @@ other <- refusal(both(plain, gauss))
 expect_identical(class(other)[1:3], c("rcell_other_crs", "rcell_bad_map", "rcell_refused"))
 expect_identical(other[c("source", "status")], list(source = "b", status = 1L))
 expect_identical(other$text, paste("its coordinate reference system is EPSG:31467 (DHDN / 3-degree Gauss-Kruger zone 3), and that of `a` is",
-  "EPSG:25832 (ETRS89 / UTM zone 32N): reproject one of them first, as with terra::project or gdalwarp -t_srs EPSG:25832"))
+  "EPSG:25832 (ETRS89 / UTM zone 32N): reproject one of them first, for example with terra::project or gdalwarp -t_srs EPSG:25832"))
 expect_inherits(refusal(rcell_cross(a = plain, b = gauss)), "rcell_other_crs")
 expect_inherits(refusal(both(plain, write_vrt("far.vrt", crs = "EPSG:31467", transform = "0, 1, 0, 2, 0, -1"))), "rcell_other_crs")
 lacking <- paste("it has no coordinate reference system, and `%s` has EPSG:25832 (ETRS89 / UTM zone 32N):",
@@ -101,12 +101,12 @@ expect_identical(nrow(both(plain, spelled)), 3L)
 
 # terra takes a map without a system within 180 by 90 for one in degrees: here it has none, read or written.
 near <- write_vrt("near.vrt", transform = "0, 1, 0, 2, 0, -1", crs = "")
-expect_identical(counts(near, area = "m2")$area_m2, c(1, 2, 1))
+expect_identical(counts(near, area = "m2", crs = "EPSG:25832")$area_m2, c(1, 2, 1))
 written <- rcell_grid("", "x", x = near, filename = file("written.tif"))
 expect_identical(crs(written), "")
 expect_false(any(grepl("Coordinate System", describe(file("written.tif")))))
-expect_identical(rcell_table("r.stats -c input=x", x = written, area = "m2")$area_m2, c(1, 2, 1))
-expect_identical(rcell_patches(near, area = "m2")$area_m2, c(1, 1, 1, 1))
+expect_identical(rcell_table("r.stats -c input=x", x = written, area = "m2", crs = "EPSG:25832")$area_m2, c(1, 2, 1))
+expect_identical(rcell_patches(near, area = "m2", crs = "EPSG:25832")$area_m2, c(1, 1, 1, 1))
 
 # Hectares are what they print: 74183 cells of 30 m are 6676.47 ha.
 many <- rast(nrows = 269, ncols = 277, xmin = 0, xmax = 277 * 30, ymin = 0, ymax = 269 * 30, crs = "EPSG:25832", vals = rep(1:2, c(74183, 330)))

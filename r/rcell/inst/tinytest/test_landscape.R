@@ -91,33 +91,44 @@ for (name in names(maps)) for (connectivity in c(4, 8)) {
 
 # Rows that are left out change no number; the zone is where most cells are, the smaller of two.
 all <- rcell_patches(maps$patchy, 8)
-expect_equal(rcell_patches(maps$patchy, 8, least = 30, classes = c(2, 5)), all[all$cells >= 30 & all$class %in% c(2, 5), ], check.attributes = FALSE)
+expect_equal(rcell_patches(maps$patchy, 8, min_cells = 30, classes = c(2, 5)), all[all$cells >= 30 & all$class %in% c(2, 5), ], check.attributes = FALSE)
 zones <- made_map(60, 50, 4, seed = 21)
 zoned <- rcell_patches(maps$patchy, 8, zones = zones)
 counts <- table(as_rows(clumped(maps$patchy, 8)), factor(as_rows(zones), 1:4))
 expect_identical(zoned$zone, as.integer(unname(ifelse(rowSums(counts) == 0, NA, max.col(counts, "first")))))
 expect_identical(nrow(rcell_patches(matrix(NA_real_, 2, 2))), 0L)
 
-# Adjacency: each pair of cells that share an edge, both ways, as tables of the shifted matrix count it.
+# Adjacency: the sides that cells of two classes share, each pair once, as tables of the shifted matrix
+# count them.
 shifted <- function(map) {
   cells <- as_rows(map)
   codes <- sort(unique(as.vector(cells)))
   count <- function(a, b) unclass(table(factor(a, codes), factor(b, codes)))
   across <- count(cells[, -ncol(cells)], cells[, -1])
   down <- count(cells[-nrow(cells), ], cells[-1, ])
-  across + t(across) + down + t(down)
+  once <- function(pairs) pairs + t(pairs) - diag(diag(pairs), nrow(pairs))
+  list(codes = codes, flanks = once(across), ends = once(down))
 }
 for (name in setdiff(names(maps), "cell")) {
-  expect_equal(rcell_adjacency(maps[[name]]), shifted(maps[[name]]), check.attributes = FALSE, info = name)
+  found <- rcell_adjacency(maps[[name]])
+  wanted <- shifted(maps[[name]])
+  expect_identical(names(found), c("class", "neighbour", "sides", "border_m"), info = name)
+  place <- cbind(match(found$class, wanted$codes), match(found$neighbour, wanted$codes))
+  expect_identical(order(found$class, found$neighbour), seq_len(nrow(found)), info = name)
+  expect_equal(found$sides, (wanted$flanks + wanted$ends)[place], info = name)
+  size <- res(maps[[name]])
+  expect_equal(found$border_m, (wanted$flanks * size[[2]] + wanted$ends * size[[1]])[place], info = name)
+  all_pairs <- (wanted$flanks + wanted$ends)[upper.tri(wanted$flanks, diag = TRUE)]
+  expect_equal(sum(found$sides), sum(all_pairs), info = name)
 }
-# A class whose cells touch no other cell is there.
-expect_identical(rcell_adjacency(maps$cell), matrix(0, 1, 1, dimnames = list("1", "1")))
-expect_identical(rcell_adjacency(matrix(c(1, 1, NA, 7), 1))["7", ], c("1" = 0, "7" = 0))
-expect_identical(dim(rcell_adjacency(matrix(NA_real_, 1, 2))), c(0L, 0L))
+expect_identical(nrow(rcell_adjacency(maps$cell)), 0L)
+expect_identical(rcell_adjacency(matrix(c(1, 1, NA, 7), 1)), data.frame(class = 1L, neighbour = 1L, sides = 1L, border_m = NA_real_))
+expect_identical(nrow(rcell_adjacency(matrix(NA_real_, 1, 2))), 0L)
 
 # The length of edges between classes is half of what the polygons have, less the outline.
 map <- classify(maps$patchy, cbind(NA, 9))
-edges <- sum(rcell_adjacency(map)[upper.tri(diag(length(unique(values(map)))))]) * 30
+pairs <- rcell_adjacency(map)
+edges <- sum(pairs$border_m[pairs$class != pairs$neighbour])
 outline <- 2 * (nrow(map) + ncol(map)) * 30
 expect_equal(edges, (sum(perim(as.polygons(map))) - outline) / 2)
 
@@ -142,12 +153,14 @@ levels(labelled) <- data.frame(value = 1:5, cover = c("wood", "water", "town", "
 found <- rcell_patches(labelled)
 expect_identical(names(found)[1:4], c("patch", "class", "label", "cells"))
 expect_identical(found$label, c("wood", "water", "town", "field", "heath", NA)[found$class])
-expect_identical(rownames(rcell_adjacency(labelled)), c("wood", "water", "town", "field", "heath", "6"))
+pairs <- rcell_adjacency(labelled)
+expect_identical(names(pairs), c("class", "label", "neighbour", "neighbour_label", "sides", "border_m"))
+expect_identical(pairs$label, c("wood", "water", "town", "field", "heath", NA)[pairs$class])
 expect_identical(levels(rcell_majority(labelled))[[1]][[2]], levels(labelled)[[1]][[2]])
 degrees <- rast(nrows = 2, ncols = 2, vals = c(1, 1, 2, 2))
-expect_warning(found <- rcell_patches(degrees), "perimeters are not computed in degrees")
+expect_warning(found <- rcell_patches(degrees), "lengths are not computed in degrees")
 expect_identical(found$perimeter_m, c(NA_real_, NA_real_))
 expect_equal(sum(found$area_ha) * 1e4, surface(6378137, 298.257223563), tolerance = 1e-12)
 expect_equal(rcell_patches(maps$noise, area = "m2")$area_m2, rcell_patches(maps$noise)$area_ha * 1e4)
-expect_identical(refusal(rcell_patches(maps$cell, connectivity = 6))$text, "connectivity= is 4 or 8")
+expect_identical(refusal(rcell_patches(maps$cell, connectivity = 6))$text, "connectivity= is 4 or 8, and not 6")
 expect_identical(leftovers(), character())

@@ -94,7 +94,7 @@ expect_identical(rcell_table("r.stats -c input=a,b", a = twice[[1]], b = twice[[
 expect_inherits(refusal(counts(twice)), "rcell_bad_map")
 
 # Layers, no values, a file that is none, a part of a file that is missing.
-expect_identical(refusal(counts(c(first, first)))$text, "has 2 layers: give one, as x[[1]]")
+expect_identical(refusal(counts(c(first, first)))$text, "has 2 layers: give one, for example x[[1]]")
 expect_identical(refusal(counts(rast(first)))$text, "a raster without values")
 expect_inherits(refusal(counts(file("nowhere.tif"))), "rcell_read_failed")
 expect_identical(refusal(counts(file("nowhere.tif")))$status, 4L)

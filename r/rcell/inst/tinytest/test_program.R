@@ -10,13 +10,20 @@ script <- function(name, lines) {
   path
 }
 
-# Which program: the argument, the option, RCELL, the package's, the path.
+# The error of a call with a program.
+refusal_by <- function(program, call = rcell_program()) {
+  before <- options(rcell.program = program)
+  on.exit(options(before))
+  refusal(call)
+}
+
+# Which program: the option, RCELL, the package's, the path.
 mine <- rcell_program()$path
 expect_true(file.exists(mine))
-expect_identical(rcell_program(mine)$path, mine)
-expect_inherits(refusal(rcell_program(file.path(room, "nowhere"))), "rcell_missing")
-expect_inherits(refusal(rcell_program(room)), "rcell_missing")
-expect_inherits(refusal(rcell_program("/bin/true")), "rcell_wrong_program")
+expect_null(refusal_by(mine))
+expect_inherits(refusal_by(file.path(room, "nowhere")), "rcell_missing")
+expect_inherits(refusal_by(room), "rcell_missing")
+expect_inherits(refusal_by("/bin/true"), "rcell_wrong_program")
 before <- options(rcell.program = "/nowhere/rcell")
 lines <- strsplit(conditionMessage(refusal(rcell_run("", lc = lc))), "\n")[[1]]
 expect_identical(lines[[1]], "the program /nowhere/rcell is not there, or may not be executed")
@@ -32,20 +39,20 @@ options(before)
 # Programs that are killed, use another format, or run out of memory. Each passes the first run, the check of the program.
 good <- sprintf("if grep -aq 'after=7,1' /dev/stdin; then exec '%s' < /dev/stdin; fi", mine)
 death <- script("killed", c(good, "kill -9 $$"))
-dead <- refusal(rcell_run("r.stats input=lc", lc = lc, program = death))
+dead <- refusal_by(death, rcell_run("r.stats input=lc", lc = lc))
 expect_inherits(dead, "rcell_killed")
 expect_identical(conditionMessage(dead), "the program was killed by signal 9 (SIGKILL): too little memory, or someone ended it")
 none <- script("none", good)
 writeBin(as.raw(1:100), none)
-expect_inherits(refusal(rcell_program(none)), "rcell_wrong_program")
-expect_inherits(refusal(rcell_program(c(mine, mine))), "rcell_refused")
+expect_inherits(refusal_by(none), "rcell_wrong_program")
+expect_inherits(refusal_by(c(mine, mine)), "rcell_refused")
 odd <- script("odd", c(good, "echo what >&2; exit 3"))
-expect_inherits(refusal(rcell_run("r.stats input=lc", lc = lc, program = odd)), "rcell_wrong_program")
+expect_inherits(refusal_by(odd, rcell_run("r.stats input=lc", lc = lc)), "rcell_wrong_program")
 short <- script("short", c(good, "echo 1"))
-expect_inherits(refusal(rcell_grid("", "lc", lc = lc, program = short)), "rcell_wrong_program")
+expect_inherits(refusal_by(short, rcell_grid("", "lc", lc = lc)), "rcell_wrong_program")
 # A response that ends too early, at whatever byte, or has a byte more, is none; of status 4, the disk is full.
 cut <- script("cut", c(good, sprintf("'%s' < /dev/stdin | head -c 157", mine)))
-expect_inherits(refusal(rcell_table("r.stats -c input=lc", lc = lc, program = cut)), "rcell_wrong_program")
+expect_inherits(refusal_by(cut, rcell_table("r.stats -c input=lc", lc = lc)), "rcell_wrong_program")
 own <- asNamespace("rcell")
 is_read <- function(bytes) {
   writeBin(bytes, file.path(room, "response"))
@@ -61,15 +68,15 @@ for (request in list(own$run_request(list(own$small_map("lc", c(1L, NA))), outpu
   expect_false(is_read(c(bytes, as.raw(0))))
 }
 more <- script("more", c(good, sprintf("'%s' < /dev/stdin; echo", mine)))
-expect_inherits(refusal(rcell_table("r.stats -c input=lc", lc = lc, program = more)), "rcell_wrong_program")
+expect_inherits(refusal_by(more, rcell_table("r.stats -c input=lc", lc = lc)), "rcell_wrong_program")
 other <- script("other", c(good, sprintf("'%s' < /dev/stdin; exit 1", mine)))
-expect_inherits(refusal(rcell_table("r.stats -c input=lc", lc = lc, program = other)), "rcell_wrong_program")
+expect_inherits(refusal_by(other, rcell_table("r.stats -c input=lc", lc = lc)), "rcell_wrong_program")
 full <- script("full", c(good, "printf 'RCELLA1\\nTABL'; exit 4"))
-expect_inherits(refusal(rcell_table("r.stats -c input=lc", lc = lc, program = full)), "rcell_write_failed")
+expect_inherits(refusal_by(full, rcell_table("r.stats -c input=lc", lc = lc)), "rcell_write_failed")
 number <- function(value) sprintf("\\%o\\0\\0\\0\\0\\0\\0\\0", value)
 ended <- paste(vapply(c(3L, 0L, 0L, 1L, 0L, 9L), number, ""), collapse = "")
 memory <- script("memory", c(good, sprintf("printf 'RCELLA1\\nDONE%sno memory'; exit 3", ended)))
-found <- refusal(rcell_run("r.stats input=lc", lc = lc, program = memory))
+found <- refusal_by(memory, rcell_run("r.stats input=lc", lc = lc))
 expect_identical(found[c("source", "line", "text", "status")], list(source = "script", line = 1L, text = "no memory", status = 3L))
 expect_inherits(found, "rcell_out_of_memory")
 
@@ -89,7 +96,8 @@ slow <- script("slow", c(good, sprintf("echo $$ > '%s'; exec sleep 600", file.pa
 at_work <- function() {
   unlink(file.path(room, "pid"))
   asked <- run_apart(room, c(
-    sprintf("answer <- tryCatch(rcell_grid('', 'x', x = matrix(1), filename = '%s', program = '%s'),", file.path(room, "x.tif"), slow),
+    sprintf("options(rcell.program = '%s')", slow),
+    sprintf("answer <- tryCatch(rcell_grid('', 'x', x = matrix(1), filename = '%s'),", file.path(room, "x.tif")),
     "  interrupt = function(e) 'interrupted')", "cat(answer, length(list.files(tempdir(), '^rcell-')))"))
   begun <- Sys.time()
   while (!file.exists(file.path(room, "pid")) && asked$is_alive() && Sys.time() < begun + 300) Sys.sleep(0.1)

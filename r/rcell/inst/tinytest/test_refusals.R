@@ -43,10 +43,10 @@ expect_identical(refusal(rcell_run("r.stats input=lc", maps = list("land-use" = 
 expect_identical(refusal(rcell_run(NA, lc = lc))$text, "the script is no text")
 expect_true(grepl("^neither a path nor a SpatRaster", refusal(rcell_run("", lc = 1:3))$text))
 expect_true(grepl("^a matrix of integer64", refusal(rcell_run("", lc = structure(matrix(0, 1, 2), class = "integer64")))$text))
-expect_identical(refusal(rcell_patches(lc, 6))$text, "connectivity= is 4 or 8")
-expect_identical(refusal(rcell_patches(lc, classes = 3e9))$text, "classes= are whole numbers to 2147483647 either way")
-expect_identical(refusal(rcell_patches(lc, least = NA))$text, "least= is a number of cells")
-expect_identical(refusal(rcell_majority(lc, filename = NA))$text, "filename= is one path")
+expect_identical(refusal(rcell_patches(lc, 6))$text, "connectivity= is 4 or 8, and not 6")
+expect_identical(refusal(rcell_patches(lc, classes = 3e9))$text, "classes= must be whole numbers within 2147483647 either way; got 3e+09")
+expect_identical(refusal(rcell_patches(lc, min_cells = NA))$text, "min_cells= must be a number of cells; got NA")
+expect_identical(refusal(rcell_majority(lc, filename = NA))$text, "filename= must be one path; got NA")
 
 # Paths that are not UTF-8.
 odd <- rawToChar(as.raw(c(0xff, utf8ToInt(".tif"))))

@@ -1,0 +1,120 @@
+# SPDX-License-Identifier: Apache-2.0 OR GPL-2.0-or-later
+# The cells of sources, block by block.
+
+BLOCK_CELLS <- 131072L
+EXACT_FLOAT <- 16777216
+EXACT_TYPES <- c("INT1U", "INT2U", "INT2S")
+# Values that often mean no data; as a border they are named in a warning.
+USUAL_NODATA <- c(255L, -9999L, -32768L)
+
+# Call a function with the cells of each block of rows, as whole numbers.
+each_block <- function(source, use) {
+  border <- border_of(source)
+  if (!is.null(source$cells)) {
+    border$add(source$cells, 1L)
+    border$warn()
+    return(use(source$cells))
+  }
+  raster <- source$raster
+  is_exact <- is_exact_type(raster)
+  is_float <- datatype(raster) %in% "FLT4S"
+  layers <- c(list(raster), source$alpha)
+  failed <- function(e) read_failed(source$name, sprintf("cannot open: %s", told(e)))
+  for (layer in layers) tryCatch(readStart(layer), error = failed)
+  on.exit(for (layer in layers) readStop(layer))
+  rows <- source$region$rows
+  count <- max(1L, BLOCK_CELLS %/% source$region$cols)
+  for (row in seq(1L, rows, by = count)) {
+    cells <- read_block(source, row, min(count, rows - row + 1L))
+    whole <- if (is_exact) as.integer(cells) else whole_cells(source, cells, row)
+    if (is_float && any(abs(whole) > EXACT_FLOAT, na.rm = TRUE)) {
+      is_float <- warn_of_floats(source$name)
+    }
+    border$add(whole, row)
+    use(whole)
+  }
+  border$warn()
+}
+
+# Count the values of a map's border that often mean no data.
+border_of <- function(source) {
+  region <- source$region
+  counts <- integer(length(USUAL_NODATA))
+  add <- function(cells, first_row) {
+    cols <- region$cols
+    rows <- length(cells) %/% cols
+    starts <- (seq_len(rows) - 1L) * cols
+    places <- c(starts + 1L, starts + cols)
+    if (first_row == 1L) places <- c(places, seq_len(cols))
+    if (first_row + rows - 1L == region$rows) places <- c(places, starts[[rows]] + seq_len(cols))
+    border <- cells[unique(places)]
+    counts <<- counts + vapply(USUAL_NODATA, function(value) sum(border == value, na.rm = TRUE), 1L)
+  }
+  warn <- function() {
+    edge <- region$rows * region$cols - max(region$rows - 2, 0) * max(region$cols - 2, 0)
+    value <- USUAL_NODATA[counts > edge / 2]
+    if (!length(value) || isTRUE(source$state$is_warned)) return(invisible())
+    if (!is.null(source$state)) source$state$is_warned <- TRUE
+    text <- paste0(
+      "%s: %d fills more than half of the border of the map: if it means no data, declare it, ",
+      "for example with terra::NAflag(x) <- %d"
+    )
+    warning(sprintf(text, source$name, value, value), call. = FALSE)
+  }
+  list(add = add, warn = warn)
+}
+
+# Return all cells of a map, with each row of the map in a column.
+all_cells <- function(source) {
+  blocks <- list()
+  each_block(source, function(cells) blocks[[length(blocks) + 1L]] <<- cells)
+  cells <- unlist(blocks)
+  dim(cells) <- c(source$region$cols, source$region$rows)
+  cells
+}
+
+warn_of_floats <- function(name) {
+  text <- "%s: floats of 32 bits are not exact beyond 16777216, and the map has larger values"
+  warning(sprintf(text, name), call. = FALSE)
+  FALSE
+}
+
+# Return whether a raster is in a file whose data type holds only categories.
+is_exact_type <- function(raster) {
+  !inMemory(raster) && isTRUE(is.int(raster)) && isTRUE(datatype(raster) %in% EXACT_TYPES)
+}
+
+# Return the cells of some rows, with null for transparent cells. A broken part of a file is an
+# error, never null.
+read_block <- function(source, row, count) {
+  cells <- read_rows(source, source$raster, row, count)
+  if (!is.null(source$alpha)) {
+    alpha <- read_rows(source, source$alpha, row, count)
+    cells[alpha %in% 0 | (is.na(alpha) & any(source$alpha_null %in% 0))] <- NA
+  }
+  cells
+}
+
+read_rows <- function(source, raster, row, count) {
+  failed <- function(e) {
+    text <- sprintf("rows %d to %d cannot be read: %s", row, row + count - 1L, told(e))
+    read_failed(source$name, text)
+  }
+  tryCatch(readValues(raster, row, count), error = failed, warning = failed)
+}
+
+# Return the cells of a block as whole numbers, or raise an error about the first that is not one.
+whole_cells <- function(source, cells, first_row) {
+  whole <- suppressWarnings(as.integer(cells))
+  is_equal <- whole == cells
+  if (all(is_equal, na.rm = TRUE) && sum(is.na(is_equal)) == sum(is.na(cells))) return(whole)
+  place <- which(!is_equal | (is.na(is_equal) & !is.na(cells)))[[1]]
+  cols <- source$region$cols
+  row <- first_row + (place - 1L) %/% cols
+  column <- (place - 1L) %% cols + 1L
+  value <- cells[[place]]
+  beyond <- if (abs(value) > CATEGORY_LIMIT) ", beyond 2147483647 either way" else ""
+  text <- "not a map of whole numbers: the cell at row %d, column %d is %s%s"
+  text <- sprintf(text, row, column, sprintf("%.15g", value), beyond)
+  bad_map(source$name, text, row, column, value)
+}

@@ -1,0 +1,143 @@
+# SPDX-License-Identifier: Apache-2.0 OR GPL-2.0-or-later
+# Change between the maps of two or more years.
+
+rcell_change <- function(before, after = NULL, years = NULL, area, labels = NULL, crs = NULL) {
+  choice <- area_choice(area, missing(area))
+  maps <- if (is.null(after)) before else list(before, after)
+  if (!is.list(maps) || length(maps) < 2L) {
+    text <- "two maps or more are needed: rcell_change(before, after), or a list of maps; got %s"
+    refuse(sprintf(text, shown(before)), status = 2L)
+  }
+  check_years(years, length(maps))
+  is_pair <- length(maps) == 2L
+  names(maps) <- if (is_pair) c("before", "after") else sprintf("map_%d", seq_along(maps))
+  sources <- sources_of(maps, crs)
+  area <- unit_of(choice, sources[[1]])
+  legend <- if (!is.null(labels)) legend_of(labels, "labels")
+  legends <- legends_of_years(sources, legend)
+  combinations <- lapply(seq_len(length(maps) - 1L), function(first) names(maps)[first + 0:1])
+  tables <- count_cells(sources, combinations, area)
+  check_legend(legend, unlist(lapply(tables, `[[`, "codes")), "the maps")
+  pairs <- Map(function(table, first) {
+    list(table = table, legends = unname(legends[first + 0:1]), years = years[first + 0:1])
+  }, tables, seq_along(tables))
+  parts <- list(
+    table = lapply(pairs, change_table, area), summary = lapply(pairs, change_summary, area, sources[[1]])
+  )
+  list(
+    table = stacked(parts$table), matrix = change_matrix(pairs), summary = stacked(parts$summary)
+  )
+}
+
+check_years <- function(years, count) {
+  if (is.null(years)) {
+    if (count > 2L) {
+      refuse("years= are needed for more than two maps: one whole number a map", status = 2L)
+    }
+    return(invisible())
+  }
+  is_right <- is.numeric(years) && length(years) == count && all(is.finite(years)) &&
+    all(years == trunc(years) & abs(years) <= CATEGORY_LIMIT) && !anyDuplicated(years)
+  if (!is_right) {
+    text <- "years= must be %d whole numbers, one for each map, and none twice; got %s"
+    refuse(sprintf(text, count, shown(years)), status = 2L)
+  }
+}
+
+# The labels of each map: the legend, or its own, or the labels of the first map that has some.
+legends_of_years <- function(sources, legend) {
+  own <- lapply(sources, `[[`, "labels")
+  shared <- Find(function(labels) length(labels$codes) > 0L, own)
+  lapply(own, function(labels) {
+    if (!is.null(legend)) return(legend)
+    if (length(labels$codes)) labels else shared
+  })
+}
+
+# Tables of several pairs of years, one below the other.
+stacked <- function(frames) {
+  frame <- do.call(rbind, unname(frames))
+  rownames(frame) <- NULL
+  frame
+}
+
+years_of <- function(pair, count) {
+  if (is.null(pair$years)) return(list())
+  years <- as.integer(pair$years)
+  list(year_from = rep(years[[1]], count), year_to = rep(years[[2]], count))
+}
+
+has_labels <- function(pair) sum(lengths(lapply(pair$legends, `[[`, "codes"))) > 0L
+
+change_table <- function(pair, area) {
+  codes <- pair$table$codes
+  label <- function(side) if (has_labels(pair)) list(labels_for(pair$legends[[side]], codes[[side]]))
+  columns <- c(
+    years_of(pair, length(codes[[1]])), list(from = codes[[1]]), from_label = label(1L),
+    list(to = codes[[2]]), to_label = label(2L), sized(pair$table, area)
+  )
+  frame_of(columns)
+}
+
+# Classes before by classes after, of areas or else cells.
+change_matrix <- function(pairs) {
+  after <- sort(unique(unlist(lapply(pairs, function(pair) pair$table$codes[[2]]))))
+  before <- lapply(pairs, function(pair) sort(unique(pair$table$codes[[1]])))
+  head <- c(names(years_of(pairs[[1]], 0L)), "from")
+  legends <- c(lapply(pairs, function(pair) pair$legends[[1]]), list(legend_of_columns(pairs)))
+  titles <- class_titles(legends, c(before, list(after)), taken = head)
+  is_labelled <- any(vapply(pairs, has_labels, NA))
+  frames <- Map(function(pair, before, titles) {
+    table <- pair$table
+    values <- if (is.null(table$area)) table$cells else table$area
+    matrix <- array(if (is.integer(values)) 0L else 0, c(length(before), length(after)))
+    matrix[cbind(match(table$codes[[1]], before), match(table$codes[[2]], after))] <- values
+    columns <- lapply(seq_along(after), function(place) matrix[, place])
+    names(columns) <- sprintf("to_%d", seq_along(after))
+    from <- if (is_labelled) titles else before
+    frame_of(c(years_of(pair, length(before)), list(from = from), columns))
+  }, pairs, before, titles[seq_along(pairs)])
+  frame <- stacked(frames)
+  names(frame) <- c(head, titles[[length(titles)]])
+  frame
+}
+
+# The labels of classes after, of the last year that has one.
+legend_of_columns <- function(pairs) {
+  legends <- rev(lapply(pairs, function(pair) pair$legends[[2]]))
+  codes <- unlist(lapply(legends, `[[`, "codes"))
+  labels <- unlist(lapply(legends, `[[`, "labels"))
+  is_first <- !duplicated(codes)
+  list(codes = codes[is_first], labels = labels[is_first])
+}
+
+# Gains and losses are the sums of what changed, counted in cells if each has one area.
+change_summary <- function(pair, area, source) {
+  table <- pair$table
+  classes <- sort(unique(unlist(table$codes)))
+  by_row <- !is.null(area) && is_in_degrees(source)
+  changes <- matrix(0, length(classes), length(classes))
+  places <- cbind(match(table$codes[[1]], classes), match(table$codes[[2]], classes))
+  changes[places] <- if (by_row) table$area else table$cells
+  kept <- diag(changes)
+  diag(changes) <- 0
+  gain <- colSums(changes)
+  loss <- rowSums(changes)
+  measures <- list(
+    before = kept + loss, after = kept + gain, gain = gain, loss = loss, net = gain - loss,
+    swap = 2 * pmin(gain, loss), persistence = kept
+  )
+  if (is.null(area)) {
+    measures <- lapply(measures, as.integer)
+  } else if (!by_row) {
+    measures <- lapply(measures, areas_of, source, area)
+  }
+  names(measures) <- paste(names(measures), if (is.null(area)) "cells" else area, sep = "_")
+  label <- labels_for(pair$legends[[2]], classes)
+  label <- ifelse(is.na(label), labels_for(pair$legends[[1]], classes), label)
+  columns <- c(
+    years_of(pair, length(classes)), list(class = classes),
+    if (has_labels(pair)) list(label = label), measures
+  )
+  frame_of(columns)
+}

@@ -1,0 +1,66 @@
+# SPDX-License-Identifier: Apache-2.0 OR GPL-2.0-or-later
+# Columns of tables: codes with their labels, cells, areas and percentages.
+
+# Columns as a data frame.
+frame_of <- function(columns) {
+  structure(columns, class = "data.frame", row.names = seq_along(columns[[1]]))
+}
+
+# A column of codes, and one of their labels after it if there are any.
+coded <- function(title, codes, labels, label_title = paste0(title, "_label")) {
+  columns <- list(codes)
+  if (length(labels$codes)) columns[[2]] <- labels_for(labels, codes)
+  names(columns) <- c(title, label_title)[seq_along(columns)]
+  columns
+}
+
+# The labels of codes, NA for none.
+labels_for <- function(labels, codes) {
+  if (!length(labels$codes)) return(rep(NA_character_, length(codes)))
+  labels$labels[match(codes, labels$codes)]
+}
+
+# The titles of the classes of both sides of a matrix: labels, or numbers. A label that another class has,
+# or that is taken, is followed by its class.
+class_titles <- function(labels, codes, taken = character()) {
+  labels <- Map(labels_for, labels, codes)
+  titles <- Map(function(labels, codes) ifelse(is.na(labels), codes, labels), labels, codes)
+  known <- unique(data.frame(title = unlist(titles), code = unlist(codes)))
+  taken <- c(taken, known$title[duplicated(known$title)])
+  Map(function(labels, titles, codes) {
+    is_shared <- titles %in% taken & !is.na(labels)
+    titles[is_shared] <- sprintf("%s (%d)", titles[is_shared], codes[is_shared])
+    titles
+  }, labels, titles, codes)
+}
+
+# The cells of a table, their area, and the percentage of the area, or else of the cells, of the
+# part of their group that has data; rows with null have none.
+sized <- function(table, area, group = rep(1L, length(table$cells))) {
+  columns <- list(cells = table$cells)
+  if (!is.null(area)) columns[[area_title(area)]] <- table$area
+  share <- as.numeric(if (is.null(table$area)) table$cells else table$area)
+  share[Reduce(`|`, lapply(table$codes, is.na))] <- NA
+  columns$percent <- 100 * share / ave(share, group, FUN = function(x) sum(x, na.rm = TRUE))
+  columns
+}
+
+# The rows of a table that are wanted.
+kept_rows <- function(table, is_kept) {
+  table$codes <- lapply(table$codes, function(code) code[is_kept])
+  for (column in setdiff(names(table), "codes")) table[[column]] <- table[[column]][is_kept]
+  table
+}
+
+# Repeated titles get `_2`.
+unique_titles <- function(titles) {
+  for (place in seq_along(titles)) {
+    number <- 2L
+    title <- titles[[place]]
+    while (titles[[place]] %in% titles[seq_len(place - 1L)]) {
+      titles[[place]] <- sprintf("%s_%d", title, number)
+      number <- number + 1L
+    }
+  }
+  titles
+}

@@ -1,0 +1,188 @@
+# SPDX-License-Identifier: Apache-2.0 OR GPL-2.0-or-later
+# Patches, the map of their numbers, and the sides that classes share.
+
+CONNECTIVITIES <- c(4, 8)
+DEPTHS <- 1:20
+
+rcell_patches <- function(x, connectivity = 4, area, zones = NULL, classes = NULL,
+                          min_cells = NULL, core_depth = 1, labels = NULL, zone_labels = NULL,
+                          zone_field = NULL, layer = NULL, crs = NULL) {
+  choice <- area_choice(area, missing(area))
+  check_selection(connectivity, classes, min_cells)
+  if (!is_whole(core_depth) || !(core_depth %in% DEPTHS)) {
+    text <- "core_depth= must be a whole number from 1 to %d; got %s"
+    refuse(sprintf(text, max(DEPTHS), shown(core_depth)), status = 2L)
+  }
+  sources <- zoned_sources(x, zones, zone_field, layer, crs)
+  area <- unit_of(choice, sources$map)
+  labels <- labels_from(labels, sources$map$labels)
+  zone_labels <- labels_from(zone_labels, sources$zones$labels, "zone_labels")
+  if (is_in_degrees(sources$map)) warn_of_lengths()
+  parts <- c("map", "core", "side", "rows", "cols", if (!is.null(zones)) "zones")
+  combinations <- lapply(parts, function(part) c("patch", part))
+  by_row <- parts %in% c("map", "core")
+  lines <- patch_lines(connectivity, core_depth)
+  tables <- count_cells(sources, combinations, area, before = lines, by_row = by_row)
+  names(tables) <- parts
+  patches <- patch_table(tables, sources$map, area, labels, zone_labels)
+  check_legend(labels, patches$class, "map")
+  patches <- patches[is_selected(patches, classes, min_cells), , drop = FALSE]
+  rownames(patches) <- NULL
+  patches
+}
+
+check_selection <- function(connectivity, classes, min_cells) {
+  if (!is_whole(connectivity) || !(connectivity %in% CONNECTIVITIES)) {
+    refuse(sprintf("connectivity= is 4 or 8, and not %s", shown(connectivity)), status = 2L)
+  }
+  if (!is.null(min_cells) && (!is_whole(min_cells) || min_cells < 0)) {
+    refuse(sprintf("min_cells= must be a number of cells; got %s", shown(min_cells)), status = 2L)
+  }
+  is_classes <- is.numeric(classes) && all(is.finite(classes)) &&
+    all(classes == trunc(classes) & abs(classes) <= CATEGORY_LIMIT)
+  if (!is.null(classes) && !is_classes) {
+    text <- "classes= must be whole numbers within 2147483647 either way; got %s"
+    refuse(sprintf(text, shown(classes)), status = 2L)
+  }
+}
+
+is_selected <- function(patches, classes, min_cells) {
+  (is.null(classes) | patches$class %in% classes) & patches$cells >= max(min_cells, 0)
+}
+
+warn_of_lengths <- function() warning("lengths are not computed in degrees", call. = FALSE)
+
+# The patches of a map; for each cell how many of its sides above and below, and three times how
+# many at its left and right, end its patch; whether it is core; its row and its column.
+patch_lines <- function(connectivity, core_depth) {
+  ends <- function(step) sprintf("(isnull(patch[%s]) ||| patch != patch[%s])", step, step)
+  steps <- c("-1,0", "1,0", "0,-1", "0,1")
+  side <- sprintf("r.mapcalc side = %s + %s + 3 * (%s + %s)",
+    ends(steps[[1]]), ends(steps[[2]]), ends(steps[[3]]), ends(steps[[4]]))
+  cores <- c("first", if (core_depth > 1) sprintf("core_%d", seq_len(core_depth - 1)))
+  cores[[core_depth]] <- "core"
+  same <- paste(sprintf("patch == patch[%s]", steps), collapse = " && ")
+  inner <- vapply(seq_len(core_depth)[-1], function(depth) {
+    outer <- cores[[depth - 1L]]
+    around <- paste(c(outer, sprintf("%s[%s]", outer, steps)), collapse = " && ")
+    sprintf("r.mapcalc %s = %s", cores[[depth]], around)
+  }, "")
+  c(
+    clump_line(connectivity), side, sprintf("r.mapcalc %s = if(%s, 1, null())", cores[[1]], same),
+    inner, "r.mapcalc rows = row()", "r.mapcalc cols = col()"
+  )
+}
+
+clump_line <- function(connectivity) {
+  sprintf("r.clump%s input=map output=patch", if (connectivity == 8) " -d" else "")
+}
+
+# The tables of the program as one, a row for each patch in the order of their numbers.
+patch_table <- function(tables, source, area, labels, zone_labels) {
+  patch <- tables$map$codes[[1]]
+  sums <- function(table, values) {
+    total <- numeric(length(patch))
+    by_patch <- rowsum(as.numeric(values), table$codes[[1]], reorder = FALSE)
+    total[match(as.integer(rownames(by_patch)), patch)] <- by_patch
+    total
+  }
+  columns <- c(
+    list(patch = patch), coded("class", tables$map$codes[[2]], labels, "label"),
+    list(cells = tables$map$cells)
+  )
+  if (!is.null(area)) columns[[area_title(area)]] <- tables$map$area
+  columns$perimeter_m <- perimeters(tables$side, sums, source)
+  if (is.null(area)) {
+    columns$core_cells <- as.integer(sums(tables$core, tables$core$cells))
+  } else {
+    columns[[paste0("core_", area)]] <- sums(tables$core, tables$core$area)
+  }
+  columns <- c(columns, bounding_boxes(tables$rows, tables$cols, template_of(source)))
+  if (!is.null(tables$zones)) {
+    columns <- c(columns, coded("zone", most_frequent(tables$zones, patch), zone_labels))
+  }
+  frame_of(columns)
+}
+
+# The lengths of the sides of patches in metres; NA if the system does not say how long a unit is.
+perimeters <- function(table, sums, source) {
+  size <- res(template_of(source))
+  ends <- sums(table, table$cells * (table$codes[[2]] %% 3L))
+  flanks <- sums(table, table$cells * (table$codes[[2]] %/% 3L))
+  (ends * size[[1]] + flanks * size[[2]]) * metres_of_unit(source)
+}
+
+bounding_boxes <- function(rows, cols, template) {
+  size <- res(template)
+  extreme <- function(table, is_last) {
+    table$codes[[2]][!duplicated(table$codes[[1]], fromLast = is_last)]
+  }
+  list(
+    west = xmin(template) + (extreme(cols, FALSE) - 1) * size[[1]],
+    south = ymax(template) - extreme(rows, TRUE) * size[[2]],
+    east = xmin(template) + extreme(cols, TRUE) * size[[1]],
+    north = ymax(template) - (extreme(rows, FALSE) - 1) * size[[2]]
+  )
+}
+
+# The zone of most cells of each patch, the smaller one of several.
+most_frequent <- function(table, patch) {
+  order <- order(table$codes[[1]], -table$cells, table$codes[[2]])
+  table$codes[[2]][order][match(patch, table$codes[[1]][order])]
+}
+
+rcell_clump <- function(x, connectivity = 4, classes = NULL, min_cells = NULL, filename = "",
+                        overwrite = FALSE, crs = NULL) {
+  check_selection(connectivity, classes, min_cells)
+  check_filename(filename, overwrite)
+  sources <- sources_of(list(map = x), crs)
+  check_inputs(filename, inputs_of(sources))
+  script <- c(clump_line(connectivity), "r.stats -cn input=patch,map", "r.out.ascii input=patch")
+  frames <- run_own(script, sources)
+  patches <- list(class = frames[[1]]$codes[[2]], cells = frames[[1]]$cells)
+  is_left_out <- !is_selected(patches, classes, min_cells)
+  raster <- raster_of(frames[[2]], sources$map, NULL, "patch")
+  if (any(is_left_out)) {
+    numbers <- values(raster, mat = FALSE)
+    numbers[numbers %in% frames[[1]]$codes[[1]][is_left_out]] <- NA
+    values(raster) <- numbers
+  }
+  written(raster, filename)
+}
+
+rcell_adjacency <- function(x, labels = NULL, crs = NULL) {
+  script <- c(
+    "r.mapcalc right = map[0,1]", "r.mapcalc below = map[1,0]", "r.stats -cn input=map,right",
+    "r.stats -cn input=map,below"
+  )
+  sources <- sources_of(list(map = x), crs)
+  labels <- labels_from(labels, sources$map$labels)
+  if (is_in_degrees(sources$map)) warn_of_lengths()
+  pairs <- pairs_of(run_own(script, sources))
+  check_legend(labels, pairs$class, "map")
+  size <- res(template_of(sources$map))
+  border <- (pairs$ends * size[[1]] + pairs$flanks * size[[2]]) * metres_of_unit(sources$map)
+  columns <- c(
+    coded("class", pairs$class, labels, "label"), coded("neighbour", pairs$neighbour, labels),
+    list(sides = as.integer(pairs$ends + pairs$flanks), border_m = border)
+  )
+  frame_of(columns)
+}
+
+# Each pair of classes once, the smaller class first: the sides of cells next to each other, which
+# are as long as a cell is high, and of cells below each other.
+pairs_of <- function(frames) {
+  smaller <- unlist(lapply(frames, function(frame) pmin(frame$codes[[1]], frame$codes[[2]])))
+  larger <- unlist(lapply(frames, function(frame) pmax(frame$codes[[1]], frame$codes[[2]])))
+  sides <- unlist(lapply(frames, `[[`, "cells"))
+  is_flank <- rep(c(TRUE, FALSE), vapply(frames[1:2], function(frame) length(frame$cells), 1L))
+  order <- order(smaller, larger)
+  group <- rleidv(list(smaller[order], larger[order]))
+  is_first <- !duplicated(group)
+  counts <- cbind(sides * is_flank, sides * !is_flank)[order, , drop = FALSE]
+  sums <- rowsum(counts, group, reorder = FALSE)
+  list(
+    class = smaller[order][is_first], neighbour = larger[order][is_first],
+    flanks = unname(sums[, 1]), ends = unname(sums[, 2])
+  )
+}

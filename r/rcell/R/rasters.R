@@ -1,0 +1,160 @@
+# SPDX-License-Identifier: Apache-2.0 OR GPL-2.0-or-later
+# Rasters of terra: what GDAL knows of their files, and which of them terra would misread.
+
+# terra returns 64-bit cells as floats, in which a null value beyond this limit equals other
+# numbers.
+INEXACT_FLOAT <- 2^53
+COMPLEX_TYPES <- c("CInt16", "CInt32", "CFloat32", "CFloat64")
+ROTATED <- "a rotated transform: warp the map to rows from west to east first (terra: rectify)"
+
+raster_source <- function(name, raster, is_opened_here = FALSE) {
+  # Methods of S4 put errors of their arguments into errors of their own.
+  force(raster)
+  chosen <- opaque_layer(name, raster)
+  raster <- chosen$raster
+  # terra takes a map without a system for one in degrees if its edges are within 180 by 90.
+  if (is_opened_here && isFALSE(chosen$facts$has_crs)) crs(raster) <- ""
+  if (!hasValues(raster)) bad_map(name, "a raster without values")
+  scale <- scoff(raster)
+  if (any(scale != c(1, 0))) {
+    text <- "its values are scaled: each cell times %g, plus %g; write them out as whole numbers first"
+    bad_map(name, sprintf(text, scale[[1]], scale[[2]]))
+  }
+  check_file(name, raster, chosen$facts, chosen$band)
+  list(
+    name = name, raster = raster, alpha = chosen$alpha, alpha_null = chosen$alpha_null,
+    files = chosen$files, region = region_of(name, raster), labels = labels_of(raster),
+    crs = crs(raster)
+  )
+}
+
+# Return the only layer that is not an alpha band, the alpha band of its file if there is one, and
+# what GDAL knows of the file.
+opaque_layer <- function(name, raster) {
+  bands <- sources(raster, bands = TRUE)
+  paths <- unique(bands$source[nzchar(bands$source)])
+  facts <- if (length(paths) == 1L) file_facts(paths)
+  is_alpha <- if (is.null(facts)) rep(FALSE, nlyr(raster)) else bands$bands %in% facts$alpha
+  layers <- if (nlyr(raster) > 1L && any(is_alpha)) which(!is_alpha) else seq_len(nlyr(raster))
+  if (length(layers) != 1L) {
+    bad_map(name, sprintf("has %d layers: give one, for example x[[1]]", length(layers)))
+  }
+  if (nlyr(raster) > 1L) raster <- raster[[layers]]
+  opaque <- list(raster = raster, files = paths, facts = facts)
+  if (is.null(facts)) return(opaque)
+  opaque$band <- bands$bands[[layers]]
+  if (!length(facts$alpha) || opaque$band %in% facts$alpha) return(opaque)
+  # A TIFF has one nodata value for all bands, and terra takes an alpha of this value for NA.
+  null <- null_text(facts$bands[[facts$alpha[[1]]]])
+  alpha <- alpha_layer(raster, paths, facts$alpha[[1]])
+  c(opaque, list(alpha = alpha, alpha_null = suppressWarnings(as.numeric(null))))
+}
+
+alpha_layer <- function(raster, path, band) {
+  alpha <- with_path(path, rast(path))[[band]]
+  # A part of a file may be chosen by terra's window().
+  if (nrow(alpha) != nrow(raster) || ncol(alpha) != ncol(raster)) window(alpha) <- ext(raster)
+  alpha
+}
+
+# Return what GDAL says about a file, line by line.
+description_of <- function(path) {
+  tryCatch(suppressWarnings(with_path(path, describe(path))), error = function(e) character())
+}
+
+# Return what GDAL knows about a file and terra does not report.
+file_facts <- function(path) {
+  lines <- description_of(path)
+  starts <- grep("^Band [0-9]+ ", lines)
+  ends <- c(starts[-1], length(lines) + 1L) - 1L
+  list(
+    bands = Map(function(first, last) lines[first:last], starts, ends),
+    alpha = which(grepl("ColorInterp=Alpha", lines[starts], fixed = TRUE)),
+    has_crs = if (length(lines)) any(grepl("^Coordinate System is:", lines)) else NA,
+    is_rotated = any(grepl("^GeoTransform =", lines)),
+    has_points_alone = any(grepl("^GCP\\[", lines)) && !any(grepl("^Origin = ", lines))
+  )
+}
+
+# Return files with their sidecars and, of virtual rasters, the files from which they read.
+files_of <- function(paths) {
+  known <- character()
+  while (length(paths)) {
+    known <- c(known, paths)
+    paths <- setdiff(unlist(lapply(paths, files_in)), known)
+  }
+  known
+}
+
+# Return the files that GDAL opens for a path: the lines after `Files:` are indented.
+files_in <- function(path) {
+  lines <- description_of(path)
+  first <- match(TRUE, startsWith(lines, "Files: "))
+  if (is.na(first) || lines[[first]] == "Files: none associated") return(character())
+  rest <- lines[-seq_len(first)]
+  count <- match(FALSE, startsWith(rest, "       "), nomatch = length(rest) + 1L) - 1L
+  trimws(c(sub("^Files: ", "", lines[[first]]), rest[seq_len(count)]))
+}
+
+# Reject rasters that terra would misread: rotated rasters, complex cells, null values that are not
+# exact as floats, masks next to the cells, and, before GDAL 3.7, signed bytes (-5 is read as 251).
+check_file <- function(name, raster, facts, band) {
+  if (is.null(facts)) return(invisible())
+  if (facts$is_rotated) bad_map(name, ROTATED)
+  if (facts$has_points_alone) {
+    bad_map(name, "has ground control points and no transform: warp it first")
+  }
+  lines <- if (band <= length(facts$bands)) facts$bands[[band]] else character()
+  type <- sub("^.*Type=([A-Za-z0-9]+).*$", "\\1", lines[1])
+  if (type %in% COMPLEX_TYPES) {
+    bad_map(name, sprintf("not a map of whole numbers: its cells are of the type %s", type))
+  }
+  if (type %in% c("Int64", "UInt64")) check_wide_null(name, lines)
+  if (any(grepl("PIXELTYPE=SIGNEDBYTE", lines, fixed = TRUE)) && "INT1U" %in% datatype(raster)) {
+    text <- paste(
+      "its bytes are signed, and terra reads them as 0 to 255:",
+      "write it with 16 bits a cell by another program first"
+    )
+    bad_map(name, text)
+  }
+  has_mask <- grepl("Mask Flags:", lines, fixed = TRUE) & !grepl("ALPHA", lines, fixed = TRUE)
+  if (any(has_mask)) {
+    text <- paste(
+      "has a mask of its own, and terra reads what lies beneath it:",
+      "write it with a nodata value first"
+    )
+    bad_map(name, text)
+  }
+}
+
+# Return the nodata value of a band as GDAL writes it.
+null_text <- function(lines) {
+  sub("^ *NoData Value=", "", grep("^ *NoData Value=", lines, value = TRUE))
+}
+
+check_wide_null <- function(name, lines) {
+  text <- null_text(lines)
+  value <- suppressWarnings(as.numeric(text))
+  if (length(value) == 1L && !is.na(value) && abs(value) >= INEXACT_FLOAT) {
+    reason <- paste(
+      "its cells have 64 bits and its nodata value is %s,",
+      "which terra cannot distinguish from its neighbours: write it with 32 bits a cell first"
+    )
+    bad_map(name, sprintf(reason, text))
+  }
+}
+
+# terra reads a rotated raster as if it were not rotated, with a warning.
+open_raster <- function(name, path) {
+  failed <- function(e) read_failed(name, sprintf("cannot open: %s: %s", path, told(e)))
+  withCallingHandlers(
+    tryCatch(with_path(path, rast(path)), error = failed),
+    warning = function(w) {
+      if (grepl("rotated", conditionMessage(w), fixed = TRUE)) bad_map(name, ROTATED)
+      if (grepl("GDAL error", conditionMessage(w), fixed = TRUE)) invokeRestart("muffleWarning")
+    }
+  )
+}
+
+# The text of an error of terra, without the name of its function.
+told <- function(e) sub("^\\[[a-zA-Z]+\\] ", "", conditionMessage(e))

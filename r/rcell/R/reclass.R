@@ -1,0 +1,143 @@
+# SPDX-License-Identifier: Apache-2.0 OR GPL-2.0-or-later
+# New classes by a crosswalk: a table of old and new classes.
+
+OTHERS <- c("keep", "null")
+VALUES <- "^([+-]?[0-9]+)(?:[.]0*)?(?:\\s*-\\s*([+-]?[0-9]+)(?:[.]0*)?)?$"
+RULES_BYTES <- 1000000L
+
+rcell_reclass <- function(x, rules, other = NULL, filename = "", overwrite = FALSE, crs = NULL) {
+  if (!is.null(other) && !(is.character(other) && length(other) == 1L && other %in% OTHERS)) {
+    refuse(sprintf("other= is \"keep\" or \"null\", and not %s", shown(other)), status = 2L)
+  }
+  check_filename(filename, overwrite)
+  files <- legend_files(rules)
+  rules <- rules_of(rules)
+  sources <- sources_of(list(map = x), crs)
+  check_inputs(filename, c(inputs_of(sources), files))
+  lines <- c(rule_lines(rules), if (identical(other, "keep")) "* = *")
+  script <- c("r.reclass input=map output=new", lines, "end", "r.stats -n input=map")
+  frames <- run_own(c(script, "r.out.ascii input=new"), sources)
+  if (is.null(other)) check_covered(frames[[1]]$codes[[1]], rules)
+  labels <- new_labels(rules)
+  if (!length(labels$codes) && identical(other, "keep")) labels <- sources$map$labels
+  written(raster_of(frames[[2]], sources$map, labels, "new"), filename)
+}
+
+# Rules in the order of their values: the first and last value, the new class, NA for null, and its
+# label.
+rules_of <- function(rules) {
+  if (is_path(rules)) {
+    table <- rules_of_file(rules)
+  } else if (is.data.frame(rules)) {
+    table <- rules_of_frame(rules)
+  } else if ((is.atomic(rules) || is.list(rules)) && length(rules) && !is.null(names(rules))) {
+    new <- vapply(rules, function(new) if (length(new) == 1L) as.character(new) else NA_character_, "")
+    places <- sprintf("element %d: ", seq_along(rules))
+    table <- list(values = names(rules), new = unname(new), labels = NULL, places = places)
+  } else {
+    text <- paste(
+      "must be a CSV file or a data frame with the columns value, new and perhaps label,",
+      "or a vector of new classes with the old ones as its names; got %s"
+    )
+    refuse(sprintf(text, shown(rules)), "rules", status = 2L)
+  }
+  checked_rules(table)
+}
+
+rules_of_file <- function(path) {
+  path <- native_path(path)
+  table <- separated_values(path, "rules")
+  titles <- tolower(trimmed(table$rows[[1]]))
+  if (!all(c("value", "new") %in% titles)) {
+    text <- "%s, line %d: no header with value and new, divided by commas or tabs: %s"
+    refuse(sprintf(text, path, table$lines[[1]], table$first), "rules")
+  }
+  rows <- table$rows[-1]
+  places <- sprintf("%s, line %d: ", path, table$lines[-1])
+  check_widths(rows, length(titles), places, "rules")
+  field <- function(title) {
+    place <- match(title, titles)
+    vapply(rows, function(row) if (is.na(place) || length(row) < place) "" else row[[place]], "")
+  }
+  list(values = field("value"), new = field("new"), labels = field("label"), places = places)
+}
+
+rules_of_frame <- function(frame) {
+  titles <- tolower(names(frame))
+  if (!all(c("value", "new") %in% titles)) {
+    text <- "a data frame of rules must have the columns value and new; got %s"
+    refuse(sprintf(text, paste(names(frame), collapse = ", ")), "rules", status = 2L)
+  }
+  column <- function(title) {
+    place <- match(title, titles)
+    if (is.na(place)) rep("", nrow(frame)) else as.character(frame[[place]])
+  }
+  places <- sprintf("row %d: ", seq_len(nrow(frame)))
+  list(values = column("value"), new = column("new"), labels = column("label"), places = places)
+}
+
+checked_rules <- function(table) {
+  values <- trimmed(table$values)
+  low <- suppressWarnings(as.numeric(sub(VALUES, "\\1", values, perl = TRUE)))
+  high <- suppressWarnings(as.numeric(sub(VALUES, "\\2", values, perl = TRUE)))
+  high[is.na(high)] <- low[is.na(high)]
+  is_range <- grepl(VALUES, values, perl = TRUE) & abs(low) <= CATEGORY_LIMIT &
+    abs(high) <= CATEGORY_LIMIT & low <= high
+  check_rule(is_range %in% TRUE, table, values, "is not a class or a range of classes such as 31-39")
+  new <- trimmed(table$new)
+  new[is.na(new)] <- ""
+  codes <- suppressWarnings(as.numeric(new))
+  is_class <- !nzchar(new) | (grepl(WHOLE, new) & abs(codes) <= CATEGORY_LIMIT)
+  check_rule(is_class %in% TRUE, table, new, "is not a class: a whole number, or empty for null")
+  order <- order(low)
+  again <- which(low[order][-1] <= high[order][-length(low)])
+  if (length(again)) {
+    refuse(sprintf("two rules for the class %.0f", low[order][[again[[1]] + 1L]]), "rules")
+  }
+  labels <- if (is.null(table$labels)) rep("", length(low)) else trimmed(table$labels)
+  labels[is.na(labels)] <- ""
+  list(low = low[order], high = high[order], new = codes[order], labels = labels[order])
+}
+
+check_rule <- function(is_right, table, texts, reason) {
+  bad <- which(!is_right)
+  if (!length(bad)) return(invisible())
+  text <- sprintf("%s%s %s", table$places[[bad[[1]]]], quoted_if_empty(texts[[bad[[1]]]]), reason)
+  refuse(text, "rules")
+}
+
+# Lines of r.reclass: rules for values that follow each other are one line if their new class is
+# one.
+rule_lines <- function(rules) {
+  count <- length(rules$low)
+  if (!count) return(character())
+  new <- ifelse(is.na(rules$new), "NULL", sprintf("%.0f", rules$new))
+  is_next <- rules$low[-1] == rules$high[-count] + 1 & new[-1] == new[-count]
+  is_first <- c(TRUE, !is_next)
+  low <- sprintf("%.0f", rules$low[is_first])
+  high <- sprintf("%.0f", rules$high[c(!is_next, TRUE)])
+  lines <- paste(ifelse(low == high, low, paste(low, "thru", high)), "=", new[is_first])
+  if (sum(nchar(lines) + 1L) > RULES_BYTES) {
+    refuse(sprintf("%d ranges of classes are too many for a script", length(lines)), "rules")
+  }
+  lines
+}
+
+# Check that each class of the map has a rule.
+check_covered <- function(classes, rules) {
+  rule <- findInterval(classes, rules$low)
+  is_covered <- rule > 0L & classes <= c(-Inf, rules$high)[rule + 1L]
+  if (all(is_covered)) return(invisible())
+  text <- "no rule for the %s %s: add rules, or use other = \"keep\" or other = \"null\""
+  noun <- if (sum(!is_covered) > 1L) "classes" else "class"
+  refuse(sprintf(text, noun, shortened(classes[!is_covered])), "map")
+}
+
+# The labels of new classes, in the order of the rules.
+new_labels <- function(rules) {
+  is_kept <- nzchar(rules$labels) & !is.na(rules$new)
+  codes <- as.integer(rules$new[is_kept])
+  labels <- rules$labels[is_kept]
+  is_last <- !duplicated(codes, fromLast = TRUE)
+  list(codes = codes[is_last], labels = labels[is_last])
+}

@@ -1,0 +1,99 @@
+# SPDX-License-Identifier: Apache-2.0 OR GPL-2.0-or-later
+# Styles of QGIS: the classes of a paletted renderer or a colour ramp. XML is read without entities.
+
+XML_NAME <- "[A-Za-z_:][-A-Za-z0-9_:.]*+"
+XML_ATTRIBUTE <- sprintf("\\s++(%s)\\s*+=\\s*+(?:\"([^\"<]*+)\"|'([^'<]*+)')", XML_NAME)
+XML_TOKEN <- paste0(
+  "(?s)\\G(?:<!--.*?-->|<!\\[CDATA\\[.*?\\]\\]>|<\\?.*?\\?>|<!DOCTYPE[^\\[>]*>|</", XML_NAME,
+  "\\s*+>|<", XML_NAME, "(?:", XML_ATTRIBUTE, ")*+\\s*+/?>|[^<]++)"
+)
+XML_REFERENCE <- "&(?:(amp|lt|gt|quot|apos)|#([0-9]+)|#x([0-9a-fA-F]+));"
+XML_ENTITIES <- c(amp = "&", lt = "<", gt = ">", quot = "\"", apos = "'")
+XML_ENCODING <- "^<\\?xml[^>]*encoding *= *[\"']([^\"']*)[\"']"
+LAST_LETTER <- 0x10FFFF
+
+legend_of_style <- function(path, name) {
+  text <- utf8_text(path, name)
+  wrong <- function(place, reason) {
+    refuse(sprintf("%s, line %d: %s", path, lines_at(text, place), reason), name)
+  }
+  encoding <- regmatches(text, regexec(XML_ENCODING, text))[[1]]
+  if (length(encoding) == 2L && !(tolower(encoding[[2]]) %in% c("utf-8", "us-ascii"))) {
+    wrong(1L, sprintf("its encoding is %s: save it as UTF-8", encoding[[2]]))
+  }
+  tags <- tags_of(text, wrong)
+  is_class <- tags$name == "paletteEntry"
+  if (!any(is_class)) is_class <- tags$name == "item" & tags$parent == "colorrampshader"
+  if (!any(is_class)) refuse(sprintf("%s: the style has no classes", path), name)
+  entries <- Map(attributes_of, tags$text[is_class], tags$place[is_class], list(wrong))
+  attribute <- function(key) {
+    vapply(entries, function(entry) if (key %in% names(entry)) entry[[key]] else "", "", USE.NAMES = FALSE)
+  }
+  places <- sprintf("%s, line %d: ", path, lines_at(text, tags$place[is_class]))
+  checked_legend(attribute("value"), attribute("label"), name, places)
+}
+
+# The tags of an XML document: their text and place, and the names of their element and of the one
+# around it.
+tags_of <- function(text, wrong) {
+  tokens <- parts_of(text, XML_TOKEN)
+  if (tokens$end <= nchar(text, "bytes")) {
+    wrong(tokens$end, "not XML, or XML with entities of its own, which are not read")
+  }
+  is_tag <- grepl("^</?[A-Za-z_:]", tokens$texts)
+  tags <- tokens$texts[is_tag]
+  places <- tokens$places[is_tag]
+  names <- sub(sprintf("(?s)^</?(%s).*$", XML_NAME), "\\1", tags, perl = TRUE)
+  is_end <- startsWith(tags, "</")
+  is_open <- !is_end & !endsWith(tags, "/>")
+  parents <- character(length(tags))
+  around <- ""
+  for (place in seq_along(tags)) {
+    if (is_end[[place]]) {
+      if (around[[1]] != names[[place]]) {
+        wrong(places[[place]], sprintf("</%s> where <%s> should end", names[[place]], around[[1]]))
+      }
+      around <- around[-1]
+    }
+    parents[[place]] <- around[[1]]
+    if (is_open[[place]]) around <- c(names[[place]], around)
+  }
+  if (length(around) > 1L) wrong(nchar(text, "bytes"), sprintf("<%s> has no end", around[[1]]))
+  list(text = tags[!is_end], place = places[!is_end], name = names[!is_end], parent = parents[!is_end])
+}
+
+attributes_of <- function(tag, place, wrong) {
+  found <- regmatches(tag, gregexpr(XML_ATTRIBUTE, tag, perl = TRUE))[[1]]
+  keys <- sub(XML_ATTRIBUTE, "\\1", found, perl = TRUE)
+  texts <- sub(XML_ATTRIBUTE, "\\2\\3", found, perl = TRUE)
+  if (anyDuplicated(keys)) wrong(place, sprintf("%s is there twice", keys[duplicated(keys)][[1]]))
+  texts <- vapply(texts, resolved, "", place, wrong, USE.NAMES = FALSE)
+  names(texts) <- keys
+  texts
+}
+
+# A text with its references to letters replaced.
+resolved <- function(text, place, wrong) {
+  text <- gsub("[\t\r\n]", " ", text)
+  others <- gsub(XML_REFERENCE, "", text, perl = TRUE)
+  if (grepl("&", others, fixed = TRUE)) {
+    entity <- regmatches(others, regexpr("&[^; ]*;?", others))
+    wrong(place, sprintf("%s is not a letter that XML knows", entity))
+  }
+  references <- gregexpr(XML_REFERENCE, text, perl = TRUE)
+  regmatches(text, references) <- lapply(regmatches(text, references), function(found) {
+    vapply(found, letter_of, "", place, wrong, USE.NAMES = FALSE)
+  })
+  text
+}
+
+letter_of <- function(reference, place, wrong) {
+  name <- gsub("[&;]", "", reference)
+  if (name %in% names(XML_ENTITIES)) return(XML_ENTITIES[[name]])
+  is_hex <- startsWith(name, "#x")
+  digits <- sub("^#x?", "", name)
+  code <- if (is_hex) suppressWarnings(as.numeric(paste0("0x", digits))) else as.numeric(digits)
+  is_letter <- code > 0 && code <= LAST_LETTER && !(code >= 0xD800 && code <= 0xDFFF)
+  if (!is_letter) wrong(place, sprintf("%s is not a letter", reference))
+  intToUtf8(code)
+}

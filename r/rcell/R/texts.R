@@ -1,0 +1,84 @@
+# SPDX-License-Identifier: Apache-2.0 OR GPL-2.0-or-later
+# Text files: their bytes, and the rows of CSV and TSV files.
+
+BYTE_ORDER_MARK <- as.raw(c(0xef, 0xbb, 0xbf))
+# A field of separated values, in quotation marks or without, and what ends it.
+FIELD_FORM <- paste0(
+  "\\G(?:[ ]*\"((?:[^\"]++|\"\")*+)\"[ ]*|([^%s\"\r\n][^%s\r\n]*|))(%s|\r\n|\r|\n|\\z)"
+)
+
+# Return the text of a file, which must be UTF-8.
+utf8_text <- function(path, name) {
+  if (!file.exists(path)) no_such_file(name, path)
+  if (dir.exists(path)) read_failed(name, sprintf("cannot open: %s: Is a directory", path))
+  failed <- function(e) read_failed(name, sprintf("cannot open: %s: Permission denied", path))
+  bytes <- tryCatch(suppressWarnings(readBin(path, "raw", file.size(path))), error = failed)
+  if (identical(head(bytes, 3L), BYTE_ORDER_MARK)) bytes <- bytes[-(1:3)]
+  null <- match(as.raw(0L), bytes)
+  if (!is.na(null)) {
+    line <- sum(bytes[seq_len(null)] == as.raw(10L)) + 1L
+    refuse(sprintf("%s, line %d: a byte 0, which no text has: save it as UTF-8", path, line), name)
+  }
+  text <- rawToChar(bytes)
+  if (!validUTF8(text)) {
+    lines <- strsplit(text, "\n", fixed = TRUE, useBytes = TRUE)[[1]]
+    reason <- paste(
+      "%s, line %d: not in UTF-8: save the file as UTF-8, in a spreadsheet as \"CSV UTF-8\",",
+      "or convert it with iconv -f latin1 -t utf8"
+    )
+    refuse(sprintf(reason, path, which(!validUTF8(lines))[[1]]), name)
+  }
+  Encoding(text) <- "UTF-8"
+  if (!grepl("[^ \t\r\n]", text)) refuse(sprintf("%s is empty", path), name)
+  text
+}
+
+# Without blanks at their ends; a no-break space is a letter.
+trimmed <- function(texts) gsub("^[ \t\r\n]+|[ \t\r\n]+$", "", utf8_of(texts))
+
+# The parts of a text that a form finds one after another, with the bytes at which they begin, the
+# first byte after them, and the groups of the form.
+parts_of <- function(text, form) {
+  # As bytes, since R counts letters from the beginning of a text for each part.
+  Encoding(text) <- "latin1"
+  places <- gregexpr(form, text, perl = TRUE, useBytes = TRUE)[[1]]
+  cut <- function(starts, sizes) {
+    parts <- substring(text, starts, starts + sizes - 1L)
+    Encoding(parts) <- "UTF-8"
+    parts
+  }
+  groups <- attr(places, "capture.start")
+  sizes <- attr(places, "capture.length")
+  list(
+    places = as.integer(places), texts = cut(places, attr(places, "match.length")),
+    groups = lapply(seq_len(NCOL(groups)), function(group) cut(groups[, group], sizes[, group])),
+    end = max(places + attr(places, "match.length"), 1L)
+  )
+}
+
+# The lines in which some bytes of a text are.
+lines_at <- function(text, places) {
+  breaks <- gregexpr("\r\n|\r|\n", text, useBytes = TRUE)[[1]]
+  findInterval(places, breaks[breaks > 0L] + 1L) + 1L
+}
+
+# The rows of a CSV, or of a TSV if its first line has tabs and no commas, with the lines on which
+# they begin. Blank lines are skipped.
+separated_values <- function(path, name) {
+  text <- utf8_text(path, name)
+  first <- sub("[\r\n].*$", "", sub("^[ \r\n]+", "", text))
+  separator <- if (grepl("\t", first) && !grepl(",", first)) "\t" else ","
+  fields <- parts_of(text, sprintf(FIELD_FORM, separator, separator, separator))
+  if (fields$end <= nchar(text, "bytes")) {
+    line <- lines_at(text, fields$end)
+    refuse(sprintf("%s, line %d: a quotation mark without its pair", path, line), name)
+  }
+  quoted <- gsub("\"\"", "\"", fields$groups[[1]], fixed = TRUE)
+  content <- paste0(quoted, fields$groups[[2]])
+  ends <- fields$groups[[3]]
+  row <- cumsum(c(TRUE, ends[-length(ends)] != separator))
+  rows <- unname(split(content, row))
+  is_blank <- vapply(rows, function(row) !any(nzchar(trimmed(row))), NA)
+  lines <- lines_at(text, fields$places[!duplicated(row)])
+  list(rows = rows[!is_blank], lines = lines[!is_blank], first = first)
+}

@@ -1,0 +1,19 @@
+\name{rcell_clump}
+\alias{rcell_clump}
+\title{The Map of Patches}
+\description{Number the patches of a map, and keep those that are selected.}
+\usage{
+rcell_clump(x, connectivity = 4, classes = NULL, min_cells = NULL, filename = "",
+            overwrite = FALSE, crs = NULL)
+}
+\arguments{
+\item{x}{a map: a \code{SpatRaster}, a path or a matrix; see \code{\link{rcell-package}}.}
+\item{connectivity, classes, min_cells}{as in \code{\link{rcell_patches}}. Patches that are not selected become null.}
+\item{filename, overwrite}{as in \code{\link{rcell_grid}}.}
+\item{crs}{as in \code{\link{rcell_run}}.}
+}
+\value{A \code{SpatRaster} of the numbers that \code{\link{rcell_patches}} lists.}
+\examples{
+lc <- matrix(c(5, 7, 5, 5, 5, 7), 2, byrow = TRUE)
+terra::as.matrix(rcell_clump(lc, min_cells = 2), wide = TRUE)
+}
