@@ -35,6 +35,7 @@ BATCH = 250
 EXACT = 1e-9
 ID_DIGITS = 11
 PLANT_CALLS = 600
+IDS = 2**63 - 1
 ROOM = "/dev/shm" if os.access("/dev/shm", os.W_OK) else None
 GOOD = ("equal", "refused")
 # A call that a package does not have.
@@ -59,6 +60,8 @@ class Trial:
         Why it must be.
     refused : dict of str to str
         Why a package rejects it.
+    answer_in_r : list of str or None
+        If R returns another table: its ids of zones have 32 bits.
     """
 
     name: str
@@ -67,6 +70,7 @@ class Trial:
     answer: Lines | None = None
     reason: str = ""
     refused: dict[str, str] = field(default_factory=dict)
+    answer_in_r: Lines | None = None
 
     def text(self) -> str:
         """The call as a case."""
@@ -80,6 +84,8 @@ class Trial:
             return "\n".join([*lines, "refused:\n"])
         lines += ["answer:", *(f"  {line}" for line in self.answer)]
         lines += [f"refused {front}:" for front in self.refused]
+        if self.answer_in_r:
+            lines += ["answer r:", *(f"  {line}" for line in self.answer_in_r)]
         return "\n".join([*lines, ""])
 
     def judged(self, front: str, found: Lines) -> str:
@@ -89,7 +95,8 @@ class Trial:
         is_refused = any(line.startswith("text: ") for line in found) and found[0][:5] != "error"
         if self.answer is None or front in self.refused:
             return "refused" if is_refused else "different"
-        return "equal" if are_equal(self.answer, found) else "different"
+        answer = self.answer_in_r or self.answer if front == "r" else self.answer
+        return "equal" if are_equal(answer, found) else "different"
 
 
 def are_equal(wanted: Lines, found: Lines) -> bool:
@@ -146,8 +153,20 @@ class Calls:
 
     def trial(self, number: int) -> Trial:
         """The call of a number."""
+        found = self.made(number, IDS)
+        if self.has_large_ids():
+            in_r = self.made(number, reference.MOST)
+            found.answer_in_r = in_r.answer if in_r.answer != found.answer else None
+        return found
+
+    def has_large_ids(self) -> bool:
+        """Whether zones may have ids that R's whole numbers do not hold."""
+        return any(made.kind == "long" for made in self.found.maps.values())
+
+    def made(self, number: int, most: int) -> Trial:
+        """The call of a number, where whole numbers up to `most` are ids of zones."""
         self.random: Any = np.random.default_rng([self.seed, number])
-        self.name = f"c{self.seed}_{number}"
+        self.name, self.most = f"c{self.seed}_{number}", most
         kind = one_of(self.random, [*MAKERS, *MORE])
         self.frame = inputs.frame_of(self.random)
         self.found = Trial(self.name, {}, [kind])
@@ -220,7 +239,9 @@ class Calls:
         if made.held is None:
             if made.zone_field:
                 self.option("zone_field", made.zone_field)
-            made.held = reference.zones_of(made.features, bool(made.zone_field), self.frame)
+            made.held = reference.zones_of(
+                made.features, bool(made.zone_field), self.frame, self.most
+            )
         return made.held
 
     def zoned(self) -> Raster | None:
@@ -236,7 +257,8 @@ class Calls:
     def legend(self, option: str, held: Raster | None, share: float = 0.35) -> Any:
         """The labels of a legend, which is given perhaps; None if it is not."""
         codes = [] if held is None else np.unique(held.cells[~held.null]).tolist()
-        if not codes or len(codes) > 30 or not self.chance(share):
+        is_large = option == "zone_labels" and self.has_large_ids()
+        if is_large or not codes or len(codes) > 30 or not self.chance(share):
             return None
         file, labels = inputs.legend_of(self.random, self.folder, f"{self.name}_{option}", codes)
         self.option(option, file)

@@ -112,18 +112,22 @@ def row_areas(frame: Frame) -> Any:
         if system.metres is None:
             raise Refusal("area")
         return np.full(frame.rows, frame.width * frame.height * system.metres**2)
-    edges = (frame.north - frame.height * np.arange(frame.rows + 1)) * system.angle
-    quarter = math.pi / 2
-    if np.abs(edges[:-1] + edges[1:]).max() / 2 > quarter * (1 + 1e-12):
+    half = math.pi / system.angle  # from pole to pole
+    edges = half / 2 - (frame.north - frame.height * np.arange(frame.rows + 1))
+    middle = (edges[:-1] + edges[1:]) / 2
+    if middle.min() < -1e-9 or middle.max() > half + 1e-9:
         raise Refusal("beyond the pole")
+    edges = np.clip(edges, 0, half)
+    # The area is an integral over the distance from the nearer pole, along the meridian.
+    nodes, shares = np.polynomial.legendre.leggauss(24)
+    step = np.diff(edges)[:, None] / 2
+    place = edges[:-1, None] + step * (nodes + 1)
+    angle = np.minimum(place, half - place) * system.angle
     a, f = system.ellipsoid
-    sine = np.sin(np.clip(edges, -quarter, quarter).astype(np.longdouble))
-    e2 = np.longdouble(f * (2 - f))
-    e = np.sqrt(e2)
-    band = 2 * sine if f == 0 else sine / (1 - e2 * sine**2) + np.arctanh(e * sine) / e
-    minor = a * (1 - f)
-    width = frame.width * system.angle
-    return (minor**2 / 2 * width * (band[:-1] - band[1:])).astype(np.float64)
+    e2 = f * (2 - f)
+    ring = (1 - e2) * np.sin(angle) / (1 - e2 * np.cos(angle) ** 2) ** 2
+    along = (ring * shares).sum(axis=1) * step[:, 0] * system.angle
+    return a**2 * along * frame.width * system.angle
 
 
 def unit_of(area: str, frame: Frame) -> str | None:
@@ -549,24 +553,24 @@ def is_missing(value: Any) -> bool:
     return value is None or value != value or value == ""
 
 
-def is_whole(value: Any) -> bool:
+def is_whole(value: Any, most: int) -> bool:
     is_number = isinstance(value, (int, float)) and not isinstance(value, bool)
-    return is_number and float(value).is_integer() and abs(value) <= MOST
+    return is_number and float(value).is_integer() and abs(value) <= most
 
 
 def text_of(value: Any) -> str:
     return str(value).lower() if isinstance(value, bool) else str(value)
 
 
-def zones_of(features: Sequence[Feature], has_field: bool, frame: Frame) -> Raster:
-    """Zones of polygons: the later one has a cell."""
+def zones_of(features: Sequence[Feature], has_field: bool, frame: Frame, most: int) -> Raster:
+    """Zones of polygons: the later one has a cell; `most` is the largest whole number that is an id."""
     kept = [
         it for it in features if it.parts is not None and not (has_field and is_missing(it.value))
     ]
     labels: dict[int, str] = {}
     if not has_field:
         ids = [it.fid for it in kept]
-    elif all(is_whole(it.value) for it in kept):
+    elif all(is_whole(it.value, most) for it in kept):
         ids = [int(it.value) for it in kept]
     else:
         known: dict[str, int] = {}
