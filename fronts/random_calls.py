@@ -155,7 +155,8 @@ class Calls:
         """The call of a number."""
         found = self.made(number, IDS)
         if self.has_large_ids():
-            in_r = self.made(number, reference.MOST)
+            with tempfile.TemporaryDirectory(dir=ROOM) as folder:
+                in_r = Calls(pathlib.Path(folder), self.seed).made(number, reference.MOST)
             found.answer_in_r = in_r.answer if in_r.answer != found.answer else None
         return found
 
