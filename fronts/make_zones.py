@@ -7,7 +7,9 @@ from __future__ import annotations
 
 import datetime
 import math
+import re
 from typing import Any, Sequence
+from xml.sax.saxutils import escape
 
 import numpy as np
 from make_rasters import METRES, ROOM, write, write_by_gdal
@@ -170,12 +172,9 @@ def write_systems() -> None:
         crs=KILOMETRES,
         transform=Affine(0.02, 0, 500, 0, -0.02, 5400),
     )
-    esri = system_of("EPSG:3035")
-    esri.MorphToESRI()
     of_proj = system_of("EPSG:3035").ExportToProj4()
     for name, crs in {
         "europe": "EPSG:3035",
-        "europe_by_esri": esri.ExportToWkt(),
         "europe_by_proj": of_proj,
         "crs84": "OGC:CRS84",
         "wgs84": "EPSG:4326",
@@ -186,6 +185,9 @@ def write_systems() -> None:
         file = gdal.Open(str(ROOM / f"{name}.tif"), gdal.GA_Update)
         file.SetSpatialRef(system_of(crs))
         file = None
+    esri = system_of("EPSG:3035")
+    esri.MorphToESRI()
+    write_virtual("europe_by_esri", "europe", escape(esri.ExportToWkt(["FORMAT=WKT1_ESRI"])))
     rows = [[1, 1], [2, 2]]
     write_by_gdal("rows_up", [rows], gdal.GDT_Byte, transform=(0, 1, 0, 0, 0, 1))
     write_by_gdal("rows_down", [rows], gdal.GDT_Byte, transform=(0, 1, 0, 2, 0, -1))
@@ -202,6 +204,15 @@ def write_systems() -> None:
         transform=Affine(10, 0, 0, 0, -16, 80),
         crs="EPSG:4326",
     )
+
+
+def write_virtual(name: str, source: str, crs: str = "") -> None:
+    """A virtual raster over another one, perhaps with another text of its reference system."""
+    path = ROOM / f"{name}.vrt"
+    gdal.GetDriverByName("VRT").CreateCopy(str(path), gdal.Open(str(ROOM / f"{source}.tif")))
+    text = path.read_text().replace(str(ROOM) + "/", "")
+    text = re.sub("<SRS.*</SRS>", f"<SRS>{crs}</SRS>", text) if crs else text
+    path.write_text(text.replace('relativeToVRT="0"', 'relativeToVRT="1"'))
 
 
 def write_maps() -> None:
@@ -245,12 +256,7 @@ def write_maps() -> None:
         table.SetValueAsString(row, 1, label)
     file.GetRasterBand(1).SetDefaultRAT(table)
     file = None
-    gdal.GetDriverByName("VRT").CreateCopy(
-        str(ROOM / "virtual.vrt"), gdal.Open(str(ROOM / "cover.tif"))
-    )
-    path = ROOM / "virtual.vrt"
-    text = path.read_text().replace(str(ROOM) + "/", "")
-    path.write_text(text.replace('relativeToVRT="0"', 'relativeToVRT="1"'))
+    write_virtual("virtual", "cover")
 
 
 LEGENDS = {

@@ -4,6 +4,7 @@
 from __future__ import annotations
 
 import functools
+import json
 from dataclasses import dataclass
 from typing import Any, Mapping
 
@@ -17,6 +18,7 @@ __all__ = [
     "are_same_crs",
     "cell_area",
     "common_crs",
+    "eastward",
     "is_geographic",
     "known",
     "metres_of_unit",
@@ -87,6 +89,21 @@ class Crs:
     ) -> tuple[NDArray[Any], NDArray[Any]]:
         """Return points in another system; what lies outside of it is not finite."""
         raise NotImplementedError
+
+
+def eastward(projjson: str) -> str:
+    """Return the PROJJSON of a system with its axes in the order x, y, and without its code.
+
+    Examples
+    --------
+    >>> eastward('{"coordinate_system": {"axis": [{"direction": "north"}, {"direction": "east"}]}}')
+    '{"coordinate_system": {"axis": [{"direction": "east"}, {"direction": "north"}]}}'
+    """
+    form = json.loads(projjson)
+    axes = form.get("coordinate_system", {}).get("axis", [])
+    axes.sort(key=lambda axis: axis.get("direction") not in ("east", "west"))
+    form.pop("id", None)
+    return json.dumps(form)
 
 
 def known(crs: Any) -> Crs | None:

@@ -13,7 +13,7 @@ import numpy as np
 from osgeo import gdal, osr
 
 from ..core.arrays import NDArray
-from ..core.crs import CONFIDENCE, Crs
+from ..core.crs import CONFIDENCE, Crs, eastward
 
 __all__ = ["OsrCrs", "crs_of", "quiet"]
 
@@ -44,7 +44,10 @@ class OsrCrs(Crs):
         """Return whether osr holds it equal to another one, whatever the order of their axes."""
         assert isinstance(other, OsrCrs)
         with quiet():
-            return bool(self.system.IsSame(other.system, _EXCEPT_AXES))
+            one, two = (osr.SpatialReference() for _ in range(2))
+            one.SetFromUserInput(eastward(self.system.ExportToPROJJSON()))
+            two.SetFromUserInput(eastward(other.system.ExportToPROJJSON()))
+            return bool(one.IsSame(two, _EXCEPT_AXES))
 
     def points(
         self, to: Crs, x: NDArray[Any], y: NDArray[Any]

@@ -10,7 +10,7 @@ from typing import Any
 import pyproj
 
 from ..core.arrays import NDArray
-from ..core.crs import CONFIDENCE, Crs
+from ..core.crs import CONFIDENCE, Crs, eastward
 
 __all__ = ["PyprojCrs", "crs_of"]
 
@@ -24,7 +24,8 @@ class PyprojCrs(Crs):
     def is_equal(self, other: Crs) -> bool:
         """Return whether pyproj holds it equal to another one, whatever the order of their axes."""
         assert isinstance(other, PyprojCrs)
-        return bool(self.system.equals(other.system, ignore_axis_order=True))
+        one, two = (pyproj.CRS(eastward(it.system.to_json())) for it in (self, other))
+        return bool(one.equals(two, ignore_axis_order=True))
 
     def points(
         self, to: Crs, x: NDArray[Any], y: NDArray[Any]
