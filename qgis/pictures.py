@@ -12,28 +12,20 @@ from typing import Any
 
 from qgis.core import (
     QgsApplication,
-    QgsLayoutExporter,
-    QgsLayoutItemLabel,
-    QgsLayoutItemLegend,
-    QgsLayoutItemMap,
-    QgsLayoutPoint,
-    QgsLayoutSize,
-    QgsLegendStyle,
-    QgsMapLayerLegendUtils,
-    QgsPrintLayout,
     QgsProcessingModelAlgorithm,
     QgsProject,
     QgsRasterLayer,
-    QgsUnitTypes,
+    QgsSettings,
+    QgsVectorLayer,
 )
-from qgis.PyQt.QtCore import QTimer
-from qgis.PyQt.QtGui import QFont
-from qgis.PyQt.QtWidgets import QApplication
+from qgis.PyQt.QtCore import Qt, QTimer
+from qgis.PyQt.QtWidgets import QApplication, QDockWidget
 from qgis.utils import iface
 
 import rcell
 
 ROOM = os.environ["RCELL_QGIS_ROOM"]
+SHOWN_DOCKS = ("Layers",)
 MODEL = os.path.join(os.path.dirname(rcell.__file__), "examples/patches_of_grouped_classes.model3")
 
 
@@ -62,7 +54,7 @@ def draw_dialog(country: QgsRasterLayer, hemisphere: QgsRasterLayer) -> None:
         iface.mainWindow(),
     )
     dialog.setParameters({"INPUT": [country.id(), hemisphere.id()], "AREA": "km2"})
-    dialog.resize(920, 520)
+    dialog.resize(920, 400)
     dialog.show()
     wait(1)
     dialog.grab().save(f"{ROOM}/dialog.png")
@@ -70,7 +62,7 @@ def draw_dialog(country: QgsRasterLayer, hemisphere: QgsRasterLayer) -> None:
 
 
 def draw_result(country: QgsRasterLayer) -> None:
-    """The largest islands and parts of countries, as a layout that could be printed."""
+    """The window of QGIS with the largest islands and parts of countries, their legend and their table."""
     import processing
 
     found = processing.run(
@@ -80,53 +72,29 @@ def draw_result(country: QgsRasterLayer) -> None:
             "CONNECTIVITY": "8",
             "LEAST": 250,
             "MAP": f"{ROOM}/areas.tif",
-            "OUTPUT": "TEMPORARY_OUTPUT",
+            "OUTPUT": f"{ROOM}/areas.gpkg",
         },
     )
     areas = QgsRasterLayer(found["MAP"], "Patches", "gdal")
-    QgsProject.instance().addMapLayer(areas)
-    layout = QgsPrintLayout(QgsProject.instance())
-    layout.initializeDefaults()
-    layout.pageCollection().page(0).setPageSize(
-        QgsLayoutSize(240, 120, QgsUnitTypes.LayoutMillimeters)
-    )
-    title = QgsLayoutItemLabel(layout)
-    title.setText("Patches of one country with at least 250 cells of 16 km")
-    title.setFont(QFont("DejaVu Sans", 12))
-    put(layout, title, 5, 3, 230, 8)
-    picture = QgsLayoutItemMap(layout)
-    # Without a size and an extent to begin with it would have none.
-    picture.setRect(20, 20, 20, 20)
-    picture.setExtent(areas.extent())
-    put(layout, picture, 5, 13, 135, 102)
-    picture.setLayers([areas])
-    picture.setCrs(areas.crs())
-    picture.zoomToExtent(areas.extent())
-    picture.setFrameEnabled(True)
-    legend = QgsLayoutItemLegend(layout)
-    legend.setAutoUpdateModel(False)
-    legend.model().rootGroup().clear()
-    node = legend.model().rootGroup().addLayer(areas)
-    # The first entry of a raster is its band.
-    QgsMapLayerLegendUtils.setLegendNodeOrder(node, list(range(1, 1 + found["PATCHES"])))
-    legend.model().refreshLayerLegend(node)
-    for style in (QgsLegendStyle.Subgroup, QgsLegendStyle.SymbolLabel):
-        legend.setStyleFont(style, QFont("DejaVu Sans", 8))
-    legend.setSymbolHeight(3)
-    put(layout, legend, 143, 12, 92, 100)
+    table = QgsVectorLayer(found["OUTPUT"], "Table of patches", "ogr")
+    QgsProject.instance().addMapLayers([areas, table])
+    QgsSettings().setValue("qgis/dockAttributeTable", True)
+    iface.showAttributeTable(table)
+    for node in QgsProject.instance().layerTreeRoot().findLayers():
+        is_result = node.layer() in (areas, table)
+        node.setItemVisibilityChecked(is_result)
+        node.setExpanded(is_result)
+    window = iface.mainWindow()
+    for dock in window.findChildren(QDockWidget):
+        if dock.objectName() not in SHOWN_DOCKS and "AttributeTable" not in dock.objectName():
+            dock.hide()
+    layers = window.findChild(QDockWidget, "Layers")
+    window.resizeDocks([layers], [390], Qt.Horizontal)
     wait(0.5)
-    settings = QgsLayoutExporter.ImageExportSettings()
-    settings.dpi = 96
-    QgsLayoutExporter(layout).exportToImage(f"{ROOM}/result.png", settings)
-
-
-def put(
-    layout: QgsPrintLayout, item: Any, left: float, top: float, width: float, height: float
-) -> None:
-    """Places an item of a layout, in millimetres."""
-    layout.addLayoutItem(item)
-    item.attemptMove(QgsLayoutPoint(left, top, QgsUnitTypes.LayoutMillimeters))
-    item.attemptResize(QgsLayoutSize(width, height, QgsUnitTypes.LayoutMillimeters))
+    iface.mapCanvas().setExtent(areas.extent())
+    iface.mapCanvas().refresh()
+    wait(3)
+    window.grab().save(f"{ROOM}/result.png")
 
 
 def draw_model(country: QgsRasterLayer) -> None:
@@ -150,6 +118,8 @@ def draw_model(country: QgsRasterLayer) -> None:
     designer.resize(1180, 560)
     designer.show()
     wait(1)
+    designer.view().scene().clearSelection()
+    wait(0.5)
     designer.grab().save(f"{ROOM}/model.png")
 
 
