@@ -10,8 +10,8 @@ proved for a reason of its own, and not because it calls another that is not pro
 in the end alone. A turned definition (edit_files.py) is tried alone: the proof of each law that it names has to fail.
 
 The tool says of each edit why it is rejected: `values`, a goal is false at values that the prover found; `goal`, a goal stayed open;
-`written`, only a written step of the proof no longer fits, which says little of the contract. An edit that a page cites as evidence must not be
-of the last kind. What is rejected is kept next to the kit, by a sum of all that it uses, and not tried again. The last line is
+`written`, only a written step of the proof no longer fits, which says little of the contract; `elsewhere`, only another function of
+the crate is rejected. An edit that a page cites as evidence must be of the first two kinds. What is rejected is kept next to the kit, by a sum of all that it uses, and not tried again. The last line is
 'N passed, M failed'.
 """
 import argparse
@@ -40,7 +40,7 @@ FALSE = "allow values at which this goal is false"
 UNTRIED = re.compile(r"^note: `search` has not tried the goals of `\w+::([^`]+)`")
 OF_PROOF = re.compile(r"^(?:\./)?proofs/(\S+)/\w+\.antt:\d+:\d+: error")
 NO_FUNCTION = re.compile(r"error: `\w+` has no function `\w+::([^`]+)`")
-KINDS = ("values", "goal", "written")
+KINDS = ("values", "goal", "written", "elsewhere")
 BYTES_OF_A_CHECK = 4 << 30  # at most
 ROUNDS_IN_COMPANY = 2
 MOST_IN_COMPANY = 24  # a larger check waits for more callees that are not proved
@@ -189,13 +189,13 @@ class Checks:
             output.seek(0)
             return output.read()
 
-    def of_edits(self, edits):
-        """Check the crate with these edits; return the reasons of its functions, and the output."""
+    def of_edits(self, edits, is_full=False):
+        """Check what these edits change, or the full crate with them; return the reasons of functions, and the output."""
         functions = {
             "::".join([*modules_of(name), function])
             for edit in edits
             for name, function in edit.functions
-            if not edit.is_outside
+            if not edit.is_outside and not is_full
         }
         with tempfile.TemporaryDirectory(prefix="rcell-edits-") as room:
             changed_copy(self.crate, edits, room)
@@ -264,9 +264,10 @@ def try_bodies(checks, edits, one_by_one):
             if reason.kind == "written" and reason.is_untried and not is_last:
                 unsure.add(edit.name)
                 again[round_ + 1].append(edit)
-            elif reason.kind or len(group) == 1:
-                kind = reason.kind or ("written" if edit.name in unsure else "")
-                yield edit, kind, "NOT REFUSED" if found else "BAD EDIT: " + said[-600:]
+            elif reason.kind or edit.name in unsure:
+                yield edit, reason.kind or "written", ""
+            elif len(group) == 1:
+                yield edit, *last_try(checks, edit)
             else:
                 again[round_ + 1].append(edit)
         if not groups and again:
@@ -275,6 +276,13 @@ def try_bodies(checks, edits, one_by_one):
             groups = [
                 (it, next_round) for it in groups_of(again.pop(next_round), one_by_one or is_alone)
             ]
+
+
+def last_try(checks, edit):
+    """The kind of an edit that its own function does not reject alone, by a check of the full crate, and what to say of it."""
+    found, said = checks.of_edits([edit], is_full=True)
+    kind = reason_of(edit, found).kind or ("elsewhere" if any(it.kind for _, it in found) else "")
+    return kind, "NOT REFUSED" if found else "BAD EDIT: " + said[-600:]
 
 
 def try_definitions(checks, edits):
@@ -368,11 +376,11 @@ def try_all(names, one_by_one, is_listed):
 
 
 def faults_of_evidence(kinds):
-    """The edits that a page cites as evidence, and that are rejected only since a written step no longer fits."""
+    """The edits that a page cites as evidence, and that say little of the contract."""
     return [
-        f"{name}: evidence on {page}, and rejected only since a written step no longer fits"
+        f"{name}: evidence on {page}, and rejected only by `{kinds[name]}`"
         for name, page in edit_files.cited().items()
-        if kinds.get(name) == "written"
+        if kinds.get(name) in ("written", "elsewhere")
     ]
 
 
@@ -385,7 +393,7 @@ def closing(tallies, wall):
     kept = sum(it.kept for it in tallies)
     print(
         f"{counts['values']} refused at values that make a goal false, {counts['goal']} by an open goal, "
-        f"{counts['written']} only since a written step no longer fits; "
+        f"{counts['written']} only since a written step no longer fits, {counts['elsewhere']} only elsewhere; "
         f"{sum(it.seconds for it in tallies):.0f} processor seconds in {wall / 60:.0f} minutes"
     )
     print(

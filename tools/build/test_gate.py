@@ -181,20 +181,23 @@ class OneAtATime(edits.Checks):
         super().__init__(None, "")
         self.tried = []
 
-    def of_edits(self, edits_of_check):
+    def of_edits(self, edits_of_check, is_full=False):
         names = [it.path.name for it in edits_of_check]
         self.tried.append(names)
         if "unread" in names:
             return [], "error: expected `;`"
         rejected = [it for it in names if it == "good" or (it == "bad" and len(names) == 1)]
-        return [(it, edits.Reason("goal" if it in rejected else "")) for it in names], ""
+        others = [("caller", edits.Reason("goal"))] * (is_full and names == ["inlined"])
+        return others + [(it, edits.Reason("goal" if it in rejected else "")) for it in names], ""
 
 
 def faults_of_trying():
-    several = [made(it, ("src/lib.rt", it)) for it in ("good", "bad", "proved", "unread")]
+    several = [
+        made(it, ("src/lib.rt", it)) for it in ("good", "bad", "proved", "unread", "inlined")
+    ]
     checks = OneAtATime()
     found = {edit.path.name: kind for edit, kind, _ in edits.try_bodies(checks, several, False)}
-    wanted = {"good": "goal", "bad": "goal", "proved": "", "unread": ""}
+    wanted = {"good": "goal", "bad": "goal", "proved": "", "unread": "", "inlined": "elsewhere"}
     yield "" if found == wanted else f"edits tried: {found}, and not {wanted}"
     yield "" if max(map(checks.tried.count, checks.tried)) < 4 else f"too often: {checks.tried}"
     kinds = {"one/edits/weak": "written", "one/edits/strong": "goal"}
