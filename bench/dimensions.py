@@ -400,7 +400,8 @@ def main():
     if not shutil.which("valgrind"):
         say("  valgrind is not installed: the dimensions are left out")
         return
-    print_table(rows(os.path.abspath(wanted.program), wanted.only), MARKS, wanted.write)
+    program = os.path.abspath(wanted.program)
+    print_table(rows(program, wanted.only), MARKS, program, wanted.write)
 
 
 if __name__ == "__main__":

@@ -70,7 +70,8 @@ def main():
     parser.add_argument("--write", action="store_true")
     wanted = parser.parse_args()
     build()
-    print_table(rows(os.path.abspath(wanted.pipe)), MARKS, wanted.write)
+    program = os.path.abspath(wanted.pipe)
+    print_table(rows(program), MARKS, program, wanted.write)
 
 
 if __name__ == "__main__":

@@ -28,7 +28,10 @@ import sys
 import time
 from dataclasses import dataclass, field
 
+sys.path.insert(1, os.path.abspath(f"{__file__}/../../tools/documents"))
+
 import beside_grass
+import figures
 
 HERE = os.path.dirname(os.path.abspath(__file__))
 ROOT = os.path.dirname(HERE)
@@ -63,12 +66,11 @@ class Task:
 @dataclass(frozen=True)
 class Bench:
     """Tasks, each over grids of some kinds of make_grid.cpp with the seeds 1, 2, .. `side` is their rows and columns, or a pair of
-    both; `most` is the ratio aimed at."""
+    both."""
 
     title: str
     side: int | tuple[int, int]
     tasks: tuple[tuple[Task, tuple[str, ...]], ...]
-    most: float | None = None
 
 
 @dataclass
@@ -93,19 +95,11 @@ class Taken:
 
 
 @dataclass(frozen=True)
-class Goal:
-    """The most that is aimed at, as ratios to the yardstick and to the program of --limit."""
-
-    yardstick: float | None = None
-    limit: float | None = None
-
-
-@dataclass(frozen=True)
 class Race:
-    """Tasks, each over grids of a kind, of seeds 1, 2, ..; with each what is aimed at."""
+    """Tasks, each over grids of a kind, of seeds 1, 2, .."""
 
     title: str
-    tasks: tuple[tuple[Task, str, Goal], ...]
+    tasks: tuple[tuple[Task, str], ...]
     side: int = FEW_SIDE
 
 
@@ -142,24 +136,24 @@ RECLASS_STATS = Task(
 )
 
 READING = (READ, STATS, WRITE)
-AREAS = (READ, CLUMP, CLUMP_CORNERS, CLUMP_WRITE, CLUMP_CORNERS_WRITE)
-NARROW = (READ, STATS, WRITE, CLUMP_WRITE, SUM_WRITE, LONG_IF_STATS, RECLASS_STATS)
+AREAS = (READ, CLUMP, CLUMP_CORNERS)
+NARROW = (READ, STATS, WRITE, CLUMP_WRITE, SUM_WRITE)
 REAL_TASKS = (READ, STATS, WRITE, CLUMP, SUM, LONG_IF)
 
 TEN_TASKS = "Ten tasks"
-# The tasks, and what is aimed at for patches, noise and heights of five digits.
 RACED = (
-    (READ, Goal(0.4, 1.6), Goal(0.4, 1.7), Goal(0.9)),
-    (STATS, Goal(0.45, 1.5), Goal(0.45, 1.6), Goal(1)),
-    (STATS_TWO, Goal(0.4, 1.6), Goal(0.5, 1.8), Goal(1.3)),
-    (CLUMP, Goal(0.65, 1.5), Goal(0.7, 1.2), Goal(0.9)),
-    (CLUMP_CORNERS, Goal(0.65, 1.5), Goal(0.7, 1.2), Goal(0.9)),
-    (CLUMP_WRITE, Goal(0.55, 1.5), Goal(0.75, 1.2), Goal(0.9)),
-    (SUM_WRITE, Goal(0.8), Goal(0.65), Goal(0.9)),
-    (LONG_IF_STATS, Goal(0.6), Goal(0.55), Goal(1)),
-    (RECLASS_STATS, Goal(0.45), Goal(0.4), Goal(1)),
-    (WRITE, Goal(0.45, 1.6), Goal(0.4, 1.7), Goal(0.9)),
+    READ,
+    STATS,
+    STATS_TWO,
+    CLUMP,
+    CLUMP_CORNERS,
+    CLUMP_WRITE,
+    SUM_WRITE,
+    LONG_IF_STATS,
+    RECLASS_STATS,
+    WRITE,
 )
+SOME_RACED = (READ, STATS, CLUMP, WRITE)
 # What the program of --limit calls a task.
 LIMIT_WORDS = {
     READ: "read",
@@ -172,17 +166,14 @@ LIMIT_WORDS = {
 }
 
 
-def raced(title, kind, goals):
-    """All ten tasks over a kind of grid, with the goals in a column of RACED."""
-    tasks = tuple(
-        (task, kind, goal[goals] if goals is not None else Goal()) for task, *goal in RACED
-    )
-    return Race(f"{title}, 4 million cells", tasks)
+def raced(title, kind, tasks=RACED):
+    """Tasks over a kind of grid."""
+    return Race(f"{title}, 4 million cells", tuple((task, kind) for task in tasks))
 
 
 # Other layouts of a grid's cells: as many digits as the largest, two blanks or tabs between them, or a line each.
 LAYOUTS = tuple(
-    (Task(f"{kind}, {layout}", READ.script, READ.words), f"{kind}@{word}", Goal(1))
+    (Task(f"{kind}, {layout}", READ.script, READ.words), f"{kind}@{word}")
     for kind, layout, word in (
         ("noise", "two blanks between cells", "two"),
         ("noise", "tabs between cells", "tabs"),
@@ -191,9 +182,6 @@ LAYOUTS = tuple(
         ("patchy", "cells five places wide", "padded"),
     )
 )
-
-# No dimension may take more than so many times as long as the yardstick.
-MOST = 3
 
 
 def over(kind, tasks):
@@ -221,11 +209,11 @@ COUNTED = (
 
 PARTS = {
     TEN_TASKS: (
-        raced("patchy land cover", "patchy", 0),
-        raced("noise", "noise", 1),
-        raced("heights of five digits", "heights:5", 2),
-        raced("a mask", "mask", None),
-        raced("a coarse zoning", "zones", None),
+        raced("patchy land cover", "patchy"),
+        raced("noise", "noise"),
+        raced("heights of five digits", "heights:5"),
+        raced("a mask", "mask", SOME_RACED),
+        raced("a coarse zoning", "zones", SOME_RACED),
         Race("reading other layouts, 4 million cells", LAYOUTS),
     ),
     "Larger maps": (
@@ -253,15 +241,14 @@ PARTS = {
     ),
     "Dimensions beside C++": (
         *(
-            Bench(f"noise, 65,535 rows by {cols}", (65535, cols), over("noise", NARROW), MOST)
-            for cols in (1, 2, 4, 8, 16, 61)
+            Bench(f"noise, 65,535 rows by {cols}", (65535, cols), over("noise", NARROW))
+            for cols in (1, 16)
         ),
-        Bench("r.stats -c of 4 million cells", 2000, COUNTED, MOST),
+        Bench("r.stats -c of 4 million cells", 2000, COUNTED),
         Bench(
             "r.stats -c of 10 million cells",
             3163,
             (counted("another category in each cell", "blocks:1"),),
-            MOST,
         ),
         Bench(
             "r.stats -c of 1 million cells",
@@ -270,7 +257,6 @@ PARTS = {
                 counted(f"{maps} maps of four values at random", *["random:4"] * maps)
                 for maps in (8, 12, 16)
             ),
-            MOST,
         ),
     ),
 }
@@ -412,12 +398,7 @@ class Contest:
         return instructions(ours), instructions([f"{OUT}/{COUNTED_YARDSTICK}", *words])
 
 
-def ratio_cell(ratio, most):
-    """A ratio, and next to it its limit if it is larger."""
-    return f"{ratio:.2f}" + (f" (missed: {most:g})" if most is not None and ratio > most else "")
-
-
-def row(contest, most):
+def row(contest):
     """A line of the table of a part."""
     cells = cells_of(contest.paths[0])
     times = [it.seconds * 1000 * MILLION / cells for it in (contest.rcell, contest.yardstick)]
@@ -425,7 +406,7 @@ def row(contest, most):
     return [
         contest.task.title,
         *(f"{time:.1f}" for time in times),
-        ratio_cell(times[0] / times[1], most),
+        f"{times[0] / times[1]:.2f}",
         *(f"{it:.2f}" for it in peaks),
     ]
 
@@ -446,7 +427,7 @@ def run(bench, wanted, side):
     ]
     is_small = cells_of(contests[0].paths[0]) <= FEW_SIDE * FEW_SIDE
     take_turns(contests, wanted.rounds * (ROUNDS_FOR_FEW if is_small else 1))
-    return [row(contest, bench.most) for contest in contests]
+    return [row(contest) for contest in contests]
 
 
 def take_turns(contests, rounds):
@@ -482,12 +463,12 @@ def race(bench, wanted, side):
             [grid_file(kind, seed + 1, side) for seed in range(task.maps)],
             wanted.program,
             number,
-            wanted.limit if goal.limit else None,
+            wanted.limit if task in LIMIT_WORDS else None,
         )
-        for number, (task, kind, goal) in enumerate(bench.tasks)
+        for number, (task, kind) in enumerate(bench.tasks)
     ]
     take_turns(contests, wanted.rounds)
-    for contest, (task, _, goal) in zip(contests, bench.tasks):
+    for contest in contests:
         times = [
             f"{it.seconds * 1000 * MILLION / side ** 2:.1f}"
             for it in (contest.rcell, contest.yardstick)
@@ -497,32 +478,25 @@ def race(bench, wanted, side):
         ]
         peaks = [f"{it.peak / side ** 2:.2f}" for it in (contest.rcell, contest.yardstick)]
         yield (
-            task.title,
+            contest.task.title,
             *times,
-            ratios_cell(contest.rcell, contest.yardstick, goal.yardstick),
-            ratios_cell(contest.rcell, contest.fastest, goal.limit),
+            ratios_cell(contest.rcell, contest.yardstick),
+            ratios_cell(contest.rcell, contest.fastest),
             ", ".join(counts),
             ", ".join(peaks),
         )
 
 
-def ratios_cell(ours, theirs, most):
-    """The ratios of the smallest and of the median times, and what is aimed at for the first."""
+def ratios_cell(ours, theirs):
+    """The ratios of the smallest and of the median times."""
     if not theirs.rounds:
         return ""
-    least, median = ours.seconds / theirs.seconds, ours.median / theirs.median
-    goal = f" (goal {most:g}{', missed' if round(least, 2) > most else ''})" if most else ""
-    return f"{least:.2f}, {median:.2f}{goal}"
+    return f"{ours.seconds / theirs.seconds:.2f}, {ours.median / theirs.median:.2f}"
 
 
-def lines_of(title, head, rows):
-    """A table of the document."""
-    return [
-        title,
-        "",
-        *("| " + " | ".join(words) + " |" for words in (head, ["---"] * len(head), *rows)),
-        "",
-    ]
+def line_of(words):
+    """A line of a table of the document."""
+    return "| " + " | ".join(words) + " |"
 
 
 def has_real_maps(wanted):
@@ -541,16 +515,17 @@ def has_real_maps(wanted):
 
 
 def tables(benches, wanted):
-    """The lines of a part of the figures, a table for each bench."""
+    """The lines of a part of the figures: one table, with the map of each task."""
+    head = RACE_HEAD if isinstance(benches[0], Race) else HEAD
+    yield from map(line_of, (("Map", *head), ["---"] * (len(head) + 1)))
     for bench in benches:
         side = SHORT_SIDE if wanted.short else bench.side
         say(f"{bench.title}")
-        table, head = (race, RACE_HEAD) if isinstance(bench, Race) else (run, HEAD)
-        rows = table(bench, wanted, side)
         title = bench.title + (
             " (here 1 million)" if wanted.short and bench.side != SHORT_SIDE else ""
         )
-        yield from lines_of(title, head, rows)
+        for words in (race if isinstance(bench, Race) else run)(bench, wanted, side):
+            yield line_of((title, *words))
 
 
 def grass_tables(wanted):
@@ -558,6 +533,8 @@ def grass_tables(wanted):
     if wanted.short or not shutil.which("grass"):
         say("  GRASS is not installed, or the run is a short one: it is left out")
         return
+    head = beside_grass.HEAD
+    yield from map(line_of, (("Map", *head), ["---"] * (len(head) + 1)))
     for title, kind, seed, side in GRASS_GRIDS:
         path = grid_file(kind, seed, side)
         if os.path.exists(path):
@@ -566,10 +543,10 @@ def grass_tables(wanted):
             def seconds(words, environment):
                 return measure(words, environment=environment)[0]
 
-            rows = beside_grass.table(
+            for words in beside_grass.table(
                 path, cells_of(path), wanted.program, ROUNDS_OF_GRASS, seconds
-            )
-            yield from lines_of(title, beside_grass.HEAD, rows)
+            ):
+                yield line_of((title, *words))
 
 
 def part(title, wanted):
@@ -579,14 +556,9 @@ def part(title, wanted):
     return tables(PARTS[title], wanted) if title in PARTS else grass_tables(wanted)
 
 
-def commit():
-    words = ["git", "log", "-1", "--format=%h"]
-    return subprocess.run(words, capture_output=True, text=True, cwd=ROOT).stdout.strip()
-
-
-def print_table(rows, marks, is_written):
+def print_table(rows, marks, program, is_written):
     """Prints the lines of a table as they come, and puts them into the document if that is asked for."""
-    lines = [mark(), f"Of the program of commit {commit()}:\n", "\n"]
+    lines = [mark(program)]
     for line in rows:
         print(line, flush=True)
         lines.append(line + "\n")
@@ -594,13 +566,13 @@ def print_table(rows, marks, is_written):
         put_between(marks, lambda _: "".join(lines))
 
 
-def mark():
-    """What says in the document at which commit the table below it was measured (tools/documents/figures.py)."""
-    return f"<!-- figures: {commit()} -->\n\n"
+def mark(program):
+    """Names, in the document, the program with which the table below was measured (tools/documents/figures.py)."""
+    return f"{figures.mark_of(program)}\n\n"
 
 
-def machine(rounds):
-    """A sentence on what was measured, where."""
+def machine(program, rounds):
+    """A mark, and a sentence on what was measured, where."""
     with open("/proc/cpuinfo", encoding="utf-8") as file:
         model = next(
             (line.split(":")[1].strip() for line in file if line.startswith("model name")),
@@ -608,7 +580,7 @@ def machine(rounds):
         )
     day, load = time.strftime("%Y-%m-%d"), os.getloadavg()[0]
     return (
-        f"{mark()}Measured on {day} with the program of commit {commit()}: {len(os.sched_getaffinity(0))} processors ({model}), "
+        f"{mark(program)}Measured on {day}: {len(os.sched_getaffinity(0))} processors ({model}), "
         f"Linux {os.uname().release.split('-')[0]}, {compiler()}, load {load:.0f} at the start, {rounds} rounds.\n"
     )
 
@@ -659,7 +631,7 @@ def main():
     parser.add_argument("--write", action="store_true")
     wanted = parser.parse_args()
     build()
-    found, where = {}, machine(wanted.rounds)
+    found, where = {}, machine(wanted.program, wanted.rounds)
     for title in TITLES:
         if wanted.only.lower() not in title.lower():
             continue

@@ -1,72 +1,65 @@
-"""The figures of the documents: README.md and docs/speed.md have the figures of bench/RESULTS.md, and each table has its commit.
+"""The figures of the documents: README.md and docs/speed.md have the figures of bench/RESULTS.md, each marked with its program.
 
-- A mark `<!-- figures: COMMIT -->` is before a table that was measured, or recorded, at this commit.
-- Each mark of README.md, docs/speed.md and bench/RESULTS.md has a table below it, and its commit is an ancestor of this
-  one within the same version. So has each section of bench/RESULTS.md with a table, and each table of docs/speed.md.
-- A commit that a page marks has a mark in bench/RESULTS.md, and a commit that a page names has a mark on that page.
+    python3 tools/documents/figures.py PROGRAM SECTION..     marks sections of bench/RESULTS.md as measured with a program
+
+- A mark `<!-- figures: VERSION sha256:SUM -->` is before a table: the version of rcell, and the first 12 digits of the SHA-256 of the
+  program that was measured. The tools of bench/ write it.
+- Each mark of README.md, docs/speed.md and bench/RESULTS.md has a table below it, and is of this version. Each section of
+  bench/RESULTS.md with a table has one, and so has each table of docs/speed.md.
+- A mark of README.md and docs/speed.md is also in bench/RESULTS.md. A mark of an older form, a commit, goes when its section is
+  measured again.
 
 With `write` README.md gets the figures of bench/RESULTS.md.
 """
-import functools
+import hashlib
 import pathlib
 import re
-import subprocess
+import sys
 
 ROOT = pathlib.Path(__file__).resolve().parents[2]
 README, PAGE, RESULTS = "README.md", "docs/speed.md", "bench/RESULTS.md"
-MARK = re.compile(r"<!-- figures: (\w+) -->")
-NAMED = re.compile(r"\bcommit ([0-9a-f]{7,40})\b")
+DIGITS = 12
+# A mark that still names a commit is of figures that were measured before marks named programs; none is added.
+MARK = re.compile(rf"<!-- figures: (?:(\S+) sha256:[0-9a-f]{{{DIGITS}}}|[0-9a-f]{{8}}) -->")
 TABLE = re.compile(r"^\|[ -]*-[-| ]*\|$", re.MULTILINE)
 HEADING = re.compile(r"^(?=##+ )", re.MULTILINE)
 FIGURE = re.compile(r"\d+(?:\.\d+)?")
 SPEED_ROW = re.compile(r"^\| ([^|]+) \| ([^|]+ cells) \| (.*?) \|$", re.MULTILINE)
 NO_FIGURES = {"2", "3", "4", "25"}  # sizes of grids, in millions of cells, and of windows
-# The version of the commits that are older than the file VERSION.
-FIRST_VERSION = "1.0.0"
 
 
 def text_of(name):
     return (ROOT / name).read_text(encoding="utf-8")
 
 
-def git(*words):
-    return subprocess.run(["git", *words], cwd=ROOT, capture_output=True, text=True, check=False)
+def mark_of(program):
+    """The mark of what is measured with a program now."""
+    found = hashlib.sha256(pathlib.Path(program).read_bytes()).hexdigest()
+    return f"<!-- figures: {text_of('VERSION').strip()} sha256:{found[:DIGITS]} -->"
 
 
-@functools.cache
-def has_history():
-    """Whether the commits before this one are there: a release has none, and a shallow clone not all."""
-    return git("rev-parse", "--is-shallow-repository").stdout.strip() == "false"
-
-
-@functools.cache
-def fault_of(commit):
-    """What is wrong with a commit at which figures were measured, or ''."""
-    if not has_history():
-        return ""
-    if git("merge-base", "--is-ancestor", commit, "HEAD").returncode:
-        return "is no ancestor of this one"
-    shown = git("show", f"{commit}:VERSION")
-    version, now = (
-        FIRST_VERSION if shown.returncode else shown.stdout.strip(),
-        text_of("VERSION").strip(),
+def mark_sections(program, sections):
+    """Marks sections as measured with a program; on the other pages it takes the place of marks that no section has then."""
+    parts, mark = HEADING.split(text_of(RESULTS)), mark_of(program)
+    titles = [part.partition("\n")[0].strip("# ") for part in parts]
+    if unknown := set(sections) - set(titles):
+        sys.exit(f"{RESULTS} has no section {', '.join(sorted(unknown))}")
+    marked = "".join(
+        MARK.sub(mark, part) if title in sections else part for title, part in zip(titles, parts)
     )
-    return (
-        ""
-        if version == now
-        else f"is of version {version}, and this is {now}: make figures measures anew"
-    )
+    (ROOT / RESULTS).write_text(marked, encoding="utf-8")
+    for name in (README, PAGE):
+        text = MARK.sub(lambda it: it[0] if it[0] in marked else mark, text_of(name))
+        (ROOT / name).write_text(text, encoding="utf-8")
 
 
 def tables_of_results():
-    """The rows of bench/RESULTS.md by their task and the title of their table, each as its cells; the first of a name counts."""
-    found, title = {}, ""
+    """The rows of bench/RESULTS.md by their task and map, each as its cells without the map; the first of a name counts."""
+    found = {}
     for line in text_of(RESULTS).splitlines():
-        cells = [cell.strip() for cell in line.strip("|").split("|")]
-        if len(cells) == 1 and line:
-            title = line
-        elif len(cells) > 1:
-            found.setdefault((cells[0], title), cells)
+        first, *cells = [cell.strip() for cell in line.strip("|").split("|")]
+        if cells:
+            found.setdefault((cells[0], first), cells)
     return found
 
 
@@ -113,7 +106,7 @@ def check_page():
 def marks_of(name):
     """The marks of a page, each with the text up to the next mark or heading."""
     parts = re.split(r"(?=<!-- figures: )|^(?=##+ )", text_of(name), flags=re.MULTILINE)
-    return [(found[1], part) for part in parts if (found := MARK.match(part))]
+    return [(found, part) for part in parts if (found := MARK.match(part))]
 
 
 def unmarked(name):
@@ -127,33 +120,26 @@ def unmarked(name):
 
 
 def check_marks():
-    """How many marks have a table, and a commit of this version."""
-    passed, faults, recorded = 0, [], {commit for commit, _ in marks_of(RESULTS)}
+    """How many marks have a table, and are of this version."""
+    passed, faults, recorded = 0, [], {mark[0] for mark, _ in marks_of(RESULTS)}
+    version = text_of("VERSION").strip()
     for name in (README, PAGE, RESULTS):
         marks = marks_of(name)
-        found = [] if marks else [f"{name}: no mark <!-- figures: COMMIT -->"]
-        for commit, part in marks:
+        found = [] if marks else [f"{name}: no mark of figures"]
+        if text_of(name).count("<!-- figures: ") != len(marks):
+            found.append(f"{name}: a mark is not of the form VERSION sha256:SUM")
+        for mark, part in marks:
             wrong = [
-                fault_of(commit),
-                "" if TABLE.search(part) else "has no table below its mark",
-                "" if commit in recorded else f"has no mark in {RESULTS}",
+                "" if mark[1] in (None, version) else f"is not of version {version}: make figures",
+                "" if TABLE.search(part) else "has no table below it",
+                "" if mark[0] in recorded else f"is not in {RESULTS}",
             ]
-            found += [f"{name}: the commit {commit} {it}" for it in wrong if it]
+            found += [f"{name}: {mark[0]} {it}" for it in wrong if it]
         if name != README:
             found += [
                 f"{name}: no mark above the table of '{section}'" for section in unmarked(name)
             ]
         passed, faults = passed + len(marks), faults + found
-    for name in [
-        "README.md",
-        *sorted(f"docs/{path.name}" for path in (ROOT / "docs").glob("*.md")),
-    ]:
-        known = [commit for commit, _ in marks_of(name)]
-        faults += [
-            f"{name}: the commit {commit} is named, and no table is marked with it"
-            for commit in NAMED.findall(text_of(name))
-            if not any(mark.startswith(commit) or commit.startswith(mark) for mark in known)
-        ]
     return passed, faults
 
 
@@ -165,3 +151,7 @@ def check(write=False):
     return sum(passed for passed, _ in counted), [
         fault for _, faults in counted for fault in faults
     ]
+
+
+if __name__ == "__main__":
+    mark_sections(sys.argv[1], sys.argv[2:])
