@@ -1,6 +1,6 @@
 #!/usr/bin/env python3
-"""Tries how the gate counts (tools/check.py, tools/counting.sh), which libraries it leaves for edits.py, and how that reads edits,
-groups them and reads a check. The last line is 'N passed, M failed'."""
+"""Tries how the gate counts (tools/check.py, tools/counting.sh), which libraries it leaves for edits.py, how that reads edits, groups
+them and reads a check, how unproved programs are made, and parts of the lint. The last line is 'N passed, M failed'."""
 import os
 import pathlib
 import subprocess
@@ -8,13 +8,17 @@ import sys
 import tempfile
 from unittest import mock
 
-sys.path.insert(1, os.path.abspath(f"{__file__}/../.."))
+sys.path[1:1] = [os.path.abspath(f"{__file__}/../.."), os.path.abspath(f"{__file__}/../../lint")]
 
 import build
 import check
+import commits
 import edit_files
 import edits
+import exceptions
+import passed
 import turned_definitions
+import unproved
 
 # What a command prints, its status, whether it has counts: and what it counts for.
 COUNTED = [
@@ -273,6 +277,60 @@ def faults_of_counts():
     ) else f"counting.sh: status {ran.returncode}, {ran.stdout}"
 
 
+def faults_of_unproved():
+    """The substitute for clang hands on what is not the program's code, and takes that code; a part about proofs is skipped."""
+    with tempfile.TemporaryDirectory() as folder:
+        room = pathlib.Path(folder)
+        script, code = room / "clang", room / "program.bc"
+        text = unproved.SUBSTITUTE.format(clang="echo", code=code)
+        script.write_text(text, encoding="utf-8")
+        (room / "module.bc").write_text("code", encoding="utf-8")
+        words = ["sh", script, "-c", room / "module.bc"]
+        found = subprocess.run(words, capture_output=True, text=True, check=False)
+        yield "" if found.stdout.startswith("-c ") and not code.exists() else f"{found}"
+        found = subprocess.run([*words, "-fsanitize=address"], capture_output=True, check=False)
+        is_taken = found.returncode == 1 and code.read_text(encoding="utf-8") == "code"
+        yield "" if is_taken else f"the code of a program is not taken: {found}"
+    with mock.patch.object(check, "print", lambda *_, **__: None, create=True):
+        result = check.run_unproved(check.PROOFS)
+    yield "" if (result.passed, result.skipped) == (0, 1) else f"proofs without proofs: {result}"
+    names = {part.name for part in check.PARTS}
+    yield "" if set(check.LONGEST) <= names else f"no parts: {set(check.LONGEST) - names}"
+
+
+SUBJECTS = {
+    "qgis: read polygons with the core": True,
+    "cells, runs: embed short rows": True,
+    "Read polygons with the core": False,
+    "qgis: reads polygons with the core": False,
+    "qgis: added polygons": False,
+    "qgis: pass over null": True,
+    "qgis: read polygons.": False,
+    f"qgis: read {'p' * 72}": False,
+}
+
+
+def faults_of_lint():
+    for subject, wanted in SUBJECTS.items():
+        found = commits.fault_of(subject)
+        yield "" if (not found) == wanted else f"{subject}: {found}"
+    with tempfile.TemporaryDirectory() as folder:
+        room = pathlib.Path(folder)
+        with mock.patch.object(exceptions, "PATH", room / "exceptions.txt"):
+            exceptions.PATH.write_text("# Why.\n\n[a]\none\n\n[b]\ntwo\n", encoding="utf-8")
+            exceptions.write("a", [])
+            exceptions.write("c", ["three"])
+            text = exceptions.PATH.read_text(encoding="utf-8")
+        yield "" if text == "# Why.\n\n[b]\ntwo\n\n[c]\nthree\n" else f"exceptions: {text!r}"
+        (room / "good.py").write_text("good", encoding="utf-8")
+        with mock.patch.object(passed, "FOLDER", room / "kept"):
+            known = passed.Passed(b"check", room)
+            before = known.has("good.py")
+            known.keep(["good.py"])
+            found = before, known.has("good.py"), passed.Passed(b"other", room).has("good.py")
+        yield "" if found == (False, True, False) else f"files that passed: {found}"
+
+
 def main():
     found = [
         fault
@@ -283,6 +341,8 @@ def main():
             faults_of_groups,
             faults_of_trying,
             faults_of_files,
+            faults_of_unproved,
+            faults_of_lint,
         )
         for fault in faults()
     ]
