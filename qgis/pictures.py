@@ -8,7 +8,6 @@ from __future__ import annotations
 import os
 import time
 import traceback
-from typing import Any
 
 from qgis.core import (
     QgsApplication,
