@@ -92,7 +92,7 @@ debian11: dist
 	sh tools/build/debian11.sh dist
 
 edits:
-	python3 tools/build/edits.py $(OF)
+	python3 tools/build/edits.py --list --evidence $(OF)
 
 hostile: bin/rcell
 	python3 tools/hostile --clang "$$(dirname "$$(rt doc)")/toolchain/bin/clang"

@@ -224,11 +224,16 @@ def run_all(parts):
         if part in [*EARLY, PROOFS] and results[-1].failed:
             return results
         if part is PROOFS:
-            for crate in build.PROGRAMS:
-                build.take_built(crate, ROOT)
-            for crate in build.crates_of(build.PROGRAMS):
-                crate.note_proved()
+            take_proved()
     return results
+
+
+def take_proved():
+    """Puts the programs into bin/, and leaves the libraries of all crates to the edits, which also try laws."""
+    for crate in build.PROGRAMS:
+        build.take_built(crate, ROOT)
+    for crate in build.crates_of(build.uses()):
+        crate.note_proved()
 
 
 def run_unproved(part):

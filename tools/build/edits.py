@@ -1,8 +1,8 @@
 #!/usr/bin/env python3
 """Tries the edits of crates/NAME/edits and crates/NAME/must-fail, many in one check: the proof has to reject each.
 
-    edits.py [--one-by-one] [--list] [CRATE..]       without names, all crates that have edits
-    edits.py --stale                                 only that each edit still fits its files, in a second
+    edits.py [--one-by-one] [--list] [--evidence] [CRATE..]    without names, all crates that have edits
+    edits.py --stale                                           only that each edit still fits its files, in a second
 
 A check judges each function by itself, over the contracts of what it calls. So edits of different functions are made in one copy of
 the crate and do not touch each other, and only these functions are checked. An edit is rejected if a function that it changes is not
@@ -11,8 +11,8 @@ in the end alone. A turned definition (edit_files.py) is tried alone: the proof 
 
 The tool says of each edit why it is rejected: `values`, a goal is false at values that the prover found; `goal`, a goal stayed open;
 `written`, only a written step of the proof no longer fits, which says little of the contract; `elsewhere`, only another function of
-the crate is rejected. An edit that a page cites as evidence must be of the first two kinds. What is rejected is kept next to the kit, by a sum of all that it uses, and not tried again. The last line is
-'N passed, M failed'.
+the crate is rejected. An edit that a page cites as evidence should be of the first two kinds; with --evidence it has to be. What is
+rejected is kept next to the kit, by a sum of all that it uses, and not tried again. The last line is 'N passed, M failed'.
 """
 import argparse
 import collections
@@ -384,12 +384,12 @@ def faults_of_evidence(kinds):
     ]
 
 
-def closing(tallies, wall):
-    """Prints all counts, and returns the status."""
+def closing(tallies, wall, is_strict):
+    """Prints all counts, and returns the status; is_strict says that evidence which says little counts as a failure."""
     kinds = {name: kind for it in tallies for name, kind in it.kinds.items()}
     counts = collections.Counter(kinds.values())
     for fault in (faults := faults_of_evidence(kinds)):
-        print(fault)
+        print(f"note: {fault}")
     kept = sum(it.kept for it in tallies)
     print(
         f"{counts['values']} refused at values that make a goal false, {counts['goal']} by an open goal, "
@@ -399,7 +399,7 @@ def closing(tallies, wall):
     print(
         f"ran: {len(kinds) - kept} of {len(kinds)} edits; the others are kept from earlier runs on this machine"
     )
-    failed = counts[""] + len(faults) + (not tallies)
+    failed = counts[""] + (len(faults) if is_strict else 0) + (not tallies)
     print(f"{len(kinds) - counts['']} passed, {failed} failed")
     return 1 if failed else 0
 
@@ -410,6 +410,9 @@ def main():
     )
     words.add_argument("--one-by-one", action="store_true", help="each in a check of its own")
     words.add_argument("--list", action="store_true", help="print the kind of each edit")
+    words.add_argument(
+        "--evidence", action="store_true", help="fail if a page cites an edit that says little"
+    )
     words.add_argument("--stale", action="store_true", help="only whether edits fit their files")
     words.add_argument("crates", nargs="*", metavar="CRATE")
     given, begun = words.parse_args(), time.monotonic()
@@ -419,7 +422,8 @@ def main():
         print(*faults, f"{len(paths) - len(faults)} passed, {len(faults)} failed", sep="\n")
         return 1 if faults else 0
     names = given.crates or sorted({it.parents[1].name for it in paths})
-    return closing(try_all(names, given.one_by_one, given.list), time.monotonic() - begun)
+    tallies = try_all(names, given.one_by_one, given.list)
+    return closing(tallies, time.monotonic() - begun, given.evidence)
 
 
 if __name__ == "__main__":
