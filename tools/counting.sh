@@ -28,12 +28,12 @@ add() {
     "$@" > "$room/output"
     ended=$?
     cat "$room/output"
-    counts=$(grep -E '^[0-9]+ passed, [0-9]+ failed(, [0-9]+ skipped)?$' "$room/output" | tail -n 1)
+    counts=$(grep -aE '^[0-9]+ passed, [0-9]+ failed(, [0-9]+ skipped)?$' "$room/output" | tail -n 1)
     if [ -z "$counts" ]; then
         echo "FAILED: $name ended without its counts, with status $ended"
         counts='0 passed, 1 failed'
     fi
-    listed=$(grep -c '^skipped  ' "$room/output")
+    listed=$(grep -ac '^skipped  ' "$room/output")
     echo "$counts" | awk -v ended=$ended -v listed="$listed" \
         '{ print $1, $3 + (ended != 0 && $3 == 0), ($5 + 0 > listed + 0 ? $5 + 0 : listed) }' >> "$room/counts"
 }

@@ -49,6 +49,7 @@ SCRIPT = """room=$1
 check good true
 (cd / && check bad false > "$room/shown")
 add part sh -c 'echo "3 passed, 1 failed"; echo late; echo "7 passed, 0 failed" >&2'
+add binary sh -c 'printf "\\000\\n"; echo "1 passed, 0 failed"'
 add silent true
 add ended sh -c 'echo "2 passed, 0 failed, 1 skipped"; exit 3'
 skip -n 5 part 'it is not installed' package other
@@ -56,10 +57,12 @@ closing
 """
 SHOWN = """3 passed, 1 failed
 late
+\0
+1 passed, 0 failed
 FAILED: silent ended without its counts, with status 0
 2 passed, 0 failed, 1 skipped
 skipped  part: it is not installed; install: apt-get install package other
-6 passed, 4 failed, 6 skipped
+7 passed, 4 failed, 6 skipped
 """
 
 SOURCE = """const MOST: u64 = 3;
