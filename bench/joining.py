@@ -371,37 +371,11 @@ def table(part: tuple[str, str, str], rows: list[str]) -> str:
 
 def measured(given: argparse.Namespace) -> Iterator[str]:
     part, rounds = (10, 1) if given.short else (1, given.rounds)
-    kinds = [
-        (64, 1, 4),
-        (64, 2, 4),
-        (64, 1, 1),
-        (64, 2, 1),
-        (64, 1, 64),
-        (2, 1, 1),
-        (2, 1, 2),
-        (1000, 1, 1),
-        (1000, 2, 1),
-        (1000, 1, 4),
-    ]
+    kinds = [(64, 1, 4), (2, 1, 1), (1000, 1, 4)]
     tables = [(tiles, millions * 1_000_000 // part, shared) for tiles, millions, shared in kinds]
-    columns = [(tiles // part, 1) for tiles in (1000, 2000, 1000, 1000, 1000, 1000, 1000)]
-    wide, many = (1000, 1000, 2000, 4000, 1000, 1000, 1000), (
-        10_000,
-        10_000,
-        10_000,
-        10_000,
-        20_000,
-        40_000,
-        100_000,
-    )
-    borders = [(grid, (1, cols), clumps) for grid, cols, clumps in zip(columns, wide, many)]
-    borders += (
-        [((61, 8), (1025, 8200), clumps) for clumps in (10_000, 1_000_000)]
-        if part == 1
-        else [((6, 8), (1025, 8200), 10_000)]
-    )
-    borders += [((down // part, right), (256, 256), 4_000) for down, right in ((30, 50), (50, 100))]
-    sizes = [(100, clumps // part) for clumps in (50_000, 100_000, 200_000)]
+    borders = [((1000 // part, 1), (1, 1000), clumps) for clumps in (10_000, 100_000)]
+    borders += [((50 // part, 100), (256, 256), 4_000)]
+    sizes = [(100, 100_000 // part)]
     for kind, run, inputs in (
         (TABLES, time_tables, tables),
         (CLUMPS, time_clumps, borders),

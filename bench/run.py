@@ -175,9 +175,6 @@ def raced(title, kind, tasks=RACED):
 LAYOUTS = tuple(
     (Task(f"{kind}, {layout}", READ.script, READ.words), f"{kind}@{word}")
     for kind, layout, word in (
-        ("noise", "two blanks between cells", "two"),
-        ("noise", "tabs between cells", "tabs"),
-        ("noise", "a line for each cell", "lines"),
         ("noise", "cells five places wide", "padded"),
         ("patchy", "cells five places wide", "padded"),
     )
@@ -197,11 +194,11 @@ def counted(title, *kinds):
 COUNTED = (
     *(
         counted(f"{count:,} categories at random", f"random:{count}")
-        for count in (10_000, 100_000, 1_000_000)
+        for count in (100_000, 1_000_000)
     ),
     *(
         counted(f"two maps of {count:,} values at random", *[f"random:{count}"] * 2)
-        for count in (40, 100, 300, 1000, 3000)
+        for count in (100, 1000, 3000)
     ),
     counted("two maps of heights of five digits", *["heights:5"] * 2),
     counted("three land covers", *["cover"] * 3),
@@ -255,7 +252,7 @@ PARTS = {
             1000,
             tuple(
                 counted(f"{maps} maps of four values at random", *["random:4"] * maps)
-                for maps in (8, 12, 16)
+                for maps in (8, 16)
             ),
         ),
     ),
@@ -266,7 +263,6 @@ PARTS[REAL_MAPS] = tuple(
     Bench(title, 0, over(kind, REAL_TASKS))
     for title, kind in (
         ("real land and lakes of South-East Asia, 27 million cells", f"{REAL}land"),
-        ("real countries of South-East Asia, 27 million cells", f"{REAL}countries"),
         ("real land cover, laid side by side, 25 million cells", f"{REAL}cover"),
         ("real heights of the globe, 9 million cells", f"{REAL}heights"),
     )

@@ -10,9 +10,11 @@ PAGE = Path(__file__).resolve().parents[2] / "bench" / "RESULTS.md"
 
 
 def put(name: str, text: str) -> None:
-    """Replaces the text between `<!-- NAME -->` and `<!-- End of NAME -->`."""
+    """Replaces the text between `<!-- NAME -->` and `<!-- End of NAME -->`, if the page has them."""
     begin, end = f"<!-- {name} -->\n", f"<!-- End of {name} -->"
     page = PAGE.read_text(encoding="utf-8")
+    if begin not in page:
+        return
     before, rest = page.split(begin)
     after = rest.split(end, 1)[1]
     PAGE.write_text(f"{before}{begin}{text}{end}{after}", encoding="utf-8")
