@@ -31,7 +31,7 @@ from reference import Frame, Raster, Refusal
 from run import MISSING, PACKAGES, found_by
 
 FRONTS = ("python", "shell", "qgis", "r")
-BATCH = 250
+BATCH = 500
 EXACT = 1e-9
 ID_DIGITS = 11
 PLANT_CALLS = 600
