@@ -25,7 +25,7 @@ files() {
 list() {
     for name in $programs; do
         echo "755 bin/$name$1 bin/$name"
-        echo "644 docs/$name.1 $pages/$name.1"
+        if [ -f "docs/$name.1" ]; then echo "644 docs/$name.1 $pages/$name.1"; else echo "644 made:$name $pages/$name.1"; fi
     done
     helpers
     for file in $other_pages; do echo "644 $file $documents/$file"; done
@@ -51,10 +51,15 @@ helpers() {
     done
 }
 
-# A manual page names the version that it belongs to.
+# A manual page names the version that it belongs to. The pages of rcell and rcell-join are made from docs/.
 put() {
     install -d -m 755 "$(dirname "$3")"
     case $2 in
+        made:*)
+            python3 tools/documents/manual.py "${2#made:}" > "$3.new"
+            chmod "$1" "$3.new"
+            mv -f "$3.new" "$3"
+            ;;
         *.1)
             sed "s/^\(\.TH [^ ]* 1 [^ ]* \)\(\"[^\"]*\"\|[^ ]*\)/\1\"rcell $(cat VERSION)\"/" "$2" > "$3.new"
             chmod "$1" "$3.new"

@@ -3,12 +3,10 @@
 
     command_options.py [--program PATH] [--joiner PATH]
 
-Of each command docs/commands.md has a synopsis and a table of its flags and options, and docs/rcell.1 a synopsis; the three must
-name the same. Then the program is run with each letter and digit as a flag, and with each key that any command or GRASS has: it
+Of each command docs/commands.md has a synopsis and a table of its flags and options, which must name the same. Then the program is run with each letter and digit as a flag, and with each key that any command or GRASS has: it
 must take those that are named and no other, and must miss a key exactly where the table says that it is required. Of r.mapcalc
-the functions are compared and tried in this way. Of each command of rcell-join the synopses of docs/rcell-join.md and
-docs/rcell-join.1 must be its usage, the page must have all messages of the document, and it is tried with the same flags and keys,
-where an unknown key is a file. The last line is 'N passed, M failed'.
+the functions are tried in this way. Of each command of rcell-join the synopsis of docs/rcell-join.md must be its usage, and it is
+tried with the same flags and keys, where an unknown key is a file. The last line is 'N passed, M failed'.
 """
 import argparse
 import os
@@ -20,8 +18,7 @@ import tempfile
 
 ROOT = os.path.abspath(f"{__file__}/../../..")
 BIN = os.environ.get("RCELL_BIN", f"{ROOT}/bin")
-DOCUMENT, PAGE = "docs/commands.md", "docs/rcell.1"
-DOCUMENT_OF_JOINER, PAGE_OF_JOINER = "docs/rcell-join.md", "docs/rcell-join.1"
+DOCUMENT, DOCUMENT_OF_JOINER = "docs/commands.md", "docs/rcell-join.md"
 COMMANDS = ("r.reclass", "r.clump", "r.stats", "r.out.ascii")
 JOINER = "rcell-join"
 GRID = "north: 1\nsouth: 0\neast: 2\nwest: 0\nrows: 1\ncols: 2\n1 2\n"
@@ -65,7 +62,6 @@ FUNCTIONS_OF_GRASS = {
     "graph": 5,
     "pow": 2,
 }
-FONT = re.compile(r"\\f.|^\.[A-Z]+ |\"", re.MULTILINE)
 
 
 class Named:
@@ -127,52 +123,9 @@ def required(command):
     return {name for name, says in rows(command) if says.endswith("(required)")}
 
 
-def of_page(command):
-    """The synopsis of a command in the manual page, without its fonts."""
-    plain = FONT.sub("", read(PAGE).replace("\\-", "-"))
-    return next(
-        line for line in plain.split("\n") if re.match(rf"{re.escape(command)} .*=", line)
-    ).replace("= ", "=")
-
-
 def synopses_of_joiner():
     """The synopsis of each command of rcell-join in docs/rcell-join.md."""
     return synopsis(JOINER).strip().splitlines()
-
-
-def synopses_of_joiner_page():
-    """The same in its manual page, without its fonts."""
-    for part in re.search(
-        r"^\.SH SYNOPSIS\n(.*?)^\.SH ", read(PAGE_OF_JOINER), re.MULTILINE | re.DOTALL
-    )[1].split(".br\n"):
-        command, behind = re.sub(
-            r"\\f.|^\.B ", "", part.replace("\\-", "-"), flags=re.MULTILINE
-        ).splitlines()
-        font, _, words = behind.partition(" ")
-        # .RI sets the pieces that blanks part in turns, and none of these blanks.
-        yield f"{command} " + (
-            re.sub(r'"([^"]*)"|\s', lambda found: found[1] or "", words) if font == ".RI" else words
-        )
-
-
-def messages_of_joiner():
-    """The texts that docs/rcell-join.md has in its table of the messages of rcell-join."""
-    table = re.search(r"^### Messages\n(.*)", section(JOINER), re.MULTILINE | re.DOTALL)[1]
-    return [
-        text
-        for row in re.findall(r"^\| (`[^|]*`) \|", table, re.MULTILINE)
-        for text in re.findall(r"`([^`]+)`", row)
-    ]
-
-
-def text_of_joiner_page():
-    """The lines under DIAGNOSTICS in the manual page of rcell-join, without their fonts."""
-    return FONT.sub(
-        "",
-        re.search(
-            r"^\.SH DIAGNOSTICS\n(.*?)^\.SH ", read(PAGE_OF_JOINER), re.MULTILINE | re.DOTALL
-        )[1],
-    )
 
 
 def functions_of_document():
@@ -187,11 +140,6 @@ def functions_of_document():
         name: len([word for word in words.split(",") if word.strip(".")])
         for name, words in examples
     }
-
-
-def functions_of_page():
-    listed = re.search(r"^Functions:\n(.*)$", read(PAGE), re.MULTILINE)[1]
-    return set(re.findall(r"\w+", FONT.sub("", listed)))
 
 
 class Tried:
@@ -240,10 +188,7 @@ def faults_of_keys(tried, command, named, needs):
 
 
 def faults_of_functions(tried):
-    named, listed = functions_of_document(), functions_of_page()
-    yield "" if set(
-        named
-    ) == listed else f"{PAGE}: functions {sorted(listed)}, and not {sorted(named)} as {DOCUMENT}"
+    named = functions_of_document()
     for name, count in {**FUNCTIONS_OF_GRASS, **named}.items():
         said = tried.refusal(f"r.mapcalc made = {name}({', '.join(['land'] * count)})")
         wanted = "" if name in named else "1: unknown function at column 18"
@@ -287,14 +232,10 @@ def faults_of_joiner_command(tried, line):
 
 def faults_of_joiner(tried):
     """What is wrong with what the documents say of rcell-join, or ''."""
-    lines, others, named = synopses_of_joiner(), list(synopses_of_joiner_page()), in_table(JOINER)
-    yield "" if others == lines else f"{PAGE_OF_JOINER}: {others!r}, and not {lines!r}"
+    named = in_table(JOINER)
     other = Named.of_synopsis(synopsis(JOINER))
     yield "" if other == named else f"{DOCUMENT_OF_JOINER}, synopsis: {JOINER} has {other}, but {named} in its table"
-    page = text_of_joiner_page()
-    for text in messages_of_joiner():
-        yield "" if text in page else f"{PAGE_OF_JOINER}: it says nothing of {text!r}"
-    for line in lines:
+    for line in synopses_of_joiner():
         yield from faults_of_joiner_command(tried, line)
 
 
@@ -304,11 +245,8 @@ def faults(program, joiner):
         tried = Tried(os.path.abspath(program), folder)
         for command in COMMANDS:
             named, needs = in_table(command), sorted(required(command))
-            for where, other in (
-                (f"{DOCUMENT}, synopsis", Named.of_synopsis(synopsis(command))),
-                (PAGE, Named.of_synopsis(of_page(command))),
-            ):
-                yield "" if other == named else f"{where}: {command} has {other}, but {named} in its table"
+            other = Named.of_synopsis(synopsis(command))
+            yield "" if other == named else f"{DOCUMENT}, synopsis: {command} has {other}, but {named} in its table"
             yield from faults_of_flags(tried, command, named, needs)
             yield from faults_of_keys(tried, command, named, needs)
         yield from faults_of_functions(tried)

@@ -14,7 +14,7 @@ Its fenced blocks are taken from the top:
     text, sh, antt, rust  shown and not run: such a block has no command with its output
 The folder that a block goes to with `cd` is also the next one's. With --write what is printed takes the place of what is shown.
 Of docs/grass.md the program's side of each table is also run (differences.py), and the flags and keys that docs/commands.md,
-docs/rcell-join.md and the manual pages name are tried (command_options.py). What needs no program is tried first, and with --texts
+docs/rcell-join.md name are tried (command_options.py). What needs no program is tried first, and with --texts
 alone, or what ends in a WORD, as in `--texts links`: docs/errors.md has the table of python/src/rcell/core/messages.json (messages.py), docs/crates.svg the crates of crates.txt
 (crate_graph.py), docs/proofs.md and README.md the numbers of lines that have to be believed (reading.py), README.md and docs/speed.md
 the figures of bench/RESULTS.md (figures.py), each link and anchor leads somewhere (links.py), the edits, clauses and laws that the
@@ -26,6 +26,7 @@ import argparse
 import difflib
 import glob
 import os
+import pathlib
 import re
 import shutil
 import subprocess
@@ -44,6 +45,7 @@ import definitions
 import differences
 import figures
 import links
+import manual
 import messages
 import saved_blocks
 
@@ -376,12 +378,12 @@ def check_pages():
             "skipped  documents: man or groff is not installed, for the manual pages; install: apt-get install man-db groff"
         )
         return 0, []
-    pages = sorted(
-        os.path.relpath(path, ROOT)
-        for folder in ("docs", "helpers")
-        for path in glob.glob(f"{ROOT}/{folder}/*.1")
-    )
-    faults = [warnings_of_man(page) for page in pages]
+    pages = sorted(glob.glob(f"{ROOT}/docs/*.1") + glob.glob(f"{ROOT}/helpers/*.1"))
+    with tempfile.TemporaryDirectory(prefix="rcell-pages-") as room:
+        for name in manual.PAGES:
+            pages.append(f"{room}/{name}.1")
+            pathlib.Path(pages[-1]).write_text(manual.page(name), encoding="utf-8")
+        faults = [warnings_of_man(page) for page in pages]
     return faults.count([]), [fault for found in faults for fault in found]
 
 
