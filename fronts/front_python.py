@@ -40,18 +40,11 @@ def plain(value: Any, digits: int = 12) -> str:
 
 
 def of_table(case: Case) -> list[str]:
-    outputs = rcell.run(case.script, case.maps, crs=case.crs or None)
-    table = outputs.tables[0]
-    if case.area:
-        table = table.with_area(case.area)
-    if case.percent:
-        table = table.with_percent()
-    return ["|".join(table.columns)] + [
-        "|".join(plain(value) for value in row) for row in table.rows
-    ]
+    words: dict[str, Any] = {"area": case.area or None, "percent": case.percent}
+    return of_frame(case, rcell.table(case.script, case.maps, crs=case.crs or None, **words))
 
 
-def of_grid(grid: rcell.Grid) -> list[str]:
+def of_grid(grid: rcell.Raster) -> list[str]:
     return [" ".join(plain(value) for value in row) for row in grid.array.tolist()]
 
 

@@ -345,7 +345,8 @@ def answer_of_python(asked: Asked) -> Answer:
 
     with rasterio.Env():
         found = rcell.run(asked.script, dict(zip(asked.names, asked.paths)))
-    return [found[0].categories, found[1].array.filled(NULL)], found[1].labels
+    categories = found[0].drop(columns="cells", errors="ignore").fillna(NULL)
+    return [categories.to_numpy(np.int64), found[1].array.filled(NULL)], found[1].labels
 
 
 @functools.cache

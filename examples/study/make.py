@@ -23,7 +23,7 @@ LABELS = {
 def main():
     for name, labels in LABELS.items():
         grid = rcell.grid("", name, {name: str(HERE / f"{name}.txt")})
-        labelled = {name: rcell.Map(grid.array, grid.region, CRS, labels=labels)}
+        labelled = {name: rcell.Raster(grid.array, grid.region, CRS, labels=labels)}
         rcell.grid("", name, labelled).write(HERE / f"{name}.tif")
 
 

@@ -210,7 +210,7 @@ def _sizes_of(cells: Any, areas: int) -> Any:
 def answers_of_array(side: int, chunk: int, folder: Path, workers: int) -> list[str]:
     """The table, patches, their sizes and a sum that reaches over seams, of a DataArray of Dask, compared with one run over its cells."""
     array = land_cover_array(side, chunk)
-    whole = rcell.Map(array.values, nodata=0)
+    whole = rcell.Raster(array.values, nodata=0)
     expected, seconds, _ = _watched(lambda: rcell.table(TABLE, lc=whole))
     with rcell.tiles.open(scheduler=workers, lc=array) as mosaic:
         found, figures = measured(mosaic, lambda: mosaic.table(TABLE))
@@ -227,7 +227,11 @@ def answers_of_array(side: int, chunk: int, folder: Path, workers: int) -> list[
 
 
 def _answer_of_array(
-    task: Task, lazy: Callable[[], Any], mosaic: rcell.tiles.Mosaic, whole: rcell.Map, folder: Path
+    task: Task,
+    lazy: Callable[[], Any],
+    mosaic: rcell.tiles.Mosaic,
+    whole: rcell.Raster,
+    folder: Path,
 ) -> Iterator[list[str]]:
     cells, seconds, _ = undivided(whole, task.script)
     path = folder / "expected.npy"

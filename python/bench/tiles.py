@@ -317,7 +317,7 @@ def share_of_patches(path: Path) -> float:
         cells = dataset.read(
             1, window=Window(0, 0, min(STRIP, dataset.width), min(STRIP, dataset.height))
         )
-    return float(len(rcell.patches(rcell.Map(cells, nodata=0))) / cells.size)
+    return float(len(rcell.patches(rcell.Raster(cells, nodata=0))) / cells.size)
 
 
 # Joining
@@ -381,7 +381,10 @@ def _joined(borders: list[bytes], size: int) -> str:
 
 def again(border: bytes, place: Rectangle) -> bytes:
     """A border at another place, as a large map would have it."""
-    edges, _, _ = place.region.header().partition("rows:")
+    edges = "".join(
+        f"{name}: {edge}\n"
+        for name, edge in zip(("north", "south", "east", "west"), place.region.edges)
+    )
     return edges.encode() + border[border.index(b"rows:") :]
 
 

@@ -16,8 +16,10 @@ import pytest
 
 import rcell
 from rcell.core.labels import legend_of_band
+from rcell.core.programs import find_program
 
 from .conftest import LAND, TRANSFORM
+from .rows import rows_of
 
 rasterio = pytest.importorskip("rasterio")
 Write = Callable[..., str]
@@ -147,11 +149,13 @@ def test_arrays_of_other_kinds() -> None:
 
 def test_types_and_nodata_at_their_ends() -> None:
     assert cells(np.array([[1, 2**31 - 1]], ">u8")) == [[1, 2**31 - 1]]
-    assert cells(rcell.Map(np.array([[1, 2**64 - 1]], ">u8"), nodata=2**64 - 1)) == [[1, None]]
+    assert cells(rcell.Raster(np.array([[1, 2**64 - 1]], ">u8"), nodata=2**64 - 1)) == [
+        [1, None]
+    ]
     beyond: Any = np.float64(2.0**63)
-    assert cells(rcell.Map(np.array([[1, 2]], np.int64), nodata=beyond)) == [[1, 2]]
+    assert cells(rcell.Raster(np.array([[1, 2]], np.int64), nodata=beyond)) == [[1, 2]]
     assert "row 1, column 2 is inf" in str(
-        refusal(rcell.Map(np.array([[1, np.inf]], np.float32), nodata=1e300))
+        refusal(rcell.Raster(np.array([[1, np.inf]], np.float32), nodata=1e300))
     )
 
 
@@ -172,33 +176,36 @@ def test_a_nodata_beyond_all_numbers_is_no_cell() -> None:
             np.array([[1, 2]], np.uint8),
             np.array([[1.0, 2.0]], np.float32),
         ):
-            assert cells(rcell.Map(array, nodata=nodata)) == [[1, 2]]
+            assert cells(rcell.Raster(array, nodata=nodata)) == [[1, 2]]
         assert "row 1, column 2 is inf" in str(
-            refusal(rcell.Map(np.array([[1, np.inf]]), nodata=nodata))
+            refusal(rcell.Raster(np.array([[1, np.inf]]), nodata=nodata))
         )
 
 
 @pytest.mark.parametrize(
     "labels, told",
     [
-        (
-            {"1": "wood"},
-            "a label of '1': labels are of whole numbers from -2147483647 to 2147483647, as {1: 'wood'}",
-        ),
-        ({None: "n"}, "a label of None: "),
-        ({1.0: "f"}, "a label of 1.0: "),
-        ({2**31: "x"}, "a label of 2147483648: "),
-        ({-(2**31): "x"}, "a label of -2147483648: "),
-        ({1: None}, "the label of 1 is None, which is no text"),
-        ({1: b"wood"}, "the label of 1 is b'wood', which is no text"),
+        ({None: "n"}, "None is not a whole number"),
+        ({1.5: "f"}, "1.5 is not a whole number"),
+        ({2**31: "x"}, "2147483648 is beyond 2147483647"),
+        ({-(2**31): "x"}, "-2147483648 is beyond 2147483647"),
         ({1: "\ud800"}, "the label of 1 has a character that no file can hold: '\\ud800'"),
         ({1: "\udcff"}, "that no file can hold: '\\udcff'"),
-        ({1: "a\0b"}, "that no file can hold: '\\x00'"),
-        (["wood"], "labels are a dict, as {1: 'wood'}, and not a list"),
+        ({1: "a\0b"}, "a label with the character NUL"),
+        (["wood"], "labels must be a path, a dict, a Series or a DataFrame; got ['wood']"),
     ],
 )
 def test_labels_are_texts_of_categories(labels: Any, told: str) -> None:
-    assert told in str(refusal(rcell.Map(LAND, labels=labels)))
+    with pytest.raises(rcell.RcellError) as refused:
+        rcell.Raster(LAND, labels=labels)
+    assert told in str(refused.value)
+
+
+def test_labels_of_a_legend_are_of_whole_numbers_however_they_are_written() -> None:
+    assert rcell.Raster(LAND, labels={"1": "wood", 2.0: "water", 3: None}).labels == {
+        1: "wood",
+        2: "water",
+    }
 
 
 def test_labels_that_no_file_can_hold_are_not_written(tmp_path: pathlib.Path) -> None:
@@ -211,7 +218,7 @@ def test_labels_that_no_file_can_hold_are_not_written(tmp_path: pathlib.Path) ->
         tmp_path.iterdir()
     )
     labels: Any = {np.int64(1): np.str_("\u00fc"), -5: "", 2**31 - 1: "x"}
-    kept = rcell.grid("", "m", m=rcell.Map(LAND, labels=labels))
+    kept = rcell.grid("", "m", m=rcell.Raster(LAND, labels=labels))
     assert rcell.grid("", "m", m=kept.write(tmp_path / "m.tif")).labels == {
         1: "\u00fc",
         2**31 - 1: "x",
@@ -269,7 +276,9 @@ def test_cells_of_64_bits_are_exact(tmp_path: pathlib.Path) -> None:
         assert cells(path) == [[None if nodata else 1, 2, 3]]
         assert cells(rasterio.open(path)) == [[None if nodata else 1, 2, 3]]
     near = np.array([[2**53, 2**53 + 1]])
-    assert "row 1, column 2 is 9007199254740993" in str(refusal(rcell.Map(near, nodata=2.0**53)))
+    assert "row 1, column 2 is 9007199254740993" in str(
+        refusal(rcell.Raster(near, nodata=2.0**53))
+    )
 
 
 def test_transparent_cells_are_null(raster: Write) -> None:
@@ -297,9 +306,11 @@ def test_a_transform_that_is_not_finite_is_refused(raster: Write, bad: float) ->
 
 
 def test_what_is_no_map_is_refused(tmp_path: pathlib.Path, raster: Write) -> None:
-    assert "nodata is a number, not '3'" in str(refusal(rcell.Map([[1]], nodata="3")))  # type: ignore[arg-type]
+    with pytest.raises(rcell.BadMap, match="nodata is a number, not '3'"):
+        rcell.Raster([[1]], nodata="3")  # type: ignore[arg-type]
     assert "rows of one length" in str(refusal([[1, 2], [3]]))
-    assert "an Affine or six numbers" in str(refusal(rcell.Map([[1]], (1, 2, 3))))
+    with pytest.raises(rcell.BadMap, match="an Affine or six numbers"):
+        rcell.Raster([[1]], (1, 2, 3))
     with pytest.raises(rcell.BadMap, match="rows and columns that are no whole numbers: 1.5 and 1"):
         rcell.Region(1, 0, 1, 0, rows=1.5, cols=1)  # type: ignore[arg-type]
     assert "NUL" in str(refusal("a\0b"))
@@ -330,7 +341,7 @@ def test_edges_of_a_grid_are_exact(tmp_path: pathlib.Path) -> None:
     )
     rcell.grid("", "m", m=path).write(copy)
     assert copy.read_text().startswith("north: 9999999999.12345678\nsouth: 9999999998.12345678\n")
-    assert rcell.run("r.stats input=a,b", a=path, b=copy).tables[0].rows == [(7, 7)]
+    assert rows_of(rcell.table("r.stats input=a,b", a=path, b=copy)) == [(7, 7)]
     assert "arguments" not in str(refusal(_grid(tmp_path, "north: 1e999")))
 
 
@@ -351,10 +362,9 @@ def test_labels_keep_the_blanks_of_unicode(blank: str) -> None:
     table = rcell.run(
         f"r.reclass input=m output=k\n1 thru 9 = 1 {blank}wide\nend\nr.stats -l input=k", m=LAND
     ).tables[0]
-    assert table.rows[0] == (1, f"{blank}wide")
-    assert rcell.run(
-        f"r.reclass input=m output=k\n{'1' * 5} = 1 {'0' * 9}\nend\nr.stats -l input=k", m=LAND
-    ).tables[0].rows == [(None, None)]
+    assert rows_of(table)[0] == (1, f"{blank}wide")
+    script = f"r.reclass input=m output=k\n{'1' * 5} = 1 {'0' * 9}\nend\nr.stats -l input=k"
+    assert rows_of(rcell.table(script, m=LAND)) == [(None, None)]
 
 
 # Coordinate reference systems
@@ -368,7 +378,7 @@ NONE = 'it has no coordinate reference system, and `a` has EPSG:25832 (ETRS89 / 
 
 
 def crossed(a: Any, b: Any, **words: Any) -> Any:
-    return rcell.run("r.stats -c input=a,b", a=a, b=b, **words).tables[0].rows
+    return rows_of(rcell.table("r.stats -c input=a,b", a=a, b=b, **words))
 
 
 def test_maps_of_two_reference_systems_are_refused(raster: Write) -> None:
@@ -382,7 +392,7 @@ def test_maps_of_two_reference_systems_are_refused(raster: Write) -> None:
     with pytest.raises(rcell.OtherCrs, match="and crs= is EPSG:31467"):
         crossed(maps[0], maps[0], crs=GAUSS)
     assert crossed(maps[0], maps[0]) == crossed(
-        maps[0], rcell.Map(LAND, TRANSFORM, rasterio.crs.CRS.from_epsg(25832))
+        maps[0], rcell.Raster(LAND, TRANSFORM, rasterio.crs.CRS.from_epsg(25832))
     )
 
 
@@ -407,19 +417,19 @@ def test_a_reference_system_that_is_not_understood_is_refused(
     monkeypatch: pytest.MonkeyPatch,
 ) -> None:
     assert "its coordinate reference system is not understood: 'nonsense'" in str(
-        refusal(rcell.Map([[1]], crs="nonsense"))
+        refusal(rcell.Raster([[1]], crs="nonsense"))
     )
-    compound = rcell.Map([[1]], (1, 0, 10, 0, -1, 50), "EPSG:9707")
+    compound = rcell.Raster([[1]], (1, 0, 10, 0, -1, 50), "EPSG:9707")
     assert rcell.composition(compound, area="km2")["area_km2"][0] == pytest.approx(
         8056.245, abs=0.001
     )
-    with pytest.raises(rcell.Refused, match="in degrees the area of a cell differs"):
+    with pytest.raises(rcell.BadArgument, match="in degrees the area of a cell differs"):
         rcell.table(SCRIPT, m=compound, area="ha")
     modules: dict[str, Any] = sys.modules
     for name in ("pyproj", "osr"):
         monkeypatch.setitem(modules, f"rcell.readers.{name}", None)
-    other = rcell.Map([[1, 1]], (1, 0, 10, 0, -1, 50), "EPSG:4267")
-    assert rcell.run(SCRIPT, m=other)[0].rows == [(1, 2)]
+    other = rcell.Raster([[1, 1]], (1, 0, 10, 0, -1, 50), "EPSG:4267")
+    assert rows_of(rcell.table(SCRIPT, m=other)) == [(1, 2)]
     with pytest.raises(
         rcell.MissingLibrary, match="to understand the coordinate reference system 'EPSG:4267'"
     ):
@@ -463,25 +473,23 @@ def test_reference_systems_are_the_same_whatever_their_spelling(
 def test_systems_without_a_plane_have_no_areas(library: str, crs: str, kind: str) -> None:
     assert importlib.import_module(f"rcell.readers.{library}").crs_of(crs).kind == kind
     with pytest.raises(rcell.Refused, match=f"cells have no area in a {kind} reference system"):
-        rcell.composition(rcell.Map([[1]], crs=crs), area="ha")
+        rcell.composition(rcell.Raster([[1]], crs=crs), area="ha")
 
 
 def test_cells_centred_on_the_poles_have_the_area_of_the_ellipsoid() -> None:
     ones = np.ones((721, 1440), int)
-    globe = rcell.Map(ones, (0.25, 0, -180.125, 0, -0.25, 90.125), "EPSG:4326")
+    globe = rcell.Raster(ones, (0.25, 0, -180.125, 0, -0.25, 90.125), "EPSG:4326")
     # Of WGS 84: 4 pi times the square of its authalic radius, 6,371,007.1809 m.
     area = rcell.composition(globe, area="km2")["area_km2"][0]
     assert area == pytest.approx(510_065_621.724, rel=1e-11)
-    beyond = rcell.Map(ones, (0.25, 0, -180.125, 0, -0.25, 90.25), "EPSG:4326")
+    beyond = rcell.Raster(ones, (0.25, 0, -180.125, 0, -0.25, 90.25), "EPSG:4326")
     with pytest.raises(rcell.Refused, match="rows beyond the pole: north is 90.25"):
         rcell.composition(beyond)
 
 
 def test_areas_are_the_nearest_floats() -> None:
-    table = rcell.run(
-        SCRIPT, m=(np.ones((1, 5), int), (30, 0, 0, 0, -30, 0)), crs="EPSG:25832"
-    ).tables[0]
-    assert table.with_area("ha").rows == [(1, 5, 0.45)]
+    land = (np.ones((1, 5), int), (30, 0, 0, 0, -30, 0))
+    assert rows_of(rcell.table(SCRIPT, m=land, area="ha", crs=UTM)) == [(1, 5, 0.45)]
 
 
 # Errors that say what to do
@@ -558,10 +566,9 @@ def test_all_errors_are_of_one_tree() -> None:
 
 
 def test_a_pivot_tells_classes_of_one_label_apart() -> None:
-    labelled = rcell.Map([[1, 2, 3, 0]], nodata=0, labels={1: "x", 2: "x", 3: "null"})
-    table = rcell.run("r.stats -cl input=a,b", a=labelled, b=labelled).tables[0]
-    assert table.pivot().rows == ["x (1)", "x (2)", "null (3)", None]
-    assert repr(table) == "<Table r.stats: 4 rows, a, a_label, b, b_label, cells>"
+    labelled = rcell.Raster([[1, 2, 3, 0]], nodata=0, labels={1: "x", 2: "x", 3: "null"})
+    matrix = rcell.table("r.stats -cl input=a,b", a=labelled, b=labelled, pivot=True)
+    assert matrix.index.tolist() == ["x (1)", "x (2)", "null (3)", "null"]
 
 
 def test_modules_without_their_libraries(monkeypatch: pytest.MonkeyPatch) -> None:
@@ -579,6 +586,6 @@ def environment(**words: str) -> dict[str, str]:
     return {
         **os.environ,
         "PYTHONPATH": str(pathlib.Path(rcell.__file__).parents[1]),
-        "RCELL": rcell.program(),
+        "RCELL": find_program(),
         **words,
     }

@@ -19,8 +19,10 @@ import pytest
 import rcell
 from rcell.shell import script_of
 from rcell.core import programs
+from rcell.core.programs import find_program
 
 from .conftest import LAND, TRANSFORM
+from .rows import rows_of
 from .test_edge import cells, environment
 
 rasterio = pytest.importorskip("rasterio")
@@ -225,7 +227,7 @@ def test_closed_and_full_standard_output(room: pathlib.Path) -> None:
 
 
 def test_a_library_with_closed_streams(room: pathlib.Path) -> None:
-    code = "import os, sys, rcell; t = rcell.run('r.stats -c input=m', m=sys.argv[1])[0]; open(sys.argv[2], 'w').write(str(t.rows))"
+    code = "import os, sys, rcell; t = rcell.run('r.stats -c input=m', m=sys.argv[1])[0]; open(sys.argv[2], 'w').write(str(t.values.tolist()))"
     for closed in ("<&-", ">&-", "2>&-", "<&- >&- 2>&-"):
         ran = shell(room, f"{sys.executable} -c {shlex.quote(code)} in.txt out {closed}")
         assert (ran.returncode, (room / "out").read_text()) == (0, "[(7, 3), (8, 3)]"), closed
@@ -280,7 +282,7 @@ def running(room: pathlib.Path) -> list[str]:
 def test_a_run_does_not_wait_for_forked_processes() -> None:
     children = []
 
-    class Forking(rcell.Map):
+    class Forking(rcell.Raster):
         """A map that forks while it is read."""
 
     cells_of = np.ones((300, 300), np.uint8)
@@ -298,7 +300,7 @@ def test_a_run_does_not_wait_for_forked_processes() -> None:
     began = time.monotonic()
     with pytest.MonkeyPatch.context() as patched:
         patched.setattr(type(source), "blocks", forking)
-        assert rcell.run("r.stats -c input=m", m=source).tables[0].rows == [(1, 90_000)]
+        assert rows_of(rcell.table("r.stats -c input=m", m=source)) == [(1, 90_000)]
     took = time.monotonic() - began
     for child in children:
         os.kill(child, signal.SIGKILL)
@@ -331,12 +333,12 @@ def test_a_program_that_does_not_end_is_told(
     stranger.chmod(0o755)
     monkeypatch.setattr(programs, "PROBE_SECONDS", 0.5)
     with pytest.raises(rcell.WrongProgram, match="does not end within 0.5 seconds"):
-        rcell.program(stranger)
+        find_program(stranger)
 
 
 def test_too_many_open_files_are_told() -> None:
     code = (
-        "import resource, rcell\nrcell.program()\nresource.setrlimit(resource.RLIMIT_NOFILE, (12, 12))\nheld = [open('/dev/null') for _ in range(7)]\n"
+        "import resource, rcell\nfrom rcell.core.programs import find_program\nfind_program()\nresource.setrlimit(resource.RLIMIT_NOFILE, (12, 12))\nheld = [open('/dev/null') for _ in range(7)]\n"
         "try: rcell.run('r.stats -c input=m', m=[[1]])\nexcept rcell.MissingProgram as error: print(error)\n"
     )
     ran = subprocess.run(

@@ -24,7 +24,7 @@ def grass(tmp_path_factory: pytest.TempPathFactory) -> Any:
         pytest.skip("GRASS is not installed")
     room = tmp_path_factory.mktemp("grass")
 
-    def session(crs: str, lines: str, **maps: rcell.Map) -> str:
+    def session(crs: str, lines: str, **maps: rcell.Raster) -> str:
         paths = {name: room / f"{name}-{crs[5:]}.txt" for name in maps}
         for name, path in paths.items():
             rcell.grid("", name, {name: maps[name]}).write(path)
@@ -49,13 +49,13 @@ def grass(tmp_path_factory: pytest.TempPathFactory) -> Any:
     return session
 
 
-def made(seed: int, transform: tuple[float, ...], crs: str, classes: int = 5) -> rcell.Map:
+def made(seed: int, transform: tuple[float, ...], crs: str, classes: int = 5) -> rcell.Raster:
     random = np.random.default_rng(seed)
     cells = np.repeat(
         np.repeat(random.integers(0, classes + 1, (SIZE[0] // 2, SIZE[1] // 2)), 2, 0), 2, 1
     )
     cells[random.random(SIZE) < 0.2] = random.integers(0, classes + 1)
-    return rcell.Map(cells, transform, crs, nodata=0)
+    return rcell.Raster(cells, transform, crs, nodata=0)
 
 
 def lines_of(text: str, separator: str = "|") -> list[list[float]]:

@@ -2,8 +2,6 @@
 
 from __future__ import annotations
 
-import inspect
-import json
 import math
 import pathlib
 import warnings
@@ -27,8 +25,8 @@ NAMES = {1: "wood", 2: "water", 3: "town"}
 WORLD = (10.0, 0.0, -180.0, 0.0, -10.0, 90.0)
 
 
-def land(**words: Any) -> rcell.Map:
-    return rcell.Map(LAND, TRANSFORM, UTM, 0, NAMES, **words)
+def land(**words: Any) -> rcell.Raster:
+    return rcell.Raster(LAND, TRANSFORM, UTM, 0, NAMES, **words)
 
 
 def random_maps(seed: int, count: int, most: int = 12, classes: int = 4) -> list[Any]:
@@ -52,7 +50,9 @@ def rows(frame: Any) -> list[tuple[Any, ...]]:
 
 
 def test_composition_has_its_columns() -> None:
-    zones = rcell.Map([[7, 7, 7, 7], [8, 8, 8, 0], [0, 0, 8, 8]], TRANSFORM, UTM, 0, {7: "north"})
+    zones = rcell.Raster(
+        [[7, 7, 7, 7], [8, 8, 8, 0], [0, 0, 8, 8]], TRANSFORM, UTM, 0, {7: "north"}
+    )
     frame = rcell.composition(land(), zones)
     assert list(frame.columns) == [
         "zone",
@@ -149,7 +149,9 @@ def test_a_cross_table_of_words_of_the_call() -> None:
 def test_change_is_that_of_pontius() -> None:
     before, after = np.array([[1, 1, 1, 1, 2, 2, 3, 0]]), np.array([[1, 1, 2, 3, 2, 1, 3, 1]])
     found = rcell.change(
-        rcell.Map(before, TRANSFORM, UTM, 0, NAMES), rcell.Map(after, TRANSFORM, UTM, 0), area=None
+        rcell.Raster(before, TRANSFORM, UTM, 0, NAMES),
+        rcell.Raster(after, TRANSFORM, UTM, 0),
+        area=None,
     )
     assert list(found.table.columns) == ["from", "from_label", "to", "to_label", "cells", "percent"]
     assert found.table["cells"].sum() == 7 and found.table["percent"].sum() == pytest.approx(100)
@@ -221,7 +223,7 @@ def test_patches_beside_scipy(connectivity: int) -> None:
 
 
 def test_patches_measure_oblong_cells_and_feet() -> None:
-    oblong = rcell.Map([[1, 1, 2]], (10, 0, 100, 0, -30, 330), UTM)
+    oblong = rcell.Raster([[1, 1, 2]], (10, 0, 100, 0, -30, 330), UTM)
     assert rcell.patches(oblong)["perimeter_m"].tolist() == [2 * (20 + 30), 2 * (10 + 30)]
     assert rcell.patches(oblong).iloc[0][["west", "south", "east", "north"]].tolist() == [
         100,
@@ -229,7 +231,7 @@ def test_patches_measure_oblong_cells_and_feet() -> None:
         120,
         330,
     ]
-    feet = rcell.Map([[1]], (10, 0, 0, 0, -10, 30), "EPSG:2263")
+    feet = rcell.Raster([[1]], (10, 0, 0, 0, -10, 30), "EPSG:2263")
     assert rcell.patches(feet)["perimeter_m"][0] == pytest.approx(40 * 1200 / 3937)
     assert list(rcell.patches(LAND, area=None, crs=UTM).columns)[:6] == [
         "patch",
@@ -271,7 +273,7 @@ def test_quantiles_are_checked() -> None:
     for given in (1.5, -0.1, "x", float("nan")):
         with pytest.raises(rcell.BadArgument, match="quantiles must be from 0 to 1"):
             rcell.zonal(LAND, LAND, [given])  # type: ignore[list-item]
-    assert rcell.zonal(rcell.Map([[0]], nodata=0), [[1]]).empty
+    assert rcell.zonal(rcell.Raster([[0]], nodata=0), [[1]]).empty
 
 
 # Majority
@@ -318,7 +320,7 @@ def surface(axis: float, flattening: float) -> float:
 @pytest.mark.parametrize("code", [4326, 4258, 4047, 4314])
 def test_the_surface_of_the_ellipsoid(code: int) -> None:
     geod = pyproj.CRS.from_epsg(code).get_geod()
-    world = rcell.Map(np.arange(1, 649).reshape(18, 36), WORLD, f"EPSG:{code}")
+    world = rcell.Raster(np.arange(1, 649).reshape(18, 36), WORLD, f"EPSG:{code}")
     frame = rcell.composition(world, area="m2")
     assert frame["area_m2"].sum() == pytest.approx(surface(geod.a, geod.f), rel=1e-12)
     for rows_, height in ((180 * 1200, 1 / 1200), (9, 20.0)):
@@ -340,7 +342,7 @@ def test_cells_in_degrees_are_those_of_dense_parallels() -> None:
 
 def test_answers_in_degrees_weigh_their_rows() -> None:
     random = np.random.default_rng(1)
-    a, b = (rcell.Map(random.integers(1, 4, (18, 36)), WORLD, "EPSG:4326") for _ in "ab")
+    a, b = (rcell.Raster(random.integers(1, 4, (18, 36)), WORLD, "EPSG:4326") for _ in "ab")
     area = np.broadcast_to(
         row_areas(
             math.pi / 2, math.radians(10), math.radians(10), 18, (6378137.0, 1 / 298.257223563)
@@ -371,13 +373,13 @@ def test_answers_in_degrees_weigh_their_rows() -> None:
 
 
 def test_rows_beyond_a_pole() -> None:
-    half = rcell.Map(np.ones((19, 36), int), (10, 0, -180, 0, -10, 95), "EPSG:4326")
+    half = rcell.Raster(np.ones((19, 36), int), (10, 0, -180, 0, -10, 95), "EPSG:4326")
     assert rcell.composition(half, area="m2")["area_m2"][0] == pytest.approx(
         surface(6378137.0, 1 / 298.257223563), rel=1e-12
     )
     with pytest.raises(rcell.Refused, match="rows beyond the pole: north is 120"):
         rcell.composition(
-            rcell.Map(np.ones((19, 36), int), (10, 0, -180, 0, -10, 120), "EPSG:4326")
+            rcell.Raster(np.ones((19, 36), int), (10, 0, -180, 0, -10, 120), "EPSG:4326")
         )
 
 
@@ -430,7 +432,7 @@ def test_polygons_are_zones(tmp_path: pathlib.Path) -> None:
         tmp_path / "z.gpkg",
         [(shapes[0], {"name": "west", "id": 7}), (shapes[1], {"name": "east", "id": 5})],
     )
-    raster = rcell.Map([[1, 1, 2, 2]] * 3, TRANSFORM, UTM)
+    raster = rcell.Raster([[1, 1, 2, 2]] * 3, TRANSFORM, UTM)
     west = rcell.composition(land(), raster)
     assert rows(rcell.composition(land(), path)) == rows(west)
     named = rcell.composition(land(), path, zone_field="name")
@@ -455,7 +457,7 @@ def test_polygons_are_zones(tmp_path: pathlib.Path) -> None:
         "type": "FeatureCollection",
         "features": [{"type": "Feature", "geometry": square, "properties": None}],
     }
-    assert rcell.composition(rcell.Map(np.ones((18, 36), int), WORLD, "EPSG:4326"), layer)[
+    assert rcell.composition(rcell.Raster(np.ones((18, 36), int), WORLD, "EPSG:4326"), layer)[
         "cells"
     ].tolist() == [162]
 
@@ -466,7 +468,7 @@ def test_polygons_that_are_refused(tmp_path: pathlib.Path) -> None:
     )
     with pytest.warns(
         UserWarning,
-        match="3 cells are in more than one polygon, the first at row 1, column 2: the later polygon has them",
+        match="3 cells are in more than one polygon, the first at row 1, column 2: the later polygon has them, and feature 1 lost them",
     ):
         assert (
             rcell.composition(LAND, path, crs=UTM)["zone"].max() == 2
@@ -484,7 +486,9 @@ def test_polygons_that_are_refused(tmp_path: pathlib.Path) -> None:
         tmp_path / "some.gpkg",
         [(box(0, 0, 4, 3), {"name": "a"}), (box(0.6, 0.6, 0.9, 0.9), {"name": "tiny"})],
     )
-    with pytest.warns(UserWarning, match="1 of 2 polygons contain no centre of a cell: tiny"):
+    with pytest.warns(
+        UserWarning, match="1 of 2 polygons contain no centre of a cell: feature 2 .tiny."
+    ):
         rcell.composition(land(), some, zone_field="name")
     degrees = write_polygons(
         tmp_path / "degrees.geojson", [(box(0, 0, 4, 3), {"name": "a"})], "EPSG:4326"
@@ -499,7 +503,7 @@ def test_polygons_that_are_refused(tmp_path: pathlib.Path) -> None:
         rcell.composition(land(), lines)
     write_polygons(tmp_path / "z.gpkg", [(box(0, 0, 4, 3), {"name": "whole"})], layer="second")
     with pytest.raises(
-        rcell.Refused, match="has the layers z, second: choose one, as .*z.gpkg.layername=z"
+        rcell.Refused, match="has the layers z, second: name one, as .*z.gpkg.layername=z"
     ):
         rcell.composition(land(), path)
     assert rcell.composition(land(), f"{path}|layername=second", zone_field="name")[
@@ -530,13 +534,13 @@ def test_align_by_whole_cells(raster: Write) -> None:
     text = path.replace("big.tif", "frame.txt")
     rcell.grid("", "m", m=frame).write(text)
     assert rcell.align(text, to=path, crs=UTM).aligned == (-1, -2, 12, 0, 0)
-    far = rcell.align(rcell.Map(LAND, (25.0, 0, 100_000.0, 0, -25.0, 100_000.0), UTM), to=path)
+    far = rcell.align(rcell.Raster(LAND, (25.0, 0, 100_000.0, 0, -25.0, 100_000.0), UTM), to=path)
     assert far.aligned == (-216000, 16000, 0, 0, 12) and np.ma.getmaskarray(far.array).all()
 
 
 def test_align_by_the_nearest_cell() -> None:
-    source = rcell.Map([[1, 2], [3, 0]], (10, 0, 0, 0, -10, 20), UTM, nodata=0)
-    finer = rcell.Map(np.zeros((4, 4), int), (5, 0, 0, 0, -5, 20), UTM)
+    source = rcell.Raster([[1, 2], [3, 0]], (10, 0, 0, 0, -10, 20), UTM, nodata=0)
+    finer = rcell.Raster(np.zeros((4, 4), int), (5, 0, 0, 0, -5, 20), UTM)
     with pytest.raises(
         rcell.OtherRegion, match='cells of 10 x 10, and those of `to` are 5 x 5: resample="nearest"'
     ):
@@ -544,7 +548,7 @@ def test_align_by_the_nearest_cell() -> None:
     found = rcell.align(source, to=finer, resample="nearest")
     assert found.array.tolist() == [[1, 1, 2, 2], [1, 1, 2, 2], [3, 3, None, None], [3, 3, None, None]]  # type: ignore[union-attr]
     assert found.aligned == (0, 0, 3, 3, 0)
-    half = rcell.Map([[0, 0]], (10, 0, 5, 0, -10, 15), UTM)
+    half = rcell.Raster([[0, 0]], (10, 0, 5, 0, -10, 15), UTM)
     with pytest.raises(
         rcell.OtherRegion, match="shifted by 0.5 rows and 0.5 columns, not by whole cells"
     ):
@@ -554,11 +558,11 @@ def test_align_by_the_nearest_cell() -> None:
         rcell.BadArgument, match="""resample must be "nearest" or None; got 'cubic'"""
     ):
         rcell.align(source, to=half, resample="cubic")
-    degrees = rcell.Map(np.zeros((3, 3), int), (1e-4, 0, 5.9998, 0, -1e-4, 1e-4), "EPSG:4326")
+    degrees = rcell.Raster(np.zeros((3, 3), int), (1e-4, 0, 5.9998, 0, -1e-4, 1e-4), "EPSG:4326")
     with pytest.raises(rcell.OtherCrs):
         rcell.align(source, to=degrees)
     found = rcell.align(
-        rcell.Map([[1, 2], [3, 4]], (10, 0, 166_000, 0, -10, 10), UTM),
+        rcell.Raster([[1, 2], [3, 4]], (10, 0, 166_000, 0, -10, 10), UTM),
         to=degrees,
         resample="nearest",
     )
@@ -591,8 +595,8 @@ def test_align_beside_gdal(code: str) -> None:
     }
     reproject(cells, expected, resampling=Resampling.nearest, tolerance=0, **words)
     found = rcell.align(
-        rcell.Map(cells, place, "EPSG:25832"),
-        to=rcell.Map(expected, target, code),
+        rcell.Raster(cells, place, "EPSG:25832"),
+        to=rcell.Raster(expected, target, code),
         resample="nearest",
     )
     assert (expected > 0).mean() > 0.9
@@ -606,7 +610,7 @@ def test_the_error_says_how_to_align(raster: Write) -> None:
     with pytest.raises(rcell.OtherRegion) as caught:
         rcell.cross(lc=lc, zone=zone)
     assert str(caught.value).splitlines()[-1] == f'  try: zone=rcell.align("{zone}", to="{lc}")'
-    moved = rcell.Map(LAND, (25.0, 0, 500_012.5, 0, -25.0, 5_500_000.0), UTM)
+    moved = rcell.Raster(LAND, (25.0, 0, 500_012.5, 0, -25.0, 5_500_000.0), UTM)
     with pytest.raises(rcell.OtherRegion) as caught:
         rcell.composition(lc, moved)
     assert (
@@ -686,29 +690,6 @@ def test_an_attribute_table_has_labels_and_colours(raster: Write) -> None:
     del dataset
     assert rcell.composition(path)["label"].tolist() == list(NAMES.values())
     assert rcell.majority(path).colors == {1: "#100000", 2: "#200000", 3: "#300000"}
-
-
-# Tables
-
-
-def test_tables_read_back(tmp_path: pathlib.Path) -> None:
-    table = inspect.unwrap(rcell.composition)(
-        land(), labels={1: 'a "quoted", b', 2: "p|q", 3: "c"}, include_null=True
-    )
-    assert table.csv().splitlines()[:2] == [
-        "class,label,cells,area_ha,percent",
-        '1,"a ""quoted"", b",5,0.3125,45.45454545454545',
-    ]
-    assert table.csv().splitlines()[-1] == ",,1,0.0625,"
-    assert json.loads(table.json())[-1] == {
-        "class": None,
-        "label": None,
-        "cells": 1,
-        "area_ha": 0.0625,
-        "percent": None,
-    }
-    assert table.markdown().splitlines()[3] == "| 2 | p\\|q | 4 | 0.25 | 36.36363636 |"
-    assert table.rows == rows(table.frame()) and isinstance(table, rcell.Table)
 
 
 def test_docstrings_are_whole() -> None:

@@ -50,7 +50,7 @@ tables = [
 ]
 found = change(a, b)
 print([len(table) for table in tables])
-print(majority(a).array.tolist(), align(a, b).array.tolist())
+print(majority(a).array.tolist(), align(a, b)[0].array.tolist())
 print(sorted(set(sys.modules) & set({others!r}.split(", ")) - {{k for k, v in sys.modules.items() if v is None}}))
 """
 

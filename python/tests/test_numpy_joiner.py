@@ -14,7 +14,8 @@ import numpy as np
 import rcell
 from rcell.core import joiner
 from rcell.core.counts import Counts, TooManyCells, counts_of
-from rcell.core.joiner import border_of, joined, joined_sizes, numbering_of
+from rcell.core.joiner import border_of, find_joiner, joined, joined_sizes, numbering_of
+from rcell.core.programs import find_program
 from rcell.core.sources import ArrayMap
 from rcell.core.runs import execute, printed as printed_by_rcell
 from rcell.core.region import Region
@@ -305,10 +306,10 @@ class Programs(unittest.TestCase):
         return joined([b"1 1\n"], program=known_program(self, body))
 
     def test_found(self) -> None:
-        beside = os.path.join(os.path.dirname(rcell.program()), "rcell-join")
+        beside = os.path.join(os.path.dirname(find_program()), "rcell-join")
         if "RCELL_JOIN" not in os.environ and os.path.exists(beside):
-            self.assertEqual(rcell.joiner(), beside)
-        self.assertEqual(rcell.joiner(rcell.joiner()), rcell.joiner())
+            self.assertEqual(find_joiner(), beside)
+        self.assertEqual(find_joiner(find_joiner()), find_joiner())
 
     def test_nowhere(self) -> None:
         code = (
@@ -326,16 +327,16 @@ class Programs(unittest.TestCase):
 
     def test_missing_and_wrong(self) -> None:
         with self.assertRaises(rcell.MissingProgram):
-            rcell.joiner("/nowhere/rcell-join")
-        only_tables = f'[ $1 = tables ] && exec {rcell.joiner()} "$@"; exit 2'
+            find_joiner("/nowhere/rcell-join")
+        only_tables = f'[ $1 = tables ] && exec {find_joiner()} "$@"; exit 2'
         for body in ("exit 0", "echo 1 2", 'cat "$2" "$3"', "exit 3", only_tables):
             with self.subTest(body=body), self.assertRaises(rcell.WrongProgram):
-                rcell.joiner(program(self, body))
+                find_joiner(program(self, body))
         path = program(self, "")
         with open(path, "w") as file:
             file.write("no program")
         with self.assertRaises(rcell.MissingProgram):
-            rcell.joiner(path)
+            find_joiner(path)
 
     def test_ended(self) -> None:
         with self.assertRaises(rcell.Killed):

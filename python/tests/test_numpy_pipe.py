@@ -15,8 +15,7 @@ from typing import Any, Iterator
 
 import numpy as np
 
-import rcell
-from rcell.core.programs import find_pipe
+from rcell.core.programs import find_pipe, find_program
 from rcell.core import protocol
 
 EDGES = ("2", "0", "3.5", "-.5")
@@ -426,7 +425,7 @@ class Runs(unittest.TestCase):
                 with open(f"{folder}/script", "wb") as script_file:
                     script_file.write(script)
                 wanted = subprocess.run(
-                    [rcell.program(), f"{folder}/script", *words], capture_output=True, check=True
+                    [find_program(), f"{folder}/script", *words], capture_output=True, check=True
                 ).stdout
             self.assertEqual(b"".join(protocol.text(find_pipe(), maps, script)), wanted)
 

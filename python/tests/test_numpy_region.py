@@ -27,18 +27,12 @@ class RegionsOfTheProgram(unittest.TestCase):
     def test_the_globe_by_twentieths_of_a_minute(self) -> None:
         globe = Region.from_transform((1 / 120, 0, -180, 0, -1 / 120, 90), 21_600, 43_200)
         self.assertEqual(
-            globe.header(),
-            "north: 90\nsouth: -90\neast: 180\nwest: -180\nrows: 21600\ncols: 43200\n",
+            (globe.edges, globe.shape), (("90", "-90", "180", "-180"), (21_600, 43_200))
         )
+        self.assertEqual(globe.bounds, (-180, -90, 180, 90))
 
     def test_no_minus_before_a_zero(self) -> None:
-        self.assertIn("south: 0\n", Region(1, -1e-12, 1, 0, 1, 1).header())
-
-    def test_windows_share_their_edges(self) -> None:
-        whole = Region(1, 0, 1, 0, 3, 7)
-        left, right = whole.window(0, 0, 3, 3), whole.window(0, 3, 3, 4)
-        self.assertEqual(left.units[2], right.units[3])
-        self.assertEqual(whole.window(0, 0, 3, 7), whole)
+        self.assertEqual(Region(1, -1e-12, 1, 0, 1, 1).edges[1], "0")
 
     def test_what_is_refused(self) -> None:
         for words, told in (

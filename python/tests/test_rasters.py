@@ -19,6 +19,7 @@ import rcell
 from rcell.readers.rasterio import open_raster
 
 from .conftest import LAND, TRANSFORM
+from .rows import rows_of
 
 rasterio = pytest.importorskip("rasterio")
 Write = Callable[..., str]
@@ -207,7 +208,7 @@ def test_a_guess_that_is_wrong_changes_no_number(raster: Write) -> None:
             array, tiled=True, blockxsize=128, blockysize=128, compress="deflate", nodata=0
         )
         values, counts = np.unique(array, return_counts=True)
-        rows: dict[Any, Any] = dict(rcell.run("r.stats -c input=lc", lc=path).tables[0].rows)  # type: ignore[arg-type]
+        rows: dict[Any, Any] = dict(rows_of(rcell.table("r.stats -c input=lc", lc=path)))  # type: ignore[arg-type]
         assert rows == {
             None if value == 0 else value: count
             for value, count in zip(values.tolist(), counts.tolist())
@@ -245,7 +246,7 @@ def test_any_raster_is_counted_as_numpy_does(array: Any, nodata: int | None) -> 
         with memory.open(**profile, transform=rasterio.Affine(*TRANSFORM)) as dataset:
             dataset.write(array, 1)
         with memory.open() as dataset:
-            rows = rcell.run("r.stats -c input=lc", lc=dataset).tables[0].rows
+            rows = rows_of(rcell.table("r.stats -c input=lc", lc=dataset))
     values, counts = np.unique(array, return_counts=True)
     assert dict(rows) == {None if value == nodata else int(value): count for value, count in zip(values.tolist(), counts.tolist())}  # type: ignore[arg-type]
 

@@ -23,9 +23,9 @@ def main(grid: str, labels: str) -> None:
         r"^\d+ = (\d+) (.*)$", pathlib.Path(labels).read_text(encoding="utf-8"), re.MULTILINE
     )
     countries = rcell.grid("", "country", country=grid)
-    equator = round(countries.region.north / countries.region.cell[0])
+    equator = round(countries.region.north / countries.region.res[1])
     both = {
-        "country": rcell.Map(
+        "country": rcell.Raster(
             countries.array, countries.region, CRS, labels={int(code): name for code, name in rules}
         )
     }

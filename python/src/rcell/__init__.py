@@ -5,8 +5,11 @@ A script is run over maps of one region, which are given by name: paths of GeoTI
 
 >>> import numpy as np, rcell
 >>> land = np.array([[1, 1, 2], [3, 2, 2]])
->>> rcell.run("r.stats -c input=land", land=land)[0].rows
-[(1, 2), (2, 3), (3, 1)]
+>>> rcell.table("r.stats -c input=land", land=land)
+   land  cells
+0     1      2
+1     2      3
+2     3      1
 """
 
 from __future__ import annotations
@@ -18,50 +21,46 @@ __all__ = [
     "BadArgument",
     "BadMap",
     "Change",
-    "Grid",
     "Killed",
-    "Map",
+    "MapLike",
     "MissingLibrary",
     "MissingProgram",
     "OtherCrs",
     "OtherRegion",
     "OutOfMemory",
-    "Pivot",
+    "Raster",
     "RcellError",
     "ReadFailed",
     "Refused",
     "Region",
     "Result",
-    "StatsTable",
-    "Table",
     "WriteFailed",
     "WrongProgram",
     "__version__",
+    "adjacency",
     "align",
     "bands",
     "change",
+    "clump",
     "composition",
     "cross",
     "grid",
-    "joiner",
     "majority",
     "patches",
-    "program",
+    "reclass",
     "run",
+    "show_versions",
     "table",
     "zonal",
 ]
 
 if TYPE_CHECKING:
-    import os
     from typing import Any
 
     from . import tiles
     from ._version import __version__
-    from .core.align import align
-    from .core.change import Change, change
-    from .core.columns import Pivot, StatsTable, Table
-    from .core.composition import composition, cross
+    from .core.align import Aligned
+    from .core.change import Change
     from .core.errors import (
         BadArgument,
         BadMap,
@@ -77,24 +76,35 @@ if TYPE_CHECKING:
         WriteFailed,
         WrongProgram,
     )
-    from .core.majority import majority
-    from .core.patches import patches
     from .core.region import Region
-    from .core.scripts import Result, grid, run, table
-    from .core.sources import Aligned, Map
-    from .core.zonal import zonal
-    from .raster import Grid
+    from .core.sources import MapLike
+    from .frames import (
+        Result,
+        adjacency,
+        align,
+        change,
+        clump,
+        composition,
+        cross,
+        grid,
+        majority,
+        patches,
+        reclass,
+        run,
+        table,
+        zonal,
+    )
+    from .raster import Raster
     from .readers.bands import bands
+    from .versions import show_versions
 
     __all__ += ["tiles"]
 
 # Each name is imported when it is first used: the command line reads and explains files without numpy.
 _MODULES = {
     "._version": ("__version__",),
-    ".core.align": ("align",),
-    ".core.change": ("Change", "change"),
-    ".core.columns": ("Pivot", "StatsTable", "Table"),
-    ".core.composition": ("composition", "cross"),
+    ".core.align": ("Aligned",),
+    ".core.change": ("Change",),
     ".core.errors": (
         "BadArgument",
         "BadMap",
@@ -110,78 +120,29 @@ _MODULES = {
         "WriteFailed",
         "WrongProgram",
     ),
-    ".core.majority": ("majority",),
-    ".core.patches": ("patches",),
     ".core.region": ("Region",),
-    ".core.scripts": ("Result", "grid", "run", "table"),
-    ".core.sources": ("Aligned", "Map"),
-    ".core.zonal": ("zonal",),
-    ".raster": ("Grid",),
+    ".core.sources": ("MapLike",),
+    ".frames": (
+        "Result",
+        "adjacency",
+        "align",
+        "change",
+        "clump",
+        "composition",
+        "cross",
+        "grid",
+        "majority",
+        "patches",
+        "reclass",
+        "run",
+        "table",
+        "zonal",
+    ),
+    ".raster": ("Raster",),
     ".readers.bands": ("bands",),
+    ".versions": ("show_versions",),
 }
 _MODULE_OF = {name: module for module, names in _MODULES.items() for name in names}
-
-
-def program(path: str | os.PathLike[str] | None = None) -> str:
-    """Return the path of the program that the calls run.
-
-    Parameters
-    ----------
-    path : path, optional
-        Looked at in place of what would be found.
-
-    Returns
-    -------
-    str
-        The first of: the environment variable RCELL, the program next to this Python, where the wheel puts it, the path.
-
-    Raises
-    ------
-    MissingProgram
-        There is none.
-    WrongProgram
-        It is another program, or of a version that this package does not know.
-
-    Examples
-    --------
-    >>> import os, rcell
-    >>> os.path.basename(rcell.program())
-    'rcell'
-    """
-    from .core.programs import find_program
-
-    return find_program(path)
-
-
-def joiner(path: str | os.PathLike[str] | None = None) -> str:
-    """Return the path of the program rcell-join, which joins the tables of tiles.
-
-    Parameters
-    ----------
-    path : path, optional
-        Looked at in place of what would be found.
-
-    Returns
-    -------
-    str
-        The first of: the environment variable RCELL_JOIN, the program next to rcell, the one next to this Python, the path.
-
-    Raises
-    ------
-    MissingProgram
-        There is none.
-    WrongProgram
-        It is another program, or of a version that this package does not know.
-
-    Examples
-    --------
-    >>> import os, rcell
-    >>> os.path.basename(rcell.joiner())
-    'rcell-join'
-    """
-    from .core.joiner import find_joiner
-
-    return find_joiner(path)
 
 
 def __getattr__(name: str) -> Any:

@@ -5,15 +5,16 @@ from __future__ import annotations
 
 from typing import TYPE_CHECKING, Any
 
+import numpy as np
+
 from .core.protocol import NULL
 
 from .core.writing import replacing, told_of
 from .core.labels import checked_labels, write_labels
 from .core.libraries import need
-from .core.masked import compressed, filled
 
 if TYPE_CHECKING:
-    from .raster import Grid
+    from .raster import Raster
 
 __all__ = ["profile_of", "smallest_type", "write_geotiff"]
 
@@ -64,7 +65,7 @@ def profile_of(
     return profile | ({} if crs is None else {"crs": crs})
 
 
-def write_geotiff(grid: Grid, path: str) -> None:
+def write_geotiff(grid: Raster, path: str) -> None:
     """Write a grid as a GeoTIFF, completely or not at all.
 
     The compressed file is made in memory and written by Python, since the library does not report a full disk.
@@ -80,11 +81,11 @@ def write_geotiff(grid: Grid, path: str) -> None:
     labels = checked_labels(
         grid.name, grid.labels
     )  # labels of rules may have bytes that are not text
-    kept = compressed(grid.array)
+    kept = grid.array.compressed()
     dtype, nodata = (
         smallest_type(int(kept.min()), int(kept.max())) if kept.size else smallest_type(0, 0)
     )
-    cells = filled(grid.array, nodata).astype(dtype)
+    cells = grid.array.astype(np.int32).filled(nodata).astype(dtype)
     profile = profile_of(*grid.region.shape, grid.transform, grid.crs, dtype, nodata)
     with replacing(path) as beside, told_of(path, rasterio.errors.RasterioError):
         with need("rasterio.io", "gis", "to write a GeoTIFF").MemoryFile() as memory:

@@ -1,27 +1,28 @@
 # SPDX-License-Identifier: Apache-2.0 OR GPL-2.0-or-later
-"""Grids: maps that a run returns."""
+"""Raster: a map in memory, which calls take and return."""
 
 from __future__ import annotations
 
 import base64
+import dataclasses
 import html
 import io
 import os
-from dataclasses import dataclass, field
-from typing import Any, Mapping
+from collections.abc import Sequence
+from functools import cached_property
+from typing import Any
 
 import numpy as np
 
-from .core.protocol import NULL
-
-from .core.arrays import NDArray
+from .core.align import Aligned
+from .core.arrays import ArrayLike, NDArray
 from .core.errors import BadArgument
+from .core.legends import legend_of
 from .core.libraries import has, need
-from .core.sources import Map
-from .core.masked import MaskedCells, compressed, filled, mask_of, masked
 from .core.region import Region, Transform
+from .core.sources import ArrayMap, array_map, null_cells
 
-__all__ = ["Grid"]
+__all__ = ["Raster"]
 
 # The longer side of the picture in a notebook, in pixels.
 THUMBNAIL = 320
@@ -30,103 +31,142 @@ LEGEND_LIMIT = 30
 _PALETTES = ("tab20", "tab20b", "tab20c")
 
 
-@dataclass(frozen=True, eq=False)
-class Grid:
-    """A map that a script made, or one of its inputs.
+class Raster:
+    """A map in memory, with all that an array can't say of itself.
+
+    If only an array is given to a call, it has cells of side 1; `(array, transform)` is short for this class.
 
     Parameters
     ----------
+    array : array, masked array, or nested lists of whole numbers, rows x cols
+        Any integer type, bool, or floats that are whole numbers; masked cells and NaN are null.
+    transform : rasterio's Affine, six numbers, or Region, optional
+        Where the cells are; rows from south to north are turned. By default, cells have side 1, and the bottom left corner is at 0, 0.
+    crs : any, optional
+        A reference system of rasterio or pyproj, or its well-known text.
+    nodata : float, optional
+        A value that is null.
+    labels : path, dict, Series or DataFrame, optional
+        A legend, as in `composition`.
+    colors : mapping of int to str, optional
+        As `#rrggbb`.
     name : str
-        The name of the map.
-    array : masked array of int32, rows x cols
-        Masked where the map is null.
-    region : Region
-    transform : tuple of six float
-        The transform of the first map of the run, never read back from text.
-    crs : any
-        The reference system of the first map of the run, or None.
-    labels, colors : mapping of int to str
-        From the rules of the script, or from the input map; colours as `#rrggbb`.
-    command : str
-    line : int
-        The line of the script; 0 if the map was requested by name.
-    files : tuple of str
-        The files that it was made of, none of which `write` replaces.
+        The name of the map, which errors, plots and DataArrays have.
 
     Examples
     --------
     >>> import numpy as np, rcell
-    >>> grid = rcell.grid("r.clump input=lc output=areas", "areas", lc=np.array([[5, 5, 7, 5]]))
-    >>> grid.array.tolist(), grid.region.shape
-    ([[1, 1, 2, 3]], (1, 4))
+    >>> land = rcell.Raster(np.array([[1, 1], [2, 0]]), nodata=0, labels={1: "wood", 2: "water"})
+    >>> rcell.table("r.stats -c -l input=land", land=land)
+       land land_label  cells
+    0     1       wood      2
+    1     2      water      1
+    2  <NA>       <NA>      1
     """
 
-    name: str
-    array: MaskedCells
-    region: Region
-    transform: Transform
-    crs: Any = None
-    labels: Mapping[int, str] = field(default_factory=dict)
-    command: str = "r.out.ascii"
-    line: int = 0
-    colors: Mapping[int, str] = field(default_factory=dict)
-    files: tuple[str, ...] = field(default=(), repr=False)
+    def __init__(
+        self,
+        array: ArrayLike,
+        transform: Region | Sequence[float] | None = None,
+        crs: Any = None,
+        nodata: float | None = None,
+        labels: Any = None,
+        colors: dict[int, str] | None = None,
+        *,
+        name: str = "map",
+    ) -> None:
+        legend = legend_of({} if labels is None else labels)
+        given_colors = legend.colors if colors is None else colors
+        self._set(array_map(name, array, transform, crs, nodata, legend.labels, given_colors), None)
 
-    @property
-    def maps(self) -> tuple[str, ...]:
-        """The name as a tuple, like the maps of a table.
+    def _set(self, source: ArrayMap, aligned: Aligned | None) -> None:
+        self._source = source
+        self.name = source.name
+        self.region = source.region
+        self.transform: Transform = source.transform
+        self.crs = source.crs
+        self.labels = dict(source.labels)
+        self.colors = dict(source.colors)
+        self.aligned = aligned
+
+    @classmethod
+    def _of(cls, source: ArrayMap, aligned: Aligned | None = None) -> Raster:
+        """Return a map of the core."""
+        made = cls.__new__(cls)
+        made._set(source, aligned)
+        return made
+
+    @cached_property
+    def array(self) -> Any:
+        """The cells as a masked array, rows from north to south; null cells are masked.
 
         Examples
         --------
         >>> import numpy as np, rcell
-        >>> rcell.run("r.out.ascii input=lc", lc=np.array([[5]]))[0].maps
-        ('lc',)
+        >>> rcell.Raster([[1, 1], [2, 0]], nodata=0).array.tolist()
+        [[1, 1], [2, None]]
         """
-        return (self.name,)
+        cells = self._source.array
+        return np.ma.MaskedArray(
+            cells, null_cells(cells, self._source.null, self._source.nodata_value)
+        )
 
-    @classmethod
-    def of_values(cls, values: NDArray[np.int32], **words: Any) -> Grid:
-        """Return a grid of cells in which -2147483648 is null.
+    @property
+    def shape(self) -> tuple[int, int]:
+        """Rows and columns.
+
+        Examples
+        --------
+        >>> import rcell
+        >>> rcell.Raster([[1, 2, 3]]).shape
+        (1, 3)
+        """
+        return self.region.shape
+
+    @property
+    def res(self) -> tuple[float, float]:
+        """The width and the height of a cell, in the units of the map.
+
+        Examples
+        --------
+        >>> import rcell
+        >>> rcell.Raster([[1]], (25, 0, 0, 0, -50, 0)).res
+        (25.0, 50.0)
+        """
+        return self.transform[0], -self.transform[4]
+
+    @property
+    def bounds(self) -> tuple[float, float, float, float]:
+        """West, south, east and north.
+
+        Examples
+        --------
+        >>> import rcell
+        >>> rcell.Raster([[1, 2]], (10, 0, 100, 0, -10, 50)).bounds
+        (100.0, 40.0, 120.0, 50.0)
+        """
+        return self.region.bounds
+
+    def source(self, name: str) -> ArrayMap:
+        """Return the map as the core knows it, under a name; calls that take maps do this.
 
         Parameters
         ----------
-        values : array of int32
-            The cells.
-        **words
-            The other parameters of a Grid.
+        name : str
+            The name of the map, which errors have.
 
         Returns
         -------
-        Grid
-            With the null cells masked.
+        ArrayMap
+            Its cells with their region.
 
         Examples
         --------
-        >>> import numpy as np, rcell
-        >>> region = rcell.Region.of_cells(1, 2)
-        >>> cells = np.array([[4, -2147483648]], np.int32)
-        >>> rcell.Grid.of_values(cells, name="x", region=region, transform=region.transform).array.tolist()
-        [[4, None]]
+        >>> import rcell
+        >>> rcell.Raster([[1, 2]]).source("land").name
+        'land'
         """
-        return cls(array=masked(values, values == NULL), **words)
-
-    def as_map(self) -> Map:
-        """Return the grid as an input map; calls that take maps do this themselves.
-
-        Returns
-        -------
-        Map
-            With the same cells, region, labels and colours.
-
-        Examples
-        --------
-        >>> import numpy as np, rcell
-        >>> areas = rcell.grid("r.clump input=lc output=areas", "areas", lc=np.array([[5, 5, 7, 5]]))
-        >>> rcell.run("r.stats -c input=areas", areas=areas).tables[0].rows
-        [(1, 2), (2, 1), (3, 1)]
-        """
-        place = (self.transform, self.crs, None, self.labels, self.colors)
-        return Map(self.array, *place, files=self.files)
+        return dataclasses.replace(self._source, name=name)
 
     def categories(self) -> list[int]:
         """Return the categories that occur, ascending.
@@ -138,11 +178,11 @@ class Grid:
 
         Examples
         --------
-        >>> import numpy as np, rcell
-        >>> rcell.run("r.out.ascii input=lc", lc=np.array([[5, 7, 5]]))[0].categories()
+        >>> import rcell
+        >>> rcell.Raster([[5, 7, 5]]).categories()
         [5, 7]
         """
-        found: list[int] = np.unique(compressed(self.array)).tolist()
+        found: list[int] = np.unique(self.array.compressed()).tolist()
         return found
 
     def write(self, path: str | os.PathLike[str]) -> str:
@@ -165,23 +205,24 @@ class Grid:
         WriteFailed
             The file cannot be written; an old file is unchanged.
         Refused
+            The map was made of this file.
+        BadArgument
             The format of the file name extension is not known.
         MissingLibrary
             Rasterio is required and not installed.
 
         Examples
         --------
-        >>> import numpy as np, os, rcell, tempfile
-        >>> grid = rcell.run("r.out.ascii input=lc", lc=np.array([[5, 7, 5]]))[0]
+        >>> import os, rcell, tempfile
         >>> with tempfile.TemporaryDirectory() as folder:
-        ...     print(open(grid.write(os.path.join(folder, "lc.txt"))).read().split())
+        ...     print(open(rcell.Raster([[5, 7, 5]]).write(os.path.join(folder, "lc.txt"))).read().split())
         ['north:', '1', 'south:', '0', 'east:', '3', 'west:', '0', 'rows:', '1', 'cols:', '3', '5', '7', '5']
         """
         from .core.files import check_output
         from .core.writing import write_beside
 
         text = os.fspath(path)
-        check_output(text, self.files)
+        check_output(text, self._source.files)
         if text.lower().endswith((".tif", ".tiff")):
             from .geotiff import write_geotiff
 
@@ -202,15 +243,15 @@ class Grid:
 
         Examples
         --------
-        >>> import numpy as np, rcell
-        >>> rcell.run("r.out.ascii input=lc", lc=np.array([[5, 7]]))[0].text().splitlines()[-1]
+        >>> import rcell
+        >>> rcell.Raster([[5, 7]]).text().splitlines()[-1]
         b'5 7'
         """
         from .core.runs import grid_text
 
-        return grid_text(Map(self.array, self.region).source("map"))
+        return grid_text(self.source("map"))
 
-    def xarray(self) -> Any:
+    def to_xarray(self) -> Any:
         """Return the map as a DataArray, with coordinates of cell centres and the reference system as rioxarray stores it.
 
         Returns
@@ -225,15 +266,13 @@ class Grid:
 
         Examples
         --------
-        >>> import numpy as np, rcell
-        >>> rcell.run("r.out.ascii input=lc", lc=np.array([[5, 7]]))[0].xarray().x.values.tolist()
+        >>> import rcell
+        >>> rcell.Raster([[5, 7]]).to_xarray().x.values.tolist()
         [0.5, 1.5]
         """
         from .readers.xarray import data_array_of
 
-        return data_array_of(
-            self.array, self.region, self.transform, self.crs, self.labels, self.name
-        )
+        return data_array_of(self.array, self.transform, self.crs, self.labels, self.name)
 
     def plot(self, ax: Any = None, *, legend: bool = True) -> Any:
         """Draw the map with matplotlib, with a legend of its labels.
@@ -257,19 +296,19 @@ class Grid:
 
         Examples
         --------
-        >>> import matplotlib, numpy as np, rcell
+        >>> import matplotlib, rcell
         >>> matplotlib.use("Agg")
-        >>> grid = rcell.run("r.out.ascii input=lc", lc=rcell.Map([[1, 2]], labels={1: "wood", 2: "water"}))[0]
-        >>> [text.get_text() for text in grid.plot().get_legend().get_texts()]
+        >>> land = rcell.Raster([[1, 2]], labels={1: "wood", 2: "water"})
+        >>> [text.get_text() for text in land.plot().get_legend().get_texts()]
         ['wood', 'water']
         """
         pyplot = need("matplotlib.pyplot", "plot", "to draw a map")
         if ax is None:
             ax = pyplot.subplots(layout="constrained")[1]
         categories = self.categories()
-        places, colors, norm = self._colored(categories)
-        region = self.region
-        extent = (region.west, region.east, region.south, region.north)
+        places, colors, norm = _colored(self.array, categories, self.colors)
+        west, south, east, north = self.bounds
+        extent = (west, east, south, north)
         image = ax.imshow(places, cmap=colors, norm=norm, interpolation="nearest", extent=extent)
         ax.set_title(self.name)
         if legend and 0 < len(categories) <= LEGEND_LIMIT:
@@ -277,23 +316,6 @@ class Grid:
         elif legend and categories:
             ax.figure.colorbar(image, ax=ax)
         return ax
-
-    def _colored(self, categories: list[int]) -> tuple[Any, Any, Any]:
-        """Return the values to draw, their colours and their scale: indices of a few categories, or the categories themselves."""
-        matplotlib = need("matplotlib", "plot", "to draw a map")
-        colors_of = need("matplotlib.colors", "plot", "to draw a map")
-        if not 0 < len(categories) <= LEGEND_LIMIT:
-            return self.array, "viridis", None
-        spare = (color for name in _PALETTES for color in matplotlib.colormaps[name].colors)
-        palette = [self.colors.get(category) or next(spare) for category in categories]
-        places = np.searchsorted(categories, filled(self.array, categories[0]))
-        shown = masked(places, mask_of(self.array))
-        colors = colors_of.ListedColormap(palette)
-        return (
-            shown,
-            colors,
-            colors_of.BoundaryNorm(np.arange(len(categories) + 1) - 0.5, len(categories)),
-        )
 
     def _add_legend(self, ax: Any, categories: list[int], colors: Any) -> None:
         patches = need("matplotlib.patches", "plot", "to draw a map")
@@ -309,52 +331,44 @@ class Grid:
             frameon=False,
         )
 
-    def picture(self) -> bytes:
-        """Return the map as a PNG with one pixel per cell and null transparent; large maps are drawn with fewer cells.
-
-        Returns
-        -------
-        bytes
-            The picture.
-
-        Raises
-        ------
-        MissingLibrary
-            Matplotlib is not installed.
-
-        Examples
-        --------
-        >>> import numpy as np, rcell
-        >>> rcell.run("r.out.ascii input=lc", lc=np.array([[5, 7]]))[0].picture()[:4]
-        b'\\x89PNG'
-        """
-        return self._picture(max(self.region.shape))
-
-    def _picture(self, longest: int) -> bytes:
-        step = -(-max(self.region.shape) // longest)
-        small = Grid(
-            self.name, self.array[::step, ::step], self.region, self.transform, colors=self.colors
-        )
-        places, colors, norm = small._colored(self.categories())
-        image = (
-            need("matplotlib.cm", "plot", "to draw a map")
-            .ScalarMappable(norm, colors)
-            .to_rgba(places, bytes=True)
-        )
-        times = max(1, min(longest, THUMBNAIL) // max(places.shape))
+    def _picture(self) -> bytes:
+        """Return a small picture as a PNG, with null transparent."""
+        step = -(-max(self.shape) // THUMBNAIL)
+        places, colors, norm = _colored(self.array[::step, ::step], self.categories(), self.colors)
+        scale = need("matplotlib.cm", "plot", "to draw a map").ScalarMappable(norm, colors)
+        times = max(1, THUMBNAIL // max(places.shape))
+        image = scale.to_rgba(places, bytes=True).repeat(times, 0).repeat(times, 1)
         png = io.BytesIO()
-        need("matplotlib.image", "plot", "to draw a map").imsave(
-            png, image.repeat(times, 0).repeat(times, 1), format="png"
-        )
+        need("matplotlib.image", "plot", "to draw a map").imsave(png, image, format="png")
         return png.getvalue()
 
     def _repr_html_(self) -> str:
-        rows, cols = self.region.shape
-        told = f"<b>{html.escape(self.name)}</b>: {rows} rows, {cols} columns, {len(self.categories())} categories"
+        rows, cols = self.shape
+        name = html.escape(self.name)
+        told = f"<b>{name}</b>: {rows} rows, {cols} columns, {len(self.categories())} categories"
         if not has("matplotlib"):
             return f"<p>{told}</p>"
-        encoded = base64.b64encode(self._picture(THUMBNAIL)).decode()
-        return f'<p>{told}</p><img alt="{html.escape(self.name)}" src="data:image/png;base64,{encoded}">'
+        encoded = base64.b64encode(self._picture()).decode()
+        return f'<p>{told}</p><img alt="{name}" src="data:image/png;base64,{encoded}">'
+
+    def __array__(self, dtype: Any = None) -> NDArray[Any]:
+        cells: NDArray[Any] = np.ma.getdata(self.array)
+        return cells if dtype is None else cells.astype(dtype)
 
     def __repr__(self) -> str:
-        return f"<Grid {self.name}: {self.region}>"
+        return f"<Raster {self.name}: {self.region}>"
+
+
+def _colored(array: Any, categories: list[int], colors: dict[int, str]) -> tuple[Any, Any, Any]:
+    """Return the values to draw, their colours and their scale: indices of a few categories, or the categories themselves."""
+    matplotlib = need("matplotlib", "plot", "to draw a map")
+    colors_of = need("matplotlib.colors", "plot", "to draw a map")
+    if not 0 < len(categories) <= LEGEND_LIMIT:
+        return array, "viridis", None
+    spare = (color for name in _PALETTES for color in matplotlib.colormaps[name].colors)
+    palette = [colors.get(category) or next(spare) for category in categories]
+    places = np.searchsorted(categories, array.filled(categories[0]))
+    shown = np.ma.MaskedArray(places, np.ma.getmaskarray(array))
+    edges = np.arange(len(categories) + 1) - 0.5
+    norm = colors_of.BoundaryNorm(edges, len(categories))
+    return shown, colors_of.ListedColormap(palette), norm

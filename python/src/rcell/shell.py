@@ -5,15 +5,15 @@ from __future__ import annotations
 
 import argparse
 import contextlib
+import csv
 import importlib
+import io
+import json
 import os
 import shlex
 import sys
 import warnings
-from inspect import unwrap
 from typing import Any, Callable, Iterator, NoReturn, Sequence
-
-import numpy as np
 
 from .core.advice import lines_of_error
 from .core.files import (
@@ -26,20 +26,19 @@ from .core.files import (
     writing,
 )
 
-from .core.align import align
-from .core.scripts import outputs_with, run_of
 from .core.change import change
+from .core.columns import Table
 from .core.composition import composition, cross
 from .core.crs import UNITS_OF_AREA
 from .core.errors import Killed, OtherCrs, OtherRegion, RcellError, Refused, WriteFailed
 from .core.writing import replacing, told_of, write_beside
 from .geotiff import write_geotiff
-from .raster import Grid
 from .core.libraries import need
-from .core.majority import SIZES, majority
-from .core.masked import masked
+from .core.majority import SIZES
 from .core.patches import patches
-from .core.columns import Column, StatsTable, Table
+from .core.scripts import Run, Stats
+from .frames import align, majority
+from .raster import Raster
 from ._version import __version__
 from .core.zonal import zonal
 
@@ -50,12 +49,7 @@ EPILOG = """\
 MAP is anything that GDAL reads, or a grid of rcell; ZONES may also be polygons, each of which has the cells whose centre is in it.
 A legend is a CSV with the header value,label, a style of QGIS (.qml) or a raster with labels. `rcell-gis COMMAND --help` says more.
 Status: 0 done; 1 a map, legend or script is invalid; 2 the command line is; 3 out of memory; 4 a file could not be read or written."""
-FORMATS: dict[str, Callable[[Table], str]] = {
-    "csv": Table.csv,
-    "tsv": lambda table: table.csv("\t"),
-    "markdown": Table.markdown,
-    "json": Table.json,
-}
+FORMATS = ("csv", "tsv", "markdown", "json")
 _ENDINGS = {
     ".csv": "csv",
     ".tsv": "tsv",
@@ -130,7 +124,7 @@ def _composition(words: argparse.Namespace) -> None:
     words.given = {"map": words.map, **({"zones": words.zones} if words.zones else {})}
     _put(
         words,
-        unwrap(composition)(
+        composition(
             words.map,
             area=_unit(words),
             include_null=words.include_null,
@@ -143,7 +137,7 @@ def _cross(words: argparse.Namespace) -> None:
     words.given = _pairs(words.maps)
     _put(
         words,
-        unwrap(cross)(
+        cross(
             words.given,
             area=_unit(words),
             labels=_pairs(words.labels),
@@ -163,7 +157,7 @@ def _change(words: argparse.Namespace) -> None:
     found = change(
         words.maps, years=words.years, area=_unit(words), labels=words.labels, crs=words.crs
     )
-    _put(words, found.tables[words.table])
+    _put(words, getattr(found, words.table))
 
 
 def _patches(words: argparse.Namespace) -> None:
@@ -171,7 +165,7 @@ def _patches(words: argparse.Namespace) -> None:
     rest = _options(
         words, "connectivity zones classes min_cells core_depth labels zone_labels zone_field crs"
     )
-    _put(words, unwrap(patches)(words.map, area=_unit(words), **rest))
+    _put(words, patches(words.map, area=_unit(words), **rest))
 
 
 def _zonal(words: argparse.Namespace) -> None:
@@ -184,9 +178,7 @@ def _zonal(words: argparse.Namespace) -> None:
         ) from None
     _put(
         words,
-        unwrap(zonal)(
-            words.map, words.zones, quantiles, **_options(words, "zone_field zone_labels crs")
-        ),
+        zonal(words.map, words.zones, quantiles, **_options(words, "zone_field zone_labels crs")),
     )
 
 
@@ -200,50 +192,33 @@ def _majority(words: argparse.Namespace) -> None:
 def _align(words: argparse.Namespace) -> None:
     words.given = {"map": words.map, "to": words.to}
 
-    def made() -> list[Grid]:
+    def made() -> list[Raster]:
         found = align(words.map, words.to, words.resample, crs=words.crs)
-        source, words.account = found.source("map"), found.aligned
-        array = masked(
-            source.array.astype(np.int32),
-            np.zeros(source.array.shape, np.bool_) if source.null is None else source.null,
-        )
-        return [
-            Grid(
-                "map",
-                array,
-                source.region,
-                source.transform,
-                source.crs,
-                source.labels,
-                colors=source.colors,
-            )
-        ]
+        words.account = found.aligned
+        return [found]
 
     _write_maps([words.target], made)
     words.out = None
-    values = [
-        (name, np.nan if value is None else float(value))
-        for name, value in words.account._asdict().items()
-    ]
-    _put(words, Table(Column(name, "measure", np.array([value])) for name, value in values))
+    _write_table(words, words.account._fields, [tuple(words.account)])
 
 
 def _run(words: argparse.Namespace) -> None:
     words.given, paths = _pairs(words.maps), _pairs(words.out)
     result: list[Any] = []
 
-    def made() -> list[Grid]:
+    def made() -> list[Raster]:
         script = script_of(words.script)
-        result.extend(outputs_with(run_of(script, words.given, words.crs), list(paths)))
-        return result[len(result) - len(paths) :]
+        result.extend(Run(script, words.given, {}, words.crs).outputs(list(paths)))
+        return [Raster._of(found) for found in result[len(result) - len(paths) :]]
 
     _write_maps(list(paths.values()), made)
-    tables = [output for output in result if isinstance(output, StatsTable)]
+    tables = [output.table() for output in result if isinstance(output, Stats)]
     if tables:
-        emit("\n".join(FORMATS[words.format or "csv"](table) for table in tables))
+        form = words.format or "csv"
+        emit("\n".join(_written(form, table.columns, table.rows) for table in tables))
 
 
-def _write_maps(targets: list[str], make: Callable[[], list[Grid]]) -> None:
+def _write_maps(targets: list[str], make: Callable[[], list[Raster]]) -> None:
     """Write maps to files, all or none; raise Refused if a file is read too, or its format is not known."""
     for path in targets:
         if not path.lower().endswith((".tif", ".tiff", ".txt", *_PICTURES)):
@@ -262,7 +237,7 @@ def _write_maps(targets: list[str], make: Callable[[], list[Grid]]) -> None:
                 raise WriteFailed(str(error).replace(part, path)) from None
 
 
-def _write_map(grid: Grid, path: str, ending: str) -> None:
+def _write_map(grid: Raster, path: str, ending: str) -> None:
     """Write a map in the format of an ending, which `path` need not have: links are followed."""
     if ending == ".txt":
         write_beside(path, grid.text())
@@ -297,14 +272,52 @@ def _writing_a_table(path: str | None) -> Iterator[None]:
 
 def _put(words: argparse.Namespace, table: Table) -> None:
     """Write a table to its file or to standard output."""
+    _write_table(words, table.columns, table.rows)
+
+
+def _write_table(
+    words: argparse.Namespace, columns: Sequence[str], rows: Sequence[Sequence[Any]]
+) -> None:
     ending = os.path.splitext(words.out or "")[1].lower()
-    text = FORMATS[words.format or _ENDINGS[ending]](table)
-    if not len(table):
+    text = _written(words.format or _ENDINGS[ending], columns, rows)
+    if not rows:
         _tell("note: the table is empty: all cells are null or left out")
     if not words.out:
         emit(text)
         return
     write_beside(words.out, text.encode("utf-8", "surrogateescape"))
+
+
+def _written(form: str, columns: Sequence[str], rows: Sequence[Sequence[Any]]) -> str:
+    """Return a table as text: numbers in the shortest form that reads back the same, missing values empty or null."""
+    if form == "json":
+        objects = (json.dumps(dict(zip(columns, row)), ensure_ascii=False) for row in rows)
+        return "[" + ",\n ".join(objects) + "]\n"
+    if form == "markdown":
+        return _markdown(columns, rows)
+    text = io.StringIO()
+    writer = csv.writer(text, delimiter="\t" if form == "tsv" else ",", lineterminator="\n")
+    writer.writerow(columns)
+    writer.writerows([_shortest(value) for value in row] for row in rows)
+    return text.getvalue()
+
+
+def _shortest(value: Any) -> Any:
+    return repr(value).removesuffix(".0") if isinstance(value, float) else value
+
+
+def _markdown(columns: Sequence[str], rows: Sequence[Sequence[Any]]) -> str:
+    def cell(value: Any) -> str:
+        text = "" if value is None else f"{value:.10g}" if isinstance(value, float) else str(value)
+        return text.replace("\\", "\\\\").replace("|", "\\|").replace("\n", " ")
+
+    sides = [
+        "---" if any(isinstance(row[at], str) for row in rows) else "---:"
+        for at in range(len(columns))
+    ]
+    lines = [" | ".join(map(cell, line)) for line in (columns, *rows)]
+    head, *rest = (f"| {line} |" for line in lines)
+    return "\n".join([head, f"|{'|'.join(sides)}|", *rest]) + "\n"
 
 
 # Each command with its function, its result, the options that it shares with others, and its own options.

@@ -1,26 +1,31 @@
 # SPDX-License-Identifier: Apache-2.0 OR GPL-2.0-or-later
 """`import rcell.xarray` gives the DataArrays and Datasets of xarray an accessor, `.rcell`.
 
-A DataArray is a map under its own name, or `map` if it has none; a Dataset has its variables as maps. Cells that Dask holds are worked
-on chunk by chunk, with the client that is current, and results of rows and columns are lazy as well.
+A DataArray is a map under its own name, or `map` if it has none; a Dataset has its variables as maps. Expressions over cells that Dask
+holds are computed chunk by chunk, with the client that is current, and are lazy as well; the other calls read the chunks one by one.
 """
 
 from __future__ import annotations
 
 import re
-from typing import Any
+from collections.abc import Iterable
+from typing import TYPE_CHECKING, Any
 
-from .core.errors import BadMap, MissingLibrary
-from .core.sources import named_once
-from .readers.xarray import is_lazy, variables_of
-from .tiles._engine import Engine
-from .tiles._sheet import open_maps
-from .tiles.mosaic import Mosaic
+from . import frames
+from .core.errors import BadArgument, BadMap, MissingLibrary
+from .core.protocol import NULL
+from .core.runs import planned
+from .core.sources import MapLike, named_once
+from .raster import Raster
+from .readers.xarray import data_array, flat_of, is_lazy, variables_of
 
 try:
     import xarray
 except ImportError:
     raise MissingLibrary("xarray", "xarray", "for the accessor") from None
+
+if TYPE_CHECKING:
+    import pandas
 
 __all__ = ["Accessor"]
 
@@ -28,7 +33,7 @@ _NAME = re.compile(r"[A-Za-z_][A-Za-z0-9_.]{0,63}")
 
 
 class Accessor:
-    """What `.rcell` of a DataArray or a Dataset is.
+    """What `.rcell` of a DataArray or a Dataset is: the calls of rcell, with the array as the first map.
 
     Parameters
     ----------
@@ -38,23 +43,259 @@ class Accessor:
     --------
     >>> import numpy as np, rcell.xarray, xarray
     >>> land = xarray.DataArray(np.array([[1, 1, 2], [3, 2, 2]]), dims=("y", "x"), name="land")
-    >>> land.rcell.table("r.stats -c input=land")
-       land  cells
-    0     1      2
-    1     2      3
-    2     3      1
+    >>> land.rcell.composition()
+       class  cells    percent
+    0      1      2  33.333333
+    1      2      3  50.000000
+    2      3      1  16.666667
     """
 
     def __init__(self, given: Any) -> None:
+        self._given = given
         if hasattr(given, "data_vars"):
             self._maps = variables_of(given)
         else:
-            self._maps = {
-                given.name
-                if _NAME.fullmatch(str(given.name)) and given.name is not None
-                else "map": given
-            }
+            is_name = given.name is not None and _NAME.fullmatch(str(given.name))
+            self._maps = {given.name if is_name else "map": given}
         self._is_lazy = any(map(is_lazy, self._maps.values()))
+
+    def composition(self, zones: Any = None, **options: Any) -> pandas.DataFrame:
+        """Count the cells of each class, with areas and percentages; see `rcell.composition`.
+
+        Parameters
+        ----------
+        zones : map or polygons, optional
+        **options
+            As in `rcell.composition`.
+
+        Returns
+        -------
+        pandas.DataFrame
+            As `rcell.composition` returns it.
+
+        Examples
+        --------
+        >>> import rcell.xarray, xarray
+        >>> xarray.DataArray([[1, 1, 2]], dims=("y", "x")).rcell.composition()["cells"].tolist()
+        [2, 1]
+        """
+        return frames.composition(self._only(), zones, **options)
+
+    def cross(self, **options: Any) -> pandas.DataFrame:
+        """Count how often the classes of maps occur together; see `rcell.cross`.
+
+        Parameters
+        ----------
+        **options
+            Further maps by name, and as in `rcell.cross`.
+
+        Returns
+        -------
+        pandas.DataFrame
+            As `rcell.cross` returns it.
+
+        Examples
+        --------
+        >>> import rcell.xarray, xarray
+        >>> land = xarray.DataArray([[1, 1, 2]], dims=("y", "x"), name="land")
+        >>> land.rcell.cross(later=land * 2)["later"].tolist()
+        [2, 4]
+        """
+        return frames.cross(self._maps, **options)
+
+    def change(self, after: Any = None, **options: Any) -> frames.Change:
+        """Compare maps of two or more years; see `rcell.change`.
+
+        Parameters
+        ----------
+        after : map, optional
+            The map of the later year; None if the array has the dimension `time`.
+        **options
+            As in `rcell.change`.
+
+        Returns
+        -------
+        Change
+            As `rcell.change` returns it.
+
+        Examples
+        --------
+        >>> import rcell.xarray, xarray
+        >>> land = xarray.DataArray([[1, 1, 2]], dims=("y", "x"))
+        >>> land.rcell.change(land * 2).table["cells"].tolist()
+        [2, 1]
+        """
+        return frames.change(self._only(), after, **options)
+
+    def patches(self, connectivity: int = 4, **options: Any) -> pandas.DataFrame:
+        """List the patches, connected cells of one class; see `rcell.patches`.
+
+        Parameters
+        ----------
+        connectivity : {4, 8}
+        **options
+            As in `rcell.patches`.
+
+        Returns
+        -------
+        pandas.DataFrame
+            As `rcell.patches` returns it.
+
+        Examples
+        --------
+        >>> import rcell.xarray, xarray
+        >>> xarray.DataArray([[1, 1, 2]], dims=("y", "x")).rcell.patches()["cells"].tolist()
+        [2, 1]
+        """
+        return frames.patches(self._only(), connectivity, **options)
+
+    def zonal(self, zones: Any, **options: Any) -> pandas.DataFrame:
+        """Compute statistics by zone; see `rcell.zonal`.
+
+        Parameters
+        ----------
+        zones : map or polygons
+        **options
+            As in `rcell.zonal`.
+
+        Returns
+        -------
+        pandas.DataFrame
+            As `rcell.zonal` returns it.
+
+        Examples
+        --------
+        >>> import rcell.xarray, xarray
+        >>> xarray.DataArray([[7, 8, 2]], dims=("y", "x")).rcell.zonal([[1, 1, 2]])["sum"].tolist()
+        [15, 2]
+        """
+        return frames.zonal(self._only(), zones, **options)
+
+    def adjacency(self, **options: Any) -> pandas.DataFrame:
+        """Count the sides that the cells of each pair of classes share; see `rcell.adjacency`.
+
+        Parameters
+        ----------
+        **options
+            As in `rcell.adjacency`.
+
+        Returns
+        -------
+        pandas.DataFrame
+            As `rcell.adjacency` returns it.
+
+        Examples
+        --------
+        >>> import rcell.xarray, xarray
+        >>> xarray.DataArray([[1, 1, 2]], dims=("y", "x")).rcell.adjacency()["sides"].tolist()
+        [1, 1]
+        """
+        return frames.adjacency(self._only(), **options)
+
+    def majority(self, size: int = 3, **options: Any) -> Any:
+        """Give each cell the most frequent class of the square around it; see `rcell.majority`.
+
+        Parameters
+        ----------
+        size : int
+        **options
+            As in `rcell.majority`.
+
+        Returns
+        -------
+        DataArray
+            With the dimensions and coordinates of the array.
+
+        Examples
+        --------
+        >>> import rcell.xarray, xarray
+        >>> xarray.DataArray([[1, 1, 2]], dims=("y", "x")).rcell.majority().values.tolist()
+        [[1, 1, 1]]
+        """
+        return self._like(frames.majority(self._only(), size, **options))
+
+    def align(self, to: Any, resample: str | None = None, **options: Any) -> Any:
+        """Bring the map onto the grid of another map; see `rcell.align`.
+
+        Parameters
+        ----------
+        to : map
+        resample : {"nearest"}, optional
+        **options
+            As in `rcell.align`.
+
+        Returns
+        -------
+        DataArray
+            On the grid of the other map.
+
+        Examples
+        --------
+        >>> import rcell.xarray, xarray
+        >>> land = xarray.DataArray([[1, 1, 2]], dims=("y", "x"))
+        >>> land.rcell.align(to=land).values.tolist()
+        [[1, 1, 2]]
+        """
+        return frames.align(self._only(), to, resample, **options).to_xarray()
+
+    def reclass(self, rules: Any, other: str | None = None, **options: Any) -> Any:
+        """Give each class a new class; see `rcell.reclass`.
+
+        Parameters
+        ----------
+        rules : path, dict or DataFrame
+        other : {"keep", "null"}, optional
+        **options
+            As in `rcell.reclass`.
+
+        Returns
+        -------
+        DataArray
+            With the dimensions and coordinates of the array.
+
+        Examples
+        --------
+        >>> import rcell.xarray, xarray
+        >>> xarray.DataArray([[1, 1, 2]], dims=("y", "x")).rcell.reclass({1: 7, 2: 8}).values.tolist()
+        [[7, 7, 8]]
+        """
+        return self._like(frames.reclass(self._only(), rules, other, **options))
+
+    def clump(
+        self,
+        connectivity: int = 4,
+        classes: Iterable[int] | None = None,
+        min_cells: int | None = None,
+        **options: Any,
+    ) -> Any:
+        """Return the map of patches, with the numbers of `patches`; see `rcell.clump`.
+
+        Parameters
+        ----------
+        connectivity : {4, 8}
+            4 connects cells that share an edge, 8 also those that share a corner.
+        classes : iterable of int, optional
+        min_cells : int, optional
+            Only patches of these classes, and with at least so many cells; for all patches of chunks of Dask, the result is lazy too,
+            and null is 0.
+        **options
+            As in `rcell.clump`.
+
+        Returns
+        -------
+        DataArray
+            With the dimensions and coordinates of the array.
+
+        Examples
+        --------
+        >>> import numpy as np, rcell.xarray, xarray
+        >>> xarray.DataArray(np.array([[1, 1, 2], [3, 2, 2]]), dims=("y", "x")).rcell.clump().values.tolist()
+        [[1, 1, 2], [3, 2, 2]]
+        """
+        if self._is_lazy and classes is None and min_cells is None and not options:
+            return self._mosaic().clump(next(iter(self._maps)), connectivity=connectivity)
+        made = frames.clump(self._only(), connectivity, classes, min_cells, **options)
+        return self._like(made)
 
     def table(
         self,
@@ -63,8 +304,8 @@ class Accessor:
         percent: bool = False,
         *,
         crs: Any = None,
-        **more: Any,
-    ) -> Any:
+        **more: MapLike,
+    ) -> pandas.DataFrame:
         """Return the table of a script with one r.stats; see `rcell.table`.
 
         Parameters
@@ -93,9 +334,11 @@ class Accessor:
         0       1      1      1
         1       1      2      1
         """
-        return self._mosaic(crs, more).table(script, area, percent, compute=False).compute()
+        if self._is_lazy:
+            return self._mosaic(crs, more).table(script, area, percent, compute=False).compute()
+        return frames.table(script, self._maps, area=area, percent=percent, crs=crs, **more)
 
-    def grid(self, script: str, *, crs: Any = None, **more: Any) -> Any:
+    def grid(self, script: str, *, crs: Any = None, **more: MapLike) -> Any:
         """Return the map that an expression makes.
 
         Parameters
@@ -118,67 +361,36 @@ class Accessor:
         >>> xarray.DataArray(np.array([[1, 1, 2]]), dims=("y", "x")).rcell.grid("edge = if(map != map[0,1], map, 0)").values.tolist()
         [[0, 1, -2147483648]]
         """
-        return self._returned(self._mosaic(crs, more).grid(script))
+        if self._is_lazy:
+            return self._mosaic(crs, more).grid(script)
+        maps = named_once(self._maps, more)
+        is_script = script.lstrip().startswith(("r.", "#"))
+        text = script if is_script else f"r.mapcalc {script.strip()}"
+        plan = planned(text, maps)
+        if not plan or not plan[-1].made:
+            raise BadArgument("script", f"must make a map in its last line; got {script!r}")
+        return self._like(frames.grid(text, plan[-1].made, maps, crs=crs))
 
-    def clump(self, connectivity: int = 4) -> Any:
-        """Return the map of patches, the connected cells of one class, with the numbers of r.clump; null is 0.
-
-        Parameters
-        ----------
-        connectivity : {4, 8}
-            4 connects cells that share an edge, 8 also those that share a corner.
-
-        Returns
-        -------
-        DataArray
-            Of int32, or of int64 if the map has more than 2,147,483,647 cells.
-
-        Examples
-        --------
-        >>> import numpy as np, rcell.xarray, xarray
-        >>> xarray.DataArray(np.array([[1, 1, 2], [3, 2, 2]]), dims=("y", "x")).rcell.clump().values.tolist()
-        [[1, 1, 2], [3, 2, 2]]
-        """
-        return self._returned(self._mosaic().clump(self._only(), connectivity=connectivity))
-
-    def patches(self, connectivity: int = 4) -> Any:
-        """Return the patches with their classes and their cells; `rcell.patches` knows more of maps that fit into memory.
-
-        Parameters
-        ----------
-        connectivity : {4, 8}
-            4 connects cells that share an edge, 8 also those that share a corner.
-
-        Returns
-        -------
-        pandas.DataFrame
-            `patch` (the number that r.clump gives), `class`, `cells`.
-
-        Examples
-        --------
-        >>> import numpy as np, rcell.xarray, xarray
-        >>> xarray.DataArray(np.array([[1, 1, 2], [3, 2, 2]]), dims=("y", "x")).rcell.patches()
-           patch  class  cells
-        0      1      1      2
-        1      2      2      3
-        2      3      3      1
-        """
-        return self._mosaic().patches(self._only(), connectivity, compute=False).compute()
-
-    def _only(self) -> str:
+    def _only(self) -> Any:
         names = list(self._maps)
         if len(names) != 1:
-            raise BadMap(
-                "dataset",
-                f"{len(names)} maps ({', '.join(names)}), but one is needed: select it, as dataset[{names[0] if names else 'name'!r}]",
-            )
-        return names[0]
+            first = names[0] if names else "name"
+            told = f"{len(names)} maps ({', '.join(names)}), but one is needed"
+            raise BadMap("dataset", f"{told}: select it, as dataset[{first!r}]")
+        return self._maps[names[0]]
 
-    def _mosaic(self, crs: Any = None, more: Any = None) -> Mosaic:
+    def _like(self, made: Raster) -> Any:
+        """Return a map as a DataArray with the dimensions of the first map."""
+        like = flat_of("map", next(iter(self._maps.values()))).array
+        cells = made.array.filled(NULL)
+        return data_array(cells, made.transform, made.crs, made.labels, made.name, like=like)
+
+    def _mosaic(self, crs: Any = None, more: Any = None) -> Any:
+        from .tiles._engine import Engine
+        from .tiles._sheet import open_maps
+        from .tiles.mosaic import Mosaic
+
         return Mosaic(open_maps(named_once(self._maps, more or {}), crs), None, Engine(None))
-
-    def _returned(self, lazy: Any) -> Any:
-        return lazy if self._is_lazy else lazy.compute()
 
 
 for _register in (xarray.register_dataarray_accessor, xarray.register_dataset_accessor):

@@ -77,8 +77,8 @@ def test_grids_are_lazy_and_equal_one_run(case: tuple[Any, Any, Any], expression
         rcell.grid(
             f"r.mapcalc x = {expression}",
             "x",
-            a=rcell.Map(first, nodata=NULL),
-            b=rcell.Map(second, nodata=NULL),
+            a=rcell.Raster(first, nodata=NULL),
+            b=rcell.Raster(second, nodata=NULL),
         )
     )
     found = rcell.tiles.open(a=array_of(first, chunks), b=array_of(second, -1)).grid(
@@ -94,7 +94,7 @@ def test_tables_equal_one_run(case: tuple[Any, Any, Any], expression: str) -> No
     first, second, chunks = case
     script = f"r.mapcalc x = {expression}\nr.stats -c input=x,a"
     expected = rcell.table(
-        script, a=rcell.Map(first, nodata=NULL), b=rcell.Map(second, nodata=NULL)
+        script, a=rcell.Raster(first, nodata=NULL), b=rcell.Raster(second, nodata=NULL)
     )
     work = rcell.tiles.open(a=array_of(first, chunks), b=array_of(second, -1)).table(
         script, compute=False
@@ -152,8 +152,8 @@ def test_files_and_arrays_together(scheduler: str, tif: MakeTif) -> None:
         expected = rcell.grid(
             "r.mapcalc x = if(lc == other[2,0], 1, lc)",
             "x",
-            lc=rcell.Map(CELLS, nodata=200),
-            other=rcell.Map(other),
+            lc=rcell.Raster(CELLS, nodata=200),
+            other=rcell.Raster(other),
         )
         assert found.values.tolist() == cells_of(expected).filled(-2147483648).tolist()
 
@@ -191,8 +191,8 @@ def test_maps_of_zarr_and_of_a_dataset(tmp_path: Path, scheduler: str) -> None:
     xarray.Dataset({"lc": lc, "ws": ws}).to_zarr(tmp_path / "two.zarr")
     expected = rcell.table(
         "r.stats -c input=lc,ws",
-        lc=rcell.Map(CELLS, nodata=200),
-        ws=rcell.Map(CELLS // 2, nodata=7),
+        lc=rcell.Raster(CELLS, nodata=200),
+        ws=rcell.Raster(CELLS // 2, nodata=7),
     )
     opened = xarray.open_zarr(tmp_path / "two.zarr", mask_and_scale=False)
     for maps in (opened, {"lc": tmp_path / "one.zarr", "ws": opened.ws}):
@@ -230,14 +230,14 @@ def test_types_of_cells(dtype: str, nodata: Any) -> None:
     if nodata is None:
         del array.attrs["_FillValue"]
     assert array.rcell.table("r.stats -c input=lc").equals(
-        rcell.table("r.stats -c input=lc", lc=rcell.Map(cells, nodata=nodata))
+        rcell.table("r.stats -c input=lc", lc=rcell.Raster(cells, nodata=nodata))
     )
 
 
 def test_masked_cells_of_dask_are_null() -> None:
     array = dask.ma.masked_equal(dask.from_array(CELLS, chunks=(16, 10)), 200)
     expected = rcell.table(
-        "r.mapcalc x = lc[0,1]\nr.stats -c input=x,lc", lc=rcell.Map(CELLS, nodata=200)
+        "r.mapcalc x = lc[0,1]\nr.stats -c input=x,lc", lc=rcell.Raster(CELLS, nodata=200)
     )
     for maps in ({"lc": array}, {"lc": xarray.DataArray(array, dims=("y", "x"))}):
         assert (
@@ -335,7 +335,9 @@ def test_bands_are_maps_by_name(tmp_path: Path, scheduler: str) -> None:
 
     with rasterio.open(path, "r+") as dataset:
         dataset.write(CELLS // 2, 2)
-    expected = rcell.table("r.stats -c input=a,b", a=rcell.Map(CELLS), b=rcell.Map(CELLS // 2))
+    expected = rcell.table(
+        "r.stats -c input=a,b", a=rcell.Raster(CELLS), b=rcell.Raster(CELLS // 2)
+    )
     stack = xarray.concat(
         [array_of(CELLS, -1, nodata=-9), array_of(CELLS // 2, -1, nodata=-9)], "band"
     )

@@ -75,13 +75,13 @@ def opened(
     return rcell.tiles.open(size=size, scheduler=scheduler, a=a, b=b)
 
 
-def cells_of(grid: rcell.Grid) -> Any:
+def cells_of(grid: rcell.Raster) -> Any:
     """The masked array of a grid, of which mypy knows no types."""
     return grid.array
 
 
 def maps(first: Any, second: Any) -> dict[str, Any]:
-    return {"a": rcell.Map(first, nodata=NULL), "b": rcell.Map(second, nodata=NULL)}
+    return {"a": rcell.Raster(first, nodata=NULL), "b": rcell.Raster(second, nodata=NULL)}
 
 
 @some
@@ -177,7 +177,7 @@ def test_nine_offsets_and_nmode_over_bands(tif: MakeTif, tmp_path: Path, schedul
     around = [f"lc[{down},{right}]" for down in (-1, 0, 1) for right in (-1, 0, 1)]
     for expression in (" + ".join(around), f"nmode({', '.join(around)})"):
         expected = cells_of(
-            rcell.grid(f"r.mapcalc x = {expression}", "x", lc=rcell.Map(cells, nodata=0))
+            rcell.grid(f"r.mapcalc x = {expression}", "x", lc=rcell.Raster(cells, nodata=0))
         )
         for size in ((1, 40), (70, 1), (16, 16), (30, 7)):
             with rcell.tiles.open(size=size, scheduler=scheduler, lc=tif("lc", cells, 0)) as mosaic:

@@ -12,10 +12,11 @@ import numpy as np
 from .arrays import NDArray
 from .crs import UNITS_OF_AREA, Crs, known, metres_of_unit
 from .errors import BadArgument, MissingLibrary, Refused
-from .host import option
+from .host import option, warn
+from .region import Transform
 from .sources import Source
 
-__all__ = ["AUTO", "Measure", "measure_of", "row_areas", "unit_of"]
+__all__ = ["AUTO", "Measure", "flat_measure", "measure_of", "row_areas", "unit_of"]
 
 AUTO = "auto"
 
@@ -89,6 +90,14 @@ class Measure:
     by_row: NDArray[np.float64] | None
     metres: float | None
 
+    def length(self) -> float:
+        """Return the length of the map's unit in metres; NaN if it is not known, and with a warning in degrees."""
+        if self.metres is None:
+            return math.nan
+        if math.isnan(self.metres):
+            warn("lengths are not computed in degrees")
+        return self.metres
+
     @property
     def column(self) -> str:
         """The ending of the names of columns in this unit."""
@@ -123,8 +132,31 @@ def measure_of(area: Any, source: Source, crs: Any) -> Measure:
         return Measure(unit, divisor, 1.0, None, metres)
     if math.isnan(metres):
         return Measure(unit, divisor, 1.0, _by_row(source, crs), metres)
-    width, height = source.transform[0], -source.transform[4]
-    return Measure(unit, divisor, height * width * metres**2, None, metres)
+    return Measure(unit, divisor, _cell(source.transform, metres), None, metres)
+
+
+def flat_measure(area: str, transform: Transform, crs: Any) -> Measure:
+    """Return what the cells of a map measure if all have one area, as a table of a script needs it.
+
+    Raises
+    ------
+    BadArgument
+        The map is in degrees, or as in `measure_of`.
+    """
+    unit = unit_of(area, crs)
+    metres = _metres(crs, True)
+    assert unit is not None and metres is not None
+    if math.isnan(metres):
+        told = (
+            "needs a map in metres or feet: in degrees the area of a cell differs from row to row"
+        )
+        raise BadArgument("area", f"{told}; composition and cross weigh the rows")
+    return Measure(unit, UNITS_OF_AREA[unit], _cell(transform, metres), None, metres)
+
+
+def _cell(transform: Transform, metres: float) -> float:
+    """Return the area of a cell in square metres."""
+    return -transform[4] * transform[0] * metres**2
 
 
 def unit_of(area: Any, crs: Any) -> str | None:

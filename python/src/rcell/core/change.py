@@ -4,34 +4,41 @@
 from __future__ import annotations
 
 import numbers
-from typing import Any, Iterable, Mapping
+from collections.abc import Iterable, Mapping, Sequence
+from dataclasses import dataclass
+from typing import Any, NamedTuple, Optional
 
 import numpy as np
 
-from .arrays import NDArray
-from .counting import Counts, Maps, label_columns
-from .errors import BadArgument
-from .legends import labels_of
 from .area import Measure
-from .columns import Column, Table
+from .arrays import NDArray
+from .columns import Column, Matrix, Table, distinct_names
+from .counting import Counts, Maps, label_column, legend_for
+from .errors import BadArgument
+from .sources import MapLike
 
 __all__ = ["Change", "change"]
 
-Numbers = NDArray[Any]
 _PARTS = ("before", "after", "gain", "loss", "net", "swap", "persistence")
+_YEARS = ("year_from", "year_to")
+
+Labels = Mapping[int, str]
 
 
-class Change:
-    """The areas of each change from class to class; the result of `change`.
+class Change(NamedTuple):
+    """The changes from class to class; the result of `change`.
 
     Parameters
     ----------
-    tables : mapping of str to Table
-        `table`, `matrix` and `summary`.
-    keys : int
-        The number of columns of the matrix before its areas.
-    classes : list of int, optional
-        The classes of the other columns, if they have no labels.
+    table : pandas.DataFrame
+        A row for each change that occurs: `from`, `from_label`, `to`, `to_label`, `cells`, `area_ha`, and `percent` of what is null in
+        neither year.
+    matrix : pandas.DataFrame
+        The areas, or without areas the cells: a row for each class before, a column for each class after. Classes with the same label
+        have their numbers in their names, for example `wood (31)`.
+    summary : pandas.DataFrame
+        A row for each class: its area before and after, gain, loss, net change, swap and persistence. Swap is twice the smaller of gain
+        and loss: what a class lost in one place and gained in another.
 
     Examples
     --------
@@ -44,201 +51,17 @@ class Change:
     2     0  1
     """
 
-    def __init__(
-        self, tables: Mapping[str, Table], keys: int, classes: list[int] | None = None
-    ) -> None:
-        self.tables, self._keys, self._classes = tables, keys, classes
-
-    @property
-    def table(self) -> Any:
-        """A row for each change that occurs, with cells, area, and the percentage of what is null in neither year.
-
-        Examples
-        --------
-        >>> import numpy as np, rcell
-        >>> rcell.change(np.array([[1, 1, 2]]), np.array([[1, 2, 2]])).table
-           from  to  cells    percent
-        0     1   1      1  33.333333
-        1     1   2      1  33.333333
-        2     2   2      1  33.333333
-        """
-        return self.tables["table"].frame()
-
-    @property
-    def matrix(self) -> Any:
-        """The areas, or without areas the cells: a row for each class before, a column for each class after.
-
-        Examples
-        --------
-        >>> import numpy as np, rcell
-        >>> rcell.change(np.array([[1, 1, 2]]), np.array([[1, 2, 2]]), area=None).matrix.loc[1, 2]
-        1
-        """
-        wide = self.tables["matrix"].frame()
-        wide = wide.set_index(list(wide.columns[: self._keys]))
-        if self._classes is not None:
-            wide.columns = self._classes
-        return wide.rename_axis(columns="to")
-
-    @property
-    def summary(self) -> Any:
-        """A row for each class: its area before and after, gain, loss, net change, swap and persistence.
-
-        Swap is twice the smaller of gain and loss: what a class lost in one place and gained in another.
-
-        Examples
-        --------
-        >>> import numpy as np, rcell
-        >>> rcell.change(np.array([[1, 1, 2]]), np.array([[1, 2, 2]])).summary.iloc[0, 1:].tolist()
-        [2, 1, 0, 1, -1, 0, 1]
-        """
-        return self.tables["summary"].frame()
-
-
-class _Pairs:
-    """The counts of each pair of years, arranged as tables."""
-
-    def __init__(
-        self,
-        pairs: list[Counts],
-        years: list[int] | None,
-        labels: list[Mapping[int, str]],
-        is_legend: bool,
-        measure: Measure,
-    ) -> None:
-        self.pairs, self.labels, self._measure = pairs, labels, measure
-        self._years, self._is_legend, self._by_row = years, is_legend, measure.by_row is not None
-
-    def table(self) -> Table:
-        """Return a table with a row for each change that occurs."""
-        classes = np.concatenate([pair.classes for pair in self.pairs])
-        columns = self._years_of([pair.cells.size for pair in self.pairs])
-        for place, name in enumerate(("from", "to")):
-            texts = [
-                self._texts(f"{name}_label", pair.classes[:, place], self.labels[at + place])
-                for at, pair in enumerate(self.pairs)
-            ]
-            columns += [Column(name, "class", classes[:, place]), *_joined(texts)]
-        area = (
-            None
-            if self._measure.unit is None
-            else np.concatenate([pair.measured() for pair in self.pairs])
-        )
-        together = Counts(classes, np.concatenate([pair.cells for pair in self.pairs]), area)
-        percent = [pair.measured() * 100.0 / (pair.measured().sum() or 1) for pair in self.pairs]
-        return Table(columns + together.columns(self._measure, np.concatenate(percent)))
-
-    def matrix(self) -> tuple[Table, list[int]]:
-        """Return a matrix with a row for each class before and a column for each class after, and the classes of its columns."""
-        after = np.unique(np.concatenate([pair.classes[:, 1] for pair in self.pairs]))
-        first, blocks, names = list[Numbers](), list[Numbers](), list[str]()
-        for pair, labels in zip(self.pairs, self.labels):
-            before, at = np.unique(pair.classes[:, 0], return_inverse=True)
-            values = np.zeros((before.size, after.size), pair.measured().dtype)
-            values[at, np.searchsorted(after, pair.classes[:, 1])] = pair.measured()
-            first, blocks, names = (
-                [*first, before],
-                [*blocks, values],
-                [*names, *_names(before, labels)],
-            )
-        kind: Any = "count" if self._measure.unit is None else "measure"
-        head = (
-            Column("from", "label", names)
-            if any(self.labels)
-            else Column("from", "class", np.concatenate(first))
-        )
-        titles = _names(
-            after, {code: text for labels in self.labels[1:] for code, text in labels.items()}
-        )
-        rest = [
-            Column(title, kind, values) for title, values in zip(titles, np.concatenate(blocks).T)
-        ]
-        return (
-            Table([*self._years_of([before.size for before in first]), head, *rest]),
-            after.tolist(),
-        )
-
-    def summary(self) -> Table:
-        """Return a table with a row for each class."""
-        summed = [
-            _summed(pair, pair.measured() if self._by_row else pair.cells) for pair in self.pairs
-        ]
-        texts = [
-            self._texts("label", found, {**self.labels[at], **self.labels[at + 1]})
-            for at, (found, _) in enumerate(summed)
-        ]
-        classes = Column("class", "class", np.concatenate([found for found, _ in summed]))
-        values = np.concatenate([numbers for _, numbers in summed], axis=1)
-        kind: Any = "count" if self._measure.unit is None else "measure"
-        if self._measure.unit is not None and not self._by_row:
-            values = self._measure.area(values)
-        measures = [
-            Column(f"{part}_{self._measure.column}", kind, values[at])
-            for at, part in enumerate(_PARTS)
-        ]
-        return Table(
-            [
-                *self._years_of([found.size for found, _ in summed]),
-                classes,
-                *_joined(texts),
-                *measures,
-            ]
-        )
-
-    def _years_of(self, often: list[int]) -> list[Column]:
-        """Return the columns of years; `often` has the number of rows of each pair."""
-        if self._years is None:
-            return []
-        years = np.array(self._years, np.int64)
-        return [
-            Column("year_from", "class", np.repeat(years[:-1], often)),
-            Column("year_to", "class", np.repeat(years[1:], often)),
-        ]
-
-    def _texts(self, title: str, classes: Numbers, labels: Mapping[int, str]) -> list[Column]:
-        """Return the column of labels of a pair of years, if any map has labels."""
-        made = label_columns(title, classes, labels, self._is_legend, title.removesuffix("_label"))
-        return made or ([Column(title, "label", [None] * classes.size)] if any(self.labels) else [])
-
-
-def _names(classes: Numbers, labels: Mapping[int, str]) -> list[str]:
-    """Return the labels of classes; a class without a label, or with another class's label, gets its number."""
-    texts = [labels.get(code, "") for code in classes.tolist()]
-    return [
-        text if text and texts.count(text) == 1 else str(code)
-        for text, code in zip(texts, classes.tolist())
-    ]
-
-
-def _joined(blocks: list[list[Column]]) -> list[Column]:
-    """Return the columns of labels of all pairs, one below the other."""
-    return [
-        Column(columns[0].name, "label", [text for column in columns for text in column.values])
-        for columns in zip(*blocks)
-    ]
-
-
-def _summed(pair: Counts, measured: Numbers) -> tuple[Numbers, Numbers]:
-    """Return the classes of two years, and for each of them the seven measures of a summary."""
-    classes, at = np.unique(pair.classes, return_inverse=True)
-    before, after = at.reshape(-1, 2).T
-    kept = before == after
-    begun, ended, same = (np.zeros(classes.size, measured.dtype) for _ in range(3))
-    np.add.at(begun, before, measured)
-    np.add.at(ended, after, measured)
-    np.add.at(same, before[kept], measured[kept])
-    gain, loss = ended - same, begun - same
-    return classes, np.stack(
-        [begun, ended, gain, loss, ended - begun, 2 * np.minimum(gain, loss), same]
-    )
+    table: Any
+    matrix: Any
+    summary: Any
 
 
 def change(
-    before: Any,
-    after: Any = None,
+    before: MapLike | Sequence[MapLike],
+    after: Optional[MapLike] = None,
     *,
-    years: Iterable[int] | None = None,
-    area: str | None = "auto",
+    years: Optional[Iterable[int]] = None,
+    area: Optional[str] = "auto",
     labels: Any = None,
     crs: Any = None,
 ) -> Change:
@@ -247,12 +70,13 @@ def change(
     Parameters
     ----------
     before, after : path, array, .. as a map of `run`
-        Two maps; or a list of maps in the order of their years, each of which is compared with the next one.
+        Two maps; or as `before` a list of maps in the order of their years, or a DataArray with the dimension `time`. Each map is
+        compared with the next one.
     years : iterable of int, optional
-        The year of each map; required for more than two maps.
+        The year of each map; required for a list of more than two maps.
     area : {"ha", "km2", "m2"} or None
         The unit of areas, as in `composition`.
-    labels : path, dict or DataFrame, optional
+    labels : path, dict, Series or DataFrame, optional
         The legend of all maps, which replaces their own labels, as in `composition`. By default, maps without labels get the labels of
         the first map that has some.
     crs : any, optional
@@ -261,7 +85,7 @@ def change(
     Returns
     -------
     Change
-        With the attributes `table`, `matrix` and `summary`.
+        A named tuple of DataFrames: `table`, `matrix` and `summary`.
 
     Raises
     ------
@@ -273,37 +97,46 @@ def change(
     Examples
     --------
     >>> import numpy as np, rcell
-    >>> found = rcell.change(np.array([[1, 1, 2]]), np.array([[1, 2, 2]]), area=None)
+    >>> found = rcell.change(np.array([[1, 1, 2]]), np.array([[1, 2, 2]]))
     >>> found.summary.iloc[0].tolist()
     [1, 2, 1, 0, 1, -1, 0, 1]
     """
-    if after is not None:
-        given = {"before": before, "after": after}
-    elif isinstance(before, (list, tuple)) and len(before) > 1:
-        names = (
-            ("before", "after")
-            if len(before) == 2
-            else [f"map_{at + 1}" for at in range(len(before))]
-        )
-        given = dict(zip(names, before))
-    else:
-        raise BadArgument("after", "must be a map, unless before is a list of maps; got None")
-    told = _checked(years, len(given))
+    given, told_years = _maps_of(before, after, years)
+    checked = _checked(told_years, len(given))
     maps = Maps(given, crs)
     measure = maps.measure(area)
     names = list(maps.sources)
-    own = [maps.sources[name].labels if labels is None else labels_of(labels) for name in names]
-    shared: Mapping[int, str] = next(filter(None, own), {})
-    own = [found or shared for found in own]
-    pairs = _Pairs(
-        maps.counts(list(zip(names, names[1:])), measure), told, own, labels is not None, measure
-    )
-    matrix, classes = pairs.matrix()
-    tables = {"table": pairs.table(), "matrix": matrix, "summary": pairs.summary()}
-    return Change(tables, 1 if told is None else 3, None if any(own) else classes)
+    pairs = maps.counts(list(zip(names, names[1:])), measure)
+    own = [maps.sources[name].labels for name in names]
+    shared: Labels = next(filter(None, own), {})
+    if labels is not None:
+        occurring = [(name, _classes_of(pairs, at)) for at, name in enumerate(names)]
+        own = [legend_for(labels, {}, occurring)] * len(names)
+    changes = _Changes(pairs, checked, [each or shared for each in own], measure)
+    return Change(changes.table(), changes.matrix(), changes.summary())
 
 
-def _checked(years: Iterable[int] | None, maps: int) -> list[int] | None:
+def _maps_of(before: Any, after: Any, years: Any) -> tuple[dict[str, Any], Any]:
+    """Return the maps of a call by their names, and the years."""
+    if after is not None:
+        return {"before": before, "after": after}, years
+    if "time" in getattr(before, "dims", ()):
+        from ..readers.xarray import series_of
+
+        maps, own = series_of(before)
+        years = own if years is None else years
+    elif isinstance(before, (list, tuple)):
+        maps = list(before)
+    else:
+        maps = [before]
+    if len(maps) < 2:
+        raise BadArgument("after", "must be a map, unless before is a list of maps; got None")
+    if len(maps) == 2:
+        return dict(zip(("before", "after"), maps)), years
+    return {f"map_{at}": map for at, map in enumerate(maps, 1)}, years
+
+
+def _checked(years: Any, maps: int) -> Optional[list[int]]:
     """Return the years, after checking that there is one for each map."""
     if years is None and maps == 2:
         return None
@@ -320,3 +153,113 @@ def _checked(years: Iterable[int] | None, maps: int) -> list[int] | None:
         told = f"must have one year for each map; got {len(found) or 'none'} for {maps} maps"
         raise BadArgument("years", told)
     return [int(year) for year in found]
+
+
+def _classes_of(pairs: Sequence[Counts], at: int) -> NDArray[np.int64]:
+    """Return the classes that occur in a map of a series, of which each pair has two."""
+    parts = [pairs[at].classes[:, 0]] if at < len(pairs) else []
+    return np.concatenate(parts + ([pairs[at - 1].classes[:, 1]] if at else []))
+
+
+@dataclass(frozen=True)
+class _Changes:
+    """The counts of each pair of years, and the labels of each year."""
+
+    pairs: Sequence[Counts]
+    years: Optional[list[int]]
+    labels: Sequence[Labels]
+    measure: Measure
+
+    def table(self) -> Table:
+        """Return a table with a row for each change that occurs."""
+        columns = self._years_of([pair.cells.size for pair in self.pairs])
+        for place, name in enumerate(("from", "to")):
+            classes = [pair.classes[:, place] for pair in self.pairs]
+            columns += self._with_labels(name, f"{name}_label", classes, self.labels[place:])
+        cells = np.concatenate([pair.cells for pair in self.pairs])
+        area = None
+        if self.measure.unit is not None:
+            area = np.concatenate([pair.measured() for pair in self.pairs])
+        percent = np.concatenate([pair.percent() for pair in self.pairs])
+        together = Counts(np.empty((cells.size, 0), np.int64), cells, area)
+        return Table(columns + together.columns(self.measure, percent))
+
+    def matrix(self) -> Matrix:
+        """Return a matrix with a row for each class before and a column for each class after."""
+        after = np.unique(np.concatenate([pair.classes[:, 1] for pair in self.pairs]))
+        parts = [_matrix_of(pair, after) for pair in self.pairs]
+        classes = [before for before, _ in parts]
+        keys = self._years_of([before.size for before in classes])
+        taken = [*(column.name for column in keys), "from"]
+        later = {code: text for labels in self.labels[1:] for code, text in labels.items()}
+        axes = [(after, later), *zip(classes, self.labels)]
+        titles, *texts = distinct_names(axes, taken)
+        if any(self.labels):
+            keys.append(Column("from", "label", [text for part in texts for text in part]))
+        else:
+            keys.append(Column("from", "class", np.concatenate(classes)))
+        values = np.concatenate([part for _, part in parts])
+        return Matrix(keys, "to", titles, values, not any(self.labels))
+
+    def summary(self) -> Table:
+        """Return a table with a row for each class."""
+        is_weighed = self.measure.by_row is not None
+        parts = [
+            _summary_of(pair, pair.measured() if is_weighed else pair.cells) for pair in self.pairs
+        ]
+        classes = [found for found, _ in parts]
+        both = [{**before, **after} for before, after in zip(self.labels, self.labels[1:])]
+        columns = self._years_of([found.size for found in classes])
+        columns += self._with_labels("class", "label", classes, both)
+        values = np.concatenate([part for _, part in parts], axis=1)
+        if self.measure.unit is not None and not is_weighed:
+            values = self.measure.area(values)
+        kind = "count" if self.measure.unit is None else "measure"
+        titles = (f"{part}_{self.measure.column}" for part in _PARTS)
+        return Table(columns + [Column(title, kind, part) for title, part in zip(titles, values)])
+
+    def _years_of(self, rows: list[int]) -> list[Column]:
+        """Return the columns of years; `rows` has the number of rows of each pair."""
+        if self.years is None:
+            return []
+        years = np.array(self.years, np.int64)
+        ends = zip(_YEARS, (years[:-1], years[1:]))
+        return [Column(name, "class", np.repeat(part, rows)) for name, part in ends]
+
+    def _with_labels(
+        self,
+        name: str,
+        title: str,
+        classes: Sequence[NDArray[np.int64]],
+        labels: Sequence[Labels],
+    ) -> list[Column]:
+        """Return the column of classes of all pairs, and the column of labels if any map has labels."""
+        columns = [Column(name, "class", np.concatenate(classes))]
+        if any(self.labels):
+            texts = [label_column(title, codes, own).values for codes, own in zip(classes, labels)]
+            columns.append(Column(title, "label", [text for part in texts for text in part]))
+        return columns
+
+
+def _matrix_of(pair: Counts, after: NDArray[np.int64]) -> tuple[NDArray[np.int64], NDArray[Any]]:
+    """Return the classes before, and what each changed into: a row for each, a column for each class after."""
+    before, at = np.unique(pair.classes[:, 0], return_inverse=True)
+    measured = pair.measured()
+    values = np.zeros((before.size, after.size), measured.dtype)
+    values[at, np.searchsorted(after, pair.classes[:, 1])] = measured
+    return before, values
+
+
+def _summary_of(pair: Counts, measured: NDArray[Any]) -> tuple[NDArray[np.int64], NDArray[Any]]:
+    """Return the classes of two years, and for each of them the seven measures of a summary."""
+    classes, at = np.unique(pair.classes, return_inverse=True)
+    before, after = at.reshape(-1, 2).T
+    kept = before == after
+    sums = np.zeros((3, classes.size), measured.dtype)
+    np.add.at(sums[0], before, measured)
+    np.add.at(sums[1], after, measured)
+    np.add.at(sums[2], before[kept], measured[kept])
+    begun, ended, same = sums
+    gain, loss = ended - same, begun - same
+    swap = 2 * np.minimum(gain, loss)
+    return classes, np.stack([begun, ended, gain, loss, ended - begun, swap, same])

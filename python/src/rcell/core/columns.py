@@ -1,69 +1,20 @@
 # SPDX-License-Identifier: Apache-2.0 OR GPL-2.0-or-later
-"""Tables: columns with names, and the table that an r.stats of a script prints."""
+"""Tables of the core: named columns, which packages turn into DataFrames, layers and texts."""
 
 from __future__ import annotations
 
-import csv
-import io
-import json
-from collections import Counter
-from dataclasses import dataclass, field, replace
-from functools import cached_property, wraps
-from typing import (
-    TYPE_CHECKING,
-    Any,
-    Callable,
-    Iterable,
-    Iterator,
-    Literal,
-    Mapping,
-    NamedTuple,
-    Union,
-)
+from collections.abc import Iterable, Mapping, Sequence
+from dataclasses import dataclass, replace
+from typing import Any, Union
 
 import numpy as np
 
+from .arrays import NDArray
 from .protocol import NULL
 
-from .arrays import NDArray
-from .area import unit_of
-from .crs import cell_area
-from .errors import Refused
-
-__all__ = ["Column", "Pivot", "StatsTable", "Table", "framed", "shortest"]
-
-if TYPE_CHECKING:
-    from typing import ParamSpec
-
-    Words = ParamSpec("Words")
+__all__ = ["Column", "Matrix", "Table", "Value", "distinct_names", "unique_names"]
 
 Value = Union[int, float, str, None]
-# The most rows that a notebook shows.
-SHOWN_ROWS = 20
-
-
-class Pivot(NamedTuple):
-    """A table of two maps as a matrix.
-
-    Parameters
-    ----------
-    rows, columns : list of int, str or None
-        The categories of the first and of the second map, or their labels; None is null.
-    values : array of float64 or int64, rows x columns
-        0 if a combination does not occur.
-
-    Examples
-    --------
-    >>> import numpy as np, rcell
-    >>> a, b = np.array([[1, 1, 2]]), np.array([[7, 8, 8]])
-    >>> rcell.run("r.stats -c input=a,b", a=a, b=b).tables[0].pivot()
-    Pivot(rows=[1, 2], columns=[7, 8], values=array([[1, 1],
-           [0, 1]]))
-    """
-
-    rows: list[int | str | None]
-    columns: list[int | str | None]
-    values: NDArray[Any]
 
 
 @dataclass(frozen=True)
@@ -79,7 +30,7 @@ class Column:
     """
 
     name: str
-    kind: Literal["class", "label", "count", "measure"]
+    kind: str
     values: Any
 
     def listed(self) -> list[Value]:
@@ -89,21 +40,13 @@ class Column:
         values: list[Value] = self.values.tolist()
         if self.kind == "class":
             return [None if value == NULL else value for value in values]
-        return (
-            [None if value != value else value for value in values]
-            if self.kind == "measure"
-            else values
-        )
-
-    def series(self, pandas: Any) -> Any:
-        """Return the values for a column of a DataFrame."""
-        if self.kind == "class":
-            return pandas.arrays.IntegerArray(self.values.astype(np.int64), self.values == NULL)
-        return pandas.array(self.values, dtype="string") if self.kind == "label" else self.values
+        if self.kind == "measure":
+            return [None if value != value else value for value in values]
+        return values
 
 
 class Table:
-    """Columns with names; `frame` returns them as a DataFrame.
+    """Columns of one length; a name that occurs twice gets the first number that makes it unique.
 
     Parameters
     ----------
@@ -111,417 +54,144 @@ class Table:
 
     Examples
     --------
-    >>> import numpy as np, rcell
-    >>> table = rcell.run("r.stats -c input=lc", lc=np.array([[1, 1, 2]])).tables[0]
+    >>> import numpy as np
+    >>> table = Table([Column("a", "count", np.array([1, 2])), Column("a", "label", ["x", None])])
     >>> table.columns, table.rows
-    (('lc', 'cells'), [(1, 2), (2, 1)])
+    (('a', 'a_2'), [(1, 'x'), (2, None)])
     """
 
     def __init__(self, columns: Iterable[Column]) -> None:
-        self._kept = _named_once(columns)
-
-    def _all(self) -> list[Column]:
-        return self._kept
+        given = list(columns)
+        names = unique_names(column.name for column in given)
+        self.data = [replace(column, name=name) for column, name in zip(given, names)]
 
     @property
     def columns(self) -> tuple[str, ...]:
-        """The names of the columns.
+        """The names of the columns."""
+        return tuple(column.name for column in self.data)
 
-        Examples
-        --------
-        >>> import numpy as np, rcell
-        >>> rcell.run("r.stats -cl input=a,a", a=np.array([[1]])).tables[0].columns
-        ('a', 'a_label', 'a_2', 'a_label_2', 'cells')
-        """
-        return tuple(column.name for column in self._all())
-
-    @cached_property
+    @property
     def rows(self) -> list[tuple[Value, ...]]:
-        """The rows, with None for missing values.
-
-        Examples
-        --------
-        >>> import numpy as np, rcell
-        >>> rcell.run("r.stats -c input=lc", lc=rcell.Map([[1, 0]], nodata=0)).tables[0].rows
-        [(1, 1), (None, 1)]
-        """
-        return list(zip(*(column.listed() for column in self._all())))
+        """The rows, with None for missing values."""
+        return list(zip(*(column.listed() for column in self.data)))
 
     def __len__(self) -> int:
-        return len(self._all()[0].values)
-
-    def __iter__(self) -> Iterator[tuple[Value, ...]]:
-        return iter(self.rows)
-
-    def __repr__(self) -> str:
-        return f"<Table: {len(self)} rows, {', '.join(self.columns)}>"
-
-    def frame(self) -> Any:
-        """Return the table as a DataFrame: classes as nullable Int64, counts as int64, measures as float64, labels as text.
-
-        Returns
-        -------
-        pandas.DataFrame
-            With the columns of the table.
-
-        Examples
-        --------
-        >>> import numpy as np, rcell
-        >>> rcell.run("r.stats -c input=lc", lc=np.array([[1, 1, 2]])).tables[0].frame()
-           lc  cells
-        0   1      2
-        1   2      1
-        """
-        import pandas  # imported here, since it takes longer to load than everything else
-
-        return pandas.DataFrame({column.name: column.series(pandas) for column in self._all()})
-
-    def csv(self, delimiter: str = ",") -> str:
-        """Return the table as comma-separated values with a header; missing values are empty.
-
-        Parameters
-        ----------
-        delimiter : str
-            What separates values.
-
-        Returns
-        -------
-        str
-            A line for the header and one for each row.
-
-        Examples
-        --------
-        >>> import numpy as np, rcell
-        >>> print(rcell.run("r.stats -c input=lc", lc=np.array([[1, 1, 2]])).tables[0].csv(), end="")
-        lc,cells
-        1,2
-        2,1
-        """
-        text = io.StringIO()
-        writer = csv.writer(text, delimiter=delimiter, lineterminator="\n")
-        writer.writerow(self.columns)
-        writer.writerows([shortest(value) for value in row] for row in self.rows)
-        return text.getvalue()
-
-    def json(self) -> str:
-        """Return the table as a JSON list of objects; missing values are null.
-
-        Returns
-        -------
-        str
-            A line for each object.
-
-        Examples
-        --------
-        >>> import numpy as np, rcell
-        >>> print(rcell.run("r.stats -c input=lc", lc=np.array([[1, 1, 2]])).tables[0].json(), end="")
-        [{"lc": 1, "cells": 2},
-         {"lc": 2, "cells": 1}]
-        """
-        objects = (
-            json.dumps(dict(zip(self.columns, row)), ensure_ascii=False) for row in self.rows
-        )
-        return "[" + ",\n ".join(objects) + "]\n"
-
-    def markdown(self) -> str:
-        """Return the table in Markdown, numbers aligned to the right, with at most ten digits.
-
-        Returns
-        -------
-        str
-            Two lines for the header and one for each row.
-
-        Examples
-        --------
-        >>> import numpy as np, rcell
-        >>> print(rcell.run("r.stats -c input=lc", lc=np.array([[1, 1, 2]])).tables[0].markdown(), end="")
-        | lc | cells |
-        |---:|---:|
-        | 1 | 2 |
-        | 2 | 1 |
-        """
-        sides = ["---" if column.kind == "label" else "---:" for column in self._all()]
-        lines = [
-            " | ".join(map(_escaped, self.columns)),
-            *(" | ".join(_escaped(_plain(value)) for value in row) for row in self.rows),
-        ]
-        head, *rest = (f"| {line} |" for line in lines)
-        return "\n".join([head, f"|{'|'.join(sides)}|", *rest]) + "\n"
-
-    def __str__(self) -> str:
-        shown = [[_plain(value) for value in row] for row in self.rows[:SHOWN_ROWS]]
-        widths = [
-            max(len(name), *(len(row[at]) for row in shown), 0) if shown else len(name)
-            for at, name in enumerate(self.columns)
-        ]
-        lines = [
-            "  ".join(text.rjust(width) for text, width in zip(row, widths))
-            for row in [list(self.columns), *shown]
-        ]
-        return "\n".join(lines + ([f"({len(self):,} rows)"] if len(self) > SHOWN_ROWS else []))
-
-    def _repr_html_(self) -> str:
-        return str(self.frame()._repr_html_())
+        return len(self.data[0].values)
 
 
-@dataclass(frozen=True, repr=False)
-class StatsTable(Table):
-    """The table of one r.stats of a script.
+class Matrix(Table):
+    """A table whose last columns are the classes of a map.
 
     Parameters
     ----------
-    command : str
-        `r.stats`.
-    line : int
-        The line of the script.
-    maps : tuple of str
-        The maps, in the order of the columns.
-    categories : array of int64, entries x maps
-        -2147483648 is null.
-    cells : array of int64 or None
-        The number of cells of each combination; None if the script has no `-c`.
-    labels : mapping or None
-        The labels of the categories of each map, by its name; None without `-l`.
-    unit : str or None
-        The unit of `area`.
-    area, percent : array of float64 or None
-    cell : tuple of float
-        The height and width of a cell.
-    crs : any
+    keys : list of Column
+        The columns that say what a row is.
+    across : str
+        What the other columns are.
+    titles : list of str
+    values : array, a row for each row of the keys, a column for each title
+    is_numbered : bool
+        Whether the titles are numbers of classes.
+    """
+
+    def __init__(
+        self,
+        keys: list[Column],
+        across: str,
+        titles: Sequence[str],
+        values: NDArray[Any],
+        is_numbered: bool,
+    ) -> None:
+        kind = "measure" if values.dtype.kind == "f" else "count"
+        super().__init__(
+            [*keys, *(Column(title, kind, part) for title, part in zip(titles, values.T))]
+        )
+        self.keys = len(keys)
+        self.across = across
+        self.is_numbered = is_numbered
+
+    @classmethod
+    def of(
+        cls,
+        names: Sequence[str],
+        classes: NDArray[np.int64],
+        values: NDArray[Any],
+        labels: Sequence[Mapping[int, str]],
+    ) -> Matrix:
+        """Return the values of pairs of classes of two maps; 0 if a pair does not occur.
+
+        Examples
+        --------
+        >>> pairs = np.array([[1, 7], [1, 8], [2, 8]])
+        >>> Matrix.of(["a", "b"], pairs, np.array([3, 4, 5]), [{}, {7: "x", 8: "x"}]).columns
+        ('a', 'x (7)', 'x (8)')
+        """
+        (rows, at), (columns, across) = (_codes(part) for part in classes.T)
+        made = np.zeros((rows.size, columns.size), values.dtype)
+        made[at, across] = values
+        texts, titles = distinct_names([(rows, labels[0]), (columns, labels[1])], [names[0]])
+        head = Column(names[0], "class", rows)
+        if labels[0]:
+            head = Column(names[0], "label", texts)
+        return cls([head], names[1], titles, made, not labels[1])
+
+
+def _codes(classes: NDArray[np.int64]) -> tuple[NDArray[np.int64], NDArray[np.intp]]:
+    """Return the classes that occur, null last, and the index of each among them."""
+    last = np.iinfo(np.int64).max
+    found, at = np.unique(np.where(classes == NULL, last, classes), return_inverse=True)
+    return np.where(found == last, NULL, found), at
+
+
+def distinct_names(
+    axes: Sequence[tuple[NDArray[np.int64], Mapping[int, str]]], taken: Sequence[str] = ()
+) -> list[list[str]]:
+    """Return names of the classes of some axes: their labels, or their numbers; a label of two classes is followed by the number.
+
+    Parameters
+    ----------
+    axes : sequence of (array, mapping)
+        Classes and their labels.
+    taken : sequence of str
+        Names of other columns.
 
     Examples
     --------
-    >>> import numpy as np, rcell
-    >>> table = rcell.run("r.stats -c input=lc", lc=np.array([[1, 1, 2]])).tables[0]
-    >>> table.command, table.line, table.maps
-    ('r.stats', 1, ('lc',))
+    >>> labels = {1: "2", 3: "wood", 4: "wood", 5: "from"}
+    >>> distinct_names([(np.array([1, 2, 3]), labels), (np.array([4, 5]), labels)], ["from"])
+    [['2 (1)', '2', 'wood (3)'], ['wood (4)', 'from (5)']]
     """
+    owners: dict[str, set[int]] = {}
+    for classes, labels in axes:
+        for code in classes.tolist():
+            owners.setdefault(labels.get(code) or _number(code), set()).add(code)
 
-    command: str
-    line: int
-    maps: tuple[str, ...]
-    categories: NDArray[np.int64]
-    cells: NDArray[np.int64] | None = None
-    labels: Mapping[str, Mapping[int, str]] | None = None
-    unit: str | None = None
-    area: NDArray[np.float64] | None = None
-    percent: NDArray[np.float64] | None = None
-    cell: tuple[float, float] = (1.0, 1.0)
-    crs: Any = field(default=None, repr=False)
+    def name(code: int, label: str | None) -> str:
+        if not label:
+            return _number(code)
+        return f"{label} ({code})" if len(owners[label]) > 1 or label in taken else label
 
-    @cached_property
-    def _made(self) -> list[Column]:
-        """The columns: each map, `NAME_label` with `-l`, `cells`, the area and `percent`; repeated names get `_2`."""
-        found: list[Column] = []
-        for place, name in enumerate(self.maps):
-            codes = self.categories[:, place]
-            found.append(Column(name, "class", codes))
-            if self.labels is not None and name in self.labels:
-                found.append(
-                    Column(
-                        f"{name}_label",
-                        "label",
-                        [self.labels[name].get(code) for code in codes.tolist()],
-                    )
-                )
-        found += [] if self.cells is None else [Column("cells", "count", self.cells)]
-        found += [] if self.area is None else [Column(f"area_{self.unit}", "measure", self.area)]
-        found += [] if self.percent is None else [Column("percent", "measure", self.percent)]
-        return _named_once(found)
-
-    def _all(self) -> list[Column]:
-        return self._made
-
-    def __len__(self) -> int:
-        return len(self.categories)
-
-    def __repr__(self) -> str:
-        return f"<Table {self.command}: {len(self)} rows, {', '.join(self.columns)}>"
-
-    def with_area(self, unit: str) -> StatsTable:
-        """Return the table with a column of areas.
-
-        Parameters
-        ----------
-        unit : {"m2", "ha", "km2"}
-
-        Returns
-        -------
-        StatsTable
-            With the column `area_ha`, or of another unit.
-
-        Raises
-        ------
-        Refused
-            The map is in degrees, or the table has no cells.
-
-        Examples
-        --------
-        >>> import numpy as np, rcell
-        >>> lc = rcell.Map(np.array([[1, 1, 2]]), (100, 0, 0, 0, -100, 100), crs="EPSG:25832")
-        >>> rcell.run("r.stats -c input=lc", lc=lc).tables[0].with_area("ha").rows
-        [(1, 2, 2.0), (2, 1, 1.0)]
-        """
-        unit_of(unit, self.crs)
-        square_metres, divisor = cell_area(unit, self.cell, self.crs)
-        return replace(self, unit=unit, area=self._counted("area=") * square_metres / divisor)
-
-    def with_percent(self) -> StatsTable:
-        """Return the table with a column of percentages of all its cells.
-
-        Returns
-        -------
-        StatsTable
-            With the column `percent`.
-
-        Examples
-        --------
-        >>> import numpy as np, rcell
-        >>> rcell.run("r.stats -c input=lc", lc=np.array([[1, 1, 1, 2]])).tables[0].with_percent().rows
-        [(1, 3, 75.0), (2, 1, 25.0)]
-        """
-        cells = self._counted("percent=")
-        return replace(self, percent=cells * 100.0 / max(int(cells.sum()), 1))
-
-    def _counted(self, asked: str) -> NDArray[np.int64]:
-        if self.cells is None:
-            raise Refused(f"{asked} needs a table with cells: r.stats -c", "script", self.line)
-        return self.cells
-
-    def pivot(self) -> Pivot:
-        """Return the table of two maps as a matrix: of percentages or areas if the table has them, otherwise of cells.
-
-        Returns
-        -------
-        Pivot
-            Its rows, columns and values.
-
-        Raises
-        ------
-        Refused
-            The table has not two maps, or no cells.
-
-        Examples
-        --------
-        >>> import numpy as np, rcell
-        >>> a, b = np.array([[1, 1, 2]]), np.array([[7, 8, 8]])
-        >>> rcell.run("r.stats -c input=a,b", a=a, b=b).tables[0].pivot().columns
-        [7, 8]
-        """
-        if len(self.maps) != 2:
-            raise Refused(
-                f"pivot= needs a table of two maps, and this one has {len(self.maps)}",
-                "script",
-                self.line,
-            )
-        counted = self._counted("pivot=")
-        numbers = (
-            self.percent
-            if self.percent is not None
-            else self.area
-            if self.area is not None
-            else counted
-        )
-        (rows, at), (columns, across) = (self._sides(place) for place in (0, 1))
-        values = np.zeros((len(rows), len(columns)), numbers.dtype)
-        values[at, across] = numbers
-        return Pivot(self._named(rows, 0), self._named(columns, 1), values)
-
-    def _sides(self, place: int) -> tuple[NDArray[np.int64], NDArray[np.intp]]:
-        """Return the categories of a map, null last, and the index of each row among them."""
-        ordered = np.where(
-            self.categories[:, place] == NULL, np.iinfo(np.int64).max, self.categories[:, place]
-        )
-        categories, at = np.unique(ordered, return_inverse=True)
-        return np.where(categories == np.iinfo(np.int64).max, NULL, categories), at
-
-    def _named(self, categories: NDArray[np.int64], place: int) -> list[int | str | None]:
-        """Return the labels of categories; a label that occurs twice, or reads as null, is followed by its category."""
-        labels = (self.labels or {}).get(self.maps[place], {})
-        names = [
-            None if category == NULL else labels.get(category, category)
-            for category in categories.tolist()
-        ]
-        often = Counter("null" if name is None else str(name) for name in names)
-        return [
-            f"{name} ({category})" if isinstance(name, str) and often[name] > 1 else name
-            for name, category in zip(names, categories.tolist())
-        ]
-
-    def pivot_frame(self) -> Any:
-        """Return the matrix as a DataFrame, with the names of the maps above its rows and columns.
-
-        Returns
-        -------
-        pandas.DataFrame
-            A row for each category of the first map, a column for each of the second.
-
-        Examples
-        --------
-        >>> import numpy as np, rcell
-        >>> a, b = np.array([[1, 1, 2]]), np.array([[7, 8, 8]])
-        >>> counts = rcell.run("r.stats -c input=a,b", a=a, b=b).tables[0]
-        >>> counts.pivot_frame()  # doctest: +NORMALIZE_WHITESPACE
-        b  7  8
-        a
-        1  1  1
-        2  0  1
-        """
-        import pandas
-
-        matrix = self.pivot()
-        first, second = (
-            pandas.Index(_axis(names), name=name) for names, name in zip(matrix[:2], self.maps)
-        )
-        return pandas.DataFrame(matrix.values, first, second)
+    return [[name(code, labels.get(code)) for code in classes.tolist()] for classes, labels in axes]
 
 
-def framed(make: Callable[Words, Table]) -> Callable[Words, Any]:
-    """Return a function that returns its table as a DataFrame; `inspect.unwrap` gives the one that returns the Table."""
-
-    @wraps(make)
-    def call(*words: Words.args, **named: Words.kwargs) -> Any:
-        return make(*words, **named).frame()
-
-    return call
+def _number(code: int) -> str:
+    return "null" if code == NULL else str(code)
 
 
-def _named_once(columns: Iterable[Column]) -> list[Column]:
-    """Return columns with unique names: a repeated name gets the first number that makes it unique."""
-    found: dict[str, Column] = {}
-    for column in columns:
-        number, new = 2, column.name
+def unique_names(names: Iterable[str]) -> list[str]:
+    """Return names in which a repeated one has the first number that makes it unique.
+
+    Examples
+    --------
+    >>> unique_names(["lc", "lc", "lc_2"])
+    ['lc', 'lc_2', 'lc_2_2']
+    """
+    found: list[str] = []
+    for name in names:
+        new = name
+        number = 2
         while new in found:
-            number, new = number + 1, f"{column.name}_{number}"
-        found[new] = replace(column, name=new)
-    return list(found.values())
-
-
-def shortest(value: Value) -> str:
-    """Return a value for a CSV: numbers in the shortest form that reads back the same, missing values as an empty text.
-
-    Examples
-    --------
-    >>> shortest(2.0), shortest(0.1), shortest(None)
-    ('2', '0.1', '')
-    """
-    return (
-        ""
-        if value is None
-        else repr(value).removesuffix(".0")
-        if isinstance(value, float)
-        else str(value)
-    )
-
-
-def _plain(value: Value) -> str:
-    return "" if value is None else f"{value:.10g}" if isinstance(value, float) else str(value)
-
-
-def _escaped(text: str) -> str:
-    return text.replace("\\", "\\\\").replace("|", "\\|").replace("\n", " ")
-
-
-def _axis(names: list[int | str | None]) -> list[Any]:
-    """Return the names of an axis with null as text, since an axis of integers cannot hold null."""
-    return ["null" if name is None else name for name in names]
+            new = f"{name}_{number}"
+            number += 1
+        found.append(new)
+    return found

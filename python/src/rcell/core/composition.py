@@ -5,29 +5,27 @@ from __future__ import annotations
 
 from typing import Any, Mapping
 
-import numpy as np
-
 from .protocol import NULL
 
-from .arrays import NDArray
-from .counting import Counts, Maps, places_of
+from .counting import Maps
 from .arguments import check_named_maps
 from .errors import BadArgument
-from .sources import named_once
-from .columns import Column, Table, framed
+from .sources import MapLike, named_once
+from .columns import Column, Table
 
 __all__ = ["composition", "cross"]
 
 
-@framed
 def composition(
-    map: Any,
+    map: MapLike,
     zones: Any = None,
     area: str | None = "auto",
     labels: Any = None,
     zone_labels: Any = None,
     *,
     zone_field: str | None = None,
+    layer: str | None = None,
+    each: bool = False,
     include_null: bool = False,
     crs: Any = None,
 ) -> Table:
@@ -36,15 +34,20 @@ def composition(
     Parameters
     ----------
     map : path, array, .. as a map of `run`
-    zones : map, or path of polygons, or GeoDataFrame, optional
-        Polygons are rasterised with GDAL: a cell belongs to the polygon that contains its centre.
+    zones : map, or path of polygons, GeoDataFrame or GeoSeries, optional
+        A cell belongs to the polygon that contains its centre. A feature without geometry, or without a value, has no zone.
     area : {"ha", "km2", "m2"} or None
         The unit of areas; None leaves them out. If it is not given, areas are in hectares if the map's reference system says how long a
         unit is, and left out if the map has none. In degrees, areas are on the ellipsoid of the reference system.
-    labels, zone_labels : path, dict or DataFrame, optional
-        A legend that replaces the labels of the map, or of the zones: a CSV `value,label`, a QML, or labels by value.
+    labels, zone_labels : path, dict, Series or DataFrame, optional
+        A legend that replaces the labels of the map, or of the zones: a CSV or TSV with `value` and `label`, a QML, or labels by value.
     zone_field : str, optional
-        The field of the polygons with the ids or names of the zones.
+        The field of the polygons with the ids or names of the zones; by default the zone is the feature's own id (the index of a
+        GeoDataFrame).
+    layer : str, optional
+        The layer of a file of polygons that has several.
+    each : bool
+        Whether polygons that overlap are taken one after another. By default the later one has the cells, with a warning.
     include_null : bool
         Whether to add the cells that are null.
     crs : any, optional
@@ -64,14 +67,14 @@ def composition(
     Examples
     --------
     >>> import numpy as np, rcell
-    >>> lc = rcell.Map(np.array([[1, 1, 2], [3, 2, 2]]), (100, 0, 0, 0, -100, 200), labels={1: "wood", 2: "water", 3: "town"})
+    >>> lc = rcell.Raster(np.array([[1, 1, 2], [3, 2, 2]]), (100, 0, 0, 0, -100, 200), labels={1: "wood", 2: "water", 3: "town"})
     >>> rcell.composition(lc, crs="EPSG:25832")
        class  label  cells  area_ha    percent
     0      1   wood      2      2.0  33.333333
     1      2  water      3      3.0  50.000000
     2      3   town      1      1.0  16.666667
     """
-    maps = Maps({"map": map}, crs, zones, zone_field)
+    maps = Maps({"map": map}, crs, zones, zone_field, layer, each)
     measure = maps.measure(area)
     names = ["map"] if zones is None else ["zones", "map"]
     found = maps.counts([names], measure, include_null)[0]
@@ -80,30 +83,18 @@ def composition(
     columns = maps.columns("class", found.classes[:, -1], "map", labels, "label")
     if zones is not None:
         columns[:0] = maps.columns("zone", found.classes[:, 0], "zones", zone_labels)
-    return Table(columns + found.columns(measure, _percent(found, found.classes[:, :-1])))
+    return Table(columns + found.columns(measure, found.percent(len(names) - 1)))
 
 
-def _percent(found: Counts, groups: NDArray[np.int64]) -> NDArray[np.float64]:
-    """Return the percentages of the non-null part of each group of consecutive rows, NaN for null."""
-    is_null = (found.classes == NULL).any(axis=1)
-    counted = np.where(is_null, 0, found.measured())
-    if not counted.size:
-        return np.empty(0)
-    first = places_of(groups)
-    totals = np.repeat(np.add.reduceat(counted, first), np.diff([*first, counted.size]))
-    return np.where(is_null, np.nan, counted * 100.0 / np.where(totals == 0, 1, totals))
-
-
-@framed
 def cross(
-    maps: Mapping[str, Any] | None = None,
+    maps: Mapping[str, MapLike] | None = None,
     /,
     *,
     area: str | None = "auto",
     labels: Mapping[str, Any] | None = None,
     include_null: bool = False,
     crs: Any = None,
-    **named: Any,
+    **named: MapLike,
 ) -> Table:
     """Count how often the classes of several maps occur together, with areas and percentages.
 
@@ -160,4 +151,4 @@ def cross(
     columns: list[Column] = []
     for place, name in enumerate(given):
         columns += crossed.columns(name, found.classes[:, place], name, legends.get(name))
-    return Table(columns + found.columns(measure, _percent(found, found.classes[:, :0])))
+    return Table(columns + found.columns(measure, found.percent()))

@@ -3,24 +3,25 @@
 
 from __future__ import annotations
 
+from collections.abc import Mapping, Sequence
 from dataclasses import dataclass
-from typing import Any, Mapping, Sequence
+from typing import Any, Optional
 
 import numpy as np
 
-from .protocol import NULL
-
-from .arrays import NDArray
-from .host import warn
-from .errors import BadArgument
-from .legends import labels_of
-from .sources import Source, source_of, sources_of
+from ..readers import open_polygons
 from .area import Measure, measure_of
-from .runs import execute
+from .arrays import NDArray
 from .columns import Column
-from .zones import zones_of
+from .errors import BadArgument
+from .host import warn
+from .legends import labels_of
+from .protocol import NULL
+from .runs import execute
+from .sources import Source, source_of, sources_of
+from .zones import Zones, zones_of
 
-__all__ = ["Counts", "Maps", "label_columns", "places_of"]
+__all__ = ["Counts", "Maps", "label_column", "legend_for", "places_of"]
 
 # The most maps of an r.stats; in degrees the number of the row is one of them.
 MOST_MAPS = 16
@@ -39,27 +40,45 @@ class Counts:
         Ascending, -2147483648 for null, which comes last.
     cells : array of int64
     area : array of float64 or None
-        In the requested unit.
+        In the unit of the call.
     """
 
     classes: Integers
     cells: Integers
-    area: NDArray[np.float64] | None
+    area: Optional[NDArray[np.float64]]
 
     def where(self, kept: NDArray[np.bool_]) -> Counts:
         """Return some of the entries."""
-        return Counts(
-            self.classes[kept], self.cells[kept], None if self.area is None else self.area[kept]
-        )
+        area = None if self.area is None else self.area[kept]
+        return Counts(self.classes[kept], self.cells[kept], area)
 
     def measured(self) -> NDArray[Any]:
-        """Return the areas, or the cells if no areas are asked for."""
+        """Return the areas, or the cells if there are no areas."""
         return self.cells if self.area is None else self.area
+
+    def percent(self, groups: int = 0) -> NDArray[np.float64]:
+        """Return what each entry is of the non-null part of the entries with the same first classes; NaN for null.
+
+        Parameters
+        ----------
+        groups : int
+            How many first classes make a group.
+        """
+        is_null = (self.classes == NULL).any(axis=1)
+        counted = np.where(is_null, 0, self.measured())
+        if not counted.size:
+            return np.empty(0)
+        first = places_of(self.classes[:, :groups])
+        totals = np.add.reduceat(counted, first)
+        totals = np.repeat(totals, np.diff([*first, counted.size]))
+        return np.where(is_null, np.nan, counted * 100.0 / np.where(totals == 0, 1, totals))
 
     def columns(self, measure: Measure, percent: NDArray[np.float64]) -> list[Column]:
         """Return the last columns of a table: cells, area and percent."""
-        areas = [] if self.area is None else [Column(f"area_{measure.unit}", "measure", self.area)]
-        return [Column("cells", "count", self.cells), *areas, Column("percent", "measure", percent)]
+        columns = [Column("cells", "count", self.cells)]
+        if self.area is not None:
+            columns.append(Column(f"area_{measure.unit}", "measure", self.area))
+        return [*columns, Column("percent", "measure", percent)]
 
 
 class Maps:
@@ -72,8 +91,10 @@ class Maps:
         The reference system of maps that have none.
     zones : any, optional
         A map, or polygons, which become the map `zones`.
-    zone_field : str, optional
-        The field of the polygons that has their ids or names.
+    zone_field, layer : str, optional
+        The field of the polygons with their ids or names, and the layer of their file.
+    each : bool
+        Whether polygons that overlap are taken one after another.
     """
 
     def __init__(
@@ -81,31 +102,48 @@ class Maps:
         maps: Mapping[str, Any],
         crs: Any = None,
         zones: Any = None,
-        zone_field: str | None = None,
+        zone_field: Optional[str] = None,
+        layer: Optional[str] = None,
+        each: bool = False,
     ) -> None:
-        given = {name: source_of(name, map) for name, map in maps.items()}
-        if zones is not None:
+        given: dict[str, Any] = {name: source_of(name, map) for name, map in maps.items()}
+        polygons = None if zones is None else open_polygons(zones, layer)
+        self._zones: Optional[Zones] = None
+        if polygons is not None:
             first = next(iter(given.values()))
-            given["zones"] = source_of("zones", zones_of(zones, zone_field, first, crs))
-        elif zone_field is not None:
-            raise BadArgument("zone_field", "is for polygons, and zones is not given")
+            self._zones = zones_of(polygons, zone_field, first, crs, each)
+            given["zones"] = self._zones.maps[0]
+        elif zones is not None:
+            given["zones"] = source_of("zones", zones)
+        if polygons is None:
+            told = "is for polygons, and zones is " + ("not given" if zones is None else "a raster")
+            for name, word in (("zone_field", zone_field), ("layer", layer), ("each", each)):
+                if word:
+                    raise BadArgument(name, told)
         self.sources: dict[str, Source]
         self.sources, self.crs = sources_of(given, crs, {**maps, "zones": zones})
         self.first = next(iter(self.sources.values()))
 
-    def measure(self, unit: str | None) -> Measure:
+    def measure(self, area: Any) -> Measure:
         """Return what their cells measure."""
-        return measure_of(unit, self.first, self.crs)
+        return measure_of(area, self.first, self.crs)
 
     def tables(self, script: str) -> list[Integers]:
-        """Return the tables of a script as they are."""
-        return [output.values for output in execute(script, self.sources)]
+        """Return the tables of a script as they are; with polygons one after another, the rows of all parts in order."""
+        if self._zones is None or len(self._zones.maps) == 1:
+            return [output.values for output in execute(script, self.sources)]
+        runs = [
+            [output.values for output in execute(script, {**self.sources, "zones": zones})]
+            for zones in self._zones.maps
+        ]
+        return [_in_order(np.concatenate(parts)) for parts in zip(*runs)]
 
     def counts(
-        self, tables: Sequence[Sequence[str]], measure: Measure, null: bool = False
+        self, tables: Sequence[Sequence[str]], measure: Measure, include_null: bool = False
     ) -> list[Counts]:
         """Return how often classes of some maps occur together, for each list of maps."""
-        flags, rows = "-c" if null else "-c -n", [] if measure.by_row is None else ["row"]
+        flags = "-c" if include_null else "-c -n"
+        rows = [] if measure.by_row is None else ["row"]
         lines = ["r.mapcalc row = row()"] if rows else []
         for names in tables:
             if len(names) + len(rows) > MOST_MAPS:
@@ -118,13 +156,16 @@ class Maps:
         self, title: str, classes: Integers, name: str, legend: Any = None, label: str = "{}_label"
     ) -> list[Column]:
         """Return the column of classes of a map, and the column of their labels if there are some: a legend, or its own."""
-        labels = self.sources[name].labels if legend is None else labels_of(legend)
-        return [
-            Column(title, "class", classes),
-            *label_columns(
-                label.format(title), classes, labels, legend is not None, self.sources[name].name
-            ),
-        ]
+        argument, own = "labels", self.sources[name].labels
+        if name == "zones" and self._zones is not None:
+            is_null = classes == NULL
+            classes = np.where(is_null, NULL, self._zones.ids[np.where(is_null, 0, classes - 1)])
+            argument, own = "zone_labels", self._zones.labels
+        labels = legend_for(legend, own, [(self.sources[name].name, classes)], argument)
+        columns = [Column(title, "class", classes)]
+        if labels:
+            columns.append(label_column(label.format(title), classes, labels))
+        return columns
 
 
 def counts_of(values: Integers, measure: Measure) -> Counts:
@@ -132,18 +173,24 @@ def counts_of(values: Integers, measure: Measure) -> Counts:
     if measure.by_row is None:
         cells = values[:, -1].copy()
         return Counts(values[:, :-1], cells, None if measure.unit is None else measure.area(cells))
-    classes, cells = values[:, 1:-1], values[:, -1]
-    ordered = np.where(classes == NULL, np.iinfo(np.int64).max, classes)
-    order = np.lexsort(ordered.T[::-1])  # stable: the rows of each combination stay in order
-    first = places_of(ordered[order])
+    area = values[:, -1] * measure.by_row[values[:, 0] - 1]
+    order = _order_of(values[:, 1:-1])
+    classes = values[order, 1:-1]
+    first = places_of(classes)
     if not first.size:
-        return Counts(classes, cells, np.empty(0))
-    area = cells[order] * measure.by_row[values[order, 0] - 1]
-    return Counts(
-        classes[order[first]],
-        np.add.reduceat(cells[order], first),
-        np.add.reduceat(area, first) / measure.divisor,
-    )
+        return Counts(classes, values[:, -1], area)
+    cells = np.add.reduceat(values[order, -1], first)
+    return Counts(classes[first], cells, np.add.reduceat(area[order], first) / measure.divisor)
+
+
+def _in_order(table: Integers) -> Integers:
+    """Return a table with its rows in ascending order, null last."""
+    return table[_order_of(table)]
+
+
+def _order_of(classes: Integers) -> NDArray[np.intp]:
+    """Return the order of rows of classes, null last; rows that are equal stay in their order."""
+    return np.lexsort(np.where(classes == NULL, np.iinfo(np.int64).max, classes).T[::-1])
 
 
 def places_of(ordered: Integers) -> NDArray[np.intp]:
@@ -155,14 +202,39 @@ def places_of(ordered: Integers) -> NDArray[np.intp]:
     return np.concatenate([[0], np.flatnonzero(differs) + 1])
 
 
-def label_columns(
-    title: str, classes: Integers, labels: Mapping[int, str], is_legend: bool, name: str
-) -> list[Column]:
-    """Return the column of the labels of classes, if there are labels; warn if a legend lacks some."""
-    if not labels:
-        return []
-    lacking = sorted(set(np.unique(classes).tolist()) - set(labels) - {NULL}) if is_legend else []
+def legend_for(
+    legend: Any,
+    own: Mapping[int, str],
+    classes: Sequence[tuple[str, Integers]],
+    argument: str = "labels",
+) -> Mapping[int, str]:
+    """Return the labels of classes: of a legend, with a warning of the classes that it lacks, else a map's own.
+
+    Parameters
+    ----------
+    legend : any
+    own : mapping of int to str
+    classes : sequence of (str, array)
+        The classes that occur, by the names of maps.
+    argument : str
+        The name of the argument that gives the legend.
+    """
+    if legend is None:
+        return own
+    labels = labels_of(legend)
+    lacking: dict[int, list[str]] = {}
+    for name, values in classes:
+        for code in sorted(set(np.unique(values).tolist()) - set(labels) - {NULL}):
+            lacking.setdefault(code, []).append(name)
     if lacking:
-        more = f", and {len(lacking) - _SHOWN} more" if len(lacking) > _SHOWN else ""
-        warn(f"labels: no label for {', '.join(map(str, lacking[:_SHOWN]))}{more} of {name}")
-    return [Column(title, "label", [labels.get(code) for code in classes.tolist()])]
+        codes = sorted(lacking)
+        more = f", and {len(codes) - _SHOWN} more" if len(codes) > _SHOWN else ""
+        names = dict.fromkeys(name for code in codes for name in lacking[code])
+        shown = ", ".join(map(str, codes[:_SHOWN])) + more
+        warn(f"{argument}: no label for {shown} of {' and '.join(names)}")
+    return labels
+
+
+def label_column(title: str, classes: Integers, labels: Mapping[int, str]) -> Column:
+    """Return the column of the labels of classes."""
+    return Column(title, "label", [labels.get(code) for code in classes.tolist()])

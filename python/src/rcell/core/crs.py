@@ -16,7 +16,6 @@ __all__ = [
     "UNITS_OF_AREA",
     "Crs",
     "are_same_crs",
-    "cell_area",
     "common_crs",
     "eastward",
     "is_geographic",
@@ -29,10 +28,6 @@ UNITS_OF_AREA = {"m2": 1.0, "ha": 1e4, "km2": 1e6}
 # So sure a library must be that a text means a system of a register, in percent.
 CONFIDENCE = 90
 _SHOWN = 60
-_BY_ROWS = (
-    "area= needs a map in metres or feet: in degrees the area of a cell differs from row to row; rcell.composition and "
-    'rcell.cross weigh the rows, as rcell.composition("lc.tif", area="ha")'
-)
 
 
 @dataclass(frozen=True, eq=False)
@@ -277,31 +272,3 @@ def metres_of_unit(crs: Any) -> float:
             "map",
         )
     return system.unit
-
-
-def cell_area(unit: str, cell: tuple[float, float], crs: Any) -> tuple[float, float]:
-    """Return the area of a cell in square metres, and what it is divided by for another unit.
-
-    Parameters
-    ----------
-    unit : {"m2", "ha", "km2"}
-    cell : tuple of float
-        Its height and width.
-    crs : any
-        None: the map is in metres.
-
-    Raises
-    ------
-    Refused
-        The unit is unknown, or the map is in degrees.
-
-    Examples
-    --------
-    >>> cell_area("ha", (25.0, 25.0), None)
-    (625.0, 10000.0)
-    """
-    if unit not in UNITS_OF_AREA:
-        raise BadArgument("area", f"must be ha, km2, m2 or None; got {unit!r}")
-    if is_geographic(crs):
-        raise Refused(_BY_ROWS)
-    return cell[0] * cell[1] * metres_of_unit(crs) ** 2, UNITS_OF_AREA[unit]

@@ -145,7 +145,8 @@ class BadMap(Refused, ValueError):
     ...     rcell.table("r.stats -c input=lc", lc=np.array([[1.0, 1.5]]))
     ... except rcell.BadMap as error:
     ...     print(error, error.row, error.col, error.value, sep=" | ")
-    lc: not a map of whole numbers: the cell at row 1, column 2 is 1.5 | 1 | 2 | 1.5
+    lc: not a map of whole numbers: the cell at row 1, column 2 is 1.5
+      try: rcell.Raster(np.rint(array), transform, crs) | 1 | 2 | 1.5
     """
 
     def __init__(
@@ -196,7 +197,7 @@ class OtherCrs(BadMap):
     Examples
     --------
     >>> import rcell
-    >>> utm, arctic = (rcell.Map([[1]], crs=crs) for crs in ("EPSG:25832", "EPSG:3413"))
+    >>> utm, arctic = (rcell.Raster([[1]], crs=crs) for crs in ("EPSG:25832", "EPSG:3413"))
     >>> try:
     ...     rcell.table("r.stats -c input=a,b", a=utm, b=arctic)
     ... except rcell.OtherCrs as error:
@@ -235,8 +236,9 @@ class MissingProgram(RcellError, FileNotFoundError):
     Examples
     --------
     >>> import rcell
+    >>> from rcell.core.programs import find_program
     >>> try:
-    ...     rcell.program("/nowhere/rcell")
+    ...     find_program("/nowhere/rcell")
     ... except rcell.MissingProgram as error:
     ...     print(error)
     the program /nowhere/rcell is not there, or may not be executed
@@ -249,8 +251,9 @@ class WrongProgram(RcellError):
     Examples
     --------
     >>> import rcell
+    >>> from rcell.core.programs import find_program
     >>> try:
-    ...     rcell.program("/bin/true")
+    ...     find_program("/bin/true")
     ... except rcell.WrongProgram as error:
     ...     print(error)
     /bin/true is not a program rcell of a version that this package knows

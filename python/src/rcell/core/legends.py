@@ -29,6 +29,10 @@ _COLOR = re.compile(r"#[0-9a-fA-F]{6}")
 _COLOR_NAMES = ("colour", "color")
 _STYLE, _TEXTS = ".qml", (".csv", ".tsv", ".tab", ".txt", "")
 _UNWRITABLE = "\0"
+# What is left out around fields; a no-break space is part of a label.
+_BLANKS = " \t\r\n"
+# Red, green and blue, and perhaps how opaque, as newer versions of QGIS write them.
+_PARTS = re.compile(r"([0-9]{1,3}),([0-9]{1,3}),([0-9]{1,3})(,.*)?")
 
 
 class Legend(NamedTuple):
@@ -99,7 +103,10 @@ def _of_path(path: str) -> Legend:
     if ending == _STYLE:
         return legend_of_qml(path)
     if ending in _TEXTS:
-        return _of_entries(_entries_of_file(path))
+        entries = list(_entries_of_file(path))
+        if not entries:
+            raise _refused(f"{path} has no class: it has at least one line below its header")
+        return _of_entries(entries)
     from .sources import source_of
 
     source = source_of("labels", path)
@@ -152,7 +159,7 @@ def rows_of_file(
     if not lines:
         raise Refused(f"{path} is empty", source, status=1)
     delimiter = "\t" if "\t" in lines[0] else ","
-    rows = csv.reader(lines, delimiter=delimiter)
+    rows = csv.reader(lines, delimiter=delimiter, skipinitialspace=True)
     header = next(rows)
     told = f"line 1 is {lines[0].strip()!r}"
     if len(header) == 1 and ";" in header[0]:
@@ -235,12 +242,19 @@ def _of_entries(entries: Iterable[Entry]) -> Legend:
             raise _refused(f"{entry.place}: a label with the character NUL")
         if label:
             legend.labels[value] = label
-        color = _text(entry.color)
+        color = _of_parts(_text(entry.color))
         if color and not _COLOR.fullmatch(color):
             raise _refused(f"{entry.place}: {color} is not a colour such as #00ff00")
         if color:
             legend.colors[value] = color.lower()
     return legend
+
+
+def _of_parts(color: str) -> str:
+    """Return a colour that is given by its parts as `#rrggbb`; any other text unchanged."""
+    found = _PARTS.fullmatch(color)
+    parts = [int(part) for part in found.groups()[:3]] if found else [256]
+    return color if max(parts) > 255 else "#" + bytes(parts).hex()
 
 
 def is_missing(given: Any) -> bool:
@@ -253,7 +267,7 @@ def is_missing(given: Any) -> bool:
 
 def _text(given: Any) -> str:
     """Return a field as text; empty if it is missing."""
-    return "" if is_missing(given) else str(given).strip()
+    return "" if is_missing(given) else str(given).strip(_BLANKS)
 
 
 def whole_number(given: Any) -> Optional[int]:
@@ -265,7 +279,7 @@ def whole_number(given: Any) -> Optional[int]:
     [1, 2, None, None, None, None, None]
     """
     if isinstance(given, str):
-        found = re.fullmatch(r"([+-]?[0-9]+)(\.0*)?", given.strip(), re.ASCII)
+        found = re.fullmatch(r"([+-]?[0-9]+)(\.0*)?", given.strip(_BLANKS), re.ASCII)
         return int(found[1]) if found else None
     if isinstance(given, bool) or not isinstance(given, numbers.Real):
         return None
@@ -287,7 +301,7 @@ def legend_of_qml(path: str) -> Legend:
     """
     palette: List[Entry] = []
     ramp: List[Entry] = []
-    parser = expat.ParserCreate()
+    parser = expat.ParserCreate("utf-8")
     above: List[str] = []
 
     def begin(tag: str, fields: Dict[str, str]) -> None:

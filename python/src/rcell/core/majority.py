@@ -7,10 +7,9 @@ import dataclasses
 import numbers
 from typing import Any
 
-from .scripts import grids_of, run_of
 from .errors import BadArgument
-from ..raster import Grid
-from .sources import source_of
+from .scripts import Run
+from .sources import ArrayMap, MapLike, source_of
 
 __all__ = ["majority", "majority_script"]
 
@@ -20,7 +19,7 @@ _MOST_TOKENS, _TOKENS_AROUND = 1000, 25
 _TOKENS_OF_NAME = 2
 
 
-def majority(map: Any, size: int = 3, fill: bool = False, *, crs: Any = None) -> Grid:
+def majority(map: MapLike, size: int = 3, fill: bool = False, *, crs: Any = None) -> ArrayMap:
     """Give each cell the most frequent class of the square around it; ties go to the smallest class.
 
     Parameters
@@ -35,7 +34,7 @@ def majority(map: Any, size: int = 3, fill: bool = False, *, crs: Any = None) ->
 
     Returns
     -------
-    Grid
+    Raster
         With the labels and colours of the map.
 
     Raises
@@ -54,9 +53,7 @@ def majority(map: Any, size: int = 3, fill: bool = False, *, crs: Any = None) ->
     if not isinstance(size, numbers.Integral) or size not in SIZES:
         raise BadArgument("size", f"must be odd, from {SIZES[0]} to {SIZES[-1]}; got {size!r}")
     source = source_of("map", map)
-    [found] = grids_of(
-        run_of(majority_script(int(size), fill), {"map": source}, crs=crs), ["majority"]
-    )
+    [found] = Run(majority_script(int(size), fill), {"map": source}, {}, crs).maps(["majority"])
     return dataclasses.replace(found, labels=source.labels, colors=source.colors)
 
 

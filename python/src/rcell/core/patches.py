@@ -3,21 +3,22 @@
 
 from __future__ import annotations
 
-import math
-from typing import Any, Iterable
+import dataclasses
+from collections.abc import Iterable
+from typing import Any, Optional
 
 import numpy as np
 
-from .protocol import NULL
-
-from .arrays import NDArray
-from .counting import Maps, places_of
-from .arguments import check_connectivity, classes_of, whole_number_of
 from .area import Measure
-from .host import warn
-from .columns import Column, Table, framed
+from .arguments import check_connectivity, classes_of, whole_number_of
+from .arrays import NDArray
+from .columns import Column, Table
+from .counting import Maps, places_of
+from .protocol import NULL
+from .scripts import Run, Stats
+from .sources import ArrayMap, MapLike, source_of
 
-__all__ = ["patches"]
+__all__ = ["clump", "patches"]
 
 MOST_CORE_DEPTH = 20
 # Of the sides of a cell on the border of its patch, up to two are ends (north, south) and up to two are flanks (west, east).
@@ -26,12 +27,11 @@ _FLANK = 3
 Integers = NDArray[np.int64]
 
 
-@framed
 def patches(
-    map: Any,
+    map: MapLike,
     connectivity: int = 4,
     area: str | None = "auto",
-    zones: Any = None,
+    zones: Optional[Any] = None,
     classes: Iterable[int] | None = None,
     min_cells: int | None = None,
     core_depth: int = 1,
@@ -39,6 +39,7 @@ def patches(
     labels: Any = None,
     zone_labels: Any = None,
     zone_field: str | None = None,
+    layer: str | None = None,
     crs: Any = None,
 ) -> Table:
     """List the patches of a map: connected cells of one class, with the numbers of r.clump.
@@ -50,7 +51,7 @@ def patches(
         4 connects cells that share an edge, 8 also cells that share a corner.
     area : {"ha", "km2", "m2"} or None
         The unit of areas, as in `composition`. Without areas there is a column `core_cells`.
-    zones : map, or path of polygons, or GeoDataFrame, optional
+    zones : map, or path of polygons, GeoDataFrame or GeoSeries, optional
         As in `composition`. A patch gets the zone with most of its cells; ties go to the smaller zone.
     classes : iterable of int, optional
         Lists only patches of these classes. Patches keep their numbers.
@@ -58,10 +59,10 @@ def patches(
         Lists only patches with at least so many cells. Patches keep their numbers.
     core_depth : int
         A cell is in the core if all cells within so many steps, across edges, are in its patch.
-    labels, zone_labels : path, dict or DataFrame, optional
+    labels, zone_labels : path, dict, Series or DataFrame, optional
         Legends, as in `composition`.
-    zone_field : str, optional
-        The field of the polygons with the ids or names of the zones.
+    zone_field, layer : str, optional
+        As in `composition`.
     crs : any, optional
         The reference system of maps that have none.
 
@@ -82,7 +83,7 @@ def patches(
     Examples
     --------
     >>> import numpy as np, rcell
-    >>> lc = rcell.Map(np.array([[5, 5, 7, 5]]), (10, 0, 0, 0, -10, 10), crs="EPSG:25832")
+    >>> lc = rcell.Raster(np.array([[5, 5, 7, 5]]), (10, 0, 0, 0, -10, 10), crs="EPSG:25832")
     >>> rcell.patches(lc, area="m2").iloc[:, :5]
        patch  class  cells  area_m2  perimeter_m
     0      1      5      2    200.0         60.0
@@ -93,10 +94,8 @@ def patches(
     depth = whole_number_of("core_depth", core_depth, 1, MOST_CORE_DEPTH)
     fewest = 1 if min_cells is None else whole_number_of("min_cells", min_cells, 1)
     listed = classes_of(classes)
-    maps = Maps({"map": map}, crs, zones, zone_field)
+    maps = Maps({"map": map}, crs, zones, zone_field, layer)
     measure = maps.measure(area)
-    if measure.metres is not None and math.isnan(measure.metres):
-        warn("lengths are not computed in degrees")
     by_row = measure.by_row is not None
     tables = maps.tables(_script(connectivity, listed, depth, zones is not None, by_row))
     sides, core, by_rows, by_cols = tables[:4]
@@ -106,14 +105,72 @@ def patches(
         *maps.columns("class", found.classes, "map", labels, "label"),
         Column("cells", "count", found.cells),
     ]
-    unit = math.nan if measure.metres is None else measure.metres
-    perimeter = Column("perimeter_m", "measure", found.perimeter(maps.first.transform, unit))
+    lengths = found.perimeter(maps.first.transform, measure.length())
+    perimeter = Column("perimeter_m", "measure", lengths)
     areas = _areas(found, measure, by_rows if by_row else None, core)
     columns += [*areas[:-1], perimeter, areas[-1]]
     columns += found.extents(by_rows, by_cols, maps.first.transform)
     if zones is not None:
         columns += maps.columns("zone", found.zones(tables[4]), "zones", zone_labels)
     return Table(columns)
+
+
+def clump(
+    map: MapLike,
+    connectivity: int = 4,
+    classes: Optional[Iterable[int]] = None,
+    min_cells: Optional[int] = None,
+    *,
+    crs: Any = None,
+) -> ArrayMap:
+    """Return the map of the patches that `patches` lists: each cell has the number of its patch.
+
+    Parameters
+    ----------
+    map : path, array, .. as a map of `run`
+    connectivity : {4, 8}
+        4 connects cells that share an edge, 8 also cells that share a corner.
+    classes : iterable of int, optional
+        Only patches of these classes; other cells become null. Patches keep their numbers.
+    min_cells : int, optional
+        Only patches with at least so many cells.
+    crs : any, optional
+        The reference system of a map that has none.
+
+    Returns
+    -------
+    Raster
+        The numbers are from 1, in the order of first cells, as r.clump gives them.
+
+    Raises
+    ------
+    Refused
+        As for `run`.
+    BadArgument
+        An argument is out of range.
+
+    Examples
+    --------
+    >>> import numpy as np, rcell
+    >>> rcell.clump(np.array([[5, 5, 7, 5]]), min_cells=2).array.tolist()
+    [[1, 1, None, None]]
+    """
+    check_connectivity(connectivity)
+    fewest = 1 if min_cells is None else whole_number_of("min_cells", min_cells, 1)
+    listed = classes_of(classes)
+    script = f"{_clump_line(connectivity)}\nr.stats -c -n input=patch,map"
+    stats, numbers = Run(script, {"map": source_of("map", map)}, {}, crs).outputs(["patch"])
+    assert isinstance(stats, Stats) and isinstance(numbers, ArrayMap) and stats.cells is not None
+    kept = np.zeros(len(stats.categories) + 1, np.bool_)
+    kept[1:] = stats.cells >= fewest
+    if listed is not None:
+        kept[1:] &= np.isin(stats.categories[:, 1], listed)
+    is_null = ~kept[np.maximum(numbers.array, 0)]
+    return dataclasses.replace(numbers, null=is_null, labels={}, colors={})
+
+
+def _clump_line(connectivity: int) -> str:
+    return f"r.clump {'-d ' if connectivity == 8 else ''}input=map output=patch"
 
 
 def _script(
@@ -123,7 +180,7 @@ def _script(
     leaves = "(isnull(patch[{0}]) ||| patch[{0}] != patch)"
     north, south, west, east = (leaves.format(place) for place in ("-1,0", "1,0", "0,-1", "0,1"))
     core = "if({0}[-1,0] == {0} && {0}[1,0] == {0} && {0}[0,-1] == {0} && {0}[0,1] == {0}, {0}, null())"
-    lines = [f"r.clump {'-d ' if connectivity == 8 else ''}input=map output=patch"]
+    lines = [_clump_line(connectivity)]
     lines += [
         f"r.mapcalc side = if(isnull(patch), null(), {north} + {south} + {_FLANK} * ({west} + {east}))"
     ]

@@ -232,16 +232,28 @@ class Region:
         return self.rows, self.cols
 
     @property
-    def cell(self) -> tuple[float, float]:
-        """The height and the width of a cell, in the units of the map.
+    def res(self) -> tuple[float, float]:
+        """The width and the height of a cell, in the units of the map.
 
         Examples
         --------
         >>> import rcell
-        >>> rcell.Region(300, 0, 100, 0, 3, 2).cell
-        (100.0, 50.0)
+        >>> rcell.Region(300, 0, 100, 0, 3, 2).res
+        (50.0, 100.0)
         """
-        return float(self.north - self.south) / self.rows, float(self.east - self.west) / self.cols
+        return float(self.east - self.west) / self.cols, float(self.north - self.south) / self.rows
+
+    @property
+    def bounds(self) -> tuple[float, float, float, float]:
+        """West, south, east and north.
+
+        Examples
+        --------
+        >>> import rcell
+        >>> rcell.Region(300, 0, 100, 50, 3, 2).bounds
+        (50.0, 0.0, 100.0, 300.0)
+        """
+        return float(self.west), float(self.south), float(self.east), float(self.north)
 
     @property
     def transform(self) -> Transform:
@@ -253,7 +265,7 @@ class Region:
         >>> rcell.Region.of_cells(2, 3).transform
         (1.0, 0.0, 0.0, 0.0, -1.0, 2.0)
         """
-        height, width = self.cell
+        width, height = self.res
         return width, 0.0, float(self.west), 0.0, -height, float(self.north)
 
     @property
@@ -268,61 +280,6 @@ class Region:
         """
         north, south, east, west = map(edge_text, self.units)
         return north, south, east, west
-
-    def header(self) -> str:
-        """Return the six header lines of a grid of this region.
-
-        Returns
-        -------
-        str
-            The lines.
-
-        Examples
-        --------
-        >>> import rcell
-        >>> print(rcell.Region.of_cells(2, 3).header(), end="")
-        north: 2
-        south: 0
-        east: 3
-        west: 0
-        rows: 2
-        cols: 3
-        """
-        north, south, east, west = self.edges
-        return f"north: {north}\nsouth: {south}\neast: {east}\nwest: {west}\nrows: {self.rows}\ncols: {self.cols}\n"
-
-    def window(self, row: int, col: int, rows: int, cols: int) -> Region:
-        """Return the region of some of its cells.
-
-        Parameters
-        ----------
-        row, col : int
-            The first row and column, from 0.
-        rows, cols : int
-            How many.
-
-        Returns
-        -------
-        Region
-            With the edges of these cells.
-
-        Examples
-        --------
-        >>> import rcell
-        >>> rcell.Region.of_cells(10, 10).window(2, 3, 4, 5)
-        Region(north=8.0, south=4.0, east=8.0, west=3.0, rows=4, cols=5)
-        """
-        north, west = Fraction(self.north), Fraction(self.west)
-        height = (north - Fraction(self.south)) / self.rows
-        width = (Fraction(self.east) - west) / self.cols
-        return Region(
-            float(north - height * row),
-            float(north - height * (row + rows)),
-            float(west + width * (col + cols)),
-            float(west + width * col),
-            rows,
-            cols,
-        )
 
     def differences(self, other: Region) -> list[str]:
         """Return the edges and sizes in which another region differs from this one, with the difference.

@@ -10,6 +10,7 @@ import numpy as np
 
 from . import protocol
 from .arrays import NDArray
+from .borders import watched
 from .host import host
 from .programs import Path, find_pipe, program_errors
 from .protocol import NULL
@@ -144,7 +145,7 @@ def _sent(maps: Mapping[str, Source]) -> list[protocol.Map]:
             source.region.edges,
             *source.region.shape,
             source.dtype.kind + str(8 * source.dtype.itemsize),
-            _pieces(source, progress),
+            _pieces(name, source, progress),
             source.nodata,
             source.is_masked,
         )
@@ -152,8 +153,8 @@ def _sent(maps: Mapping[str, Source]) -> list[protocol.Map]:
     ]
 
 
-def _pieces(source: Source, progress: _Progress) -> Iterator[protocol.Block]:
-    for block in source.blocks():
+def _pieces(name: str, source: Source, progress: _Progress) -> Iterator[protocol.Block]:
+    for block in watched(name, source):
         null = None if block.null is None else block.null.view(np.uint8).data
         yield protocol.Block(block.cells.data, null)
         progress.add(block.cells.size)

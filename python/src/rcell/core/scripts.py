@@ -3,101 +3,108 @@
 
 from __future__ import annotations
 
-from collections.abc import Sequence
+from collections.abc import Mapping, Sequence
+from dataclasses import dataclass, field
 from functools import cached_property
-from typing import Any, Iterable, Mapping, overload
+from typing import Any, Optional, Union
 
-from .protocol import Statement
+import numpy as np
 
+from .area import Measure, flat_measure
 from .arguments import check_named_maps, check_script
+from .arrays import NDArray
+from .columns import Column, Matrix, Table
 from .errors import BadArgument, Refused
-from ..raster import Grid
-from .sources import Source, named_once, sources_of
+from .protocol import NULL, Statement
 from .runs import Output, execute, planned
-from .columns import StatsTable
+from .sources import ArrayMap, MapLike, Source, named_once, sources_of
 
-__all__ = ["Result", "grid", "grids_of", "outputs_with", "run", "run_of", "table"]
-
-
-class Result(Sequence["StatsTable | Grid"]):
-    """The outputs of a script in the order of its statements: a table for each r.stats, a grid for each r.out.ascii.
-
-    Parameters
-    ----------
-    outputs : iterable of StatsTable or Grid
-        The outputs.
-
-    Examples
-    --------
-    >>> import numpy as np, rcell
-    >>> result = rcell.run("r.stats -c input=lc\\nr.out.ascii input=lc", lc=np.array([[1, 2]]))
-    >>> [(output.command, output.line, output.maps) for output in result]
-    [('r.stats', 1, ('lc',)), ('r.out.ascii', 2, ('lc',))]
-    """
-
-    def __init__(self, outputs: Iterable[StatsTable | Grid]) -> None:
-        self._outputs = list(outputs)
-
-    @property
-    def tables(self) -> list[StatsTable]:
-        """The tables alone.
-
-        Examples
-        --------
-        >>> import numpy as np, rcell
-        >>> len(rcell.run("r.stats -c input=lc", lc=np.array([[1, 2]])).tables)
-        1
-        """
-        return [output for output in self._outputs if isinstance(output, StatsTable)]
-
-    @property
-    def grids(self) -> dict[str, Grid]:
-        """The grids alone, by the names of their maps.
-
-        Examples
-        --------
-        >>> import numpy as np, rcell
-        >>> list(rcell.run("r.out.ascii input=lc", lc=np.array([[1, 2]])).grids)
-        ['lc']
-        """
-        return {output.name: output for output in self._outputs if isinstance(output, Grid)}
-
-    @overload
-    def __getitem__(self, place: int) -> StatsTable | Grid:
-        ...
-
-    @overload
-    def __getitem__(self, place: slice) -> list[StatsTable | Grid]:
-        ...
-
-    def __getitem__(self, place: int | slice) -> StatsTable | Grid | list[StatsTable | Grid]:
-        return self._outputs[place]
-
-    def __len__(self) -> int:
-        return len(self._outputs)
-
-    def __repr__(self) -> str:
-        told = ", ".join(f"{output.command} of {','.join(output.maps)}" for output in self._outputs)
-        return f"<Result: {told or 'no output'}>"
-
+__all__ = ["Run", "Stats", "grid", "run", "table"]
 
 # The words of the calls that take maps by name.
 WORDS = ("area", "percent", "pivot", "crs")
 
 
-class _Run:
-    """A script over maps, and what its results need to know of them."""
+@dataclass(frozen=True)
+class Stats:
+    """The result of an r.stats of a script.
 
-    def __init__(
-        self,
-        script: str,
-        maps: Mapping[str, Any] | None,
-        named: Mapping[str, Any],
-        crs: Any = None,
-    ) -> None:
+    Attributes
+    ----------
+    line : int
+        The line of the script.
+    maps : tuple of str
+        The maps, in the order of the columns.
+    categories : array of int64, entries x maps
+        -2147483648 is null.
+    cells : array of int64, optional
+        The number of cells of each combination, with the flag `-c`.
+    labels : mapping
+        The labels of the categories of each map, by its name, with the flag `-l`.
+    """
+
+    line: int
+    maps: tuple[str, ...]
+    categories: NDArray[np.int64]
+    cells: Optional[NDArray[np.int64]] = None
+    labels: Mapping[str, Mapping[int, str]] = field(default_factory=dict)
+
+    def table(self, measure: Optional[Measure] = None, percent: bool = False) -> Table:
+        """Return a table: the categories and labels of each map, `cells`, the area and `percent`."""
+        columns: list[Column] = []
+        for place, name in enumerate(self.maps):
+            codes = self.categories[:, place]
+            columns.append(Column(name, "class", codes))
+            if name in self.labels:
+                texts = [self.labels[name].get(code) for code in codes.tolist()]
+                columns.append(Column(f"{name}_label", "label", texts))
+        if self.cells is not None:
+            columns.append(Column("cells", "count", self.cells))
+        if measure is not None:
+            columns.append(Column(f"area_{measure.unit}", "measure", self._areas(measure)))
+        if percent:
+            columns.append(Column("percent", "measure", self._percent()))
+        return Table(columns)
+
+    def matrix(self, measure: Optional[Measure] = None, percent: bool = False) -> Matrix:
+        """Return the table of two maps as a matrix: of percentages or areas, or else of cells."""
+        if len(self.maps) != 2:
+            told = f"pivot= needs a table of two maps, and this one has {len(self.maps)}"
+            raise Refused(told, "script", self.line)
+        values = self._percent() if percent else self._counted("pivot=")
+        if measure is not None and not percent:
+            values = self._areas(measure)
+        labels = [self.labels.get(name, {}) for name in self.maps]
+        return Matrix.of(self.maps, self.categories, values, labels)
+
+    def _areas(self, measure: Measure) -> NDArray[np.float64]:
+        return measure.area(self._counted("area="))
+
+    def _percent(self) -> NDArray[np.float64]:
+        cells = self._counted("percent=")
+        return cells * 100.0 / max(int(cells.sum()), 1)
+
+    def _counted(self, asked: str) -> NDArray[np.int64]:
+        if self.cells is None:
+            raise Refused(f"{asked} needs a table with cells: r.stats -c", "script", self.line)
+        return self.cells
+
+
+class Run:
+    """A script over maps, and what its results need to know of them.
+
+    Parameters
+    ----------
+    script : str
+    maps : mapping, optional
+    named : mapping
+    crs : any, optional
+    """
+
+    def __init__(self, script: Any, maps: Any, named: Mapping[str, Any], crs: Any = None) -> None:
         check_script(script)
         check_named_maps(maps, named, WORDS)
-        self.script = script
+        self.script: str = script
         self.sources: dict[str, Source]
         self.sources, self.crs = sources_of(named_once(maps, named), crs)
         self.first = next(iter(self.sources.values()))
@@ -105,60 +112,61 @@ class _Run:
     @cached_property
     def made(self) -> dict[str, Statement]:
         """The statements that make maps, by their names."""
-        return {
-            statement.made: statement
-            for statement in planned(self.script, self.sources)
-            if statement.made
-        }
+        plan = planned(self.script, self.sources)
+        return {statement.made: statement for statement in plan if statement.made}
 
-    def outputs(self, wanted: Sequence[str] = ()) -> list[StatsTable | Grid]:
-        """Run the script and return its outputs; after them the cells of the maps that are wanted."""
+    def outputs(self, wanted: Sequence[str] = ()) -> list[Union[Stats, ArrayMap]]:
+        """Run the script and return its outputs; after them the maps that are wanted."""
+        for name in wanted:
+            if name not in self.sources and name not in self.made:
+                known = ", ".join([*self.sources, *self.made])
+                raise BadArgument(
+                    "name", f"must be a map of the script; got {name!r}, and there are {known}"
+                )
         ran = execute(self.script, self.sources, wanted=wanted)
-        return [self._answer(output) for output in ran]
+        return [
+            self._map(output) if output.command == "r.out.ascii" else self._stats(output)
+            for output in ran
+        ]
+
+    def maps(self, names: Sequence[str]) -> list[ArrayMap]:
+        """Return some maps of the script, or of its inputs."""
+        outputs = self.outputs(names)
+        return [output for output in outputs[-len(names) :] if isinstance(output, ArrayMap)]
 
     def labels(self, name: str) -> Mapping[int, str]:
         """Return the labels of a map: from the rules that made it, or from the input map."""
         return self.sources[name].labels if name in self.sources else self.made[name].labels
 
-    def _answer(self, output: Output) -> StatsTable | Grid:
-        if output.command == "r.out.ascii":
-            return self._grid(output)
+    def _stats(self, output: Output) -> Stats:
         count = len(output.maps)
-        return StatsTable(
-            command=output.command,
-            line=output.line,
-            maps=output.maps,
-            categories=output.values[:, :count],
-            cells=output.values[:, count] if output.has_counts else None,
-            labels={name: self.labels(name) for name in output.maps} if output.has_labels else None,
-            cell=self.cell,
-            crs=self.crs,
-        )
+        cells = output.values[:, count] if output.has_counts else None
+        labels = {name: self.labels(name) for name in output.maps} if output.has_labels else {}
+        return Stats(output.line, output.maps, output.values[:, :count], cells, labels)
 
-    @property
-    def cell(self) -> tuple[float, float]:
-        """The height and width of a cell, by the exact transform."""
-        return -self.first.transform[4], self.first.transform[0]
-
-    def _grid(self, output: Output) -> Grid:
-        name = output.maps[0]
-        return Grid.of_values(
+    def _map(self, output: Output) -> ArrayMap:
+        [name] = output.maps
+        return ArrayMap(
+            name,
             output.values,
-            name=name,
-            region=self.first.region,
-            transform=self.first.transform,
-            crs=self.crs,
+            self.first.region,
+            output.values == NULL,
             labels=self.labels(name),
-            command=output.command,
-            line=output.line,
+            crs=self.crs,
+            exact_transform=self.first.transform,
             colors=self.sources[name].colors if name in self.sources else {},
             files=tuple(file for source in self.sources.values() for file in source.files),
         )
 
 
 def run(
-    script: str, maps: Mapping[str, Any] | None = None, /, *, crs: Any = None, **named: Any
-) -> Result:
+    script: str,
+    maps: Optional[Mapping[str, MapLike]] = None,
+    /,
+    *,
+    crs: Any = None,
+    **named: MapLike,
+) -> list[Any]:
     """Run a script over maps of one region.
 
     Parameters
@@ -169,7 +177,7 @@ def run(
         Maps by name, as in `named`; for names that Python has no keyword for.
     **named
         Maps by name. A map is a path to anything that rasterio opens or to a grid of the program's own form; an array or
-        masked array of whole numbers (with cells of side 1), `(array, region)` or `(array, transform)`; a `Map`; a `Grid`; a
+        masked array of whole numbers (with cells of side 1), `(array, region)` or `(array, transform)`; a `Raster`; a
         DataArray; an open dataset or a band of rasterio.
     crs : any, optional
         The reference system of maps that have none.
@@ -177,7 +185,7 @@ def run(
     Returns
     -------
     Result
-        An output for each r.stats and each r.out.ascii, in order.
+        A DataFrame for each r.stats and a Raster for each r.out.ascii, in order.
 
     Raises
     ------
@@ -191,23 +199,27 @@ def run(
     >>> import numpy as np, rcell
     >>> lc = np.array([[1, 1, 2], [3, 2, 2]])
     >>> result = rcell.run("r.clump input=lc output=areas\\nr.stats -c input=areas,lc", lc=lc)
-    >>> result[0].rows
-    [(1, 1, 2), (2, 2, 3), (3, 3, 1)]
+    >>> result[0]
+       areas  lc  cells
+    0      1   1      2
+    1      2   2      3
+    2      3   3      1
     """
-    return Result(_Run(script, maps, named, crs=crs).outputs())
+    outputs = Run(script, maps, named, crs).outputs()
+    return [output.table() if isinstance(output, Stats) else output for output in outputs]
 
 
 def table(
     script: str,
-    maps: Mapping[str, Any] | None = None,
+    maps: Optional[Mapping[str, MapLike]] = None,
     /,
     *,
-    area: str | None = None,
+    area: Optional[str] = None,
     percent: bool = False,
     pivot: bool = False,
     crs: Any = None,
-    **named: Any,
-) -> Any:
+    **named: MapLike,
+) -> Table:
     """Run a script that produces one table and return it.
 
     Parameters
@@ -249,44 +261,27 @@ def table(
     1   2      3  50.000000
     2   3      1  16.666667
     """
-    answer = table_of(_Run(script, maps, named, crs=crs), area, percent, pivot)
-    return answer.pivot_frame() if pivot else answer.frame()
-
-
-def run_of(script: str, maps: Mapping[str, Any], crs: Any = None) -> _Run:
-    """Return a run of a script, which other calls and the command line ask for its maps."""
-    return _Run(script, maps, {}, crs)
-
-
-def table_of(of: _Run, area: str | None, percent: bool, pivot: bool) -> StatsTable:
-    """Return the only table of a run, with the requested columns."""
-    outputs = of.outputs()
-    if len(outputs) != 1 or not isinstance(outputs[0], StatsTable):
-        told = (
-            ", ".join(f"{output.command} in line {output.line}" for output in outputs)
-            or "no r.stats"
-        )
-        raise Refused(
-            f"one table is asked for, and the script has {told}: rcell.run returns all outputs",
-            "script",
-        )
-    answer = outputs[0]
-    if pivot and len(answer.maps) != 2:
-        answer.pivot()
-    if area is not None:
-        answer = answer.with_area(area)
-    return answer.with_percent() if percent else answer
+    ran = Run(script, maps, named, crs)
+    measure = None if area is None else flat_measure(area, ran.first.transform, ran.crs)
+    outputs = ran.outputs()
+    if len(outputs) != 1 or not isinstance(outputs[0], Stats):
+        tables = sum(isinstance(output, Stats) for output in outputs)
+        met = f"{tables} tables and {len(outputs) - tables} maps" if outputs else "no r.stats"
+        told = f"one table is asked for, and the script has {met}: rcell.run returns all outputs"
+        raise Refused(told, "script")
+    [stats] = outputs
+    return stats.matrix(measure, percent) if pivot else stats.table(measure, percent)
 
 
 def grid(
     script: str,
     name: str,
-    maps: Mapping[str, Any] | None = None,
+    maps: Optional[Mapping[str, MapLike]] = None,
     /,
     *,
     crs: Any = None,
-    **named: Any,
-) -> Grid:
+    **named: MapLike,
+) -> ArrayMap:
     """Run a script and return one of its maps.
 
     Parameters
@@ -304,13 +299,15 @@ def grid(
 
     Returns
     -------
-    Grid
+    Raster
         The map, with the labels of the rules that made it, or of the map that was given.
 
     Raises
     ------
     Refused
-        As `run`, and if there is no such map.
+        As `run`.
+    BadArgument
+        There is no such map.
 
     Examples
     --------
@@ -318,21 +315,4 @@ def grid(
     >>> rcell.grid("r.mapcalc right = lc[0,1]", "right", lc=np.array([[1, 1, 2]])).array.tolist()
     [[1, 2, None]]
     """
-    return grids_of(_Run(script, maps, named, crs=crs), [name])[0]
-
-
-def grids_of(of: _Run, names: Sequence[str]) -> list[Grid]:
-    """Return some maps of a run."""
-    found = outputs_with(of, names)
-    return [output for output in found[len(found) - len(names) :] if isinstance(output, Grid)]
-
-
-def outputs_with(of: _Run, names: Sequence[str]) -> list[StatsTable | Grid]:
-    """Return the outputs of a run, and after them some of its maps."""
-    for name in names:
-        if name not in of.sources and name not in of.made:
-            known = ", ".join([*of.sources, *of.made])
-            raise BadArgument(
-                "name", f"must be a map of the script; got {name!r}, and there are {known}"
-            )
-    return of.outputs(wanted=names)
+    return Run(script, maps, named, crs).maps([name])[0]

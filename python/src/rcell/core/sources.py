@@ -10,7 +10,7 @@ import os
 import re
 import sys
 from dataclasses import dataclass, field
-from typing import Any, Iterable, Iterator, Mapping, NamedTuple, Protocol, Sequence
+from typing import Any, Iterable, Iterator, Mapping, Protocol, Union
 
 import numpy as np
 
@@ -21,25 +21,27 @@ from .crs import common_crs
 from .host import host, warn
 from .errors import BadArgument, BadMap, OtherRegion
 from .labels import checked_labels
-from .masked import as_bools, data_of, is_masked_array, mask_of
 from .region import Region, Shift, Transform, six_numbers
 
 __all__ = [
     "MAX_CATEGORY",
-    "Aligned",
     "ArrayMap",
     "Block",
     "Cells",
-    "Map",
+    "MapLike",
     "Mask",
     "Source",
+    "array_map",
+    "as_bools",
     "check_array",
     "check_computed",
     "check_names",
     "checked",
     "is_converted",
     "nodata_of",
+    "null_cells",
     "type_of",
+    "unmasked",
 ]
 
 MAX_CATEGORY = 2_147_483_647
@@ -48,8 +50,16 @@ BLOCK_CELLS = 1 << 20
 # Beyond it a float of 32 bits does not have every whole number.
 _EXACT_FLOAT32 = 1 << 24
 
+# How to round a map, outside of Python and in it.
+_ROUNDED = (
+    'gdal_calc.py -A {0}.tif --calc="rint(A)" --type=Int32 --outfile={0}_rounded.tif',
+    "rcell.Raster(np.rint(array), transform, crs)",
+)
+
 Cells = NDArray[Any]
 Mask = NDArray[np.bool_]
+# A map of a call: a path, an array, an array with its place, a Raster, a DataArray, or a dataset or band of rasterio.
+MapLike = Union[str, "os.PathLike[str]", ArrayLike, tuple[Any, Any], "Source", Any]
 
 
 @dataclass(frozen=True)
@@ -115,6 +125,31 @@ class Source(Protocol):
 
 
 # Cells
+
+
+def as_bools(array: NDArray[Any]) -> Mask:
+    """Return booleans in which True is the byte 1; a view of other bytes has any.
+
+    Examples
+    --------
+    >>> as_bools(np.array([0, 4], np.uint8).view(bool)).view(np.uint8).tolist()
+    [0, 1]
+    """
+    found: Mask = array.view(np.uint8) != 0
+    return found
+
+
+def unmasked(cells: Any) -> tuple[Cells, Mask | None]:
+    """Return the cells of an array and which of them are masked, None if it is not a masked array.
+
+    Examples
+    --------
+    >>> unmasked(np.ma.masked_equal([1, 2], 2))[1].tolist()
+    [False, True]
+    """
+    if not isinstance(cells, np.ma.MaskedArray):
+        return np.asarray(cells), None
+    return np.ma.getdata(cells), as_bools(np.ma.getmaskarray(cells))
 
 
 def is_converted(dtype: np.dtype[Any]) -> bool:
@@ -211,7 +246,7 @@ def checked(
         cells.itemsize <= 2 or (cells.min() >= -MAX_CATEGORY and cells.max() <= MAX_CATEGORY)
     ):
         return Block(cells, null)
-    is_null = _with_nodata(cells, null, nodata)
+    is_null = null_cells(cells, null, nodata)
     bad = ~(_good(cells) | is_null)
     if bad.any():
         row, col = (int(place) for place in np.unravel_index(int(bad.argmax()), bad.shape))
@@ -226,7 +261,7 @@ def checked(
     return Block(np.where(is_null, np.int32(NULL), kept.astype(np.int32)), None)
 
 
-def _with_nodata(cells: Cells, null: Mask | None, nodata: float | None) -> Mask:
+def null_cells(cells: Cells, null: Mask | None, nodata: float | None) -> Mask:
     """Return what is null, with the cells of nodata and those that are no number."""
     is_null = np.isnan(cells) if cells.dtype.kind == "f" else np.zeros(cells.shape, np.bool_)
     if null is not None:
@@ -264,13 +299,11 @@ def _bad_cell(name: str, row: int, col: int, value: float) -> BadMap:
     beyond = (
         ", beyond 2147483647 either way" if value == value and abs(value) > MAX_CATEGORY else ""
     )
-    return BadMap(
-        name,
-        f"not a map of whole numbers: the cell at row {row}, column {col} is {number}{beyond}",
-        row,
-        col,
-        value,
-    )
+    told = f"not a map of whole numbers: the cell at row {row}, column {col} is {number}{beyond}"
+    fault = BadMap(name, told, row, col, value)
+    if not beyond and value == value:
+        fault.advice = _ROUNDED[host().words == "python"].format(name)
+    return fault
 
 
 # Maps in memory
@@ -367,111 +400,48 @@ def check_array(name: str, array: Any) -> None:
         raise BadMap(name, f"an array without cells ({array.shape[0]} x {array.shape[1]})")
 
 
-class Aligned(NamedTuple):
-    """What `rcell.align` did to a map.
+def array_map(
+    name: str,
+    given: Any,
+    place: Any = None,
+    crs: Any = None,
+    nodata: float | None = None,
+    labels: Mapping[int, str] | None = None,
+    colors: Mapping[int, str] | None = None,
+    files: tuple[str, ...] = (),
+) -> ArrayMap:
+    """Return an array as a map.
 
     Parameters
     ----------
-    shift_rows, shift_columns : float or None
-        The row and column of the map at which the new grid begins, from 0; None between two reference systems.
-    cells_used, cells_repeated, cells_lost : int
-        How many of its cells with a value are in the result, are there more than once, and are not there.
+    name : str
+        The name of the map, for errors.
+    given : array, masked array, or nested lists of whole numbers
+    place : Region, or a transform, optional
+        Cells have side 1 if it is not given.
+    crs, nodata, labels, colors, files
+        As in ArrayMap.
 
-    Examples
-    --------
-    >>> import numpy as np, rcell
-    >>> lc = rcell.Map(np.array([[1, 2, 3]]))
-    >>> rcell.align(lc, to=lc).aligned
-    Aligned(shift_rows=0, shift_columns=0, cells_used=3, cells_repeated=0, cells_lost=0)
+    Raises
+    ------
+    BadMap
+        It is not an array of two dimensions, or its place is not upright.
     """
-
-    shift_rows: float | None
-    shift_columns: float | None
-    cells_used: int
-    cells_repeated: int
-    cells_lost: int
-
-
-@dataclass(frozen=True)
-class Map:
-    """A map that is in memory, with all that an array can't say of itself.
-
-    Where an array alone is given to a call, it has cells of side 1; `(array, region)` and `(array, transform)` are short for
-    this class.
-
-    Parameters
-    ----------
-    array : array, masked array, or nested lists of whole numbers, rows x cols
-        Any integer type, bool, or floats that are whole numbers; what is masked, and NaN, is null.
-    region : Region, or a transform (rasterio's Affine or six numbers), optional
-    crs : any, optional
-        A reference system of rasterio or pyproj, or its well-known text.
-    nodata : float, optional
-        A value that is null.
-    labels : mapping of int to str, optional
-    colors : mapping of int to str, optional
-        As `#rrggbb`.
-    aligned : Aligned, optional
-        What `rcell.align` did to it.
-    files : tuple of str, optional
-        The files that it was made of, none of which a result is written over.
-
-    Examples
-    --------
-    >>> import numpy as np, rcell
-    >>> land = rcell.Map(np.array([[1, 1], [2, 0]]), nodata=0, labels={1: "wood", 2: "water"})
-    >>> rcell.run("r.stats -c -l input=land", land=land)[0].rows
-    [(1, 'wood', 2), (2, 'water', 1), (None, None, 1)]
-    """
-
-    array: ArrayLike
-    region: Region | Sequence[float] | None = None
-    crs: Any = None
-    nodata: float | None = None
-    labels: Mapping[int, str] = field(default_factory=dict)
-    colors: Mapping[int, str] = field(default_factory=dict)
-    aligned: Aligned | None = None
-    files: tuple[str, ...] = field(default=(), repr=False)
-
-    def source(self, name: str) -> ArrayMap:
-        """Return the same under a name, as the program needs it.
-
-        Parameters
-        ----------
-        name : str
-            The name of the map, which errors have.
-
-        Returns
-        -------
-        ArrayMap
-            Its cells with their region.
-
-        Examples
-        --------
-        >>> import rcell
-        >>> rcell.Map([[1, 2]]).source("land").region
-        Region(north=1, south=0, east=2, west=0, rows=1, cols=2)
-        """
-        given: Any = self.array
-        try:
-            array = data_of(given) if is_masked_array(given) else np.asarray(given)
-        except ValueError as error:
-            raise BadMap(name, f"not an array of rows of one length: {error}") from None
-        null = mask_of(given) if is_masked_array(given) else None
-        check_array(name, array)
-        array, null, region, transform = _placed(name, array, null, self.region)
-        return ArrayMap(
-            name,
-            array,
-            region,
-            null,
-            self.nodata,
-            checked_labels(name, self.labels),
-            self.crs or None,
-            transform,
-            self.colors,
-            self.files,
-        )
+    if isinstance(given, (list, tuple)) and given and isinstance(given[0], (str, os.PathLike)):
+        told = "a list of files, and a map is one: join them first, for example with gdalbuildvrt all.vrt"
+        raise BadMap(name, f"{told} {' '.join(map(os.fspath, given[:2]))}")
+    try:
+        array, null = unmasked(given)
+    except ValueError as error:
+        raise BadMap(name, f"not an array of rows of one length: {error}") from None
+    if array.dtype.kind == "O" and isinstance(given, (list, tuple)):
+        raise BadMap(name, "not an array of rows of one length")
+    check_array(name, array)
+    array, null, region, transform = _placed(name, array, null, place)
+    known = checked_labels(name, labels or {})
+    return ArrayMap(
+        name, array, region, null, nodata, known, crs or None, transform, colors or {}, files
+    )
 
 
 def _placed(
@@ -506,7 +476,7 @@ def source_of(name: str, given: Any) -> Source:
     Parameters
     ----------
     name : str
-    given : path, array, masked array, (array, region or transform), Map, Grid, DataArray, dataset or band of rasterio
+    given : path, array, masked array, (array, region or transform), Raster, DataArray, dataset or band of rasterio
 
     Raises
     ------
@@ -516,10 +486,9 @@ def source_of(name: str, given: Any) -> Source:
     if hasattr(given, "blocks") and hasattr(given, "region"):
         source: Source = given
         return source
-    if isinstance(given, Map):
-        return given.source(name)
-    if hasattr(given, "as_map"):
-        return source_of(name, given.as_map())
+    if hasattr(given, "source"):
+        source = given.source(name)
+        return source
     if isinstance(given, (str, os.PathLike)):
         from .text_grids import open_path
 
@@ -534,11 +503,11 @@ def source_of(name: str, given: Any) -> Source:
 
         return source_of_data_array(name, given)
     if module == "dask" and hasattr(given, "ndim"):
-        return Map(given.compute()).source(name)
+        return array_map(name, given.compute())
     if isinstance(given, tuple) and len(given) == 2 and isinstance(given[0], np.ndarray):
-        return Map(given[0], given[1]).source(name)
+        return array_map(name, *given)
     if isinstance(given, (np.ndarray, list)):
-        return Map(given).source(name)
+        return array_map(name, given)
     raise BadMap(name, f"neither a path nor an array nor a raster, but a {type(given).__name__}")
 
 

@@ -11,7 +11,8 @@ import numpy as np
 from .arrays import NDArray
 from .counting import Maps, places_of
 from .errors import BadArgument
-from .columns import Column, Table, framed
+from .sources import MapLike
+from .columns import Column, Table
 
 __all__ = ["zonal"]
 
@@ -19,13 +20,14 @@ Integers = NDArray[np.int64]
 Floats = NDArray[np.float64]
 
 
-@framed
 def zonal(
-    values: Any,
+    values: MapLike,
     zones: Any,
     quantiles: Iterable[float] = (0.5,),
     *,
     zone_field: str | None = None,
+    layer: str | None = None,
+    each: bool = False,
     zone_labels: Any = None,
     crs: Any = None,
 ) -> Table:
@@ -34,13 +36,15 @@ def zonal(
     Parameters
     ----------
     values : path, array, .. as a map of `run`
-    zones : map, or path of polygons, or GeoDataFrame
-        Polygons are rasterised with GDAL: a cell belongs to the polygon that contains its centre.
+    zones : map, or path of polygons, GeoDataFrame or GeoSeries
+        As in `composition`.
     quantiles : iterable of float
         From 0 to 1; each is a column: 0.5 is `q50`, 0.025 is `q2_5`. They are interpolated linearly, as numpy does by default.
-    zone_field : str, optional
-        The field of the polygons with the ids or names of the zones.
-    zone_labels : path, dict or DataFrame, optional
+    zone_field, layer : str, optional
+        As in `composition`.
+    each : bool
+        Whether polygons that overlap are taken one after another, as in `composition`.
+    zone_labels : path, dict, Series or DataFrame, optional
         The legend of the zones, as in `composition`.
     crs : any, optional
         The reference system of maps that have none.
@@ -71,7 +75,7 @@ def zonal(
         told = f"must be a list of numbers from 0 to 1, for example [0.5]; got {quantiles!r}"
         raise BadArgument("quantiles", told)
     asked = [(_title(quantile), float(quantile)) for quantile in quantiles]
-    maps = Maps({"values": values}, crs, zones, zone_field)
+    maps = Maps({"values": values}, crs, zones, zone_field, layer, each)
     entries = maps.tables("r.stats -c -n input=zones,values")[0]
     first = places_of(entries[:, 0])
     columns = maps.columns("zone", entries[first, 0], "zones", zone_labels)

@@ -1,32 +1,29 @@
 # SPDX-License-Identifier: Apache-2.0 OR GPL-2.0-or-later
-"""Zones: maps, or polygons that are rasterised by the centres of cells, with GDAL."""
+"""Zones that are polygons: which zone each feature is, and to which feature each cell belongs."""
 
 from __future__ import annotations
 
-import os
-import re
-import warnings
-from dataclasses import dataclass
-from typing import Any, Iterable, Mapping, Protocol, Sequence
+import datetime
+from collections.abc import Iterable, Mapping, Sequence
+from dataclasses import dataclass, replace
+from typing import Any, Optional, Protocol
 
 import numpy as np
 
 from .arrays import NDArray
 from .crs import common_crs
-from .files import opened
-from .errors import BadArgument, BadMap, ReadFailed, Refused
-from .libraries import need
+from .errors import BadMap
+from .host import option, warn
+from .legends import is_missing, whole_number
+from .protocol import NULL
 from .region import Transform
-from .sources import MAX_CATEGORY, ArrayMap, Source
+from .sources import ArrayMap, Source
 
-__all__ = ["Feature", "Layer", "zones_of"]
+__all__ = ["Feature", "Layer", "Zones", "zones_of"]
 
-_VECTOR = re.compile(r"\.(gpkg|shp|geojson|json|fgb|gml|kml|sqlite)$", re.IGNORECASE)
-_LAYER = "|layername="
+_KINDS = ("Polygon", "MultiPolygon")
+_LARGEST_ID = 2**63 - 1
 _SHOWN = 3
-# The only reference system of GeoJSON.
-GEOJSON_CRS = "EPSG:4326"
-_PURPOSE = "to read polygons"
 
 
 @dataclass(frozen=True)
@@ -66,7 +63,7 @@ class Layer(Protocol):
     def fields(self) -> Sequence[str]:
         """The names of its fields."""
 
-    def features(self, field: str | None) -> Iterable[Feature]:
+    def features(self, field: Optional[str]) -> Iterable[Feature]:
         """Yield the features in their order, with their values of a field; curves are lines already."""
 
     def burn(
@@ -74,157 +71,232 @@ class Layer(Protocol):
     ) -> NDArray[np.int32]:
         """Return a grid with the number of the last geometry that contains each cell's centre, 0 for none."""
 
-
-class _Polygons:
-    """The features of a layer: their geometries, the values of a field, and their reference system."""
-
-    def __init__(self, features: Sequence[Mapping[str, Any]], field: str | None, crs: Any) -> None:
-        self.crs = crs
-        names = list(features[0]["properties"]) if features else []
-        if field is not None and field not in names:
-            raise Refused(f"no field {field}: there are {', '.join(names) or 'none'}", "zones")
-        kept = [
-            (number, feature)
-            for number, feature in enumerate(features, 1)
-            if feature["geometry"] is not None
-        ]
-        kept = [
-            (number, feature)
-            for number, feature in kept
-            if field is None or feature["properties"][field] is not None
-        ]
-        for number, feature in kept:
-            if feature["geometry"]["type"] not in ("Polygon", "MultiPolygon"):
-                raise Refused(
-                    f"not polygons: feature {number} is a {feature['geometry']['type']}", "zones"
-                )
-        self.shapes = [feature["geometry"] for _, feature in kept]
-        self.values = [
-            number if field is None else feature["properties"][field] for number, feature in kept
-        ]
-
-    def ids(self) -> tuple[list[int], dict[int, str]]:
-        """Return the zone of each polygon, and the labels of the zones."""
-        if all(_is_whole(value) for value in self.values):
-            return [int(value) for value in self.values], {}
-        numbers: dict[str, int] = {}
-        return [numbers.setdefault(str(value), len(numbers) + 1) for value in self.values], {
-            number: text for text, number in numbers.items()
-        }
+    def bounds(self, geometry: Any) -> tuple[float, float, float, float]:
+        """Return west, south, east and north of a geometry."""
 
 
-def _is_whole(value: Any) -> bool:
-    is_number = isinstance(value, (int, float, np.number)) and not isinstance(value, bool)
-    return is_number and value == value and float(value).is_integer() and abs(value) <= MAX_CATEGORY
+@dataclass(frozen=True)
+class Zones:
+    """Polygons as maps.
+
+    Attributes
+    ----------
+    maps : list of ArrayMap
+        With the categories 1, 2, ..; several if polygons that overlap are taken one after another.
+    ids : array of int64
+        The zone of each category, ascending.
+    labels : dict of int to str
+        By zone.
+    """
+
+    maps: list[ArrayMap]
+    ids: NDArray[np.int64]
+    labels: dict[int, str]
 
 
-def zones_of(given: Any, field: str | None, like: Source, crs: Any = None) -> Any:
-    """Return zones as a map: polygons are rasterised on the grid of another map, anything else is returned unchanged.
+def zones_of(
+    layer: Layer, field: Optional[str], like: Source, crs: Any = None, each: bool = False
+) -> Zones:
+    """Return polygons as zones on the grid of a map: a cell belongs to the last polygon that contains its centre.
 
-    A cell belongs to the polygon that contains its centre: to the last of several, with a warning.
+    The zone of a feature is its value of a field, or its own id. A feature without geometry, or without a value, has no zone. Whole
+    numbers are zones as they are; other values become 1, 2, .. in the order in which they appear, and have labels.
 
     Parameters
     ----------
-    given : path, GeoDataFrame, GeoJSON as a dict, or a map
-        Paths of vector files may name a layer, as `FILE|layername=NAME`.
-    field : str or None
-        The field with the ids (whole numbers) or names of the zones; without it the zones are 1, 2, ..
+    layer : Layer
+    field : str, optional
     like : Source
     crs : any
         The reference system of maps that have none.
+    each : bool
+        Whether polygons that overlap are taken one after another, so that none loses a cell.
 
     Raises
     ------
     OtherCrs
         The polygons have another reference system than the map.
     BadMap
-        No polygon contains the centre of a cell.
-    Refused
-        The field or layer does not exist, or features are not polygons.
+        There is no such field, a feature is not a polygon, or no polygon contains the centre of a cell.
     """
-    polygons = _polygons(given, field)
-    if polygons is None:
-        if field is not None:
-            raise BadArgument("zone_field", "is for polygons, and zones is a raster")
-        return given
-    common_crs({"map": like.crs, "zones": polygons.crs}, crs, "ogr2ogr")
-    if not polygons.shapes:
-        raise BadMap("zones", "no polygon contains the centre of a cell")
-    ids, labels = polygons.ids()
-    burnt = _burnt(polygons.shapes, like)
-    _tell_of_lost(burnt, [labels.get(number, str(number)) for number in ids])
-    of_polygon = np.array([0, *ids], np.int32)
-    return ArrayMap(
-        "zones", of_polygon[burnt], like.region, burnt == 0, None, labels, like.crs, like.transform
-    )
+    if field is not None and field not in layer.fields:
+        raise BadMap("zones", f"no field {field}: there are {', '.join(layer.fields) or 'none'}")
+    common_crs({"map": like.crs, "zones": layer.crs}, crs, "ogr2ogr")
+    features = _with_a_zone(layer.features(field), field is not None)
+    zones, labels = _numbered([feature.value for feature in features])
+    ids = np.array(sorted(set(zones)), np.int64)
+    names = [_name(feature, zone, labels) for feature, zone in zip(features, zones)]
+    grid = _Grid(layer, like, features, np.searchsorted(ids, zones) + 1, names)
+    parts = [list(range(len(features)))]
+    if each:
+        parts = _apart([layer.bounds(feature.geometry) for feature in features], zones)
+    maps = [grid.map(part) for part in parts]
+    grid.check_centres()
+    return Zones(maps, ids, labels)
 
 
-def _burnt(shapes: list[Any], like: Source) -> NDArray[np.int32]:
-    """Return for each cell the number, from 1, of the last polygon that contains its centre; 0 for none."""
-    features = need("rasterio.features", "gis", _PURPOSE)
-    add = need("rasterio.enums", "gis", _PURPOSE).MergeAlg.add
-    words = {
-        "out_shape": like.region.shape,
-        "transform": need("affine", "gis", _PURPOSE).Affine(*like.transform),
-        "dtype": "int32",
-    }
-    burnt: NDArray[np.int32] = features.rasterize(
-        ((shape, number) for number, shape in enumerate(shapes, 1)), fill=0, **words
-    )
-    often = features.rasterize(((shape, 1) for shape in shapes), fill=0, merge_alg=add, **words) > 1
-    if often.any():
-        row, col = (int(place) + 1 for place in np.unravel_index(int(often.argmax()), often.shape))
-        told = f"{np.count_nonzero(often):,} cells are in more than one polygon, the first at row {row}, column {col}"
-        warnings.warn(f"zones: {told}: the later polygon has them", stacklevel=6)
-    return burnt
+def _with_a_zone(features: Iterable[Feature], has_field: bool) -> list[Feature]:
+    """Return the features that have a geometry and a zone, with their zone as the value."""
+    kept = []
+    for feature in features:
+        if not feature.kind or feature.geometry is None:
+            continue
+        if feature.kind not in _KINDS:
+            raise BadMap("zones", f"not polygons: feature {feature.id} is a {feature.kind}")
+        value = feature.value if has_field else feature.id
+        if not is_missing(value) and not (isinstance(value, str) and not value):
+            kept.append(replace(feature, value=value))
+    if not kept:
+        raise BadMap("zones", "no polygon contains the centre of a cell: none has a zone")
+    return kept
 
 
-def _tell_of_lost(burnt: NDArray[np.int32], names: list[str]) -> None:
-    """Warn of polygons without a cell; raise BadMap if no polygon has one."""
-    cells = np.bincount(burnt.reshape(-1), minlength=len(names) + 1)[1:]
-    lost = [name for name, count in zip(names, cells.tolist()) if count == 0]
-    if len(lost) == len(names):
-        raise BadMap("zones", "no polygon contains the centre of a cell")
-    if lost:
-        told = ", ".join(lost[:_SHOWN]) + (", .." if len(lost) > _SHOWN else "")
-        warnings.warn(
-            f"zones: {len(lost)} of {len(names)} polygons contain no centre of a cell: {told}",
-            stacklevel=6,
+def _numbered(values: Sequence[Any]) -> tuple[list[int], dict[int, str]]:
+    """Return the zone of each value, and the labels of zones.
+
+    Examples
+    --------
+    >>> _numbered([7, 2.0]), _numbered(["b", "a", "b"]), _numbered([True, False])
+    (([7, 2], {}), ([1, 2, 1], {1: 'b', 2: 'a'}), ([1, 2], {1: 'true', 2: 'false'}))
+    """
+    whole = [None if isinstance(value, str) else whole_number(value) for value in values]
+    ids = [number for number in whole if number is not None and _is_id(number)]
+    if len(ids) == len(whole):
+        return ids, {}
+    numbers: dict[str, int] = {}
+    zones = [numbers.setdefault(_text(value), len(numbers) + 1) for value in values]
+    return zones, {number: text for text, number in numbers.items()}
+
+
+def _is_id(number: int) -> bool:
+    return abs(number) <= _LARGEST_ID and number != NULL
+
+
+def _text(value: Any) -> str:
+    """Return a value of a field as the label of its zone.
+
+    Examples
+    --------
+    >>> [_text(value) for value in (1.0, 0.1 + 0.2, True, datetime.date(2020, 1, 31), "Ost")]
+    ['1.0', '0.30000000000000004', 'true', '2020-01-31', 'Ost']
+    """
+    if isinstance(value, (bool, np.bool_)):
+        return str(bool(value)).lower()
+    if isinstance(value, (datetime.date, datetime.time)):
+        return value.isoformat()
+    return repr(float(value)) if isinstance(value, (float, np.floating)) else str(value)
+
+
+def _name(feature: Feature, zone: int, labels: Mapping[int, str]) -> str:
+    """Return a feature as messages name it: its id, and its zone if that is another one."""
+    label = labels.get(zone, str(zone))
+    return f"feature {feature.id}" + ("" if label == str(feature.id) else f" ({label})")
+
+
+@dataclass
+class _Grid:
+    """The features of a layer on the grid of a map.
+
+    Attributes
+    ----------
+    categories : array of int
+        Of each feature the category of its zone.
+    names : list of str
+    """
+
+    layer: Layer
+    like: Source
+    features: list[Feature]
+    categories: NDArray[np.intp]
+    names: list[str]
+
+    def __post_init__(self) -> None:
+        self._has_centre = np.zeros(len(self.features) + 1, np.bool_)
+
+    def map(self, part: Sequence[int]) -> ArrayMap:
+        """Return some features as a map of the categories of their zones."""
+        last = self._burnt(part)
+        first = self._burnt(part[::-1])
+        categories = np.concatenate([[0], self.categories]).astype(np.int32)
+        made = categories[last]
+        lost = categories[first] != made
+        if lost.any():
+            self._find_hidden([at for at in part if not self._has_centre[at + 1]])
+            self._warn_of_losers(first, lost)
+        like = self.like
+        return ArrayMap("zones", made, like.region, last == 0, None, {}, like.crs, like.transform)
+
+    def _burnt(self, part: Sequence[int]) -> NDArray[np.int32]:
+        """Return for each cell the last of some features that contains its centre, counted from 1; 0 for none."""
+        shapes = [(self.features[at].geometry, at + 1) for at in part]
+        found = self.layer.burn(shapes, self.like.transform, self.like.region.shape)
+        self._has_centre |= np.bincount(found.reshape(-1), minlength=self._has_centre.size) > 0
+        return found
+
+    def _find_hidden(self, rest: list[int]) -> None:
+        """Find the features that contain a centre, and that lie between two others."""
+        while rest:
+            self._burnt(rest)
+            left = [at for at in rest if not self._has_centre[at + 1]]
+            if len(left) == len(rest):
+                return
+            rest = left
+
+    def _warn_of_losers(self, first: NDArray[np.int32], lost: NDArray[np.bool_]) -> None:
+        losers = [self.names[at - 1] for at in np.unique(first[lost]).tolist()]
+        row, col = np.unravel_index(int(np.argmax(lost)), lost.shape)
+        warn(
+            f"zones: {np.count_nonzero(lost):,} cells are in more than one polygon, the first at row {row + 1}, column {col + 1}: "
+            f"the later polygon has them, and {_listed(losers)} lost them; "
+            f"{option('each', True)} takes one polygon after another"
         )
 
-
-def _polygons(given: Any, field: str | None) -> _Polygons | None:
-    """Return the features of a layer or a GeoDataFrame; None for anything else."""
-    if hasattr(given, "iterfeatures") and hasattr(given, "crs"):
-        features = list(given.iterfeatures(na="null"))
-        return _Polygons(features, field, given.crs)
-    if isinstance(given, Mapping) and given.get("type") == "FeatureCollection":
-        return _Polygons([_plain(feature) for feature in given["features"]], field, GEOJSON_CRS)
-    if not isinstance(given, (str, os.PathLike)):
-        return None
-    path, chosen, layer = os.fspath(given).partition(_LAYER)
-    return _read(path, layer if chosen else None, field) if _VECTOR.search(path) else None
+    def check_centres(self) -> None:
+        """Warn of the features that contain no centre of a cell; raise BadMap if none does."""
+        without = [self.names[at] for at in np.flatnonzero(~self._has_centre[1:]).tolist()]
+        if len(without) == len(self.features):
+            raise BadMap("zones", "no polygon contains the centre of a cell")
+        if without:
+            told = f"{len(without)} of {len(self.features)} polygons contain no centre of a cell"
+            warn(f"zones: {told}: {_listed(without)}")
 
 
-def _read(path: str, layer: str | None, field: str | None) -> _Polygons:
-    if not path.startswith("/vsi") and not os.path.exists(path):
-        raise ReadFailed("zones", f"cannot open: {path}: No such file or directory")
-    opened(path)
-    fiona = need("fiona", "vector", _PURPOSE)
-    try:
-        layers = fiona.listlayers(path)
-        if layer is None and len(layers) > 1:
-            raise Refused(
-                f"has the layers {', '.join(layers)}: choose one, as {path}{_LAYER}{layers[0]}",
-                "zones",
-            )
-        if layer is not None and layer not in layers:
-            raise Refused(f"no layer {layer}: there are {', '.join(layers)}", "zones")
-        with fiona.open(path, layer=layers[0] if layer is None else layer) as features:
-            return _Polygons([_plain(each) for each in features], field, features.crs_wkt or None)
-    except (fiona.errors.FionaError, fiona.errors.FionaValueError, OSError, ValueError) as error:
-        raise ReadFailed("zones", f"cannot open: {path}: {error}") from None
+def _listed(names: Sequence[str]) -> str:
+    """Return the first names, and how many more there are."""
+    more = f" and {len(names) - _SHOWN:,} more" if len(names) > _SHOWN else ""
+    return ", ".join(names[:_SHOWN]) + more
 
 
-def _plain(feature: Any) -> dict[str, Any]:
-    return {"geometry": feature["geometry"], "properties": dict(feature["properties"] or {})}
+def _apart(
+    bounds: Sequence[tuple[float, float, float, float]], zones: Sequence[int]
+) -> list[list[int]]:
+    """Return features in parts in which no two zones may overlap, by the boxes around them.
+
+    Examples
+    --------
+    >>> _apart([(0, 0, 2, 2), (1, 1, 3, 3), (5, 5, 6, 6)], [1, 2, 3])
+    [[0, 2], [1]]
+    """
+    members: dict[int, list[int]] = {}
+    for at, zone in enumerate(zones):
+        members.setdefault(zone, []).append(at)
+    parts: list[list[int]] = []
+    taken: list[NDArray[np.float64]] = []
+    for places in members.values():
+        own = np.array([bounds[at] for at in places])
+        box = np.concatenate([own[:, :2].min(axis=0), own[:, 2:].max(axis=0)])
+        free = (at for at, boxes in enumerate(taken) if not _meets(box, boxes))
+        part = next(free, len(parts))
+        if part == len(parts):
+            parts.append([])
+            taken.append(np.empty((0, 4)))
+        parts[part] += places
+        taken[part] = np.concatenate([taken[part], box[None]])
+    return parts
+
+
+def _meets(box: NDArray[np.float64], others: NDArray[np.float64]) -> bool:
+    """Return whether a box touches one of others."""
+    is_below = (others[:, :2] <= box[2:]).all(axis=1)
+    is_above = (others[:, 2:] >= box[:2]).all(axis=1)
+    return bool((is_below & is_above).any())

@@ -4,15 +4,21 @@
 from __future__ import annotations
 
 import importlib
-from typing import TYPE_CHECKING
+import os
+import re
+from typing import TYPE_CHECKING, Any, Optional
 
-from ..core.errors import MissingLibrary
+from ..core.errors import BadArgument, MissingLibrary, ReadFailed
 
 if TYPE_CHECKING:
     from ..core.crs import Crs
     from ..core.sources import Source
+    from ..core.zones import Layer
 
-__all__ = ["crs_of", "open_raster"]
+__all__ = ["crs_of", "open_polygons", "open_raster"]
+
+_VECTOR = re.compile(r"\.(gpkg|shp|geojson|json|fgb|gml|kml|sqlite)$", re.IGNORECASE)
+_LAYER = "|layername="
 
 
 def open_raster(name: str, path: str) -> Source:
@@ -34,6 +40,57 @@ def open_raster(name: str, path: str) -> Source:
         source: Source = module.open_raster(name, path)
         return source
     raise MissingLibrary("rasterio", "gis", "to read a raster")
+
+
+def open_polygons(given: Any, layer: Optional[str] = None) -> Optional[Layer]:
+    """Return polygons as a layer; None for anything else.
+
+    Parameters
+    ----------
+    given : path, GeoDataFrame, GeoSeries, GeoJSON as a dict, or Layer
+        Paths may name a layer, as `FILE|layername=NAME`.
+    layer : str, optional
+        The layer of a file.
+
+    Raises
+    ------
+    ReadFailed
+        The file cannot be opened.
+    Refused
+        The file has several layers and none is named, or none of this name.
+    MissingLibrary
+    """
+    if hasattr(given, "burn"):
+        polygons: Layer = given
+        return polygons
+    if isinstance(given, (str, os.PathLike)):
+        path, _, named = os.fspath(given).partition(_LAYER)
+        if not _VECTOR.search(path):
+            return None
+        if named and layer and named != layer:
+            raise BadArgument(
+                "layer", f"must be the layer of the path; got {layer!r} and {named!r}"
+            )
+        if not path.startswith("/vsi") and not os.path.exists(path):
+            raise ReadFailed("zones", f"cannot open: {path}: No such file or directory")
+        return _open_layer(path, layer or named or None)
+    if isinstance(given, dict) or hasattr(given, "geom_type"):
+        from .polygons import layer_of
+
+        return layer_of(given)
+    return None
+
+
+def _open_layer(path: str, layer: Optional[str]) -> Layer:
+    """Return a layer of a file as fiona opens it, or GDAL's own Python without fiona."""
+    for library in ("fiona", "ogr"):
+        try:
+            module = importlib.import_module(f".{library}", __name__)
+        except ImportError:
+            continue
+        polygons: Layer = module.open_layer("zones", path, layer)
+        return polygons
+    raise MissingLibrary("fiona", "vector", "to read polygons")
 
 
 def crs_of(text: str) -> Crs:

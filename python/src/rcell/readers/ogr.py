@@ -14,6 +14,7 @@ from osgeo import gdal, ogr
 from ..core.arrays import NDArray
 from ..core.errors import BadMap, ReadFailed, Refused
 from ..core.files import opened
+from ..core.host import option
 from ..core.region import Transform
 from ..core.zones import Feature
 from .osr import quiet
@@ -44,7 +45,10 @@ def open_layer(name: str, path: str, layer: Optional[str] = None) -> OgrLayer:
     opened(*source.GetFileList() or [path])
     names = [source.GetLayer(place).GetName() for place in range(source.GetLayerCount())]
     if layer is None and len(names) > 1:
-        told = f"has the layers {', '.join(names)}: choose one, as {path}|layername={names[0]}"
+        one = option("layer", names[0])
+        told = (
+            f"has the layers {', '.join(names)}: name one, as {one} or {path}|layername={names[0]}"
+        )
         raise Refused(told, name)
     if not names or layer is not None and layer not in names:
         raise Refused(f"no layer {layer}: there are {', '.join(names) or 'none'}", name)
@@ -106,7 +110,10 @@ def _value_of(feature: Any, place: int) -> Any:
     if definition.GetType() == ogr.OFTReal:
         value = feature.GetFieldAsDouble(place)
         return None if math.isnan(value) else value
-    return feature.GetFieldAsString(place)
+    text = str(feature.GetFieldAsString(place))
+    if definition.GetType() in (ogr.OFTDate, ogr.OFTDateTime):
+        return text.replace("/", "-").replace(" ", "T")
+    return text
 
 
 def feature_of(name: str, number: Any, value: Any, wkb: bytes) -> Feature:

@@ -25,8 +25,8 @@ from ..core.sources import (
     is_converted,
     nodata_of,
     type_of,
+    unmasked,
 )
-from ..core.masked import MaskedCells, filled, is_masked_array, unmasked
 from ..core.region import Region, Transform, six_numbers
 
 __all__ = [
@@ -36,6 +36,7 @@ __all__ = [
     "flat_of",
     "is_lazy",
     "layers_of",
+    "series_of",
     "source_of_data_array",
     "variables_of",
 ]
@@ -108,7 +109,7 @@ class DataArrayMap:
     def is_masked(self) -> bool:
         """Whether its blocks have masks: each block of Dask may have one."""
         return not is_converted(self.array.dtype) and (
-            is_lazy(self.array) or is_masked_array(self.array.data)
+            is_lazy(self.array) or isinstance(self.array.data, np.ma.MaskedArray)
         )
 
     def blocks(self) -> Iterator[Block]:
@@ -151,6 +152,8 @@ def flat_of(name: str, array: Any) -> Flat:
     BadMap
         It can't be a map, or its coordinates are not evenly spaced.
     """
+    if not hasattr(array, "coords"):
+        raise BadMap(name, f"a {type(array).__name__} without coordinates: give a DataArray")
     if not hasattr(array, "ndim"):
         raise BadMap(
             name,
@@ -214,6 +217,15 @@ def layers_of(array: Any) -> list[Any]:
     axes = [_axis_of(array, dim) for dim in array.dims]
     across = array.dims[axes.index(None) if {"X", "Y"} <= set(axes) else 0]
     return [array.isel({across: at}) for at in range(array.sizes[across])]
+
+
+def series_of(array: Any) -> tuple[list[Any], list[int]]:
+    """Return the maps of a DataArray along its dimension `time`, and their years."""
+    times = array["time"].values
+    years = times
+    if np.issubdtype(times.dtype, np.datetime64):
+        years = times.astype("datetime64[Y]").astype(np.int64) + 1970
+    return [array.isel(time=at) for at in range(array.sizes["time"])], years.tolist()
 
 
 def is_lazy(array: Any) -> bool:
@@ -303,7 +315,7 @@ def _spacing(name: str, coordinate: Any, told: tuple[float, float] | None) -> tu
     if count == 1:
         raise BadMap(
             name,
-            f"one cell along {coordinate.name}: its size is unknown; give rcell.Map(array.values, region)",
+            f"one cell along {coordinate.name}: its size is unknown; give rcell.Raster(array.values, region)",
         )
     step = (centres[-1] - centres[0]) / (count - 1)
     off = np.abs(centres[0] + step * np.arange(count) - centres)
@@ -355,17 +367,10 @@ def _flags_of(array: Any) -> dict[int, str]:
 
 
 def data_array_of(
-    array: MaskedCells,
-    region: Region,
-    transform: Transform,
-    crs: Any,
-    labels: Mapping[int, str],
-    name: str,
+    array: Any, transform: Transform, crs: Any, labels: Mapping[int, str], name: str
 ) -> Any:
     """Return a map in memory as a DataArray of int32."""
-    return data_array(
-        filled(array, NULL).astype(np.int32, copy=False), transform, crs, labels, name
-    )
+    return data_array(array.astype(np.int32).filled(NULL), transform, crs, labels, name)
 
 
 def data_array(

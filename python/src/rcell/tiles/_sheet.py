@@ -16,8 +16,14 @@ from ..core.edges import differences_of
 from ..core.crs import common_crs, wkt_of
 from ..core.errors import BadMap, OtherRegion
 from ..core.libraries import need
-from ..core.sources import ArrayMap, check_computed, check_names, checked, nodata_of
-from ..core.masked import unmasked
+from ..core.sources import (
+    ArrayMap,
+    check_computed,
+    check_names,
+    checked,
+    nodata_of,
+    unmasked,
+)
 from ..readers.rasterio import (
     Layer,
     legend_of_file,
@@ -62,11 +68,6 @@ class Sheet:
     transform: Transform
     crs: str | None = None
     block: tuple[int, int] = (256, 256)
-
-    @property
-    def cell(self) -> tuple[float, float]:
-        """The height and width of a cell."""
-        return -self.transform[4], self.transform[0]
 
     def differences(self, other: Sheet) -> list[str]:
         """Return the edges and sizes in which another sheet differs, with the difference."""

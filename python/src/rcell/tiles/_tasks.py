@@ -11,13 +11,15 @@ from typing import Any
 import numpy as np
 import numpy.typing as npt
 
+from ..core.area import flat_measure
 from ..core.counts import counts_of
 from ..core.errors import OutOfMemory
 from ..core.joiner import border_of, joined
 from ..core.sources import ArrayMap, Source
 from ..core.runs import execute, grids, printed
 from ..core.region import Region
-from ..core.columns import StatsTable
+from ..core.scripts import Stats
+from ..frames import frame_of
 from ._scripts import NO_REACH, Reach, Statement, TileScript
 from ._sheet import MapCells, MapFile, Sheet
 from .joining import Joined, Rectangle, TileNumbers, join, renumber, sizes
@@ -199,18 +201,15 @@ class TableForm:
         """Return the table, like `rcell.table`."""
         counts = counts_of(text, len(self.stats.inputs))
         cells = counts.cells if "c" in self.stats.options else None
-        table = StatsTable(
-            "r.stats",
-            self.stats.line,
-            self.stats.inputs,
-            counts.combinations,
-            cells,
-            self.labels,
-            cell=self.sheet.cell,
-            crs=self.sheet.crs,
+        stats = Stats(
+            self.stats.line, self.stats.inputs, counts.combinations, cells, self.labels or {}
         )
-        table = table if self.area is None else table.with_area(self.area)
-        return (table.with_percent() if self.percent else table).frame()
+        measure = (
+            None
+            if self.area is None
+            else flat_measure(self.area, self.sheet.transform, self.sheet.crs)
+        )
+        return frame_of(stats.table(measure, self.percent))
 
 
 def grid_cells(task: TileRun, place: Rectangle, cells: Sequence[Any]) -> Integers:
@@ -263,10 +262,8 @@ def numbered_cells(
     )
 
 
-def patches_frame(whole: Joined, parts: Sequence[tuple[bytes, Integers]], sheet: Sheet) -> Any:
+def patches_frame(whole: Joined, parts: Sequence[tuple[bytes, Integers]]) -> Any:
     """Return the patches of the full map with their classes and numbers of cells."""
     categories, cells = sizes(whole, [table for table, _ in parts], [own for _, own in parts])
     numbers = np.column_stack([np.arange(1, whole.clumps + 1), categories])
-    return StatsTable(
-        "r.clump", 0, ("patch", "class"), numbers, cells, cell=sheet.cell, crs=sheet.crs
-    ).frame()
+    return frame_of(Stats(0, ("patch", "class"), numbers, cells).table())

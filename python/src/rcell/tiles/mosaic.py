@@ -468,7 +468,7 @@ class Mosaic:
         tiles = self._tiles(patches_demand(run.file.bytes), compute)
         borders, joined = self._joined(run, tiles)
         tables = _parts(self._over(_tasks.clumps_table, run, tiles))
-        table = dask.delayed(_tasks.patches_frame)(joined, tables, self.sheet)
+        table = dask.delayed(_tasks.patches_frame)(joined, tables)
         return self._engine.finish("patches", table, borders + tables) if compute else table
 
     def _joined(self, run: _tasks.ClumpRun, tiles: _Tiles) -> tuple[list[Any], Any]:

@@ -1,0 +1,84 @@
+# SPDX-License-Identifier: Apache-2.0 OR GPL-2.0-or-later
+"""Which classes share sides of cells, and how long their common border is."""
+
+from __future__ import annotations
+
+from typing import Any
+
+import numpy as np
+
+from .arrays import NDArray
+from .columns import Column, Table
+from .counting import Maps, label_column, legend_for
+from .sources import MapLike
+
+__all__ = ["adjacency"]
+
+# Its tables have the pairs of cells side by side, and one above the other.
+_SCRIPT = """r.mapcalc right = map[0,1]
+r.mapcalc below = map[1,0]
+r.stats -c -n input=map,right
+r.stats -c -n input=map,below"""
+
+_TITLES = ("class", "neighbour")
+_LABELS = ("label", "neighbour_label")
+
+
+def adjacency(map: MapLike, *, labels: Any = None, crs: Any = None) -> Table:
+    """Count the sides that the cells of each pair of classes share.
+
+    Parameters
+    ----------
+    map : path, array, .. as a map of `run`
+    labels : path, dict, Series or DataFrame, optional
+        A legend, as in `composition`.
+    crs : any, optional
+        The reference system of a map that has none.
+
+    Returns
+    -------
+    pandas.DataFrame
+        Columns `class`, `label`, `neighbour`, `neighbour_label`, `sides`, `border_m`. Each pair is listed once, the smaller class
+        first; a class with itself counts the sides between its own cells. Sides to null and along the map's edge are left out. In
+        degrees `border_m` is NaN, with a warning, and so it is without a reference system.
+
+    Raises
+    ------
+    Refused
+        As for `run`, and for invalid legends.
+
+    Examples
+    --------
+    >>> import numpy as np, rcell
+    >>> lc = rcell.Raster(np.array([[1, 1, 2], [1, 2, 2]]), (10, 0, 0, 0, -10, 20), crs="EPSG:25832")
+    >>> rcell.adjacency(lc)
+       class  neighbour  sides  border_m
+    0      1          1      2      20.0
+    1      1          2      3      30.0
+    2      2          2      2      20.0
+    """
+    maps = Maps({"map": map}, crs)
+    pairs, flanks, ends = _sides_of(*maps.tables(_SCRIPT))
+    unit = maps.measure(None).length()
+    width, height = maps.first.transform[0], -maps.first.transform[4]
+    legend = legend_for(labels, maps.sources["map"].labels, [("map", pairs)])
+    columns: list[Column] = []
+    for title, label, classes in zip(_TITLES, _LABELS, pairs.T):
+        columns.append(Column(title, "class", classes))
+        if legend:
+            columns.append(label_column(label, classes, legend))
+    columns.append(Column("sides", "count", flanks + ends))
+    return Table([*columns, Column("border_m", "measure", (flanks * height + ends * width) * unit)])
+
+
+def _sides_of(
+    right: NDArray[np.int64], below: NDArray[np.int64]
+) -> tuple[NDArray[np.int64], NDArray[np.int64], NDArray[np.int64]]:
+    """Return each pair of classes once, and how many sides they share from west to east, and from north to south."""
+    pairs = np.sort(np.concatenate([right[:, :2], below[:, :2]]), axis=1)
+    kinds, at = np.unique(pairs, axis=0, return_inverse=True)
+    at = at.reshape(-1)
+    flanks, ends = np.zeros((2, len(kinds)), np.int64)
+    np.add.at(flanks, at[: len(right)], right[:, 2])
+    np.add.at(ends, at[len(right) :], below[:, 2])
+    return kinds, flanks, ends

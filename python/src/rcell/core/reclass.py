@@ -1,0 +1,166 @@
+# SPDX-License-Identifier: Apache-2.0 OR GPL-2.0-or-later
+"""New classes by a crosswalk: a table of old and new classes."""
+
+from __future__ import annotations
+
+import dataclasses
+import os
+import re
+from collections.abc import Iterable, Iterator, Mapping, Sequence
+from typing import Any, NamedTuple, Optional
+
+from .arguments import MAX_CATEGORY
+from .errors import BadArgument, Refused
+from .host import option
+from .legends import is_missing, rows_of_file, whole_number
+from .protocol import NULL
+from .scripts import Run, Stats
+from .sources import ArrayMap, MapLike, source_of
+
+__all__ = ["reclass"]
+
+_RANGE = re.compile(r"([+-]?[0-9]+) *- *([+-]?[0-9]+)")
+_SHOWN = 5
+
+
+class Rule(NamedTuple):
+    """A range of classes and their new class, None for null."""
+
+    low: int
+    high: int
+    new: Optional[int]
+    label: str
+
+    @property
+    def text(self) -> str:
+        """The rule as r.reclass reads it."""
+        classes = str(self.low) if self.low == self.high else f"{self.low} thru {self.high}"
+        return f"{classes} = {'NULL' if self.new is None else self.new} {self.label}".rstrip()
+
+
+def reclass(map: MapLike, rules: Any, other: Optional[str] = None, *, crs: Any = None) -> ArrayMap:
+    """Give each class a new class, by a crosswalk.
+
+    Parameters
+    ----------
+    map : path, array, .. as a map of `run`
+    rules : path, dict or DataFrame
+        A CSV or DataFrame with the columns `value` (a class, or a range such as `31-39`), `new` (a class; empty for null) and
+        optionally `label`; or a dict of new classes by class or by `(first, last)`.
+    other : {"keep", "null"}, optional
+        What becomes of classes without a rule. By default they are an error that names them.
+    crs : any, optional
+        The reference system of a map that has none.
+
+    Returns
+    -------
+    Raster
+        With the labels of the rules; classes that are kept have the labels of the map.
+
+    Raises
+    ------
+    Refused
+        A class of the map has no rule.
+    BadArgument
+        A class has two rules, or is not a whole number.
+
+    Examples
+    --------
+    >>> import numpy as np, rcell
+    >>> rcell.reclass(np.array([[31, 35, 51]]), {(31, 39): 3, 51: None}).array.tolist()
+    [[3, 3, None]]
+    """
+    if other not in (None, "keep", "null"):
+        raise BadArgument("other", f'must be "keep", "null" or None; got {other!r}')
+    listed = _checked(_rules_of(rules))
+    source = source_of("map", map)
+    lines = [rule.text for rule in _joined(listed)] + (["* = *"] if other == "keep" else [])
+    script = ["r.reclass input=map output=new", *lines, "end", "r.stats -c input=map,new"]
+    table, made = Run("\n".join(script), {"map": source}, {}, crs).outputs(["new"])
+    assert isinstance(table, Stats) and isinstance(made, ArrayMap)
+    if other is None:
+        _check_all(table.categories.tolist(), listed)
+    labels = {rule.new: rule.label for rule in listed if rule.new is not None and rule.label}
+    own = dict(source.labels) if other == "keep" else {}
+    is_path = isinstance(rules, (str, os.PathLike))
+    files = (*made.files, *([os.fspath(rules)] if is_path else []))
+    return dataclasses.replace(made, labels={**own, **labels}, files=files)
+
+
+def _checked(rules: Iterable[Rule]) -> Sequence[Rule]:
+    """Return rules in the order of their classes, each of which has one."""
+    listed = sorted(rules, key=lambda rule: (rule.low, rule.high))
+    if not listed:
+        raise BadArgument("rules", "must have at least one rule; got none")
+    for rule, following in zip(listed, listed[1:]):
+        if following.low <= rule.high:
+            raise BadArgument(
+                "rules", f"must have one rule for each class; got two for {following.low}"
+            )
+    return listed
+
+
+def _joined(listed: Sequence[Rule]) -> Iterator[Rule]:
+    """Yield rules in which consecutive classes with one new class are a range: a script has up to 1 MiB."""
+    run = listed[0]
+    for rule in listed[1:]:
+        if (rule.low, rule.new, rule.label) == (run.high + 1, run.new, run.label):
+            run = run._replace(high=rule.high)
+        else:
+            yield run
+            run = rule
+    yield run
+
+
+def _check_all(entries: list[list[int]], listed: Sequence[Rule]) -> None:
+    """Raise Refused if a class became null without a rule that says so."""
+    lost = [
+        str(old)
+        for old, new in entries
+        if old != NULL and new == NULL and not any(rule.low <= old <= rule.high for rule in listed)
+    ]
+    if lost:
+        more = f", and {len(lost) - _SHOWN} more" if len(lost) > _SHOWN else ""
+        told = (
+            f"no rule for the class{'es' if len(lost) > 1 else ''} {', '.join(lost[:_SHOWN])}{more}"
+        )
+        cure = f"add rules, or {option('other', 'keep')} or {option('other', 'null')}"
+        raise Refused(f"{told}: {cure}", "map")
+
+
+def _rules_of(given: Any) -> Iterator[Rule]:
+    """Yield the rules of a crosswalk of any kind."""
+    if isinstance(given, (str, os.PathLike)):
+        for place, row in rows_of_file("rules", os.fspath(given), ("value", "new"), ("label",)):
+            yield _rule(f"{place}: ", row["value"], row["new"], row.get("label", ""))
+    elif isinstance(given, Mapping):
+        for value, new in given.items():
+            yield _rule("", value, new, "")
+    elif hasattr(given, "columns") and hasattr(given, "to_dict"):
+        if not {"value", "new"} <= set(given.columns):
+            names = ", ".join(map(str, given.columns))
+            raise BadArgument("rules", f"must have the columns value and new; got {names}")
+        for number, row in enumerate(given.to_dict("records"), 1):
+            yield _rule(f"row {number}: ", row["value"], row["new"], row.get("label"))
+    else:
+        raise BadArgument("rules", f"must be a dict, a DataFrame or a CSV; got {given!r}")
+
+
+def _rule(place: str, value: Any, new: Any, label: Any) -> Rule:
+    low, high = value if isinstance(value, tuple) and len(value) == 2 else (value, value)
+    found = _RANGE.fullmatch(value.strip()) if isinstance(value, str) else None
+    if found:
+        low, high = found.groups()
+    first, last = _class_of(place, low), _class_of(place, high)
+    if last < first:
+        raise BadArgument("rules", f"{place}{first}-{last} is not a range of classes")
+    is_null = is_missing(new) or (isinstance(new, str) and not new.strip())
+    text = "" if is_missing(label) else str(label).strip()
+    return Rule(first, last, None if is_null else _class_of(place, new), text)
+
+
+def _class_of(place: str, given: Any) -> int:
+    value = whole_number(given)
+    if value is None or abs(value) > MAX_CATEGORY:
+        raise BadArgument("rules", f"{place}{given!r} is not a class")
+    return value

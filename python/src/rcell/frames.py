@@ -1,0 +1,199 @@
+# SPDX-License-Identifier: Apache-2.0 OR GPL-2.0-or-later
+"""The calls of the package: results of the core as DataFrames and Rasters."""
+
+from __future__ import annotations
+
+import functools
+import inspect
+from collections.abc import Callable, Iterable, Sequence
+from typing import TYPE_CHECKING, Any, ParamSpec, TypeVar, overload
+
+import numpy as np
+
+from .core import adjacency as _adjacency
+from .core import align as _align
+from .core import change as _change
+from .core import composition as _composition
+from .core import majority as _majority
+from .core import patches as _patches
+from .core import reclass as _reclass
+from .core import scripts as _scripts
+from .core import zonal as _zonal
+from .core.change import Change
+from .core.columns import Column, Matrix, Table
+from .core.protocol import NULL
+from .core.sources import ArrayMap
+from .raster import Raster
+
+if TYPE_CHECKING:
+    import pandas
+
+__all__ = [
+    "Result",
+    "adjacency",
+    "align",
+    "change",
+    "clump",
+    "composition",
+    "cross",
+    "frame_of",
+    "grid",
+    "majority",
+    "patches",
+    "reclass",
+    "run",
+    "table",
+    "zonal",
+]
+
+Words = ParamSpec("Words")
+Made = TypeVar("Made")
+Returned = TypeVar("Returned")
+
+
+def frame_of(table: Table) -> pandas.DataFrame:
+    """Return a table as a DataFrame: classes as nullable Int64, counts as int64, measures as float64, labels as text.
+
+    Examples
+    --------
+    >>> frame_of(Table([Column("lc", "class", np.array([1, 2])), Column("cells", "count", np.array([2, 1]))]))
+       lc  cells
+    0   1      2
+    1   2      1
+    """
+    import pandas  # imported here, since it takes longer to load than everything else
+
+    frame = pandas.DataFrame({column.name: _series(column) for column in table.data})
+    if isinstance(table, Matrix):
+        frame = frame.set_index(list(frame.columns[: table.keys]))
+        if table.is_numbered:
+            frame.columns = [name if name == "null" else int(name) for name in frame.columns]
+        frame = frame.rename_axis(columns=table.across)
+    return frame
+
+
+def _series(column: Column) -> Any:
+    import pandas
+
+    if column.kind == "class":
+        is_null = column.values == NULL
+        return pandas.arrays.IntegerArray(column.values.astype(np.int64), is_null)
+    return pandas.array(column.values, dtype="string") if column.kind == "label" else column.values
+
+
+def _returning(
+    kind: str, convert: Callable[[Made], Returned]
+) -> Callable[[Callable[Words, Made]], Callable[Words, Returned]]:
+    """Return a decorator: the function returns what `convert` makes of its result, which `help` shows as `kind`."""
+
+    def wrap(make: Callable[Words, Made]) -> Callable[Words, Returned]:
+        @functools.wraps(make)
+        def call(*words: Words.args, **named: Words.kwargs) -> Returned:
+            return convert(make(*words, **named))
+
+        call.__annotations__ = {**make.__annotations__, "return": kind}
+        signature = inspect.signature(make).replace(return_annotation=kind)
+        call.__signature__ = signature  # type: ignore[attr-defined]
+        return call
+
+    return wrap
+
+
+def _frames_of(found: Change) -> Change:
+    return Change(*map(frame_of, found))
+
+
+def _raster_of(found: Any) -> Raster:
+    """Return a map of the core, or a map and what was done to align it, as a Raster."""
+    return Raster._of(*found) if isinstance(found, tuple) else Raster._of(found)
+
+
+class Result(Sequence[Any]):
+    """The outputs of a script in the order of its statements: a DataFrame for each r.stats, a Raster for each r.out.ascii.
+
+    Parameters
+    ----------
+    outputs : iterable of DataFrame or Raster
+        The outputs.
+
+    Examples
+    --------
+    >>> import numpy as np, rcell
+    >>> rcell.run("r.stats -c input=lc\\nr.out.ascii input=lc", lc=np.array([[1, 2]]))
+    <Result: a table of lc, cells; the map lc>
+    """
+
+    def __init__(self, outputs: Iterable[Any]) -> None:
+        self._outputs = list(outputs)
+
+    @property
+    def tables(self) -> list[pandas.DataFrame]:
+        """Only the tables.
+
+        Examples
+        --------
+        >>> import numpy as np, rcell
+        >>> len(rcell.run("r.stats -c input=lc", lc=np.array([[1, 2]])).tables)
+        1
+        """
+        return [output for output in self._outputs if not isinstance(output, Raster)]
+
+    @property
+    def grids(self) -> dict[str, Raster]:
+        """Only the maps, by their names.
+
+        Examples
+        --------
+        >>> import numpy as np, rcell
+        >>> list(rcell.run("r.out.ascii input=lc", lc=np.array([[1, 2]])).grids)
+        ['lc']
+        """
+        return {output.name: output for output in self._outputs if isinstance(output, Raster)}
+
+    @overload
+    def __getitem__(self, place: int) -> Any:
+        ...
+
+    @overload
+    def __getitem__(self, place: slice) -> list[Any]:
+        ...
+
+    def __getitem__(self, place: int | slice) -> Any:
+        return self._outputs[place]
+
+    def __len__(self) -> int:
+        return len(self._outputs)
+
+    def __repr__(self) -> str:
+        told = (
+            f"the map {output.name}"
+            if isinstance(output, Raster)
+            else f"a table of {', '.join(output.columns)}"
+            for output in self._outputs
+        )
+        return f"<Result: {'; '.join(told) or 'no output'}>"
+
+
+def _result_of(outputs: list[Any]) -> Result:
+    return Result(
+        _raster_of(output) if isinstance(output, ArrayMap) else frame_of(output)
+        for output in outputs
+    )
+
+
+_framed = _returning("pandas.DataFrame", frame_of)
+_rastered = _returning("rcell.Raster", _raster_of)
+
+composition = _framed(_composition.composition)
+cross = _framed(_composition.cross)
+patches = _framed(_patches.patches)
+zonal = _framed(_zonal.zonal)
+adjacency = _framed(_adjacency.adjacency)
+table = _framed(_scripts.table)
+change = _returning("rcell.Change", _frames_of)(_change.change)
+majority = _rastered(_majority.majority)
+align = _rastered(_align.align)
+reclass = _rastered(_reclass.reclass)
+clump = _rastered(_patches.clump)
+grid = _rastered(_scripts.grid)
+run = _returning("rcell.Result", _result_of)(_scripts.run)

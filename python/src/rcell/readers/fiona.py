@@ -1,0 +1,45 @@
+# SPDX-License-Identifier: Apache-2.0 OR GPL-2.0-or-later
+"""Polygons of files that fiona reads."""
+
+from __future__ import annotations
+
+from typing import Optional
+
+import fiona
+
+from ..core.errors import ReadFailed, Refused
+from ..core.files import opened
+from ..core.host import option
+from .polygons import Polygons
+
+__all__ = ["open_layer"]
+
+
+def open_layer(name: str, path: str, layer: Optional[str] = None) -> Polygons:
+    """Return a layer of a file.
+
+    Raises
+    ------
+    ReadFailed
+        It cannot be opened.
+    Refused
+        It has several layers and none is named, or none of this name.
+    """
+    opened(path)
+    try:
+        layers = fiona.listlayers(path)
+        if layer is None and len(layers) > 1:
+            one = option("layer", layers[0])
+            told = f"has the layers {', '.join(layers)}: name one, as {one} or {path}|layername={layers[0]}"
+            raise Refused(told, name)
+        if layer is not None and layer not in layers:
+            raise Refused(f"no layer {layer}: there are {', '.join(layers)}", name)
+        with fiona.open(path, layer=layer) as source:
+            records = [
+                (int(feature["id"]), dict(feature["properties"] or {}), feature["geometry"])
+                for feature in source
+            ]
+            fields = tuple(records[0][1]) if records else ()
+            return Polygons(name, source.crs_wkt or None, fields, records)
+    except (fiona.errors.FionaError, fiona.errors.FionaValueError, OSError, ValueError) as error:
+        raise ReadFailed(name, f"cannot open: {path}: {error}") from None

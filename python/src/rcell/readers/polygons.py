@@ -1,0 +1,93 @@
+# SPDX-License-Identifier: Apache-2.0 OR GPL-2.0-or-later
+"""Polygons in memory, of GeoDataFrames, GeoSeries and GeoJSON, as layers of the core; rasterio burns them."""
+
+from __future__ import annotations
+
+from collections.abc import Iterator, Mapping, Sequence
+from dataclasses import dataclass
+from typing import Any, Optional
+
+import numpy as np
+
+from ..core.arrays import NDArray
+from ..core.legends import is_missing
+from ..core.libraries import need
+from ..core.region import Transform
+from ..core.zones import Feature
+
+__all__ = ["Polygons", "layer_of"]
+
+# The only reference system of GeoJSON.
+GEOJSON_CRS = "EPSG:4326"
+_PURPOSE = "to read polygons"
+
+
+@dataclass(frozen=True)
+class Polygons:
+    """Features in memory.
+
+    Attributes
+    ----------
+    name : str
+    crs : any
+    fields : tuple of str
+    records : sequence of tuples
+        The id, the properties by field, and the geometry as GeoJSON or as shapely has it, None for none.
+    """
+
+    name: str
+    crs: Any
+    fields: tuple[str, ...]
+    records: Sequence[tuple[Any, Mapping[str, Any], Any]]
+
+    def features(self, field: Optional[str]) -> Iterator[Feature]:
+        """Yield the features in their order, with their values of a field."""
+        for number, properties, geometry in self.records:
+            value = None if field is None else properties[field]
+            value = None if is_missing(value) else value
+            kind = "" if geometry is None else _kind(geometry)
+            yield Feature(number, value, kind, geometry if kind else None)
+
+    def burn(
+        self, shapes: Sequence[tuple[Any, int]], transform: Transform, shape: tuple[int, int]
+    ) -> NDArray[np.int32]:
+        """Return a grid with the number of the last geometry that contains each cell's centre, 0 for none."""
+        affine = need("affine", "gis", _PURPOSE).Affine(*transform)
+        rasterize = need("rasterio.features", "gis", _PURPOSE).rasterize
+        burnt: NDArray[np.int32] = rasterize(shapes, shape, fill=0, transform=affine, dtype="int32")
+        return burnt
+
+    def bounds(self, geometry: Any) -> tuple[float, float, float, float]:
+        """Return west, south, east and north of a geometry."""
+        west, south, east, north = need("rasterio.features", "gis", _PURPOSE).bounds(geometry)
+        return west, south, east, north
+
+
+def _kind(geometry: Any) -> str:
+    """Return the type of a geometry; empty for an empty one."""
+    if hasattr(geometry, "is_empty"):
+        return "" if geometry.is_empty else str(geometry.geom_type)
+    is_empty = not geometry.get("coordinates") and not geometry.get("geometries")
+    return "" if is_empty else str(geometry["type"])
+
+
+def layer_of(given: Any) -> Optional[Polygons]:
+    """Return a GeoDataFrame, a GeoSeries or GeoJSON in memory as a layer; None for anything else."""
+    if hasattr(given, "geom_type") and hasattr(given, "crs"):
+        shapes = given.geometry
+        properties: Sequence[Mapping[str, Any]] = [{}] * len(shapes)
+        fields: tuple[str, ...] = ()
+        if hasattr(given, "columns"):
+            table = given.drop(columns=shapes.name)
+            properties = table.to_dict("records") or properties
+            fields = tuple(map(str, table.columns))
+        return Polygons("zones", given.crs, fields, list(zip(given.index, properties, shapes)))
+    if isinstance(given, Mapping) and given.get("type") == "FeatureCollection":
+        records = [
+            (feature.get("id", place), feature.get("properties") or {}, feature.get("geometry"))
+            for place, feature in enumerate(given["features"])
+        ]
+        fields = tuple(dict.fromkeys(name for _, properties, _ in records for name in properties))
+        whole = [(place, {**dict.fromkeys(fields), **own}, shape) for place, own, shape in records]
+        return Polygons("zones", GEOJSON_CRS, fields, whole)
+    return None

@@ -1,0 +1,58 @@
+# SPDX-License-Identifier: Apache-2.0 OR GPL-2.0-or-later
+"""The versions of everything that a run depends on."""
+
+from __future__ import annotations
+
+import importlib
+import platform
+
+from ._version import __version__
+from .core.errors import RcellError
+from .core.joiner import find_joiner
+from .core.programs import find_pipe, find_program
+
+__all__ = ["show_versions"]
+
+_LIBRARIES = (
+    "numpy",
+    "pandas",
+    "rasterio",
+    "pyproj",
+    "fiona",
+    "geopandas",
+    "xarray",
+    "dask",
+    "matplotlib",
+)
+
+
+def show_versions() -> None:
+    """Print the versions of the package, of Python and of the libraries, and the paths of the programs.
+
+    Examples
+    --------
+    >>> import rcell
+    >>> rcell.show_versions()  # doctest: +ELLIPSIS
+    rcell       ...
+    python      ...
+    """
+    lines = [("rcell", __version__), ("python", platform.python_version())]
+    lines += [(name, _version_of(name)) for name in _LIBRARIES]
+    for name, find in (
+        ("rcell-pipe", find_pipe),
+        ("rcell", find_program),
+        ("rcell-join", find_joiner),
+    ):
+        try:
+            lines.append((name, find()))
+        except RcellError as error:
+            lines.append((name, str(error)))
+    for name, text in lines:
+        print(f"{name:<11} {text}")
+
+
+def _version_of(library: str) -> str:
+    try:
+        return str(importlib.import_module(library).__version__)
+    except ImportError:
+        return "not installed"
