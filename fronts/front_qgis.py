@@ -33,8 +33,6 @@ from qgis.PyQt.QtCore import QVariant
 
 # Parts of a change that are outputs of their own.
 PARTS = {"matrix": "MATRIX", "summary": "SUMMARY"}
-# Until the plugin has the new names.
-OLD_NAMES = {"MIN_CELLS": "LEAST", "INCLUDE_NULL": "NULL"}
 TYPES = {
     QVariant.Int: "integer",
     QVariant.LongLong: "integer",
@@ -113,7 +111,6 @@ def types_of(layer: Any) -> str:
 
 def parameters_of(case: Case) -> dict[str, Any]:
     """The parameters of an algorithm, named as in Python, in capitals."""
-    known = QgsApplication.processingRegistry().algorithmById(f"rcell:{case.call}")
     layers = [layer_of(case, name) for name in case.words]
     parameters: dict[str, Any] = {
         "INPUT": layers if case.call in ("cross", "change") else layers[0]
@@ -122,10 +119,6 @@ def parameters_of(case: Case) -> dict[str, Any]:
         parameters["ZONES"] = layers[1]
     for key, text in case.options.items():
         name = {"rules": "RULES_FILE"}.get(key, key.upper())
-        if known is not None and not known.parameterDefinition(name):
-            name = OLD_NAMES.get(name, name)
-        if known is not None and name == "RULES_FILE" and not known.parameterDefinition(name):
-            raise LookupError("Algorithm rcell:reclass of a file not found")
         if key != "table":
             parameters[name] = (
                 layer_of(case, text)
@@ -200,6 +193,8 @@ def refusal(message: str) -> list[str]:
     if re.match("There were errors executing the algorithm|.*Algorithm .* not found", first):
         return [f"error: {message}"]
     place, _, text = first.partition(": ")
+    if re.match("[A-Z_]+ ", place):  # a parameter that is wrong
+        place, text = "arguments", first
     if not text:  # an error of QGIS itself
         place, text = "", place
     source, _, line = place.partition(", line ")

@@ -368,12 +368,16 @@ def answer_of_tiles(asked: Asked) -> Answer:
 
 
 def answer_of_qgis(asked: Asked) -> Answer:
-    from rcell.core import answers, program
-    from rcell.core.rasters import Raster
+    from rcell.engine.core.scripts import Run
+    from rcell.engine.core.text_grids import is_grid, open_path
+    from rcell.engine.readers.gdal import open_raster
 
-    maps = {name: Raster.open(name, path) for name, path in zip(asked.names, asked.paths)}
-    found = answers.run(program.find_program(), asked.script, maps)
-    return [found.tables[0].categories, found.grids[0].cells], found.grids[0].labels
+    maps = {
+        name: open_path(name, path) if is_grid(path) else open_raster(name, path)
+        for name, path in zip(asked.names, asked.paths)
+    }
+    table, grid = Run(asked.script, maps, {}).outputs()
+    return [table.categories, np.where(grid.null, NULL, grid.array)], grid.labels
 
 
 def answer_of_grass(asked: Asked) -> Answer:

@@ -18,20 +18,9 @@ import zipfile
 
 HERE = pathlib.Path(__file__).resolve().parent
 REPOSITORY = HERE.parent
-SHARED = (
-    "advice.py",
-    "attributes.py",
-    "causes.py",
-    "edges.py",
-    "errors.py",
-    "files.py",
-    "grids.py",
-    "listing.py",
-    "mending.py",
-    "printing.py",
-    "messages.json",
-    "process.py",
-    "protocol.py",
+# The modules of the Python package that the plugin carries: the core, and what reads with GDAL's own Python.
+ENGINE = re.compile(
+    r"python/src/rcell/(core/[a-z_]+\.(?:py|json)|readers/(?:__init__|gdal|ogr|osr)\.py)"
 )
 KINDS = (".json", ".model3", ".py", ".svg", ".txt")
 
@@ -76,10 +65,10 @@ def files(programs: dict[str, pathlib.Path]) -> dict[str, tuple[bytes, int]]:
             if path.name == "metadata.txt":
                 content = re.sub(rb"(?m)^version=.*$", b"version=" + version.encode(), content)
             found[path.relative_to(HERE).as_posix()] = content, 0o644
-    # Modules shared with the package for Python are copied next to `core/front/__init__.py`.
-    for name in SHARED:
-        content = (REPOSITORY / "python/src/rcell/core" / name).read_bytes()
-        found[f"rcell/core/front/{name}"] = content, 0o644
+    for name in said_by("git", "ls-files", "python/src/rcell").splitlines():
+        shared = ENGINE.fullmatch(name)
+        if shared:
+            found[f"rcell/engine/{shared[1]}"] = (REPOSITORY / name).read_bytes(), 0o644
     found |= {name: (content, 0o644) for name, content in licences().items()}
     found["rcell/help/qgis.html"] = page(), 0o644
     found |= {f"rcell/bin/{name}": (path.read_bytes(), 0o755) for name, path in programs.items()}

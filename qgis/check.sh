@@ -1,5 +1,5 @@
 #!/bin/sh
-# Checks the plugin for QGIS that is in dist/: its bytes when it is built again, types, the tests of its core and of a session, and the
+# Checks the plugin for QGIS that is in dist/: its bytes when it is built again, types, the tests of its programs, files and of a session, and the
 # zip in profiles of its own, by qgis_process and in a window without a screen, compared with QGIS's own algorithms and GRASS. The last line
 # is 'N passed, M failed, K skipped'.
 cd "$(dirname "$0")/.." || exit 1
@@ -21,7 +21,7 @@ if command -v mypy > /dev/null; then
 else
     skip qgis/types 'mypy is not installed' mypy
 fi
-for tests in 'test_core_*.py' test_session.py whole_answers.py whole_process.py whole_window.py whole_document.py; do
+for tests in test_host.py test_files.py test_session.py whole_answers.py whole_process.py whole_window.py whole_document.py; do
     add "$tests" "$python" qgis/tests/gate.py "$tests"
 done
 closing

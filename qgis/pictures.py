@@ -69,7 +69,7 @@ def draw_result(country: QgsRasterLayer) -> None:
         {
             "INPUT": country,
             "CONNECTIVITY": "8",
-            "LEAST": 250,
+            "MIN_CELLS": 250,
             "MAP": f"{ROOM}/areas.tif",
             "OUTPUT": f"{ROOM}/areas.gpkg",
         },

@@ -1,11 +1,17 @@
 # SPDX-License-Identifier: Apache-2.0 OR GPL-2.0-or-later
-"""Layers of QGIS as maps: what the user sees in QGIS takes precedence over the file."""
+"""Layers of QGIS as maps and polygons: what the user sees in QGIS takes precedence over the file."""
 
 from __future__ import annotations
 
+import datetime
 import re
-from typing import Any, Sequence
+from collections.abc import Iterator, Sequence
+from dataclasses import dataclass, replace
+from typing import Any, Optional
 
+import numpy as np
+from numpy.typing import NDArray
+from qgis.core import NULL as NO_VALUE
 from qgis.core import (
     QgsColorRampShader,
     QgsCoordinateReferenceSystem,
@@ -13,11 +19,19 @@ from qgis.core import (
     QgsRasterLayer,
     QgsRasterRange,
     QgsSingleBandPseudoColorRenderer,
+    QgsVectorLayer,
+    QgsWkbTypes,
 )
 from qgis.PyQt.QtGui import QColor
 
-from .core.errors import BadMap, Refused
-from .core.rasters import Raster
+from .engine.core.crs import are_same_crs
+from .engine.core.errors import BadMap, Refused
+from .engine.core.region import Transform
+from .engine.core.sources import Source
+from .engine.core.text_grids import is_grid, open_path
+from .engine.core.zones import Feature
+from .engine.readers import gdal, ogr
+
 
 # The text that legends of this plugin add to a label.
 _COUNT = re.compile(r" \(\d+ cells(, [\d.e+]+ (ha|km2))?\)$")
@@ -25,7 +39,7 @@ _NAME = re.compile(r"[A-Za-z_][A-Za-z0-9_.]{0,63}")
 _LEAST, _GREATEST = float("-inf"), float("inf")
 
 
-def raster_of(layer: QgsRasterLayer, name: str, band: int | None = None) -> Raster:
+def raster_of(layer: QgsRasterLayer, name: str, band: int | None = None) -> Source:
     """Return a band of a layer as a map; without a band, the layer must have only one.
 
     Raises
@@ -38,16 +52,94 @@ def raster_of(layer: QgsRasterLayer, name: str, band: int | None = None) -> Rast
             f"its provider is {layer.providerType()}, and only rasters that GDAL opens are read"
         )
         raise BadMap(name, f"{reason}: export it as a GeoTIFF first")
-    shown = band or 1
-    return Raster.open(
-        name,
-        layer.source(),
-        band,
-        labels_of(layer, shown),
-        null_ranges_of(layer, shown),
-        _uses_nodata(layer.dataProvider(), shown),
-        wkt_of(layer.crs()),
-    )
+    if is_grid(layer.source()):
+        raster: Any = open_path(name, layer.source())
+    else:
+        nulls, is_used = null_ranges_of(layer, band or 1), _uses_nodata(layer, band or 1)
+        raster = gdal.open_raster(name, layer.source(), band, nulls, is_used, uses_style=False)
+    crs = wkt_of(layer.crs())
+    # QGIS may know a system of the file by another name; the user's own choice takes precedence over the file.
+    is_chosen = layer.crs() != layer.dataProvider().crs()
+    if crs and (is_chosen or not raster.crs) and not are_same_crs(raster.crs, crs):
+        raster = replace(raster, crs=crs)
+    labels = labels_of(layer, band or 1)
+    return raster.with_labels(labels) if labels else raster
+
+
+def zones_of(layer: Any, name: str = "") -> Source | PolygonLayer:
+    """Return a layer as zones: a raster, or polygons.
+
+    Raises
+    ------
+    BadMap
+        It is neither.
+    """
+    if isinstance(layer, QgsRasterLayer):
+        return raster_of(layer, name or layer.name())
+    if not isinstance(layer, QgsVectorLayer) or layer.geometryType() != QgsWkbTypes.PolygonGeometry:
+        raise BadMap(layer.name(), "neither polygons nor a raster")
+    if layer.providerType() == "ogr" and "|" not in layer.source():
+        ogr.open_layer(layer.name(), layer.source())  # QGIS takes the first of several layers
+    rows = [
+        (feature.id(), list(feature.attributes()), bytes(feature.geometry().asWkb()))
+        for feature in layer.getFeatures()
+    ]
+    fields = [field.name() for field in layer.fields()]
+    return PolygonLayer(layer.name(), wkt_of(layer.crs()) or None, fields, rows, layer.source())
+
+
+@dataclass(frozen=True)
+class PolygonLayer:
+    """Polygons of a layer, as the core takes them; only the main thread may ask the layer itself.
+
+    Attributes
+    ----------
+    name : str
+    crs : str or None
+    fields : list of str
+    rows : list
+        The id, the attributes and the geometry of each feature, as well-known bytes.
+    path : str
+    """
+
+    name: str
+    crs: Optional[str]
+    fields: list[str]
+    rows: list[tuple[int, list[Any], bytes]]
+    path: str
+
+    @property
+    def files(self) -> tuple[str, ...]:
+        """The file that it is read from."""
+        return (self.path,)
+
+    def features(self, field: Optional[str]) -> Iterator[Feature]:
+        """Yield the features in their order, with their values of a field."""
+        place = -1 if field is None else self.fields.index(field)
+        for number, attributes, wkb in self.rows:
+            value = None if field is None else plain(attributes[place])
+            yield ogr.feature_of(self.name, number, value, wkb)
+
+    def burn(
+        self, shapes: Sequence[tuple[Any, int]], transform: Transform, shape: tuple[int, int]
+    ) -> NDArray[np.int32]:
+        """Return a grid with the number of the last geometry that contains each cell's centre, 0 for none."""
+        return ogr.burn(shapes, transform, shape)
+
+    def bounds(self, geometry: Any) -> tuple[float, float, float, float]:
+        """Return west, south, east and north of a geometry."""
+        return ogr.bounds_of(geometry)
+
+
+def plain(value: Any) -> Any:
+    """Return an attribute as Python has it, None if it is missing."""
+    if value is None or value == NO_VALUE or value != value:
+        return None
+    for method in ("toPyDateTime", "toPyDate", "toPyTime"):
+        if hasattr(value, method):
+            moment: datetime.date | datetime.time = getattr(value, method)()
+            return moment
+    return value
 
 
 def wkt_of(crs: QgsCoordinateReferenceSystem) -> str:
@@ -98,11 +190,12 @@ def colours_of(layer: QgsRasterLayer, band: int) -> dict[int, Any]:
     return {}
 
 
-def _uses_nodata(provider: Any, band: int) -> bool:
+def _uses_nodata(layer: QgsRasterLayer, band: int) -> bool:
     """Return whether the nodata value of the file is null: unless the user switched it off.
 
     QGIS does not know a value that its data type cannot hold, such as -128 in signed bytes; it is null all the same.
     """
+    provider = layer.dataProvider()
     return bool(provider.useSourceNoDataValue(band)) or not provider.sourceHasNoDataValue(band)
 
 

@@ -8,6 +8,8 @@ import contextlib
 import os
 from typing import Any, Mapping, Sequence
 
+import numpy as np
+from numpy.typing import NDArray
 from qgis.core import (
     Qgis,
     QgsFeature,
@@ -23,12 +25,13 @@ from qgis.core import (
 from qgis.PyQt import QtCore
 from qgis.PyQt.QtGui import QColor
 
-from .core.answers import Grid, Table
-from .core.counting import Answer
-from .core.errors import WriteFailed
-from .core.files import Check, partly, write_raster
-from .core.rasters import Raster
-from .core.sizes import UNITS
+from .engine.core.area import measure_of
+from .engine.core.columns import Table
+from .engine.core.crs import UNITS_OF_AREA
+from .engine.core.errors import WriteFailed
+from .engine.core.protocol import NULL
+from .engine.core.sources import ArrayMap, Source, null_cells
+from .tables import Check, distinct, partly, write_raster
 
 # A map of more classes gets no legend.
 MOST_CLASSES = 1000
@@ -39,7 +42,13 @@ _GOLDEN = 0.618033988749895
 # Rasters
 
 
-def put_raster(path: str, grid: Grid, like: Raster, check: Check) -> None:
+def cells_of(map: ArrayMap, null: int = NULL) -> NDArray[np.int32]:
+    """Return the cells of a map, with a number for null."""
+    is_null = null_cells(map.array, map.null, map.nodata_value)
+    return np.where(is_null, null, map.array).astype(np.int32)
+
+
+def put_raster(path: str, map: ArrayMap, like: Source, check: Check, null: int = NULL) -> None:
     """Write a map to a file, in the format of the file name extension.
 
     Raises
@@ -48,8 +57,8 @@ def put_raster(path: str, grid: Grid, like: Raster, check: Check) -> None:
     """
     driver = QgsRasterFileWriter.driverForExtension(os.path.splitext(path)[1])
     if not driver:
-        raise WriteFailed(path, "no format has this ending")
-    write_raster(path, driver, grid.cells, grid.null, like, grid.labels, check)
+        raise WriteFailed(f"{path} cannot be written: no format has this ending")
+    write_raster(path, driver, cells_of(map, null), null, like, map.labels, check)
 
 
 def put_legend(
@@ -76,7 +85,7 @@ def put_legend(
     layer.setRenderer(QgsPalettedRasterRenderer(layer.dataProvider(), 1, entries))
     with partly(style) as part:
         if not layer.saveNamedStyle(part)[1]:
-            raise WriteFailed(style, "the style could not be saved")
+            raise WriteFailed(f"{style} cannot be written: the style could not be saved")
     if context.willLoadLayerOnCompletion(path):
         _styles.append(_Style(style))
         context.layerToLoadOnCompletionDetails(path).setPostProcessor(_styles[-1])
@@ -108,20 +117,33 @@ def _colour(place: int) -> QColor:
     return QColor(round(red * 255), round(green * 255), round(blue * 255))
 
 
-def counted(label: str, cells: int, like: Raster) -> str:
-    """Return a legend's label with cells and area: in square kilometres if a cell covers at least one, else in hectares."""
-    unit = "km2" if like.cell_area >= UNITS["km2"] else "ha"
-    area = "" if like.is_geographic else f", {cells * like.cell_area / UNITS[unit]:.10g} {unit}"
-    return f"{label} ({cells} cells{area})"
+def counts_of(map: ArrayMap) -> dict[int, int]:
+    """Return the number of cells of each category, without null."""
+    is_null = null_cells(map.array, map.null, map.nodata_value)
+    categories, cells = np.unique(map.array[~is_null], return_counts=True)
+    return dict(zip(categories.tolist(), cells.tolist()))
 
 
-def counted_classes(grid: Grid, like: Raster) -> list[tuple[int, str]]:
+def named_classes(map: ArrayMap) -> list[tuple[int, str]]:
+    """Return the classes of a map for its legend, each with its label."""
+    return [(code, map.labels.get(code, str(code))) for code in counts_of(map)]
+
+
+def counted_classes(map: ArrayMap, like: Source, crs: Any) -> list[tuple[int, str]]:
     """Return the classes of a map for its legend, each with its label, cells and area."""
-    counts = grid.counts().items()
     return [
-        (category, counted(grid.labels.get(category, str(category)), cells, like))
-        for category, cells in counts
+        (code, counted(map.labels.get(code, str(code)), cells, like, crs))
+        for code, cells in counts_of(map).items()
     ]
+
+
+def counted(label: str, cells: int, like: Source, crs: Any) -> str:
+    """Return a legend's label with cells and area: in square kilometres if a cell covers at least one, else in hectares."""
+    measure = measure_of("auto", like, like.crs or crs)
+    if measure.unit is None or measure.by_row is not None:
+        return f"{label} ({cells} cells)"
+    unit = "km2" if measure.cell >= UNITS_OF_AREA["km2"] else "ha"
+    return f"{label} ({cells} cells, {cells * measure.cell / UNITS_OF_AREA[unit]:.10g} {unit})"
 
 
 # Tables
@@ -130,24 +152,25 @@ def counted_classes(grid: Grid, like: Raster) -> list[tuple[int, str]]:
 def types_of_fields(version: int, core: Any = QtCore) -> dict[str, Any]:
     """Return the types of fields: QMetaType from QGIS 3.38 on, since Qt 6 has no other, and QVariant before."""
     types = core.QMetaType.Type if version >= _VERSION_OF_META_TYPES else core.QVariant
+    text = types.QString if version >= _VERSION_OF_META_TYPES else types.String
     return {
-        "whole": types.LongLong,
-        "real": types.Double,
-        "text": types.QString if version >= _VERSION_OF_META_TYPES else types.String,
+        "class": types.LongLong,
+        "count": types.LongLong,
+        "measure": types.Double,
+        "label": text,
     }
 
 
-def fields_of(table: Table | Answer) -> QgsFields:
+def fields_of(table: Table) -> QgsFields:
     """Return the fields of a table."""
     fields = QgsFields()
     types = types_of_fields(Qgis.QGIS_VERSION_INT)
-    for column in table.columns():
-        if not fields.append(QgsField(column.title, types[column.kind])):
-            raise WriteFailed("the table", f"there is a field {column.title} already")
+    for column in distinct(table):
+        fields.append(QgsField(column.name, types[column.kind]))
     return fields
 
 
-def put_features(sink: QgsFeatureSink, table: Table | Answer, path: str) -> None:
+def put_features(sink: QgsFeatureSink, table: Table, path: str) -> None:
     """Write the rows of a table to a sink.
 
     Raises
@@ -156,9 +179,9 @@ def put_features(sink: QgsFeatureSink, table: Table | Answer, path: str) -> None
     """
     fields = fields_of(table)
     features = []
-    for row in zip(*(column.values for column in table.columns())):
+    for row in table.rows:
         feature = QgsFeature(fields)
         feature.setAttributes(list(row))
         features.append(feature)
     if not sink.addFeatures(features, QgsFeatureSink.FastInsert):
-        raise WriteFailed(path, sink.lastError() or "the disk may be full")
+        raise WriteFailed(f"{path} cannot be written: {sink.lastError() or 'the disk may be full'}")

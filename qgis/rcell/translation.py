@@ -17,6 +17,11 @@ def tr(text: str) -> str:
     return str(QCoreApplication.translate(CONTEXT, text))
 
 
+def noop(text: str) -> str:
+    """Return a text, which `tr` translates when it is shown; pylupdate finds it with -tr-function noop."""
+    return text
+
+
 def translator() -> QTranslator | None:
     """Return the translations into the language of QGIS, or None."""
     path = os.path.join(_FOLDER, f"rcell_{QgsApplication.locale()[:2]}.qm")

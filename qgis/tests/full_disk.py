@@ -10,23 +10,25 @@ import sys
 sys.path[:0] = [str(pathlib.Path(__file__).resolve().parent.parent)]
 
 import numpy as np
-from rcell.core import files
-from rcell.core.answers import Table
-from rcell.core.errors import RcellError
-from rcell.core.rasters import Raster
+from rcell.engine.core.columns import Column, Table
+from rcell.engine.core.errors import RcellError
+from rcell.engine.readers.gdal import open_raster
+from rcell.tables import write_raster, write_table
 
 
 def main() -> None:
-    raster, folder = Raster.open("lc", sys.argv[1]), sys.argv[2]
+    raster, folder = open_raster("lc", sys.argv[1]), sys.argv[2]
     cells = np.random.default_rng(1).integers(0, 1 << 30, (400, 400), np.int32)
-    table = Table(("lc",), np.arange(5000).reshape(-1, 1), np.arange(5000), ({},))
+    table = Table(
+        [Column("lc", "class", np.arange(5000)), Column("cells", "count", np.arange(5000))]
+    )
     # Python sees an error and no signal.
     signal.signal(signal.SIGXFSZ, signal.SIG_IGN)
     resource.setrlimit(resource.RLIMIT_FSIZE, (9000, 9000))
     for write in (
-        lambda: files.write_raster(f"{folder}/kept.tif", "GTiff", cells, 0, raster, {1: "a"}),
-        lambda: files.write_table(f"{folder}/kept.gpkg", table),
-        lambda: files.write_table(f"{folder}/kept.csv", table),
+        lambda: write_raster(f"{folder}/kept.tif", "GTiff", cells, 0, raster, {1: "a"}),
+        lambda: write_table(f"{folder}/kept.gpkg", table),
+        lambda: write_table(f"{folder}/kept.csv", table),
     ):
         try:
             write()

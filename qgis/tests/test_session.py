@@ -31,7 +31,7 @@ from qgis.core import (
 from qgis.PyQt.QtCore import QTranslator, QUrl
 from qgis.PyQt.QtGui import QColor
 from rcell import results
-from rcell.core.program import find_program
+from rcell.host import find_program
 
 COVER = np.array([[1, 1, 2, 0, 3], [1, 2, 2, 2, 3], [3, 3, 1, 1, 2], [3, 1, 1, 2, 2]])
 ZONES = np.array([[7, 7, 8, 8, 8], [7, 7, 8, 8, 8], [0, 7, 8, 8, 8], [0, 7, 7, 8, 8]])
@@ -83,7 +83,7 @@ class TableTest(InSession):
             [[1, "wood, wet", 7, 5, 0.2], [1, "wood, wet", 8, 2, 0.08]],
         )
         self.assertEqual(len(rows), 6)
-        self.assertIn("\n  r.stats -cn input=map_1,map_2", self.log.told[0])
+        self.assertIn("\n  r.stats -c -n input=map_1,map_2", self.log.told[0])
 
     def test_two_layers_of_one_name(self) -> None:
         first, second = QgsRasterLayer(self.zones, "p02"), QgsRasterLayer(self.cover, "P02")
@@ -100,7 +100,7 @@ class TableTest(InSession):
     def test_files_of_tables_have_numbers_as_numbers(self) -> None:
         for ending in ("gpkg", "csv"):
             path = self.run_(
-                "cross", INPUT=[self.cover], NULL=True, OUTPUT=self.path(f"t.{ending}")
+                "cross", INPUT=[self.cover], INCLUDE_NULL=True, OUTPUT=self.path(f"t.{ending}")
             )["OUTPUT"]
             layer = QgsVectorLayer(path, "t", "ogr")
             kinds = {field.name(): field.typeName() for field in layer.fields()}
@@ -130,7 +130,9 @@ class TableTest(InSession):
         layer.dataProvider().setUserNoDataValue(1, [QgsRasterRange(8, 8)])
         layer.dataProvider().setUseSourceNoDataValue(1, False)
         rows = session.rows(
-            self.run_("cross", INPUT=[layer], NULL=True, OUTPUT="TEMPORARY_OUTPUT")["OUTPUT"]
+            self.run_("cross", INPUT=[layer], INCLUDE_NULL=True, OUTPUT="TEMPORARY_OUTPUT")[
+                "OUTPUT"
+            ]
         )[1]
         self.assertEqual([row[:2] for row in rows], [[0, 2], [7, 7], [None, 11]])
 
@@ -184,7 +186,7 @@ class RefusalsTest(InSession):
         )
         degrees = made.write(self.path("degrees.tif"), COVER, transform=made.DEGREES, epsg=4326)
         self.refused(
-            "area= needs a map in metres or feet",
+            "AREA needs a map in metres or feet",
             "script",
             INPUT=[degrees],
             NAMES="lc",
@@ -201,11 +203,11 @@ class RefusalsTest(InSession):
         self.assertFalse(os.path.exists(self.path("t.gpkg")))
 
     def test_a_fault_far_down_is_found_by_the_run(self) -> None:
-        cells = np.ones((3000, 300))
-        cells[2900, 17] = 0.5
+        cells = np.ones((5000, 300))
+        cells[4900, 17] = 0.5
         path = made.write(self.path("late.tif"), cells, gdal.GDT_Float32)
         message = self.refused(
-            "late: not a map of whole numbers: the cell at row 2901, column 18 is 0.5",
+            "late: not a map of whole numbers: the cell at row 4901, column 18 is 0.5",
             "cross",
             INPUT=[path],
             OUTPUT=self.path("t.gpkg"),
@@ -275,7 +277,8 @@ class RefusalsTest(InSession):
         )
         self.run_("composition", INPUT=self.cover, ZONES=far, OUTPUT="TEMPORARY_OUTPUT")
         self.assertIn(
-            "warning: districts: 1 of 2 polygons contain no centre of a cell: 1", self.log.told
+            "warning: districts: 1 of 2 polygons contain no centre of a cell: feature 1",
+            self.log.told,
         )
         gauss = made.write(self.path("gauss.tif"), COVER, epsg=31467)
         bare = made.write(self.path("bare.tif"), COVER, epsg=0)
@@ -417,7 +420,7 @@ class MapsTest(InSession):
             "patches",
             INPUT=self.cover,
             CONNECTIVITY="8",
-            LEAST=3,
+            MIN_CELLS=3,
             MAP=self.path("patches.tif"),
             OUTPUT="TEMPORARY_OUTPUT",
         )
@@ -560,7 +563,8 @@ class MapsTest(InSession):
         )
         self.run_("composition", INPUT=self.cover, ZONES=far, OUTPUT="TEMPORARY_OUTPUT")
         self.assertIn(
-            "warning: districts: 1 of 2 polygons contain no centre of a cell: 1", self.log.told
+            "warning: districts: 1 of 2 polygons contain no centre of a cell: feature 1",
+            self.log.told,
         )
         gauss = made.write(self.path("gauss.tif"), COVER, epsg=31467)
         self.refused(
@@ -673,7 +677,7 @@ class MapsTest(InSession):
             "patches",
             INPUT=grouped,
             CONNECTIVITY="8",
-            LEAST=100,
+            MIN_CELLS=100,
             MAP=self.path("a.tif"),
             OUTPUT="TEMPORARY_OUTPUT",
         )
@@ -724,7 +728,10 @@ class MapsTest(InSession):
                 class Type:
                     LongLong, Double, QString = 4, 6, 10
 
-        self.assertEqual(results.types_of_fields(33800, Core), {"whole": 4, "real": 6, "text": 10})
+        self.assertEqual(
+            results.types_of_fields(33800, Core),
+            {"class": 4, "count": 4, "measure": 6, "label": 10},
+        )
 
     def test_a_script_and_all_that_it_writes(self) -> None:
         script = "r.mapcalc big = lc * 1000000000\nr.stats -c -l input=lc,zone\nr.out.ascii input=big\nr.stats input=zone"

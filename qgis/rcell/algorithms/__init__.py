@@ -5,15 +5,23 @@ from __future__ import annotations
 
 from .align import AlignAlgorithm
 from .majority import MajorityAlgorithm
-from .patches import PatchesAlgorithm
+from .patches import ClumpAlgorithm, PatchesAlgorithm
 from .reclass import ReclassAlgorithm
 from .script import ScriptAlgorithm
-from .tables import ChangeAlgorithm, CompositionAlgorithm, CrossAlgorithm, ZonalAlgorithm
+from .tables import (
+    AdjacencyAlgorithm,
+    ChangeAlgorithm,
+    CompositionAlgorithm,
+    CrossAlgorithm,
+    ZonalAlgorithm,
+)
 
 ALGORITHMS = (
     CompositionAlgorithm,
     CrossAlgorithm,
     ChangeAlgorithm,
+    AdjacencyAlgorithm,
+    ClumpAlgorithm,
     PatchesAlgorithm,
     ZonalAlgorithm,
     MajorityAlgorithm,

@@ -4,8 +4,8 @@
 from __future__ import annotations
 
 import os
-from dataclasses import replace
-from typing import Any, Mapping, Sequence
+from collections.abc import Mapping, Sequence
+from typing import Any, Optional
 
 import qgis.utils
 from processing.core.ProcessingConfig import ProcessingConfig
@@ -18,6 +18,7 @@ from qgis.core import (
     QgsProcessingFeedback,
     QgsProcessingOutputLayerDefinition,
     QgsProcessingParameterBand,
+    QgsProcessingParameterBoolean,
     QgsProcessingParameterCrs,
     QgsProcessingParameterDefinition,
     QgsProcessingParameterEnum,
@@ -25,32 +26,31 @@ from qgis.core import (
     QgsProcessingParameterFile,
     QgsProcessingParameterMapLayer,
     QgsProcessingParameterMultipleLayers,
+    QgsProcessingParameterRasterDestination,
     QgsProcessingParameterRasterLayer,
     QgsProcessingParameters,
     QgsProcessingParameterString,
-    QgsRasterLayer,
     QgsWkbTypes,
 )
 from qgis.PyQt.QtCore import QUrl
 from qgis.PyQt.QtGui import QIcon
 
-from ..core.answers import Grid, Table
-from ..core.counting import Answer, warn_of_lacking
-from ..core.errors import RcellError, ReadFailed, Refused
-from ..core.files import check_target, is_file_of_table, write_table
-from ..core.legends import legend_of
-from ..core.program import Watch, find_program
-from ..core.rasters import Raster, fitted, opened
-from ..layers import colours_of, raster_of, wkt_of
+from ..engine.core.columns import Column, Table
+from ..engine.core.errors import RcellError, ReadFailed, Refused
+from ..engine.core.files import writing
+from ..engine.core.host import Host, serving, warn
+from ..engine.core.protocol import NULL
+from ..engine.core.sources import ArrayMap, Source, sources_of
+from ..engine.readers.gdal import RasterMap, open_dataset
+from ..host import find_program, host_of, watch_of
+from ..layers import PolygonLayer, colours_of, raster_of, wkt_of, zones_of
 from ..results import MOST_CLASSES, fields_of, put_features, put_legend, put_raster
+from ..tables import Check, check_target, is_file_of_table, no_check, write_table
 from ..translation import tr
-from ..zones import release, zones_of
 
-# The units of areas, as in the other packages.
-AREAS = ["none", "ha", "km2", "m2"]
+# The units of areas, as in the other packages; auto is hectares if there is a reference system.
+AREAS = ["auto", "none", "ha", "km2", "m2"]
 MOST_RASTERS = 16
-# So many cells are checked before a run, while the dialog can still show an error.
-_GLANCE_CELLS = 1 << 18
 _NO_BREAK = "\u00a0"
 # The page of the plugin: in the zip, or in the sources.
 _HELP = ("../help/qgis.html", "../../../docs/qgis.md")
@@ -66,14 +66,18 @@ class RcellAlgorithm(QgsProcessingAlgorithm):
     TITLE = ""
     SHORT = ""
     HELP: tuple[str, ...] = ()
-    TAGS: tuple[str, ...] = ()
+    TAGS = ""
     IS_OF_ONE_RASTER = True
 
     def __init__(self) -> None:
         super().__init__()
-        self.rasters: list[Raster] = []
+        self.given: Parameters = {}
+        self.context = QgsProcessingContext()
+        self.feedback = QgsProcessingFeedback()
+        self.rasters: list[Source] = []
+        self.zones: Source | PolygonLayer | None = None
         self.colours: dict[int, Any] = {}
-        self.watch = Watch()
+        self.check: Check = no_check
 
     # Methods that QGIS calls
 
@@ -108,7 +112,7 @@ class RcellAlgorithm(QgsProcessingAlgorithm):
 
     def tags(self) -> list[str]:
         """Return the words for the search in the toolbox."""
-        return list(self.TAGS)
+        return self.TAGS.split(", ")
 
     def icon(self) -> QIcon:
         """Return the icon in the toolbox."""
@@ -126,34 +130,29 @@ class RcellAlgorithm(QgsProcessingAlgorithm):
         self, parameters: Parameters, context: QgsProcessingContext
     ) -> tuple[bool, str]:
         """Check parameters and rasters before the run, so that the dialog stays open after an error."""
+        self.given, self.context = parameters, context
         try:
-            if self.has_rasters(parameters):
-                self._glance(self.checked_rasters(parameters, context))
+            if parameters.get("INPUT") is not None:
+                with serving(Host(words="qgis")):
+                    self.check_words()
+                    self.read()
+                    _glance([*self.rasters, self.zones])
         except RcellError as error:
             return False, str(error)
         answer: tuple[bool, str] = super().checkParameterValues(parameters, context)
         return answer
 
-    def _glance(self, rasters: Sequence[Raster]) -> None:
-        """Read the first rows of rasters, and so find most invalid cells."""
-        try:
-            for raster in rasters:
-                if not raster.is_text:
-                    next(raster.blocks(most_rows=max(1, _GLANCE_CELLS // raster.region.cols)))
-        finally:
-            for raster in rasters:
-                release(raster)
-
     def prepareAlgorithm(
         self, parameters: Parameters, context: QgsProcessingContext, feedback: QgsProcessingFeedback
     ) -> bool:
         """Read the layers in the main thread, the only one that may use them."""
-        self.watch = Watch(warn=feedback.pushWarning)
+        self.given, self.context, self.feedback = parameters, context, feedback
         try:
-            self.rasters = self.checked_rasters(parameters, context)
+            with serving(host_of(program_setting(), feedback)):
+                self.read()
             if self.IS_OF_ONE_RASTER:
                 layer = self.parameterAsRasterLayer(parameters, "INPUT", context)
-                self.colours = colours_of(layer, self.rasters[0].band)
+                self.colours = colours_of(layer, getattr(self.rasters[0], "band", 1))
         except RcellError as error:
             raise QgsProcessingException(str(error)) from None
         return True
@@ -162,42 +161,28 @@ class RcellAlgorithm(QgsProcessingAlgorithm):
         self, parameters: Parameters, context: QgsProcessingContext, feedback: QgsProcessingFeedback
     ) -> dict[str, Any]:
         """Run the program, in a thread of its own; errors have the program's message."""
-        self.watch = Watch(
-            is_cancelled=feedback.isCanceled,
-            progress=lambda share: feedback.setProgress(100 * share),
-            warn=feedback.pushWarning,
-            command=lambda text: feedback.pushCommandInfo(as_log(text)),
-        )
+        self.given, self.context, self.feedback = parameters, context, feedback
+        self.check = watch_of(feedback)
         try:
-            self.check_targets(parameters, context)
-            return self.answer(
-                find_program(program_setting()), parameters, context, feedback, self.watch
-            )
+            with serving(host_of(program_setting(), feedback)), writing(*self.targets()):
+                results = self.answer()
+            feedback.setProgress(100)
+            return results
         except RcellError as error:
             raise QgsProcessingException(message_of(error, feedback)) from None
-        finally:
-            for raster in self.rasters:
-                release(raster)
 
     # Methods that algorithms override
 
-    def answer(
-        self,
-        program: str,
-        parameters: Parameters,
-        context: QgsProcessingContext,
-        feedback: QgsProcessingFeedback,
-        watch: Watch,
-    ) -> dict[str, Any]:
+    def answer(self) -> dict[str, Any]:
         """Return the results by the names of the outputs."""
         raise NotImplementedError
 
-    def checked_rasters(
-        self, parameters: Parameters, context: QgsProcessingContext
-    ) -> list[Raster]:
-        """Return the rasters after checking that they fit each other."""
-        layer = self.raster_layer(parameters, context)
-        return [raster_of(layer, layer.name(), self.band(parameters, context))]
+    def check_words(self) -> None:
+        """Check the parameters that are texts."""
+
+    def read(self) -> None:
+        """Read the layers, and check that they fit each other."""
+        self.rasters = [self.raster()]
 
     # Methods that algorithms call
 
@@ -209,11 +194,7 @@ class RcellAlgorithm(QgsProcessingAlgorithm):
     def add_band(self) -> None:
         """Add the parameter for the band of `INPUT`."""
         title = tr("Band (required if the raster has several)")
-        self.addParameter(
-            QgsProcessingParameterBand(
-                "BAND", title, parentLayerParameterName="INPUT", optional=True
-            )
-        )
+        self.addParameter(QgsProcessingParameterBand("BAND", title, None, "INPUT", True))
 
     def add_crs(self) -> None:
         """Add the parameter for the coordinate reference system of rasters that have none."""
@@ -230,108 +211,126 @@ class RcellAlgorithm(QgsProcessingAlgorithm):
 
     def add_area(self) -> None:
         """Add the parameter for the unit of areas."""
-        self.addParameter(
-            QgsProcessingParameterEnum("AREA", tr("Unit of areas"), AREAS, False, "ha", False, True)
-        )
+        self.add_choice("AREA", tr("Unit of areas"), AREAS)
 
-    def add_labels(self) -> None:
+    def add_labels(self, name: str = "LABELS", of: str = "") -> None:
         """Add the parameter for a legend in a file."""
-        title = tr(
-            "Labels of classes: a CSV file with value,label, or a style (empty: the labels of the layer)"
+        title = of or tr(
+            "Labels of classes: a CSV with value,label, or a style (empty: the layer's)"
         )
-        self.addParameter(
-            QgsProcessingParameterFile(
-                "LABELS", title, optional=True, fileFilter="Legends (*.csv *.qml)"
-            )
-        )
+        self.add_file(name, title)
+
+    def add_file(self, name: str, title: str) -> None:
+        """Add a parameter for a legend or a crosswalk in a file."""
+        kinds = "Legends and crosswalks (*.csv *.tsv *.qml);;All files (*)"
+        self.addParameter(QgsProcessingParameterFile(name, title, optional=True, fileFilter=kinds))
 
     def add_zones(self, is_optional: bool = True) -> None:
         """Add the parameters for zones and their labels."""
         kinds = [QgsProcessing.TypeRaster, QgsProcessing.TypeVectorPolygon]
+        title = tr("Zones: a raster, or polygons")
+        self.addParameter(QgsProcessingParameterMapLayer("ZONES", title, None, is_optional, kinds))
+        self.add_text("ZONE_FIELD", tr("Field of the polygons with the zones"))
+        title = tr("Labels of zones: a CSV with value,label, or a style (empty: the layer's)")
+        self.add_labels("ZONE_LABELS", title)
+
+    def add_text(self, name: str, title: str, default: Optional[str] = None) -> None:
+        """Add a parameter for a text that may be left out."""
+        self.addParameter(QgsProcessingParameterString(name, title, default, False, True))
+
+    def add_lines(self, name: str, title: str, default: Optional[str] = None) -> None:
+        """Add a parameter for lines of text."""
+        self.addParameter(QgsProcessingParameterString(name, title, default, True))
+
+    def add_choice(self, name: str, title: str, words: Sequence[str]) -> None:
+        """Add a parameter for one of some words, by default the first."""
         self.addParameter(
-            QgsProcessingParameterMapLayer(
-                "ZONES", tr("Zones: a raster, or polygons"), None, is_optional, kinds
-            )
+            QgsProcessingParameterEnum(name, title, words, False, words[0], False, True)
         )
-        self.addParameter(
-            QgsProcessingParameterString(
-                "ZONE_FIELD", tr("Field of the polygons with the zones"), optional=True
-            )
-        )
-        title = tr(
-            "Labels of zones: a CSV file with value,label, or a style (empty: the labels of the layer)"
-        )
-        self.addParameter(
-            QgsProcessingParameterFile(
-                "ZONE_LABELS", title, optional=True, fileFilter="Legends (*.csv *.qml)"
-            )
-        )
+
+    def add_flag(self, name: str, title: str) -> None:
+        """Add a parameter that is yes or no, by default no."""
+        self.addParameter(QgsProcessingParameterBoolean(name, title, False))
+
+    def add_map(self, title: str, name: str = "OUTPUT", is_optional: bool = False) -> None:
+        """Add the parameter for an output map."""
+        self.addParameter(QgsProcessingParameterRasterDestination(name, title, None, is_optional))
 
     def add_table(self, title: str = "", name: str = "OUTPUT", is_optional: bool = False) -> None:
         """Add the parameter for an output table."""
+        kind = QgsProcessing.TypeVector
         self.addParameter(
             QgsProcessingParameterFeatureSink(
-                name,
-                title or tr("Table"),
-                QgsProcessing.TypeVector,
-                None,
-                is_optional,
-                not is_optional,
+                name, title or tr("Table"), kind, None, is_optional, not is_optional
             )
         )
 
-    def area(self, parameters: Parameters, context: QgsProcessingContext) -> str:
-        """Return the unit of areas, or an empty text for none."""
-        unit: str = self.parameterAsEnumString(parameters, "AREA", context)
-        return "" if unit == AREAS[0] else unit
+    def add_null(self) -> None:
+        """Add the parameter for rows of cells without data."""
+        self.add_flag("INCLUDE_NULL", tr("Rows of cells without data"))
 
-    def labelled(
-        self, raster: Raster, parameters: Parameters, name: str, context: QgsProcessingContext
-    ) -> Raster:
-        """Return a map with the labels of the file that a parameter names, if it names one."""
-        path: str = self.parameterAsFile(parameters, name, context)
-        return replace(raster, labels=legend_of(path, name.lower())) if path else raster
+    def text(self, name: str) -> str:
+        """Return the text of a parameter."""
+        return str(self.parameterAsString(self.given, name, self.context))
 
-    def warn_of_lacking(
-        self, parameters: Parameters, name: str, table: Answer, column: str, raster: Raster
-    ) -> None:
-        """Warn of classes that have no label in the file that a parameter names."""
-        values = next((each.values for each in table.columns() if each.title == column), [])
-        if parameters.get(name):
-            warn_of_lacking(
-                raster.labels,
-                [int(value) for value in values if value is not None],
-                name.lower(),
-                raster.name,
-                self.watch,
-            )
+    def word(self, name: str) -> str:
+        """Return the word that is chosen of several."""
+        return str(self.parameterAsEnumString(self.given, name, self.context))
 
-    def zoned_rasters(self, parameters: Parameters, context: QgsProcessingContext) -> list[Raster]:
-        """Return the raster of `INPUT` and its zones, if there are zones."""
-        layer = self.raster_layer(parameters, context)
-        raster = raster_of(layer, layer.name(), self.band(parameters, context))
-        found = [self.labelled(raster, parameters, "LABELS", context)]
-        if parameters.get("ZONES"):
-            zones = self.parameterAsLayer(parameters, "ZONES", context)
+    def flag(self, name: str) -> bool:
+        """Return whether a parameter says yes."""
+        return bool(self.parameterAsBoolean(self.given, name, self.context))
+
+    def number(self, name: str) -> int:
+        """Return the number of a parameter."""
+        return int(self.parameterAsInt(self.given, name, self.context))
+
+    def area(self) -> Optional[str]:
+        """Return the unit of areas, None for none."""
+        unit = self.word("AREA")
+        return None if unit == "none" else unit
+
+    def path(self, name: str) -> Optional[str]:
+        """Return the file that a parameter names, if it names one."""
+        return self.parameterAsFile(self.given, name, self.context) or None
+
+    def labels(self) -> Optional[str]:
+        """Return the file of labels, if one is named."""
+        return self.path("LABELS")
+
+    def raster(self) -> Source:
+        """Return the band `BAND` of the raster `INPUT` as a map."""
+        layer = self.parameterAsRasterLayer(self.given, "INPUT", self.context)
+        if layer is None or not layer.isValid():
+            raise_unreadable(self.given["INPUT"])
+        has_band = self.given.get("BAND") not in (None, "", -1, 0)
+        return raster_of(layer, layer.name(), self.number("BAND") if has_band else None)
+
+    def read_zoned(self) -> None:
+        """Read the raster of `INPUT` and its zones, if there are zones."""
+        self.rasters = [self.raster()]
+        self.zones = None
+        if self.given.get("ZONES"):
+            zones = self.parameterAsLayer(self.given, "ZONES", self.context)
             if zones is None or not zones.isValid():
-                raise_unreadable(parameters["ZONES"])
-            drawn = zones_of(
-                zones, self.parameterAsString(parameters, "ZONE_FIELD", context), raster, self.watch
-            )
-            found.append(drawn)
-        try:
-            found[1:] = [
-                self.labelled(drawn, parameters, "ZONE_LABELS", context) for drawn in found[1:]
-            ]
-            return fitted(found, self.crs(parameters, context))
-        except RcellError:
-            for raster in found:
-                release(raster)
-            raise
+                raise_unreadable(self.given["ZONES"])
+            self.zones = zones_of(zones)
+        is_raster = self.zones is not None and not isinstance(self.zones, PolygonLayer)
+        self.fit([*self.rasters, self.zones] if is_raster else self.rasters)
 
-    def raster_layers(
-        self, parameters: Parameters, context: QgsProcessingContext, names: Sequence[str] = ()
-    ) -> list[Any]:
+    def zoning(self) -> dict[str, Any]:
+        """Return the arguments for zones."""
+        return {
+            "zone_field": self.text("ZONE_FIELD") or None,
+            "zone_labels": self.path("ZONE_LABELS"),
+            "crs": self.crs(),
+        }
+
+    def fit(self, rasters: Sequence[Any]) -> None:
+        """Check that rasters have one reference system and one region."""
+        sources_of({f"map_{place}": raster for place, raster in enumerate(rasters)}, self.crs())
+
+    def raster_layers(self, names: Sequence[str] = ()) -> list[Any]:
         """Return the layers of a list of rasters.
 
         Raises
@@ -339,108 +338,102 @@ class RcellAlgorithm(QgsProcessingAlgorithm):
         RcellError
             A layer cannot be read, or there are too many.
         """
-        given = (
-            parameters["INPUT"]
-            if isinstance(parameters["INPUT"], (list, tuple))
-            else [parameters["INPUT"]]
-        )
-        if not given:
+        given = self.given["INPUT"]
+        values = given if isinstance(given, (list, tuple)) else [given]
+        if not values:
             raise Refused("no raster is given", status=2)
-        layers = self.parameterAsLayerList(parameters, "INPUT", context)
-        for place, value in enumerate(given if len(layers) < len(given) else []):
-            if not self.parameterAsLayerList({"INPUT": [value]}, "INPUT", context):
+        layers = self.parameterAsLayerList(self.given, "INPUT", self.context)
+        for place, value in enumerate(values if len(layers) < len(values) else []):
+            if not self.parameterAsLayerList({"INPUT": [value]}, "INPUT", self.context):
                 raise_unreadable(value, names[place] if place < len(names) else "")
         if len(layers) > MOST_RASTERS:
-            raise Refused(
-                f"{len(layers)} rasters, and a table has at most {MOST_RASTERS}", status=2
-            )
+            told = f"{len(layers)} rasters, and a table has at most {MOST_RASTERS}"
+            raise Refused(told, status=2)
         return list(layers)
 
-    def crs(self, parameters: Parameters, context: QgsProcessingContext) -> str:
-        """Return the coordinate reference system for rasters that have none, as well-known text, or an empty text.
+    def crs(self) -> Optional[str]:
+        """Return the reference system for rasters that have none, as well-known text, or None.
 
         Raises
         ------
         Refused
             The parameter is not a coordinate reference system.
         """
-        given = parameters.get("CRS")
-        wkt = wkt_of(self.parameterAsCrs(parameters, "CRS", context))
+        given = self.given.get("CRS")
+        wkt = wkt_of(self.parameterAsCrs(self.given, "CRS", self.context))
         if given and not wkt and isinstance(given, str):
             raise Refused(f"CRS is no coordinate reference system: '{given}'", status=2)
-        return wkt
+        return wkt or None
 
-    def has_rasters(self, parameters: Parameters) -> bool:
-        """Return whether rasters are given, which can then be checked."""
-        return parameters.get("INPUT") is not None
+    def targets(self) -> list[str]:
+        """Return the files that are written, after checking that they can be, before any work is done."""
+        destinations = self.destinationParameterDefinitions()
+        files = [each.name() for each in destinations if each.type() != "folderDestination"]
+        paths = list(filter(None, (plain_path(self.given.get(name)) for name in files)))
+        for path in paths:
+            check_target(path, self.inputs())
+        return paths
 
-    def raster_layer(self, parameters: Parameters, context: QgsProcessingContext) -> QgsRasterLayer:
-        """Return the layer of `INPUT`."""
-        layer = self.parameterAsRasterLayer(parameters, "INPUT", context)
-        if layer is None or not layer.isValid():
-            raise_unreadable(parameters["INPUT"])
-        return layer
-
-    def band(self, parameters: Parameters, context: QgsProcessingContext) -> int | None:
-        """Return the band of `BAND`, or None."""
-        return (
-            self.parameterAsInt(parameters, "BAND", context)
-            if parameters.get("BAND") not in (None, "", -1, 0)
-            else None
-        )
-
-    def check_targets(self, parameters: Parameters, context: QgsProcessingContext) -> None:
-        """Check that all outputs can be written, before any work is done."""
-        for definition in self.destinationParameterDefinitions():
-            path = plain_path(parameters.get(definition.name()))
-            if path and definition.type() != "folderDestination":
-                check_target(path, [raster.path for raster in self.rasters])
+    def inputs(self) -> list[str]:
+        """Return the files that are read."""
+        maps = [*self.rasters, *([self.zones] if self.zones else [])]
+        files = ("LABELS", "ZONE_LABELS", "RULES_FILE")
+        named = [self.path(name) for name in files if self.given.get(name)]
+        return [path for map in maps for path in map.files] + list(filter(None, named))
 
     def put_map(
         self,
-        parameters: Parameters,
-        context: QgsProcessingContext,
-        grid: Grid,
+        map: ArrayMap,
         classes: Sequence[tuple[int, str]],
-        feedback: QgsProcessingFeedback,
         name: str = "OUTPUT",
-        like: Raster | None = None,
+        like: Optional[Source] = None,
+        null: int = NULL,
     ) -> str:
         """Write a map with its legend and return its path."""
-        path: str = self.parameterAsOutputLayer(parameters, name, context)
-        put_raster(path, grid, like or self.rasters[0], self.watch.check)
-        if not put_legend(path, classes, self.colours, context):
-            feedback.pushInfo(
+        path: str = self.parameterAsOutputLayer(self.given, name, self.context)
+        put_raster(path, map, like or self.rasters[0], self.check, null)
+        if not put_legend(path, classes, self.colours, self.context):
+            self.feedback.pushInfo(
                 f"The map has {len(classes):,} classes. With more than {MOST_CLASSES:,} it has no legend and stays grey."
             )
         return path
 
-    def put_table(
-        self,
-        parameters: Parameters,
-        context: QgsProcessingContext,
-        name: str,
-        table: Table | Answer,
-    ) -> str:
+    def put_table(self, name: str, table: Table) -> str:
         """Write a table to an output: a file, or another sink of QGIS such as a layer in memory."""
-        if not table.columns()[0].values:
-            self.watch.warn(tr("The table is empty: all cells are without data or left out."))
-        path = plain_path(parameters.get(name))
+        if not len(table):
+            warn(tr("The table is empty: all cells are without data or left out."))
+        path = plain_path(self.given.get(name))
         if path and is_file_of_table(path):
             target: str = QgsProcessingParameters.parameterAsOutputLayer(
-                self.parameterDefinition(name), parameters[name], context
+                self.parameterDefinition(name), self.given[name], self.context
             )
-            write_table(target, table, self.watch.check)
+            write_table(target, table, self.check)
             return target
-        self.watch.check()
+        self.check()
         nowhere = QgsCoordinateReferenceSystem()
         sink, target = self.parameterAsSink(
-            parameters, name, context, fields_of(table), QgsWkbTypes.NoGeometry, nowhere
+            self.given, name, self.context, fields_of(table), QgsWkbTypes.NoGeometry, nowhere
         )
         if sink is None:
-            raise QgsProcessingException(self.invalidSinkError(parameters, name))
+            raise QgsProcessingException(self.invalidSinkError(self.given, name))
         put_features(sink, table, target)
         return target
+
+
+def _glance(maps: Sequence[Any]) -> None:
+    """Read the first rows of rasters, and so find most invalid cells while the dialog can still show an error."""
+    for map in maps:
+        if isinstance(map, RasterMap):
+            next(map.blocks())
+
+
+def renamed(table: Table, titles: Mapping[str, str]) -> Table:
+    """Return a table with other names of its maps, also in the columns of their labels."""
+    names = {**titles, **{f"{name}_label": f"{title}_label" for name, title in titles.items()}}
+    return Table(
+        Column(names.get(column.name, column.name), column.kind, column.values)
+        for column in table.data
+    )
 
 
 def as_log(text: str) -> str:
@@ -493,5 +486,5 @@ def raise_unreadable(value: Any, name: str = "") -> None:
     """
     text = value if isinstance(value, str) else getattr(value, "name", lambda: "raster")()
     title = name or os.path.splitext(os.path.basename(text))[0] or "raster"
-    opened(title, text)
+    open_dataset(title, text)
     raise ReadFailed(title, f"cannot open: {text} is no raster")

@@ -3,181 +3,151 @@
 
 from __future__ import annotations
 
-from typing import Any
+from typing import Any, Optional
 
 from qgis.core import (
-    QgsProcessingContext,
-    QgsProcessingFeedback,
     QgsProcessingOutputNumber,
-    QgsProcessingParameterEnum,
     QgsProcessingParameterNumber,
-    QgsProcessingParameterRasterDestination,
-    QgsProcessingParameterString,
 )
-from qgis.PyQt.QtCore import QT_TRANSLATE_NOOP
 
-from ..core import landscape
-from ..core.counting import Answer
-from ..core.errors import RcellError
-from ..core.program import Watch
-from ..core.rasters import Raster
-from ..results import MOST_CLASSES, counted
-from ..translation import tr
-from .base import Parameters, RcellAlgorithm
+from ..engine.core.columns import Table
+from ..engine.core.patches import MOST_CORE_DEPTH, clump, patches
+from ..engine.core.sources import Source
+from ..results import MOST_CLASSES, counted, named_classes
+from ..translation import noop, tr
+from .base import RcellAlgorithm
 from .tables import numbers_of
 
 CONNECTIVITIES = ["4", "8"]
 
 
-class PatchesAlgorithm(RcellAlgorithm):
+class _OfPatches(RcellAlgorithm):
+    """What the algorithms over patches have in common."""
+
+    def add_patches(self) -> None:
+        """Add the parameters that say which patches there are."""
+        self.add_choice("CONNECTIVITY", tr("Connectivity"), CONNECTIVITIES)
+        self.add_text("CLASSES", tr("Classes, separated by commas (empty: all)"))
+        self.add_count("MIN_CELLS", tr("Smallest number of cells"))
+
+    def add_count(self, name: str, title: str, most: int = 2**31 - 1) -> None:
+        """Add a parameter for a number from 1."""
+        kind = QgsProcessingParameterNumber.Integer
+        self.addParameter(QgsProcessingParameterNumber(name, title, kind, 1, False, 1, most))
+
+    def check_words(self) -> None:
+        """Check the list of classes."""
+        self.classes()
+
+    def classes(self) -> Optional[list[int]]:
+        """Return the classes that are listed, None for all."""
+        return [int(code) for code in numbers_of(self.text("CLASSES"), "classes")] or None
+
+
+class ClumpAlgorithm(_OfPatches):
+    """Numbers the patches of each class."""
+
+    NAME = "clump"
+    TITLE = noop("Map of patches")
+    SHORT = noop("Gives each cell the number of its patch, as the table of Patches has it.")
+    TAGS = "patches, clumps, r.clump, segments, regions, connected components"
+    HELP = (noop("<p>Cells of patches that are left out have no data.</p>"),)
+
+    def initAlgorithm(self, configuration: Any = None) -> None:
+        """Declare the parameters."""
+        self.add_raster()
+        self.add_patches()
+        self.add_crs()
+        self.add_map(tr("Map of patches"))
+
+    def answer(self) -> dict[str, Any]:
+        """Return the map."""
+        connectivity, fewest = int(self.word("CONNECTIVITY")), self.number("MIN_CELLS")
+        made = clump(self.rasters[0], connectivity, self.classes(), fewest, crs=self.crs())
+        self.colours = {}
+        return {"OUTPUT": self.put_map(made, named_classes(made), null=0)}
+
+
+class PatchesAlgorithm(_OfPatches):
     """Numbers the patches of each class, and lists them."""
 
     NAME = "patches"
-    TITLE = QT_TRANSLATE_NOOP("rcell", "Patches")
-    SHORT = QT_TRANSLATE_NOOP(
-        "rcell",
-        "Lists the patches of each class with class, cells, area, perimeter, core, outline and zone; and makes a map of them.",
+    TITLE = noop("Patches")
+    SHORT = noop(
+        "Lists the patches of each class with class, cells, area, perimeter, core, outline and zone; and makes a map of them."
     )
-    TAGS = (
-        "patches",
-        "clumps",
-        "r.clump",
-        "islands",
-        "sieve",
-        "segments",
-        "regions",
-        "landscape",
-        "connected areas",
-        "perimeter",
-        "core",
-    )
+    TAGS = "patches, clumps, r.clump, islands, sieve, segments, regions, landscape, connected areas, perimeter, core"
     HELP = (
-        QT_TRANSLATE_NOOP(
-            "rcell",
-            (
-                "<p>Cells belong to one patch if they have the same class and a path of such cells connects them: by edges "
-                "(connectivity 4), or by edges and corners (8). Patches are numbered by their first cells, from the top left.</p>"
-            ),
+        noop(
+            "<p>Cells belong to one patch if they have the same class and a path of such cells connects them: by edges "
+            "(connectivity 4), or by edges and corners (8). Patches are numbered by their first cells, from the top left.</p>"
         ),
-        QT_TRANSLATE_NOOP(
-            "rcell",
-            (
-                "<p>Patches below the smallest number of cells, and classes that are not listed, are left out of the table and "
-                "the map; the others keep their numbers. Join the table to the map by <code>patch</code>.</p>"
-            ),
+        noop(
+            "<p>Patches below the smallest number of cells, and classes that are not listed, are left out of the table and "
+            "the map; the others keep their numbers. Join the table to the map by <code>patch</code>.</p>"
         ),
-        QT_TRANSLATE_NOOP(
-            "rcell",
-            (
-                "<p>The perimeter is the length of all sides to other patches, to cells without data and to the edge of the map. "
-                "The core consists of the cells whose neighbours, up to the depth of the core, are all in the patch. In degrees "
-                "there is no perimeter.</p>"
-            ),
+        noop(
+            "<p>The perimeter is the length of all sides to other patches, to cells without data and to the edge of the map. "
+            "The core consists of the cells whose neighbours, up to the depth of the core, are all in the patch. In degrees "
+            "there is no perimeter.</p>"
         ),
     )
 
     def initAlgorithm(self, configuration: Any = None) -> None:
         """Declare the parameters."""
         self.add_raster()
-        self.addParameter(
-            QgsProcessingParameterEnum(
-                "CONNECTIVITY",
-                tr("Connectivity"),
-                CONNECTIVITIES,
-                False,
-                CONNECTIVITIES[0],
-                False,
-                True,
-            )
-        )
+        self.add_patches()
         self.add_area()
-        self.addParameter(
-            QgsProcessingParameterString(
-                "CLASSES", tr("Classes, separated by commas (empty: all)"), optional=True
-            )
-        )
-        self.addParameter(
-            QgsProcessingParameterNumber(
-                "LEAST", tr("Smallest number of cells"), defaultValue=1, minValue=1
-            )
-        )
-        title = tr("Depth of the core in cells")
-        self.addParameter(
-            QgsProcessingParameterNumber(
-                "CORE_DEPTH", title, defaultValue=1, minValue=1, maxValue=max(landscape.DEPTHS)
-            )
-        )
+        self.add_count("CORE_DEPTH", tr("Depth of the core in cells"), MOST_CORE_DEPTH)
         self.add_zones()
         self.add_labels()
         self.add_crs()
         self.add_table()
-        self.addParameter(
-            QgsProcessingParameterRasterDestination("MAP", tr("Map of patches"), optional=True)
-        )
+        self.add_map(tr("Map of patches"), "MAP", True)
         self.addOutput(QgsProcessingOutputNumber("PATCHES", tr("Number of patches")))
 
-    def checkParameterValues(
-        self, parameters: Parameters, context: QgsProcessingContext
-    ) -> tuple[bool, str]:
-        """Check the list of classes, then the other parameters."""
-        try:
-            numbers_of(self.parameterAsString(parameters, "CLASSES", context), "classes")
-        except RcellError as error:
-            return False, str(error)
-        return super().checkParameterValues(parameters, context)
+    def read(self) -> None:
+        """Read the raster and its zones."""
+        self.read_zoned()
 
-    def checked_rasters(
-        self, parameters: Parameters, context: QgsProcessingContext
-    ) -> list[Raster]:
-        """Return the raster and its zones."""
-        return self.zoned_rasters(parameters, context)
-
-    def answer(
-        self,
-        program: str,
-        parameters: Parameters,
-        context: QgsProcessingContext,
-        feedback: QgsProcessingFeedback,
-        watch: Watch,
-    ) -> dict[str, Any]:
+    def answer(self) -> dict[str, Any]:
         """Return the table, the number of patches, and the map if it is requested."""
-        raster, zones = [*self.rasters, None][:2]
-        assert raster is not None
-        found, grid = landscape.patches(
-            program,
+        raster = self.rasters[0]
+        zoning = self.zoning()
+        connectivity = int(self.word("CONNECTIVITY"))
+        classes = self.classes()
+        min_cells = self.number("MIN_CELLS")
+        found = patches(
             raster,
-            int(self.parameterAsEnumString(parameters, "CONNECTIVITY", context)),
-            self.area(parameters, context),
-            zones,
-            [
-                int(code)
-                for code in numbers_of(
-                    self.parameterAsString(parameters, "CLASSES", context), "classes"
-                )
-            ]
-            or None,
-            self.parameterAsInt(parameters, "LEAST", context),
-            self.parameterAsInt(parameters, "CORE_DEPTH", context),
-            bool(parameters.get("MAP")),
-            watch,
+            connectivity,
+            self.area(),
+            self.zones,
+            classes,
+            min_cells,
+            self.number("CORE_DEPTH"),
+            labels=self.labels(),
+            **zoning,
         )
-        self.warn_of_lacking(parameters, "LABELS", found, "class", raster)
         self.colours = {}
         results = {
             "PATCHES": len(found),
-            "OUTPUT": self.put_table(parameters, context, "OUTPUT", found),
+            "OUTPUT": self.put_table("OUTPUT", found),
         }
-        if grid is not None:
-            results["MAP"] = self.put_map(
-                parameters, context, grid, _legend(found, raster), feedback, "MAP"
-            )
+        if self.given.get("MAP"):
+            made = clump(raster, connectivity, classes, min_cells, crs=zoning["crs"])
+            legend = _legend(found, raster, zoning["crs"])
+            results["MAP"] = self.put_map(made, legend, "MAP", null=0)
         return results
 
 
-def _legend(found: Answer, raster: Raster) -> list[tuple[int, str]]:
+def _legend(found: Table, raster: Source, crs: Any) -> list[tuple[int, str]]:
     """Return the legend: number, class and size of each patch; too many patches get entries that only count them."""
     if len(found) > MOST_CLASSES:
         return [(0, "")] * len(found)
-    values = {column.title: column.values for column in found.columns()}
-    entries = zip(values["patch"], values["class"], values["cells"])
-    return [(number, counted(f"{number}: {raster.labels.get(code, code)}", cells, raster)) for number, code, cells in entries]  # type: ignore[misc, arg-type]
+    values: dict[str, list[Any]] = {column.name: column.listed() for column in found.data}
+    labels = values.get("label", values["class"])
+    entries = zip(values["patch"], values["class"], labels, values["cells"])
+    return [
+        (number, counted(f"{number}: {code if label is None else label}", cells, raster, crs))
+        for number, code, label, cells in entries
+    ]

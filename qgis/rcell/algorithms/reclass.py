@@ -5,83 +5,84 @@ from __future__ import annotations
 
 from typing import Any
 
-from qgis.core import (
-    QgsProcessingContext,
-    QgsProcessingFeedback,
-    QgsProcessingParameterRasterDestination,
-    QgsProcessingParameterString,
-)
-from qgis.PyQt.QtCore import QT_TRANSLATE_NOOP
 
-from ..core import answers
-from ..core.program import Watch
+from ..engine.core.errors import Refused
+from ..engine.core.reclass import reclass
+from ..engine.core.runs import planned
+from ..engine.core.scripts import Run
+from ..engine.core.sources import ArrayMap, Source
 from ..results import counted_classes
-from ..translation import tr
-from .base import Parameters, RcellAlgorithm
+from ..translation import noop, tr
+from .base import RcellAlgorithm
+
+
+OTHERS = ["error", "keep", "null"]
 
 
 class ReclassAlgorithm(RcellAlgorithm):
     """Gives classes new numbers and labels by rules."""
 
     NAME = "reclass"
-    TITLE = QT_TRANSLATE_NOOP("rcell", "Reclassify by rules")
-    SHORT = QT_TRANSLATE_NOOP(
-        "rcell",
-        "Gives the classes of a raster new numbers and labels by the rules of r.reclass, and a legend with cells and areas.",
+    TITLE = noop("Reclassify by rules")
+    SHORT = noop(
+        "Gives the classes of a raster new numbers and labels by the rules of r.reclass, and a legend with cells and areas."
     )
-    TAGS = ("reclassify", "r.reclass", "rules", "recode", "group", "labels", "legend")
+    TAGS = "reclassify, r.reclass, rules, recode, group, labels, legend"
     HELP = (
-        QT_TRANSLATE_NOOP(
-            "rcell",
-            (
-                "<p>A rule is a line: classes, <code>=</code>, the new class, and its label if it has one.</p>"
-            ),
+        noop(
+            "<p>A rule is a line: classes, <code>=</code>, the new class, and its label if it has one.</p>"
         ),
-        QT_TRANSLATE_NOOP(
-            "rcell",
-            (
-                "<p><code>1 thru 3 = 1 forest<br>4 7 9 = 2 open land<br>12 = NULL<br>* = 3 all else</code></p>"
-            ),
+        noop(
+            "<p><code>1 thru 3 = 1 forest<br>4 7 9 = 2 open land<br>12 = NULL<br>* = 3 all else</code></p>"
         ),
-        QT_TRANSLATE_NOOP(
-            "rcell",
-            (
-                "<p>Ranges include both ends. Classes without a rule have no data in the result; <code>*</code> means all other "
-                "classes, and <code>* = *</code> keeps them. Lines that begin with <code>#</code> are comments.</p>"
-            ),
+        noop(
+            "<p>Ranges include both ends. Classes without a rule have no data in the result; <code>*</code> means all other "
+            "classes, and <code>* = *</code> keeps them. Lines that begin with <code>#</code> are comments.</p>"
         ),
-        QT_TRANSLATE_NOOP(
-            "rcell",
-            (
-                "<p>The result has its labels as category names in the file, and a legend with the cells and hectares of each "
-                "class. The legend is also written next to the file, as .qml.</p>"
-            ),
+        noop(
+            "<p>The result has its labels as category names in the file, and a legend with the cells and hectares of each "
+            "class. The legend is also written next to the file, as .qml.</p>"
         ),
     )
 
     def initAlgorithm(self, configuration: Any = None) -> None:
         """Declare the parameters."""
         self.add_raster()
-        self.addParameter(
-            QgsProcessingParameterString(
-                "RULES", tr("Rules, one per line"), "1 thru 3 = 1 low\n* = 2 high", multiLine=True
-            )
-        )
-        self.addParameter(QgsProcessingParameterRasterDestination("OUTPUT", tr("Reclassified map")))
+        self.add_lines("RULES", tr("Rules, one per line"), "1 thru 3 = 1 low\n* = 2 high")
+        self.add_file("RULES_FILE", tr("A crosswalk in place of rules: a CSV with value,new,label"))
+        self.add_choice("OTHER", tr("Classes that the crosswalk does not have"), OTHERS)
+        self.add_map(tr("Reclassified map"))
 
-    def answer(
-        self,
-        program: str,
-        parameters: Parameters,
-        context: QgsProcessingContext,
-        feedback: QgsProcessingFeedback,
-        watch: Watch,
-    ) -> dict[str, Any]:
+    def answer(self) -> dict[str, Any]:
         """Return the reclassified map."""
         raster = self.rasters[0]
-        made = answers.reclass(
-            program, raster, self.parameterAsString(parameters, "RULES", context), watch
-        )
+        crosswalk, other = self.path("RULES_FILE"), self.word("OTHER")
+        if crosswalk is None:
+            made = _reclassed(raster, self.text("RULES"))
+        else:
+            made = reclass(raster, crosswalk, None if other == OTHERS[0] else other)
         self.colours = {}
-        classes = counted_classes(made, raster)
-        return {"OUTPUT": self.put_map(parameters, context, made, classes, feedback)}
+        classes = counted_classes(made, raster, None)
+        return {"OUTPUT": self.put_map(made, classes)}
+
+
+def _reclassed(raster: Source, rules: str) -> ArrayMap:
+    """Return a map made with the rules of r.reclass.
+
+    Raises
+    ------
+    Refused
+        As the program reports it; lines count in the rules.
+    """
+    lines = rules.rstrip("\n").split("\n")
+    script = "\n".join(["r.reclass input=map output=classes", *lines])
+    try:
+        planned(script, ["map"])
+    except Refused:  # the rules have no line `end`, or an error that the run reports
+        script += "\nend"
+    try:
+        return Run(script, {"map": raster}, {}).maps(["classes"])[0]
+    except Refused as refusal:
+        if refusal.source == "script" and 2 <= refusal.line <= len(lines) + 1:
+            refusal.source, refusal.line = "rules", refusal.line - 1
+        raise

@@ -8,29 +8,27 @@ from typing import Any
 
 from qgis.core import (
     QgsProcessing,
-    QgsProcessingContext,
-    QgsProcessingFeedback,
-    QgsProcessingParameterBoolean,
-    QgsProcessingParameterEnum,
     QgsProcessingParameterFeatureSink,
     QgsProcessingParameterFolderDestination,
     QgsProcessingParameterRasterDestination,
-    QgsProcessingParameterString,
 )
-from qgis.PyQt.QtCore import QT_TRANSLATE_NOOP
 
-from ..core import answers
-from ..core.answers import Answers, Table
-from ..core.errors import RcellError, Refused, WriteFailed
-from ..core.files import check_target, write_raster, write_table
-from ..core.front.protocol import Statement
-from ..core.program import Watch, find_program, plan_of
-from ..core.rasters import Raster, fitted
+from ..engine.core.area import flat_measure
+from ..engine.core.columns import Table
+from ..engine.core.errors import Refused, WriteFailed
+from ..engine.core.host import Host, serving
+from ..engine.core.protocol import NULL, Statement
+from ..engine.core.runs import planned
+from ..engine.core.scripts import Run, Stats
+from ..engine.core.sources import ArrayMap
+from ..host import find_program
 from ..layers import names_of, raster_of
-from ..results import counted_classes, put_legend
-from ..translation import tr
-from .base import AREAS, Parameters, RcellAlgorithm, program_setting
+from ..results import cells_of, counted_classes, put_legend
+from ..tables import check_target, write_raster, write_table
+from ..translation import noop, tr
+from .base import RcellAlgorithm, program_setting
 
+AREAS = ["none", "ha", "km2", "m2"]
 # The most rows of a table that the log shows.
 _SHOWN_ROWS = 20
 
@@ -39,179 +37,125 @@ class ScriptAlgorithm(RcellAlgorithm):
     """Runs a script of map algebra over some rasters."""
 
     NAME = "script"
-    TITLE = QT_TRANSLATE_NOOP("rcell", "Script of map algebra")
-    SHORT = QT_TRANSLATE_NOOP(
-        "rcell",
-        "Runs a script of r.mapcalc, r.reclass, r.clump, r.stats and r.out.ascii over rasters: a map, a table, or all outputs.",
+    TITLE = noop("Script of map algebra")
+    SHORT = noop(
+        "Runs a script of r.mapcalc, r.reclass, r.clump, r.stats and r.out.ascii over rasters: a map, a table, or all outputs."
     )
-    TAGS = (
-        "map algebra",
-        "raster calculator",
-        "r.mapcalc",
-        "r.reclass",
-        "r.clump",
-        "r.stats",
-        "expression",
-    )
+    TAGS = "map algebra, raster calculator, r.mapcalc, r.reclass, r.clump, r.stats, expression"
     IS_OF_ONE_RASTER = False
     HELP = (
-        QT_TRANSLATE_NOOP(
-            "rcell",
-            (
-                "<p>The script refers to the rasters by the given names, in their order, or by the names of their layers with "
-                "<code>_</code> for each character that a name cannot have.</p>"
-            ),
+        noop(
+            "<p>The script refers to the rasters by the given names, in their order, or by the names of their layers with "
+            "<code>_</code> for each character that a name cannot have.</p>"
         ),
-        QT_TRANSLATE_NOOP(
-            "rcell",
-            (
-                "<p><code>r.mapcalc wet = if(cover == 4 &amp;&amp; slope &lt; 2, 1, null())<br>r.clump -d input=wet "
-                "output=ponds<br>r.stats -c -n input=ponds,zone</code></p>"
-            ),
+        noop(
+            "<p><code>r.mapcalc wet = if(cover == 4 &amp;&amp; slope &lt; 2, 1, null())<br>r.clump -d input=wet "
+            "output=ponds<br>r.stats -c -n input=ponds,zone</code></p>"
         ),
-        QT_TRANSLATE_NOOP(
-            "rcell",
-            (
-                "<p>The map output is the map that you name, or the only map that the script makes. The table output is the table "
-                "of the only <code>r.stats</code>. The folder gets all outputs of the script: a table for each "
-                "<code>r.stats</code>, named after its line, and a GeoTIFF for each <code>r.out.ascii</code>.</p>"
-            ),
+        noop(
+            "<p>The map output is the map that you name, or the only map that the script makes. The table output is the table "
+            "of the only <code>r.stats</code>. The folder gets all outputs of the script: a table for each "
+            "<code>r.stats</code>, named after its line, and a GeoTIFF for each <code>r.out.ascii</code>.</p>"
         ),
-        QT_TRANSLATE_NOOP(
-            "rcell",
-            (
-                "<p>If a line has an error, the log shows it with a mark under the place. Numbers are whole, and never wrap around "
-                "or are rounded.</p>"
-            ),
+        noop(
+            "<p>If a line has an error, the log shows it with a mark under the place. Numbers are whole, and never wrap around "
+            "or are rounded.</p>"
         ),
     )
 
     def initAlgorithm(self, configuration: Any = None) -> None:
         """Declare the parameters."""
         self.add_rasters(tr("Rasters, 1 to 16"))
-        self.addParameter(
-            QgsProcessingParameterString(
-                "NAMES", tr("Their names in the script, separated by commas"), optional=True
-            )
-        )
-        self.addParameter(QgsProcessingParameterString("SCRIPT", tr("Script"), multiLine=True))
-        self.addParameter(
-            QgsProcessingParameterString(
-                "MAP",
-                tr("Name of the output map (empty: the only map of the script)"),
-                optional=True,
-            )
-        )
-        self.addParameter(
-            QgsProcessingParameterEnum(
-                "AREA", tr("Unit of areas of the table"), AREAS, False, AREAS[0], False, True
-            )
-        )
-        self.addParameter(
-            QgsProcessingParameterBoolean("PERCENT", tr("Percentages of the table"), False)
-        )
-        self.addParameter(
-            QgsProcessingParameterRasterDestination(
-                "OUTPUT", tr("Map"), optional=True, createByDefault=False
-            )
-        )
-        self.addParameter(
-            QgsProcessingParameterFeatureSink(
-                "TABLE", tr("Table"), QgsProcessing.TypeVector, optional=True, createByDefault=False
-            )
-        )
-        self.addParameter(
-            QgsProcessingParameterFolderDestination(
-                "FOLDER", tr("Folder for all outputs"), optional=True, createByDefault=False
-            )
-        )
+        self.add_text("NAMES", tr("Their names in the script, separated by commas"))
+        self.add_lines("SCRIPT", tr("Script"))
+        self.add_text("MAP", tr("Name of the output map (empty: the only map of the script)"))
+        self.add_choice("AREA", tr("Unit of areas of the table"), AREAS)
+        self.add_flag("PERCENT", tr("Percentages of the table"))
+        table = QgsProcessing.TypeVector
+        for kind, words in (
+            (QgsProcessingParameterRasterDestination, ("OUTPUT", tr("Map"))),
+            (QgsProcessingParameterFeatureSink, ("TABLE", tr("Table"), table)),
+            (QgsProcessingParameterFolderDestination, ("FOLDER", tr("Folder for all outputs"))),
+        ):
+            self.addParameter(kind(*words, optional=True, createByDefault=False))
         self.add_crs()
 
-    def checkParameterValues(
-        self, parameters: Parameters, context: QgsProcessingContext
-    ) -> tuple[bool, str]:
-        """Check the requested outputs, then the other parameters."""
+    def check_words(self) -> None:
+        """Check that the script makes the outputs that are asked for; its errors are left to the run, which marks them in the log."""
         try:
-            self._check_wanted(parameters, context)
-        except RcellError as error:
-            return False, str(error)
-        return super().checkParameterValues(parameters, context)
+            plan = self._plan()
+        except Refused as error:
+            if error.content is not None:
+                return
+            raise
+        self._wanted(plan)
+        tables = [each.line for each in plan if each.command == "r.stats"]
+        if self.given.get("TABLE") and len(tables) != 1:
+            found = ", ".join(f"r.stats in line {line}" for line in tables) or "no r.stats"
+            told = f"one table is asked for, and the script has {found}: a folder has all outputs"
+            raise Refused(told, "script")
 
-    def checked_rasters(
-        self, parameters: Parameters, context: QgsProcessingContext
-    ) -> list[Raster]:
-        """Return the rasters with their names in the script."""
-        return fitted(
-            [raster_of(layer, name) for name, layer in self._named_layers(parameters, context)],
-            self.crs(parameters, context),
-        )
+    def read(self) -> None:
+        """Read the rasters with their names in the script, and check that they fit each other."""
+        layers = self._named_layers()
+        self.rasters = [raster_of(layer, name) for name, layer in layers]
+        self.fit(self.rasters)
 
-    def answer(
-        self,
-        program: str,
-        parameters: Parameters,
-        context: QgsProcessingContext,
-        feedback: QgsProcessingFeedback,
-        watch: Watch,
-    ) -> dict[str, Any]:
+    def answer(self) -> dict[str, Any]:
         """Return the requested outputs of the script."""
-        script, wanted = self._script(parameters, context), self._wanted(
-            self._plan(parameters, context), parameters, context
-        )
+        wanted = self._wanted(self._plan())
         maps = {raster.name: raster for raster in self.rasters}
-        found = answers.run(program, script, maps, [wanted] if wanted else [], watch)
-        self._measure(found, parameters, context)
+        run = Run(self._script(), maps, {}, self.crs())
+        outputs = self._measured(run, [wanted] if wanted else [])
         results: dict[str, Any] = {}
         if wanted:
-            made = found.grids[-1]
-            results["OUTPUT"] = self.put_map(
-                parameters, context, made, counted_classes(made, self.rasters[0]), feedback
-            )
-        if parameters.get("TABLE"):
-            results["TABLE"] = self.put_table(parameters, context, "TABLE", found.tables[0])
-        if parameters.get("FOLDER"):
-            results["FOLDER"] = self._put_all(
-                self.parameterAsString(parameters, "FOLDER", context), found, wanted, context
-            )
-        for table in found.tables:
-            feedback.pushInfo(_shown(table))
+            made = outputs.pop()
+            classes = counted_classes(made, run.first, run.crs)
+            results["OUTPUT"] = self.put_map(made, classes)
+        tables = [output for _, output in outputs if isinstance(output, Table)]
+        if self.given.get("TABLE"):
+            results["TABLE"] = self.put_table("TABLE", tables[0])
+        if self.given.get("FOLDER"):
+            folder = self.text("FOLDER")
+            results["FOLDER"] = self._put_all(folder, outputs, run)
+        for line, output in outputs:
+            if isinstance(output, Table):
+                self.feedback.pushInfo(_shown(line, output))
         return results
 
-    def _named_layers(
-        self, parameters: Parameters, context: QgsProcessingContext
-    ) -> list[tuple[str, Any]]:
-        given = self.parameterAsString(parameters, "NAMES", context)
-        layers = self.raster_layers(
-            parameters, context, [name.strip() for name in given.split(",")]
-        )
+    def _measured(self, run: Run, wanted: list[str]) -> list[Any]:
+        """Return the outputs of a script: tables with their lines, areas and percentages, maps with 0, and last the map that is wanted."""
+        unit = self.word("AREA")
+        measure = None if unit == AREAS[0] else flat_measure(unit, run.first.transform, run.crs)
+        percent = self.flag("PERCENT")
+        outputs = run.outputs(wanted)
+        count = len(outputs) - len(wanted)
+        return [
+            (output.line, output.table(measure, percent))
+            if isinstance(output, Stats)
+            else (0, output)
+            for output in outputs[:count]
+        ] + outputs[count:]
+
+    def _named_layers(self) -> list[tuple[str, Any]]:
+        given = self.text("NAMES")
+        layers = self.raster_layers([name.strip() for name in given.split(",")])
         return list(zip(names_of(layers, given), layers))
 
-    def _check_wanted(self, parameters: Parameters, context: QgsProcessingContext) -> None:
-        """Check that the script makes the requested outputs; errors in the script are left to the run, which marks them in the log."""
-        if self.has_rasters(parameters):
-            try:
-                plan = self._plan(parameters, context)
-            except Refused as error:
-                if error.content is not None:
-                    return
-                raise
-            self._wanted(plan, parameters, context)
-            _check_table(plan, parameters)
+    def _plan(self) -> list[Statement]:
+        names = [name for name, _ in self._named_layers()]
+        program = find_program(program_setting())
+        with serving(Host(words="qgis", find=lambda _: program)):
+            return planned(self._script(), names)
 
-    def _plan(self, parameters: Parameters, context: QgsProcessingContext) -> list[Statement]:
-        names = [name for name, _ in self._named_layers(parameters, context)]
-        return plan_of(find_program(program_setting()), self._script(parameters, context), names)
-
-    def _script(self, parameters: Parameters, context: QgsProcessingContext) -> str:
-        script: str = self.parameterAsString(parameters, "SCRIPT", context)
+    def _script(self) -> str:
+        script: str = self.text("SCRIPT")
         return script.rstrip("\n")
 
-    def _wanted(
-        self, plan: list[Statement], parameters: Parameters, context: QgsProcessingContext
-    ) -> str:
+    def _wanted(self, plan: list[Statement]) -> str:
         """Return the name of the requested map, or an empty text."""
-        name: str = self.parameterAsString(parameters, "MAP", context).strip()
-        if not parameters.get("OUTPUT"):
+        name: str = self.text("MAP").strip()
+        if not self.given.get("OUTPUT"):
             if name:
                 raise Refused(f"the map {name} is requested, but no file for it is given", status=2)
             return ""
@@ -219,77 +163,44 @@ class ScriptAlgorithm(RcellAlgorithm):
         if not name and len(made) != 1:
             maps = f"makes {', '.join(made)}" if made else "makes no map"
             raise Refused(f"the script {maps}: name the output map", status=2)
+        known = [*(raster.name for raster in self.rasters), *made]
+        if name and self.rasters and name not in known:
+            raise Refused(f"no map {name}: there are {', '.join(known)}", status=2)
         return name or made[0]
 
-    def _measure(
-        self, found: Answers, parameters: Parameters, context: QgsProcessingContext
-    ) -> None:
-        """Add areas and percentages to the tables, if they are requested."""
-        unit = self.area(parameters, context)
-        percent = self.parameterAsBoolean(parameters, "PERCENT", context)
-        if unit or percent:
-            measured = {
-                id(table): table.measured(unit, percent, self.rasters[0]) for table in found.tables
-            }
-            found.tables = [measured[id(table)] for table in found.tables]
-            found.outputs = [measured.get(id(output), output) for output in found.outputs]
-
-    def _put_all(
-        self, folder: str, found: Answers, wanted: str, context: QgsProcessingContext
-    ) -> str:
+    def _put_all(self, folder: str, outputs: list[tuple[int, Any]], run: Run) -> str:
         """Write a file for each output of the script and return the folder."""
         try:
             os.makedirs(folder, exist_ok=True)
         except OSError as error:
-            raise WriteFailed(folder, error.strerror or str(error)) from None
-        for output in found.outputs[: len(found.outputs) - bool(wanted)]:
-            if isinstance(output, Table):
-                write_table(
-                    os.path.join(folder, f"table_{output.line}.csv"), output, self.watch.check
-                )
-            else:
+            raise WriteFailed(f"{folder} cannot be written: {error.strerror or error}") from None
+        for line, output in outputs:
+            if isinstance(output, ArrayMap):
                 path = os.path.join(folder, f"{output.name}.tif")
-                check_target(path, [raster.path for raster in self.rasters])
+                check_target(path, [file for raster in self.rasters for file in raster.files])
                 write_raster(
-                    path,
-                    "GTiff",
-                    output.cells,
-                    output.null,
-                    self.rasters[0],
-                    output.labels,
-                    self.watch.check,
+                    path, "GTiff", cells_of(output), NULL, run.first, output.labels, self.check
                 )
-                put_legend(path, counted_classes(output, self.rasters[0]), {}, context)
+                put_legend(path, counted_classes(output, run.first, run.crs), {}, self.context)
+            else:
+                write_table(os.path.join(folder, f"table_{line}.csv"), output, self.check)
         return folder
 
 
-def _check_table(plan: list[Statement], parameters: Parameters) -> None:
-    """Check that the script has a single table, if the table is requested."""
-    tables = [each.line for each in plan if each.command == "r.stats"]
-    if parameters.get("TABLE") and len(tables) != 1:
-        found = ", ".join(f"r.stats in line {line}" for line in tables) or "no r.stats"
-        raise Refused(
-            f"one table is asked for, and the script has {found}: a folder has all outputs",
-            "script",
-        )
-
-
-def _shown(table: Table) -> str:
+def _shown(line: int, table: Table) -> str:
     """Return the first rows of a table, for the log."""
-    columns = table.columns()
     rows = [
         [
             "" if value is None else f"{value:.10g}" if isinstance(value, float) else str(value)
             for value in row
         ]
-        for row in list(zip(*(column.values for column in columns)))[:_SHOWN_ROWS]
+        for row in table.rows[:_SHOWN_ROWS]
     ]
-    lines = [[column.title for column in columns], *rows]
-    widths = [max(len(line[place]) for line in lines) for place in range(len(columns))]
+    lines = [list(table.columns), *rows]
+    widths = [max(len(each[place]) for each in lines) for place in range(len(table.columns))]
     text = "\n".join(
-        "  ".join(value.rjust(width) for value, width in zip(line, widths)) for line in lines
+        "  ".join(value.rjust(width) for value, width in zip(each, widths)) for each in lines
     )
-    rest = len(table.categories) - len(rows)
-    return f"r.stats in line {table.line}:\n{text}" + (
-        f"\n({rest:,} more rows)" if rest > 0 else ""
-    )
+    rest = len(table) - len(rows)
+    more = f"\n({rest:,} more rows)" if rest > 0 else ""
+    return f"r.stats in line {line}:\n{text}{more}"

@@ -10,6 +10,7 @@ import numpy as np
 from .arrays import NDArray
 from .crs import are_same_crs, common_crs, known
 from .errors import BadArgument, BadMap, OtherCrs, OtherRegion
+from .host import option
 from .region import Region, Shift
 from .sources import ArrayMap, Cells, MapLike, Mask, Source, source_of
 
@@ -85,7 +86,9 @@ def align(
         raise BadArgument("resample", f'must be "nearest" or None; got {resample!r}')
     source, like = source_of("map", map), source_of("to", to)
     try:
-        system = common_crs({"to": like.crs, "map": source.crs}, crs)
+        system = common_crs(
+            {"to": like.crs, "map": source.crs}, crs, titles={"to": like.name, "map": source.name}
+        )
     except OtherCrs as fault:
         if resample is None or source.crs is None or like.crs is None:
             fault.advice = None if resample else 'rcell.align(.., resample="nearest")'
@@ -98,7 +101,7 @@ def align(
         made, is_null, aligned = _projected(source, like, cells, null)
     is_exact = Region.from_transform(like.transform, *like.region.shape) == like.region
     moved = ArrayMap(
-        "map",
+        source.name,
         made,
         like.region,
         is_null,
@@ -130,7 +133,8 @@ def _shifted(
     """Return a map on the grid of another one: moved by whole rows and columns, or with the nearest cells."""
     shift = Shift.between(source.transform, like.transform, like.region.shape)
     if resample is None and not shift.is_whole:
-        raise OtherRegion("map", f'{shift.told("to")}: resample="nearest" takes the nearest cell')
+        cure = f"{option('resample', 'nearest')} takes the nearest cell"
+        raise OtherRegion(source.name, f"{shift.told(like.name)}: {cure}")
     taken, put, often = [], [], []
     for centres, size in zip(shift.centres(), cells.shape):
         at = np.floor(centres + _ON_BORDER).astype(np.int64)
@@ -180,7 +184,7 @@ def _projected(
         is_null[part][is_inside] = null.reshape(-1)[at]
         often += np.bincount(at, minlength=cells.size)
     if not often.any():
-        raise BadMap("map", "has no cell in the extent of `to`")
+        raise BadMap(source.name, f"has no cell in the extent of `{like.name}`")
     often = np.where(null.reshape(-1), 0, often)
     used = int(np.count_nonzero(often))
     lost = int(null.size - np.count_nonzero(null)) - used

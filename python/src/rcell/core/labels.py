@@ -74,7 +74,7 @@ def legend_of_band(band: ElementTree.Element, path: str) -> Legend:
     band : Element
         The element `VRTRasterBand`.
     path : str
-        The path of the raster.
+        The path of the raster; empty if no style counts.
 
     Examples
     --------
@@ -97,7 +97,7 @@ def legend_of_band(band: ElementTree.Element, path: str) -> Legend:
 
 def _style_beside(path: str) -> Legend:
     beside = os.path.splitext(path)[0] + ".qml"
-    if os.path.isfile(beside):
+    if path and os.path.isfile(beside):
         with contextlib.suppress(RcellError):  # a style of another kind is no legend
             return legend_of_qml(beside)
     return Legend({}, {})

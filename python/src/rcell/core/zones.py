@@ -120,9 +120,10 @@ def zones_of(
         There is no such field, a feature is not a polygon, or no polygon contains the centre of a cell.
     """
     if field is not None and field not in layer.fields:
-        raise BadMap("zones", f"no field {field}: there are {', '.join(layer.fields) or 'none'}")
-    common_crs({"map": like.crs, "zones": layer.crs}, crs, "ogr2ogr")
-    features = _with_a_zone(layer.features(field), field is not None)
+        raise BadMap(layer.name, f"no field {field}: there are {', '.join(layer.fields) or 'none'}")
+    titles = {"map": like.name, "zones": layer.name}
+    common_crs({"map": like.crs, "zones": layer.crs}, crs, "ogr2ogr", titles)
+    features = _with_a_zone(layer, field)
     zones, labels = _numbered([feature.value for feature in features])
     ids = np.array(sorted(set(zones)), np.int64)
     names = [_name(feature, zone, labels) for feature, zone in zip(features, zones)]
@@ -135,19 +136,19 @@ def zones_of(
     return Zones(maps, ids, labels)
 
 
-def _with_a_zone(features: Iterable[Feature], has_field: bool) -> list[Feature]:
+def _with_a_zone(layer: Layer, field: Optional[str]) -> list[Feature]:
     """Return the features that have a geometry and a zone, with their zone as the value."""
     kept = []
-    for feature in features:
+    for feature in layer.features(field):
         if not feature.kind or feature.geometry is None:
             continue
         if feature.kind not in _KINDS:
-            raise BadMap("zones", f"not polygons: feature {feature.id} is a {feature.kind}")
-        value = feature.value if has_field else feature.id
+            raise BadMap(layer.name, f"not polygons: feature {feature.id} is a {feature.kind}")
+        value = feature.id if field is None else feature.value
         if not is_missing(value) and not (isinstance(value, str) and not value):
             kept.append(replace(feature, value=value))
     if not kept:
-        raise BadMap("zones", "no polygon contains the centre of a cell: none has a zone")
+        raise BadMap(layer.name, "no polygon contains the centre of a cell: none has a zone")
     return kept
 
 
@@ -224,7 +225,8 @@ class _Grid:
             self._find_hidden([at for at in part if not self._has_centre[at + 1]])
             self._warn_of_losers(first, lost)
         like = self.like
-        return ArrayMap("zones", made, like.region, last == 0, None, {}, like.crs, like.transform)
+        name = self.layer.name
+        return ArrayMap(name, made, like.region, last == 0, None, {}, like.crs, like.transform)
 
     def _burnt(self, part: Sequence[int]) -> NDArray[np.int32]:
         """Return for each cell the last of some features that contains its centre, counted from 1; 0 for none."""
@@ -246,7 +248,7 @@ class _Grid:
         losers = [self.names[at - 1] for at in np.unique(first[lost]).tolist()]
         row, col = np.unravel_index(int(np.argmax(lost)), lost.shape)
         warn(
-            f"zones: {np.count_nonzero(lost):,} cells are in more than one polygon, the first at row {row + 1}, column {col + 1}: "
+            f"{self.layer.name}: {np.count_nonzero(lost):,} cells are in more than one polygon, the first at row {row + 1}, column {col + 1}: "
             f"the later polygon has them, and {_listed(losers)} lost them; "
             f"{option('each', True)} takes one polygon after another"
         )
@@ -255,10 +257,10 @@ class _Grid:
         """Warn of the features that contain no centre of a cell; raise BadMap if none does."""
         without = [self.names[at] for at in np.flatnonzero(~self._has_centre[1:]).tolist()]
         if len(without) == len(self.features):
-            raise BadMap("zones", "no polygon contains the centre of a cell")
+            raise BadMap(self.layer.name, "no polygon contains the centre of a cell")
         if without:
             told = f"{len(without)} of {len(self.features)} polygons contain no centre of a cell"
-            warn(f"zones: {told}: {_listed(without)}")
+            warn(f"{self.layer.name}: {told}: {_listed(without)}")
 
 
 def _listed(names: Sequence[str]) -> str:

@@ -64,6 +64,7 @@ def open_raster(
     band: Optional[int] = None,
     null_ranges: Ranges = (),
     uses_nodata: bool = True,
+    uses_style: bool = True,
 ) -> RasterMap:
     """Return a band of a raster as a map; without a band, the raster must have only one.
 
@@ -74,6 +75,8 @@ def open_raster(
         Further values that are null, from and to.
     uses_nodata : bool
         Whether the nodata value of the file is null.
+    uses_style : bool
+        Whether a style of QGIS next to the raster may give the labels.
 
     Raises
     ------
@@ -84,7 +87,8 @@ def open_raster(
     """
     dataset = open_dataset(name, path)
     with quiet():
-        return _map_of(name, path, dataset, band, null_ranges, uses_nodata)
+        found = _map_of(name, path, dataset, band, null_ranges, uses_nodata)
+    return found if uses_style else replace(found, style_path="")
 
 
 def _map_of(
@@ -121,6 +125,7 @@ def _map_of(
         is_upside_down=is_upside_down,
         block_rows=layer.GetBlockSize()[1],
         files=tuple(dataset.GetFileList() or ()),
+        style_path=path,
     )
 
 
@@ -146,6 +151,8 @@ class RasterMap:
         Whether its rows go from south to north in the file.
     block_rows : int
     files : tuple of str
+    style_path : str
+        The raster next to which a style may be; empty for none.
     legend : Legend, optional
         Labels and colours in place of the labels and colours of the file.
     """
@@ -164,6 +171,7 @@ class RasterMap:
     is_upside_down: bool
     block_rows: int
     files: tuple[str, ...]
+    style_path: str
     legend: Legend = field(default_factory=lambda: Legend({}, {}))
 
     def with_labels(self, labels: Mapping[int, str]) -> RasterMap:
@@ -203,7 +211,7 @@ class RasterMap:
             described = gdal.GetDriverByName("VRT").CreateCopy("", dataset, 0)
             text = described.GetMetadata("xml:VRT")[0]
         bands = ElementTree.fromstring(text).findall("VRTRasterBand")
-        return legend_of_band(bands[self.band - 1], self.path)
+        return legend_of_band(bands[self.band - 1], self.style_path)
 
     def blocks(self) -> Iterator[Block]:
         """Yield the rows from north to south, in blocks that fit the blocks of the file.

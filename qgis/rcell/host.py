@@ -1,0 +1,128 @@
+# SPDX-License-Identifier: Apache-2.0 OR GPL-2.0-or-later
+"""The plugin as the host of the core: its programs, and what it reports of a run."""
+
+from __future__ import annotations
+
+import os
+import shlex
+import stat
+from collections.abc import Mapping
+from typing import Any, Callable
+
+from .engine.core.errors import MissingProgram, RcellError
+from .engine.core.host import Host
+from .engine.core.process import found_on_path
+from .engine.core.programs import find_pipe
+from .engine.core.programs import find_program as find_rcell
+from .engine.core.sources import Source
+
+_FOLDER = os.path.join(os.path.dirname(os.path.abspath(__file__)), "bin")
+_SETTINGS = "Settings > Options > Processing > Providers > rcell"
+
+
+class Cancelled(RcellError):
+    """The user cancelled, and the program was ended."""
+
+    def __str__(self) -> str:
+        return "cancelled"
+
+
+def host_of(setting: str, feedback: Any) -> Host:
+    """Return the host of a run that a feedback of QGIS watches.
+
+    Parameters
+    ----------
+    setting : str
+        The program that the settings name, or an empty text.
+    feedback : QgsProcessingFeedback
+    """
+    warned: set[str] = set()
+
+    def warn(text: str) -> None:
+        if text not in warned:
+            warned.add(text)
+            feedback.pushWarning(text)
+
+    def progress(share: float) -> None:
+        feedback.setProgress(50 * share)
+
+    def started(script: str, maps: Mapping[str, Source]) -> None:
+        words = [f"{name}={shlex.quote(_path_of(source))}" for name, source in maps.items()]
+        lines = [f"rcell script {' '.join(words)}", *(f"  {line}" for line in script.split("\n"))]
+        feedback.pushCommandInfo("\n".join(lines))
+
+    return Host(
+        words="qgis",
+        warn=warn,
+        find=lambda name: find_program(setting, name),
+        watch=watch_of(feedback),
+        progress=progress,
+        started=started,
+    )
+
+
+def watch_of(feedback: Any) -> Callable[[], None]:
+    """Return a function that raises Cancelled if the user has cancelled."""
+
+    def watch() -> None:
+        if feedback.isCanceled():
+            raise Cancelled()
+
+    return watch
+
+
+def _path_of(source: Source) -> str:
+    return source.files[0] if source.files else source.name
+
+
+def find_program(setting: str = "", name: str = "rcell-pipe") -> str:
+    """Return the path of rcell-pipe, or of rcell, which only text grids need.
+
+    Looked for in this order: the setting, the variable RCELL_PIPE (or RCELL), next to the program that RCELL names, in the plugin, on
+    the path. The setting may name either program; the other one is next to it.
+
+    Raises
+    ------
+    MissingProgram
+        There is none, or it cannot be executed.
+    WrongProgram
+        It does not work as this plugin needs it.
+    """
+    own = os.path.join(_FOLDER, name)
+    variable = "RCELL_PIPE" if name == "rcell-pipe" else "RCELL"
+    path = setting if os.path.basename(setting) != "rcell" else _beside(setting, name)
+    if setting and name == "rcell":
+        path = _beside(setting, name) if os.path.isfile(_beside(setting, name)) else ""
+    path = path or os.environ.get(variable, "")
+    beside = _beside(os.environ["RCELL"], name) if os.environ.get("RCELL") else ""
+    path = path or next(filter(os.path.isfile, [beside, own]), "") or found_on_path(name) or ""
+    if not path:
+        raise MissingProgram(
+            f"the program {name} was not found: install the plugin from its zip, which contains it; or set the path under "
+            f"{_SETTINGS}, or in the environment variable {variable}"
+        )
+    if path == own:
+        _set_executable(path)
+    if not os.path.isfile(path) or not os.access(path, os.X_OK):
+        raise MissingProgram(
+            f"the program {path} is not there, or may not be executed: correct the path under {_SETTINGS}, or leave it empty to use "
+            "the plugin's own"
+        )
+    return find_pipe(path) if name == "rcell-pipe" else find_rcell(path)
+
+
+def _beside(path: str, name: str) -> str:
+    """Return the program of a name next to another program."""
+    return os.path.join(os.path.dirname(path), name)
+
+
+def _set_executable(path: str) -> None:
+    """Give back the right to execute, which Install from ZIP takes away."""
+    mode = os.stat(path).st_mode
+    if not mode & stat.S_IXUSR:
+        try:
+            os.chmod(path, 0o755)
+        except OSError as error:
+            raise MissingProgram(
+                f"the program {path} may not be executed, and that cannot be changed: {error.strerror}"
+            ) from None

@@ -1,0 +1,338 @@
+# SPDX-License-Identifier: Apache-2.0 OR GPL-2.0-or-later
+"""Write tables and rasters with GDAL; a file gets its name only when it is complete."""
+
+from __future__ import annotations
+
+import contextlib
+import csv
+import os
+import signal
+import sqlite3
+import threading
+from collections.abc import Iterable, Iterator, Mapping, Sequence
+from typing import Any, Callable
+
+import numpy as np
+from numpy.typing import NDArray
+from osgeo import gdal, ogr
+
+from .engine.core.columns import Column, Table
+from .engine.core.errors import RcellError, WriteFailed
+from .engine.core.files import Output, check_output
+from .engine.core.labels import write_labels
+from .engine.core.sources import BLOCK_CELLS, Source
+from .engine.readers.osr import quiet
+
+# Level 1 with differences of neighbours takes an eighth of the time of level 6 without, for files of the same size.
+_OPTIONS = ["COMPRESS=DEFLATE", "ZLEVEL=1", "PREDICTOR=2", "TILED=YES", "BIGTIFF=IF_SAFER"]
+_COPIED_BYTES = 1 << 22
+_CHECKED_ROWS = 1 << 14
+# GDAL's file next to a raster.
+_BESIDE = ".aux.xml"
+_ENDING = (signal.SIGHUP, signal.SIGQUIT, signal.SIGTERM)
+_TYPES = {
+    "class": ("Integer64", ogr.OFTInteger64),
+    "count": ("Integer64", ogr.OFTInteger64),
+    "measure": ("Real", ogr.OFTReal),
+    "label": ("String", ogr.OFTString),
+}
+
+Check = Callable[[], None]
+
+
+def no_check() -> None:
+    """Do nothing: the function for writing that nothing ends."""
+
+
+def check_target(path: str, inputs: Sequence[str] = ()) -> None:
+    """Check that a file can be written, before any work is done.
+
+    Raises
+    ------
+    WriteFailed
+        The folder is missing or may not be written to, or the path is a folder.
+    Refused
+        The file is one of the inputs.
+    """
+    target = os.path.realpath(path)
+    folder = os.path.dirname(target)
+    check_output(path, inputs)
+    if os.path.isdir(target):
+        raise _failed(path, "it is a folder")
+    if os.path.exists(target) and not os.path.isfile(target):
+        return
+    if not os.path.isdir(folder):
+        raise _failed(path, f"there is no folder {folder}")
+    if not os.access(folder, os.W_OK):
+        raise _failed(path, f"the folder {folder} may not be written to")
+
+
+def _failed(path: str, text: str) -> WriteFailed:
+    return WriteFailed(f"{path} cannot be written: {text}")
+
+
+# Tables
+
+
+def is_file_of_table(path: str) -> bool:
+    """Return whether `write_table` knows the format of a path."""
+    return os.path.splitext(path)[1].lower() in (".csv", ".gpkg")
+
+
+def distinct(table: Table) -> list[Column]:
+    """Return the columns of a table with names that differ whatever their case, as databases need them."""
+    taken: set[str] = set()
+    columns = []
+    for column in table.data:
+        number, name = 2, column.name
+        while name.casefold() in taken:
+            number, name = number + 1, f"{column.name}_{number}"
+        taken.add(name.casefold())
+        columns.append(Column(name, column.kind, column.values))
+    return columns
+
+
+def write_table(path: str, table: Table, check: Check = no_check) -> None:
+    """Write a table as comma-separated values or a GeoPackage, depending on the ending of the path.
+
+    `check` is called from time to time; an exception ends the writing.
+
+    Raises
+    ------
+    WriteFailed
+        An old file under the path is unchanged.
+    """
+    stem, ending = os.path.splitext(path)
+    columns = distinct(table)
+    if ending.lower() == ".csv":
+        with partly(path) as part, partly(stem + ".csvt") as types:
+            _write_csv(part, types, columns, check)
+    else:
+        with partly(path) as part:
+            _write_geopackage(part, os.path.basename(stem), columns, check)
+
+
+def _checked(rows: Iterable[Any], check: Check) -> Iterator[Any]:
+    """Yield the same rows, with a check before every few thousand."""
+    for number, row in enumerate(rows):
+        if number % _CHECKED_ROWS == 0:
+            check()
+        yield row
+
+
+def _write_csv(part: str, types: str, columns: list[Column], check: Check) -> None:
+    """Write a CSV, and a .csvt file with the types of its columns, without which QGIS reads numbers as text."""
+    with open(part, "w", encoding="utf-8", newline="") as file:
+        writer = csv.writer(file, lineterminator="\n")
+        writer.writerow(column.name for column in columns)
+        writer.writerows(_checked(zip(*(column.listed() for column in columns)), check))
+    with open(types, "w", encoding="utf-8") as file:
+        file.write(",".join(f'"{_TYPES[column.kind][0]}"' for column in columns) + "\n")
+
+
+def _write_geopackage(part: str, name: str, columns: list[Column], check: Check) -> None:
+    """Make a table with GDAL and insert its rows with SQLite, which is ten times as fast as GDAL's Python."""
+    values = [column.listed() for column in columns]
+    count = len(values[0])
+    with quiet():
+        gdal.ErrorReset()
+        identifier = _make_geopackage(part, name, columns)
+        if not identifier:
+            raise OSError(gdal.GetLastErrorMsg() or "the disk may be full")
+        rows = _checked(zip(range(1, count + 1), *values), check)
+        try:
+            _insert(part, name, identifier, rows, count)
+        except sqlite3.Error as error:
+            raise OSError(str(error)) from None
+        written = ogr.Open(part)
+        if written is None or written.GetLayer(0).GetFeatureCount() != count:
+            raise OSError(gdal.GetLastErrorMsg() or "the disk may be full")
+
+
+def _insert(part: str, name: str, identifier: str, rows: Iterable[Any], count: int) -> None:
+    """Insert rows; the triggers, which would count row by row, are put back at the end."""
+    with contextlib.closing(sqlite3.connect(part)) as connection, connection:
+        triggers = connection.execute(
+            "SELECT name, sql FROM sqlite_master WHERE type = 'trigger' AND tbl_name = ?", [name]
+        ).fetchall()
+        for trigger, _ in triggers:
+            connection.execute(f"DROP TRIGGER {_quoted(trigger)}")
+        places = ",".join("?" * (identifier.count(", ") + 1))
+        connection.executemany(
+            f"INSERT INTO {_quoted(name)} ({identifier}) VALUES ({places})", rows
+        )
+        connection.execute(
+            "UPDATE gpkg_ogr_contents SET feature_count = ? WHERE table_name = ?", [count, name]
+        )
+        for _, text in triggers:
+            connection.execute(text)
+
+
+def _make_geopackage(part: str, name: str, columns: list[Column]) -> str:
+    """Make an empty table and return the names of its columns, the row number first; empty if that failed."""
+    source = ogr.GetDriverByName("GPKG").CreateDataSource(part)
+    options = ["FID=rcell_fid"] if any(column.name.lower() == "fid" for column in columns) else []
+    layer = None if source is None else source.CreateLayer(name, None, ogr.wkbNone, options)
+    if layer is None:
+        return ""
+    for column in columns:
+        layer.CreateField(ogr.FieldDefn(column.name, _TYPES[column.kind][1]))
+    names = [layer.GetFIDColumn(), *(column.name for column in columns)]
+    return ", ".join(map(_quoted, names)) if _flushed(source) else ""
+
+
+def _quoted(name: str) -> str:
+    doubled = name.replace('"', '""')
+    return f'"{doubled}"'
+
+
+# Rasters
+
+
+def write_raster(
+    path: str,
+    driver: str,
+    cells: NDArray[np.int32],
+    null: int,
+    like: Source,
+    labels: Mapping[int, str],
+    check: Check = no_check,
+) -> None:
+    """Write a map as a raster of 32-bit integers.
+
+    Parameters
+    ----------
+    path : str
+    driver : str
+        The name of GDAL's driver.
+    cells : array of int32, rows x cols
+    null : int
+        The value of cells that is null, which becomes nodata.
+    like : Source
+        The map whose position and reference system are used.
+    labels : mapping of int to str
+    check : callable
+        Called from time to time; an exception ends the writing.
+
+    Raises
+    ------
+    WriteFailed
+        An old file under the path is unchanged.
+    """
+    with partly(path) as part, quiet():
+        gdal.ErrorReset()
+        folder = f"/vsimem/rcell_{os.getpid()}_{id(part)}"
+        try:
+            copied = _copied(folder, part, driver, cells, null, like, check)
+            if not copied:
+                raise OSError(gdal.GetLastErrorMsg() or "the disk may be full")
+            _copy_out(copied, part)
+            write_labels(part, labels)
+        finally:
+            gdal.RmdirRecursive(folder)
+
+
+def _copied(
+    folder: str,
+    part: str,
+    driver: str,
+    cells: NDArray[np.int32],
+    null: int,
+    like: Source,
+    check: Check,
+) -> str:
+    """Write a raster to memory and return its path, since GDAL does not report every full disk; empty if that failed."""
+    tiff, copied = f"{folder}/map.tif", f"{folder}/copy{os.path.splitext(part)[1]}"
+    if not _write_tiff(tiff, cells, null, like, check):
+        return ""
+    if driver == "GTiff":
+        return tiff
+    copy = gdal.GetDriverByName(driver).CreateCopy(copied, gdal.Open(tiff))
+    return copied if copy is not None and _flushed(copy) else ""
+
+
+def _write_tiff(path: str, cells: NDArray[np.int32], null: int, like: Source, check: Check) -> bool:
+    rows, cols = cells.shape
+    dataset = gdal.GetDriverByName("GTiff").Create(path, cols, rows, 1, gdal.GDT_Int32, _OPTIONS)
+    if dataset is None:
+        return False
+    width, b, west, d, height, north = like.transform
+    dataset.SetGeoTransform((west, width, b, north, d, height))
+    if like.crs:
+        dataset.SetProjection(like.crs)
+    band = dataset.GetRasterBand(1)
+    band.SetNoDataValue(null)
+    step = max(1, BLOCK_CELLS // cols)
+    for row in range(0, rows, step):
+        check()
+        if band.WriteArray(cells[row : row + step], 0, row) not in (None, gdal.CE_None):
+            return False
+    del band
+    return _flushed(dataset)
+
+
+def _copy_out(source: str, target: str) -> None:
+    """Copy a file from GDAL's memory to the disk, and GDAL's file next to it."""
+    for ending in ("", _BESIDE):
+        if gdal.VSIStatL(source + ending) is None:
+            continue
+        memory = gdal.VSIFOpenL(source + ending, "rb")
+        try:
+            with open(target + ending, "wb") as file:
+                while piece := gdal.VSIFReadL(1, _COPIED_BYTES, memory):
+                    file.write(piece)
+        finally:
+            gdal.VSIFCloseL(memory)
+
+
+def _flushed(dataset: Any) -> bool:
+    """Return whether the rest of a dataset was also written."""
+    gdal.ErrorReset()
+    dataset.FlushCache()
+    return bool(gdal.GetLastErrorType() < gdal.CE_Failure)
+
+
+# Files that are written completely or not at all
+
+
+@contextlib.contextmanager
+def partly(path: str) -> Iterator[str]:
+    """Yield a path in a private folder for a file, which gets its name at the end; nothing is left after an error.
+
+    Raises
+    ------
+    WriteFailed
+    """
+    check_target(path)
+    with _removed_on_signals():
+        try:
+            with Output(path) as output:
+                yield output.path()
+        except RcellError:
+            raise
+        except (OSError, RuntimeError) as error:
+            raise _failed(path, getattr(error, "strerror", None) or str(error)) from None
+
+
+@contextlib.contextmanager
+def _removed_on_signals() -> Iterator[None]:
+    """Remove unfinished files before a signal ends the process; Python handles signals in the main thread only."""
+    caught: list[int] = []
+
+    def end(number: int, _: Any) -> None:
+        caught.append(number)
+        raise SystemExit(128 + number)
+
+    is_main = threading.current_thread() is threading.main_thread()
+    ending = [
+        number for number in _ENDING if is_main and signal.getsignal(number) == signal.SIG_DFL
+    ]
+    for number in ending:
+        signal.signal(number, end)
+    try:
+        yield
+    finally:
+        for number in ending:
+            signal.signal(number, signal.SIG_DFL)
+        if caught:
+            os.kill(os.getpid(), caught[0])
