@@ -59,19 +59,14 @@ of_grid <- function(grid) {
 }
 
 answers <- c("composition", "cross", "change", "patches", "zonal", "adjacency", "majority", "align", "reclass", "clump")
-# Until the package has the new names.
-old_names <- c(min_cells = "least", include_null = "null")
 
 # The parameters of a call, by their names in the package.
 options_of <- function(kind, words, maps) {
   options <- list()
   for (word in words) options[[sub("=.*", "", word)]] <- sub("^[^=]*=", "", word)
-  arguments <- Map(function(key, value) switch(key,
+  Map(function(key, value) switch(key,
     area = if (value == "none") NULL else value, zones = , to = maps[[value]], labels = , zone_labels = , rules = path_of(value),
     include_null = , fill = value == "yes", zone_field = , resample = , crs = , other = value, as.numeric(strsplit(value, ",")[[1]])), names(options), options)
-  known <- names(formals(paste0("rcell_", kind)))
-  names(arguments) <- ifelse(names(arguments) %in% c(known, setdiff(names(arguments), names(old_names))), names(arguments), old_names[names(arguments)])
-  arguments
 }
 
 # The ready calls; a case has the names of their parameters.
@@ -87,7 +82,6 @@ answered <- function(kind, words, maps, out) {
   found <- do.call(paste0("rcell_", kind), c(given, options))
   if (!is.null(out)) return(paste("written:", path_of(out)))
   if (kind == "change") found <- found[[if (length(table)) table else "table"]]
-  if (identical(table, "matrix") && is.matrix(found)) found <- data.frame(from = rownames(found), found, check.names = FALSE)
   if (kind == "align") return(c(of_table(attr(found, "aligned")), of_grid(found)))
   if (kind %in% c("majority", "reclass", "clump")) return(of_grid(found))
   of_table(found)

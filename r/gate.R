@@ -2,7 +2,7 @@
 folder <- commandArgs(TRUE)[[1]]
 failed <- 0L
 passed <- 0L
-for (name in c("test_tables.R", "test_answers.R", "test_refusals.R", "test_files.R", "test_edges.R", "test_writing.R")) {
+for (name in paste0("test_", c("tables", "answers", "zones", "legends", "systems", "classes", "refusals", "files", "edges", "writing"), ".R")) {
   results <- tryCatch(tinytest::run_test_file(file.path(folder, name), verbose = 0L), error = function(e) {
     cat("r: ", name, ": ", conditionMessage(e), "\n", sep = "")
     NULL

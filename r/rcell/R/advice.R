@@ -2,7 +2,7 @@
 # Which word of a line is wrong, and what to write instead. The code of rcell-explain finds both; it
 # is in this package, or in Python's. Without Python there is no advice.
 
-ADVICE_SECONDS <- 5
+ADVICE_SECONDS <- 30
 ADVICE_CODE <- "
 import sys
 code, program, path, line, text, *names = sys.argv[1:]

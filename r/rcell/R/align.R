@@ -21,7 +21,8 @@ rcell_align <- function(x, to, resample = NULL, filename = "", overwrite = FALSE
   if (nzchar(map$crs) != nzchar(target$crs)) check_crs(list(target, map), "")
   is_same <- !nzchar(map$crs) || same_crs(map$crs, target$crs)
   if (is.null(resample)) check_alignment(map, target, is_same)
-  places <- (if (is_same) places_by_side else places_by_centre)(template_of(map), template_of(target))
+  find_places <- if (is_same) places_by_side else places_by_centre
+  places <- find_places(template_of(map), template_of(target))
   cells <- all_cells(map)
   if (is.null(places$index)) {
     moved <- as.vector(cells[places$cols, places$rows])
@@ -93,9 +94,10 @@ places_by_centre <- function(from, to) {
   centres <- project(xyFromCell(to, seq_len(ncell(to))), from = crs(to), to = crs(from))
   row <- floor((ymax(from) - centres[, 2]) / res(from)[[2]] + BORDER_TOLERANCE)
   col <- floor((centres[, 1] - xmin(from)) / res(from)[[1]] + BORDER_TOLERANCE)
-  is_in <- is.finite(row) & is.finite(col) & row >= 0 & row < nrow(from) & col >= 0 & col < ncol(from)
+  is_in_row <- is.finite(row) & row >= 0 & row < nrow(from)
+  is_in_col <- is.finite(col) & col >= 0 & col < ncol(from)
   index <- row * ncol(from) + col + 1
-  index[!is_in] <- NA
+  index[!(is_in_row & is_in_col)] <- NA
   list(index = index, shift = c(NA_real_, NA_real_))
 }
 

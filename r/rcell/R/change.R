@@ -21,11 +21,10 @@ rcell_change <- function(before, after = NULL, years = NULL, area, labels = NULL
   pairs <- Map(function(table, first) {
     list(table = table, legends = unname(legends[first + 0:1]), years = years[first + 0:1])
   }, tables, seq_along(tables))
-  parts <- list(
-    table = lapply(pairs, change_table, area), summary = lapply(pairs, change_summary, area, sources[[1]])
-  )
+  summaries <- lapply(pairs, change_summary, area, sources[[1]])
   list(
-    table = stacked(parts$table), matrix = change_matrix(pairs), summary = stacked(parts$summary)
+    table = stacked(lapply(pairs, change_table, area)), matrix = change_matrix(pairs),
+    summary = stacked(summaries)
   )
 }
 
@@ -71,7 +70,9 @@ has_labels <- function(pair) sum(lengths(lapply(pair$legends, `[[`, "codes"))) >
 
 change_table <- function(pair, area) {
   codes <- pair$table$codes
-  label <- function(side) if (has_labels(pair)) list(labels_for(pair$legends[[side]], codes[[side]]))
+  label <- function(side) {
+    if (has_labels(pair)) list(labels_for(pair$legends[[side]], codes[[side]]))
+  }
   columns <- c(
     years_of(pair, length(codes[[1]])), list(from = codes[[1]]), from_label = label(1L),
     list(to = codes[[2]]), to_label = label(2L), sized(pair$table, area)

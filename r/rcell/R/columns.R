@@ -20,8 +20,8 @@ labels_for <- function(labels, codes) {
   labels$labels[match(codes, labels$codes)]
 }
 
-# The titles of the classes of both sides of a matrix: labels, or numbers. A label that another class has,
-# or that is taken, is followed by its class.
+# The titles of the classes of both sides of a matrix: labels, or numbers. A label that another
+# class has, or that is taken, is followed by its class.
 class_titles <- function(labels, codes, taken = character()) {
   labels <- Map(labels_for, labels, codes)
   titles <- Map(function(labels, codes) ifelse(is.na(labels), codes, labels), labels, codes)

@@ -44,8 +44,8 @@ rcell_cross <- function(..., area, labels = NULL, include_null = FALSE, crs = NU
   by_row <- !is.null(area) && is_in_degrees(sources[[1]])
   if (length(sources) > MAPS_LIMIT - by_row) {
     reason <- if (by_row) " with areas in degrees" else ""
-    text <- sprintf("%d maps, and a table has at most %d%s", length(sources), MAPS_LIMIT - by_row, reason)
-    refuse(text, status = 2L)
+    text <- "%d maps, and a table has at most %d%s"
+    refuse(sprintf(text, length(sources), MAPS_LIMIT - by_row, reason), status = 2L)
   }
   check_legends(labels, names(sources))
   legends <- lapply(sources, function(source) labels_from(labels[[source$name]], source$labels))
@@ -62,6 +62,9 @@ rcell_cross <- function(..., area, labels = NULL, include_null = FALSE, crs = NU
 check_legends <- function(labels, names) {
   is_named <- is.list(labels) && !is.data.frame(labels) && !is.null(names(labels))
   if (is.null(labels) || (is_named && all(names(labels) %in% names))) return(invisible())
-  text <- "labels= must be a list of legends by the names of the maps, for example list(%s = \"legend.csv\")"
+  text <- paste(
+    "labels= must be a list of legends by the names of the maps,",
+    "for example list(%s = \"legend.csv\")"
+  )
   refuse(sprintf(text, names[[1]]), "labels", status = 2L)
 }

@@ -9,8 +9,8 @@ PLACES <- as.matrix(expand.grid(x = seq(-175, 175, by = 5), y = seq(-85, 85, by 
 stated_crs <- function(crs) {
   if (is.null(crs)) return("")
   bad <- function(e) {
-    text <- sprintf("crs= is no coordinate reference system: '%s'", paste(format(crs), collapse = " "))
-    refuse(text, status = 2L)
+    text <- "crs= is no coordinate reference system: '%s'"
+    refuse(sprintf(text, paste(format(crs), collapse = " ")), status = 2L)
   }
   if (!is.character(crs) || length(crs) != 1L || is.na(crs) || !nzchar(crs)) bad()
   text <- tryCatch(crs(crs), error = bad, warning = bad)
@@ -84,9 +84,9 @@ title_in <- function(wkt) {
   if (length(title) == 2L) title[[2]] else ""
 }
 
-# Return whether two systems are one, whatever the order of their axes: their datum and ellipsoid are one,
-# and PROJ gives places all over the earth the same coordinates. (terra also calls systems equal that
-# differ in their datum alone, and unequal whose methods have two names.)
+# Return whether two systems are one, whatever the order of their axes: their datum and ellipsoid
+# are one, and PROJ gives places all over the earth the same coordinates. (terra also calls systems
+# equal that differ in their datum alone, and unequal whose methods have two names.)
 same_crs <- function(one, other) {
   if (identical(one, other)) return(TRUE)
   kinds <- vapply(c(one, other), kind_of_crs, "")

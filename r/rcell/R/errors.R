@@ -7,7 +7,8 @@ SHOWN <- 100L
 
 # Ends the call with an error of the given class and fields.
 signal <- function(class, message, ...) {
-  stop(structure(class = c(class, "rcell_error", "error", "condition"), list(message = message, call = NULL, ...)))
+  fields <- list(message = message, call = NULL, ...)
+  stop(structure(fields, class = c(class, "rcell_error", "error", "condition")))
 }
 
 # The words of an error begin a line of their own, so that a mark is below its column.
@@ -58,7 +59,8 @@ lines_of_error <- function(content, column) {
   }
   if (is.na(column)) return(content)
   before <- bytes[starts[starts >= from & starts < column]]
-  c(content, paste0(if (from > 1L) "  ", paste(ifelse(before == as.raw(9L), "\t", " "), collapse = ""), "^"))
+  blanks <- paste(ifelse(before == as.raw(9L), "\t", " "), collapse = "")
+  c(content, paste0(if (from > 1L) "  ", blanks, "^"))
 }
 
 # A map that is not a map of whole numbers, or has no grid of its own. The cell is the first that is
@@ -104,7 +106,8 @@ write_failed <- function(path, text) {
 
 # The program was ended by a signal.
 killed <- function(number) {
-  name <- switch(as.character(number), "4" = " (SIGILL)", "9" = " (SIGKILL)", "15" = " (SIGTERM)", "")
+  name <- switch(as.character(number),
+    "4" = " (SIGILL)", "9" = " (SIGKILL)", "15" = " (SIGTERM)", "")
   cause <- switch(as.character(number),
     "4" = "the processor is older than x86-64-v2, which the program needs",
     "9" = "too little memory, or someone ended it", "someone ended it")

@@ -20,7 +20,9 @@ check_filename <- function(filename, overwrite) {
   if (!dir.exists(folder)) write_failed(filename, "No such file or directory")
   if (file.access(folder, 2L) != 0L) write_failed(filename, "Permission denied")
   if (file.exists(target) && !overwrite) write_failed(filename, "it exists, and overwrite is FALSE")
-  if (file.exists(target) && file.access(target, 2L) != 0L) write_failed(filename, "Permission denied")
+  if (file.exists(target) && file.access(target, 2L) != 0L) {
+    write_failed(filename, "Permission denied")
+  }
 }
 
 # Return the files that the sources of a call are read from.
@@ -102,8 +104,8 @@ is_stream <- function(path) {
 
 # In the C locale, terra changes letters of a path beyond ASCII, so the call runs in another locale.
 with_path <- function(path, call) {
-  is_plain <- !any(charToRaw(path) > as.raw(127L)) || !validUTF8(path) || isTRUE(l10n_info()[["UTF-8"]])
-  if (!is_plain) {
+  is_ascii <- !any(charToRaw(path) > as.raw(127L))
+  if (!is_ascii && validUTF8(path) && !isTRUE(l10n_info()[["UTF-8"]])) {
     before <- Sys.getlocale("LC_CTYPE")
     on.exit(Sys.setlocale("LC_CTYPE", before))
     suppressWarnings(Sys.setlocale("LC_CTYPE", "C.UTF-8"))
@@ -124,7 +126,9 @@ written <- function(raster, filename) {
   path <- file.path(room$path, if (is_stream) "map.tif" else basename(target))
   failed <- function(e) write_failed(filename, told(e))
   write <- function() with_path(path, writeRaster(raster, path, datatype = "INT4S"))
-  tryCatch(withCallingHandlers(write(), warning = without_colours), error = failed, warning = failed)
+  tryCatch(
+    withCallingHandlers(write(), warning = without_colours), error = failed, warning = failed
+  )
   check_whole(raster, path, filename)
   if (is_stream) {
     copy_to_stream(path, target, filename)

@@ -15,9 +15,11 @@ BITS_OF_FLAGS <- c(1L, 2L, 4L, 8L, 16L)
 BYTES_OF_MARGINS <- c(32L, 33L)
 BYTES_OF_CALL <- 17L
 # Columns, rows, north, type, null, file, first byte, bytes a cell and bytes a row.
-RAW_RASTER <- "<VRTDataset rasterXSize=\"%.0f\" rasterYSize=\"%.0f\"><GeoTransform>0, 1, 0, %.0f, 0, -1</GeoTransform>
-<VRTRasterBand dataType=\"%s\" band=\"1\" subClass=\"VRTRawRasterBand\"><NoDataValue>%s</NoDataValue>
-<SourceFilename relativeToVRT=\"1\">%s</SourceFilename><ImageOffset>%.0f</ImageOffset><PixelOffset>%.0f</PixelOffset>
+RAW_RASTER <- "<VRTDataset rasterXSize=\"%.0f\" rasterYSize=\"%.0f\">
+<GeoTransform>0, 1, 0, %.0f, 0, -1</GeoTransform>
+<VRTRasterBand dataType=\"%s\" band=\"1\" subClass=\"VRTRawRasterBand\">
+<NoDataValue>%s</NoDataValue><SourceFilename relativeToVRT=\"1\">%s</SourceFilename>
+<ImageOffset>%.0f</ImageOffset><PixelOffset>%.0f</PixelOffset>
 <LineOffset>%.0f</LineOffset><ByteOrder>LSB</ByteOrder></VRTRasterBand></VRTDataset>"
 
 bytes_of <- function(numbers) writeBin(as.integer(numbers), raw(), endian = "little")
@@ -30,8 +32,10 @@ short_text <- function(text) {
 # Cells go as integers of 32 bits, in which NA has the bits of -2147483648. It is the nodata value,
 # an integer of 64 bits. Labels stay here: they may be any text.
 map_head <- function(name, region) {
-  c(short_text(name), unlist(lapply(region$edges, short_text)), bytes_of(c(region$rows, region$cols)),
-    as.raw(c(TYPE_I32, HAS_NODATA)), bytes_of(c(NA, -1L, 0L)))
+  c(
+    short_text(name), unlist(lapply(region$edges, short_text)),
+    bytes_of(c(region$rows, region$cols)), as.raw(c(TYPE_I32, HAS_NODATA)), bytes_of(c(NA, -1L, 0L))
+  )
 }
 
 # A request is a function that writes its bytes by calls of another one. A source has `cells`, or a
@@ -46,7 +50,9 @@ run_request <- function(sources, script) function(write) {
 }
 
 plan_request <- function(names, script) function(write) {
-  write(c(PLAN_MAGIC, bytes_of(length(names)), unlist(lapply(names, short_text)), script_bytes(script)))
+  count <- bytes_of(length(names))
+  names <- unlist(lapply(names, short_text))
+  write(c(PLAN_MAGIC, count, names, script_bytes(script)))
 }
 
 script_bytes <- function(lines) {
@@ -57,15 +63,15 @@ script_bytes <- function(lines) {
 # Read the fields of a response one after another. `wrong` is called if the file ends within a
 # field.
 reader_of <- function(from, path, wrong) {
-  at <- 0
+  place <- 0
   end <- file.size(path)
   # Returns where the bytes begin.
   pass <- function(bytes) {
     # `bytes` may itself be read here.
     force(bytes)
-    at <<- at + bytes
-    if (is.na(at) || at > end) wrong()
-    at - bytes
+    place <<- place + bytes
+    if (is.na(place) || place > end) wrong()
+    place - bytes
   }
   take <- function(kind, count, width) {
     pass(count * width)
@@ -78,18 +84,20 @@ reader_of <- function(from, path, wrong) {
   }
   bytes <- function(count) take("raw", count, 1L)
   text <- function() {
-    found <- rawToChar(bytes(numbers()))
-    Encoding(found) <- "UTF-8"
-    found
+    text <- rawToChar(bytes(numbers()))
+    Encoding(text) <- "UTF-8"
+    text
   }
   raster <- function(rows, cols, is_small) {
     begin <- pass(rows * cols * (if (is_small) 1 else 4))
-    seek(from, at)
+    seek(from, place)
     raster_at(path, begin, rows, cols, is_small)
   }
   texts <- function(count) vapply(seq_len(count), function(place) text(), "")
-  list(bytes = bytes, integers = function(count) take("integer", count, 4L), numbers = numbers, text = text, texts = texts, raster = raster,
-    is_at_end = function() at == end)
+  list(
+    bytes = bytes, integers = function(count) take("integer", count, 4L), numbers = numbers,
+    text = text, texts = texts, raster = raster, is_at_end = function() place == end
+  )
 }
 
 # A raster of the cells in a file, null as NA. GDAL reads them, since each cell that R has in
@@ -99,7 +107,10 @@ raster_at <- function(path, begin, rows, cols, is_small) {
   on.exit(unlink(header))
   type <- if (is_small) c("Byte", "255") else c("Int32", "-2147483648")
   bytes <- if (is_small) 1 else 4
-  writeLines(sprintf(RAW_RASTER, cols, rows, rows, type[[1]], type[[2]], basename(path), begin, bytes, bytes * cols), header)
+  lines <- sprintf(
+    RAW_RASTER, cols, rows, rows, type[[1]], type[[2]], basename(path), begin, bytes, bytes * cols
+  )
+  writeLines(lines, header)
   raster <- with_path(header, rast(header))
   varnames(raster) <- ""
   set.values(raster)
@@ -118,8 +129,9 @@ table_frame <- function(reader) {
   counts <- if (has[[1]]) as.integer(reader$numbers(entries))
   cells <- reader$integers(entries * width)
   dim(cells) <- c(width, entries)
-  list(line = as.integer(head[[1]]), maps = maps, codes = lapply(seq_len(width), function(at) cells[at, ]), cells = counts,
-    labels = if (has[[2]]) reader$texts(entries * width))
+  codes <- lapply(seq_len(width), function(map) cells[map, ])
+  labels <- if (has[[2]]) reader$texts(entries * width)
+  list(line = as.integer(head[[1]]), maps = maps, codes = codes, cells = counts, labels = labels)
 }
 
 grid_frame <- function(reader) {
@@ -146,8 +158,11 @@ plan_frame <- function(reader) {
   maps <- reader$texts(reader$numbers())
   after <- reader$integers(reader$numbers())
   reader$bytes(BYTES_OF_CALL * reader$numbers())
-  list(line = line, command = COMMANDS[[head[[1]]]], is_output = bitwAnd(head[[2]], 1L) > 0L, made = made,
-    flags = FLAGS[bitwAnd(options, BITS_OF_FLAGS) > 0L], maps = maps, after = after, labels = labels_in(reader))
+  list(
+    line = line, command = COMMANDS[[head[[1]]]], is_output = bitwAnd(head[[2]], 1L) > 0L,
+    made = made, flags = FLAGS[bitwAnd(options, BITS_OF_FLAGS) > 0L], maps = maps, after = after,
+    labels = labels_in(reader)
+  )
 }
 
 # The last label of a category counts.
@@ -155,9 +170,9 @@ labels_in <- function(reader) {
   count <- reader$numbers()
   codes <- integer(count)
   labels <- character(count)
-  for (at in seq_len(count)) {
-    codes[[at]] <- reader$integers(1)
-    labels[[at]] <- reader$text()
+  for (rule in seq_len(count)) {
+    codes[[rule]] <- reader$integers(1)
+    labels[[rule]] <- reader$text()
   }
   kept <- !duplicated(codes, fromLast = TRUE)
   list(codes = codes[kept], labels = labels[kept])
@@ -165,10 +180,15 @@ labels_in <- function(reader) {
 
 end_frame <- function(reader) {
   numbers <- reader$numbers(5)
-  list(status = numbers[[1]], source = numbers[[2]], maps = numbers[[3]], line = numbers[[4]], column = numbers[[5]], text = reader$text())
+  list(
+    status = numbers[[1]], source = numbers[[2]], maps = numbers[[3]], line = numbers[[4]],
+    column = numbers[[5]], text = reader$text()
+  )
 }
 
-FRAMES <- list(TABL = table_frame, CELL = table_frame, GRID = grid_frame, PLAN = plan_frame, DONE = end_frame)
+FRAMES <- list(
+  TABL = table_frame, CELL = table_frame, GRID = grid_frame, PLAN = plan_frame, DONE = end_frame
+)
 
 # Return the frames of a response, the last of which is DONE. `wrong` is called if it is invalid or
 # incomplete.

@@ -192,7 +192,9 @@ check_kinds <- function(ids, kinds) {
   kind <- kinds[[wrong[[1]]]]
   text <- sprintf("not polygons: feature %.0f is a %s", ids[[wrong[[1]]]], kind)
   if (kind %in% CURVED_KINDS) {
-    text <- paste0(text, ", and terra reads no curves: write it with ogr2ogr -nlt CONVERT_TO_LINEAR first")
+    text <- paste0(
+      text, ", and terra reads no curves: write it with ogr2ogr -nlt CONVERT_TO_LINEAR first"
+    )
   }
   bad_map("zones", text)
 }
@@ -223,8 +225,8 @@ has_geometry <- function(vector) {
   seq_len(nrow(vector)) %in% corners[!is.na(corners[, "x"]), "geom"]
 }
 
-# The values of a field: numbers if it has numbers, and texts, which are NA for missing values: null, NaN
-# and the empty text.
+# The values of a field: numbers if it has numbers, and texts, which are NA for missing values:
+# null, NaN and the empty text.
 field_values <- function(column, texts) {
   if (is.double(column) && !inherits(column, c("Date", "POSIXct"))) {
     column[is.na(texts)] <- NA
@@ -235,7 +237,10 @@ field_values <- function(column, texts) {
   if (is.integer(column) && !is.factor(column)) {
     return(list(numbers = as.numeric(texts), texts = texts))
   }
-  if (is.logical(column)) texts <- ifelse(texts %in% c("1", "TRUE"), "true", ifelse(is.na(texts), NA, "false"))
+  if (is.logical(column)) {
+    is_true <- texts %in% c("1", "TRUE")
+    texts[!is.na(texts)] <- ifelse(is_true, "true", "false")[!is.na(texts)]
+  }
   texts <- sub(DATE_OF_GDAL, "\\1-\\2-\\3", ifelse(nzchar(texts), texts, NA))
   list(numbers = rep(NA_real_, length(texts)), texts = texts)
 }
@@ -342,6 +347,7 @@ files_of_layer <- function(path) {
   folder <- dirname(path)
   name <- tools::file_path_sans_ext(basename(path))
   beside <- list.files(folder, all.files = TRUE)
-  known <- c(paste0(name, ".", SIDECARS_OF_A_LAYER), paste0(basename(path), c("-wal", "-shm", "-journal")))
+  logs <- paste0(basename(path), c("-wal", "-shm", "-journal"))
+  known <- c(paste0(name, ".", SIDECARS_OF_A_LAYER), logs)
   c(path, file.path(folder, beside[tolower(beside) %in% tolower(known)]))
 }

@@ -3,7 +3,10 @@
 
 known_programs <- new.env(parent = emptyenv())
 
-PROBE_SCRIPT <- "r.clump -d input=g output=k\nr.stats -c input=g,k after=7,1\nr.stats -1 input=k\nr.out.ascii input=k"
+PROBE_SCRIPT <- c(
+  "r.clump -d input=g output=k", "r.stats -c input=g,k after=7,1", "r.stats -1 input=k",
+  "r.out.ascii input=k"
+)
 
 rcell_program <- function() {
   path <- program_path()
@@ -65,9 +68,9 @@ find_program <- function() {
 # The program `rcell`, which reads grids of its own form.
 find_rcell <- function(pipe) {
   beside <- file.path(dirname(pipe), sub(PIPE, "rcell", basename(pipe), fixed = TRUE))
+  is_beside <- beside != pipe && file.exists(beside)
   path <- first_of(c(
-    Sys.getenv("RCELL"), if (beside != pipe && file.exists(beside)) beside, bundled_program("rcell"),
-    Sys.which("rcell")[[1]]
+    Sys.getenv("RCELL"), if (is_beside) beside, bundled_program("rcell"), Sys.which("rcell")[[1]]
   ))
   if (!nzchar(path) || file.access(path, 1L) != 0L) {
     missing_program("the program rcell, which reads grids of its own form, was not found")
@@ -139,7 +142,8 @@ execute <- function(path, folder, words = character(), input = NULL) {
   to <- file.path(folder, "out")
   start <- function() {
     process$new(
-      command[[1]], command[-1], stdin = from, stdout = to, stderr = "|", wd = folder, cleanup = TRUE
+      command[[1]], command[-1], stdin = from, stdout = to, stderr = "|", wd = folder,
+      cleanup = TRUE
     )
   }
   child <- tryCatch(start(), rlib_error = function(e) failed(conditionMessage(e)))

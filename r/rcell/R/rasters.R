@@ -17,8 +17,9 @@ raster_source <- function(name, raster, is_opened_here = FALSE) {
   if (!hasValues(raster)) bad_map(name, "a raster without values")
   scale <- scoff(raster)
   if (any(scale != c(1, 0))) {
-    text <- "its values are scaled: each cell times %g, plus %g; write them out as whole numbers first"
-    bad_map(name, sprintf(text, scale[[1]], scale[[2]]))
+    text <- "its values are scaled: each cell times %g, plus %g; %s"
+    remedy <- "write them out as whole numbers first"
+    bad_map(name, sprintf(text, scale[[1]], scale[[2]], remedy))
   }
   check_file(name, raster, chosen$facts, chosen$band)
   list(

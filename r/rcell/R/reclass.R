@@ -31,7 +31,10 @@ rules_of <- function(rules) {
   } else if (is.data.frame(rules)) {
     table <- rules_of_frame(rules)
   } else if ((is.atomic(rules) || is.list(rules)) && length(rules) && !is.null(names(rules))) {
-    new <- vapply(rules, function(new) if (length(new) == 1L) as.character(new) else NA_character_, "")
+    if (any(lengths(rules) != 1L)) {
+      refuse("each class must have one new class", "rules", status = 2L)
+    }
+    new <- vapply(rules, as.character, "")
     places <- sprintf("element %d: ", seq_along(rules))
     table <- list(values = names(rules), new = unname(new), labels = NULL, places = places)
   } else {
@@ -83,7 +86,8 @@ checked_rules <- function(table) {
   high[is.na(high)] <- low[is.na(high)]
   is_range <- grepl(VALUES, values, perl = TRUE) & abs(low) <= CATEGORY_LIMIT &
     abs(high) <= CATEGORY_LIMIT & low <= high
-  check_rule(is_range %in% TRUE, table, values, "is not a class or a range of classes such as 31-39")
+  reason <- "is not a class or a range of classes such as 31-39"
+  check_rule(is_range %in% TRUE, table, values, reason)
   new <- trimmed(table$new)
   new[is.na(new)] <- ""
   codes <- suppressWarnings(as.numeric(new))

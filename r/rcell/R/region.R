@@ -70,7 +70,8 @@ differences <- function(first, other) {
   for (side in c("rows", "cols")) {
     by <- other[[side]] - first[[side]]
     if (by == 0L) next
-    text <- sprintf("%s is %d, not %d (%d %s)", side, other[[side]], first[[side]], abs(by), more(by))
+    text <- "%s is %d, not %d (%d %s)"
+    text <- sprintf(text, side, other[[side]], first[[side]], abs(by), more(by))
     texts <- c(texts, text)
   }
   texts

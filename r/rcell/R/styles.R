@@ -27,7 +27,8 @@ legend_of_style <- function(path, name) {
   if (!any(is_class)) refuse(sprintf("%s: the style has no classes", path), name)
   entries <- Map(attributes_of, tags$text[is_class], tags$place[is_class], list(wrong))
   attribute <- function(key) {
-    vapply(entries, function(entry) if (key %in% names(entry)) entry[[key]] else "", "", USE.NAMES = FALSE)
+    texts <- vapply(entries, function(entry) unname(entry[key]), "")
+    unname(ifelse(is.na(texts), "", texts))
   }
   places <- sprintf("%s, line %d: ", path, lines_at(text, tags$place[is_class]))
   checked_legend(attribute("value"), attribute("label"), name, places)
@@ -59,7 +60,9 @@ tags_of <- function(text, wrong) {
     if (is_open[[place]]) around <- c(names[[place]], around)
   }
   if (length(around) > 1L) wrong(nchar(text, "bytes"), sprintf("<%s> has no end", around[[1]]))
-  list(text = tags[!is_end], place = places[!is_end], name = names[!is_end], parent = parents[!is_end])
+  list(
+    text = tags[!is_end], place = places[!is_end], name = names[!is_end], parent = parents[!is_end]
+  )
 }
 
 attributes_of <- function(tag, place, wrong) {

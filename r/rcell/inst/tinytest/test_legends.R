@@ -1,0 +1,60 @@
+source("helpers.R")
+
+# Legends: what a file may look like, and the error of each that is wrong.
+room <- tempfile("legends")
+dir.create(room)
+land <- matrix(c(1, 2, 3), 1)
+written <- function(name, ...) {
+  path <- file.path(room, name)
+  writeBin(charToRaw(paste0(...)), path)
+  path
+}
+labels_by <- function(legend) suppressWarnings(rcell_composition(land, labels = legend))$label
+fault <- function(legend) sub("^.*/[a-z]+[.][a-z]+(, |: | )?", "", refusal(rcell_composition(land, labels = legend))$text)
+wanted <- c("wood", "heath, dry", NA)
+
+for (text in c("value,label\n1,wood\n2,\"heath, dry\"\n", "Label,VALUE\r\nwood,1.0\r\n\r\n\"heath, dry\",+2", "\ufeffvalue,label,colour,note\n1,wood,#00ff00,x\n2, \"heath, dry\" ,,\n3,,,\n",
+  "\n value , label \n1,wood,,\n2,\"heath, dry\",\n", "value\tlabel\n1\twood\n2\theath, dry\n")) {
+  expect_identical(labels_by(written("a.csv", text)), wanted, info = text)
+}
+expect_identical(labels_by(data.frame(Label = wanted[1:2], Value = 1:2)), wanted)
+expect_identical(labels_by(list("1" = "wood", "2" = "heath, dry")), wanted)
+expect_identical(labels_by(written("a.csv", "value,label\n1,\"say \"\"x\"\"\nand more\"\n")), c("say \"x\"\nand more", NA, NA))
+expect_identical(fault(written("a.csv", "value,label\n1,\"two\nlines\"\nx,y\n")), "line 4: x is not a whole number within 2147483647 either way")
+expect_identical(fault(written("a.csv", "value,label\n1,a\n99999999999,b\n")), "line 3: 99999999999 is not a whole number within 2147483647 either way")
+expect_identical(fault(written("a.csv", "value,label\n1,a\n\n1.0,b\n")), "line 4: the value 1.0 is there twice")
+expect_identical(fault(written("a.csv", "value,label\n1,a, b\n")), "line 2: 3 fields under a header of 2: put a label with a comma in quotes")
+expect_identical(fault(written("a.csv", "value,label,color\n1,a,red\n")), "line 2: red is not a colour such as #00ff7f")
+expect_identical(fault(written("a.csv", "value;label\n1;a\n")), "line 1: no header with value and label, divided by commas or tabs: value;label")
+expect_identical(fault(written("a.csv", "value,label\n")), "has no values below its header")
+expect_identical(fault(written("a.csv", "value,label\n1,\"a\n")), "line 2: a quotation mark without its pair")
+expect_identical(fault(written("a.csv", " \n")), "is empty")
+path <- written("a.csv", "value,label\n1,a\n")
+writeBin(c(charToRaw("value,label\n1,a"), as.raw(0), charToRaw("b\n")), path)
+expect_identical(fault(path), "line 2: a byte 0, which no text has: save it as UTF-8")
+writeBin(c(charToRaw("value,label\n1,a"), as.raw(0xe4), charToRaw("b\n")), path)
+expect_true(startsWith(fault(path), "line 2: not in UTF-8: save the file as UTF-8"))
+
+# Styles: XML with quotes of both kinds, references to letters, comments, and no entities.
+style <- function(...) written("a.qml", "<!DOCTYPE qgis PUBLIC 'http://mrcc.com/qgis.dtd' 'SYSTEM'>\n<qgis><colorPalette>\n", ..., "</colorPalette></qgis>\n")
+entry <- "<paletteEntry value=\"%s\" color='#00ff00' label=\"%s\"/>"
+expect_identical(labels_by(style(sprintf(entry, "1", "a > b"), "<!-- <paletteEntry value='2' label='x'/> -->", sprintf(entry, "2.0", "w&#246;d &amp; &#x41;"))), c("a > b", "w\u00f6d & A", NA))
+expect_identical(fault(style(sprintf(entry, "1.5", "a"))), "line 3: 1.5 is not a whole number within 2147483647 either way")
+expect_identical(fault(style(sprintf(entry, "1", "&own;"))), "line 3: &own; is not a letter that XML knows")
+expect_identical(fault(style(sprintf(entry, "1", "&#0;"))), "line 3: &#0; is not a letter")
+expect_identical(fault(style("<paletteEntry value=\"1\">")), "line 3: </colorPalette> where <paletteEntry> should end")
+expect_identical(fault(style()), "the style has no classes")
+expect_identical(fault(written("a.qml", "<!DOCTYPE q [<!ENTITY a \"b\">]><q/>")), "line 1: not XML, or XML with entities of its own, which are not read")
+expect_identical(fault(written("a.qml", "<?xml version=\"1.0\" encoding=\"ISO-8859-1\"?><q/>")), "line 1: its encoding is ISO-8859-1: save it as UTF-8")
+items <- "<colorrampshader><item value=\"1\" label=\"a\"/><item value=\"inf\" label=\"b\"/></colorrampshader>"
+expect_identical(fault(style(items)), "line 3: inf is not a whole number within 2147483647 either way")
+expect_identical(labels_by(style(sub("inf", "2", items))), c("a", "b", NA))
+expect_true(startsWith(refusal(rcell_composition(land, labels = 7))$text, "must be the path of a CSV, TSV or QML file"))
+expect_identical(refusal(rcell_composition(land, labels = list("1" = c("a", "b"))))$text, "each class must have one label")
+
+# Two classes with one label are two rows and two columns.
+matrix <- rcell_change(land, matrix(c(2, 2, 1), 1), labels = c("1" = "wood", "2" = "wood", "3" = "2"))$matrix
+expect_identical(names(matrix), c("from", "wood (1)", "wood (2)"))
+expect_identical(matrix$from, c("wood (1)", "wood (2)", "2"))
+unlink(room, recursive = TRUE)
+expect_identical(leftovers(), character())

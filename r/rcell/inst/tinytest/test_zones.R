@@ -1,0 +1,94 @@
+source("helpers.R")
+
+# Zones as polygons. Of each rule one test; fronts/cases has them for files of several formats.
+room <- tempfile("zones")
+dir.create(room)
+file <- function(name) file.path(room, name)
+land <- rast(matrix(1, 4, 8), extent = ext(0, 8, 0, 4), crs = "EPSG:32632")
+box <- function(west, east) sprintf("POLYGON ((%1$g 0, %2$g 0, %2$g 4, %1$g 4, %1$g 0))", west, east)
+polygons <- function(texts, ...) {
+  shapes <- vect(texts, crs = "EPSG:32632")
+  values(shapes) <- data.frame(...)
+  shapes
+}
+stored <- function(shapes, name, layer = "zones", ...) {
+  writeVector(shapes, file(name), layer = layer, ...)
+  file(name)
+}
+cells_of <- function(...) {
+  table <- suppressWarnings(rcell_composition(land, ..., area = NULL))
+  stats::setNames(table$cells, if (is.null(table$zone_label)) table$zone else table$zone_label)
+}
+
+# A missing value is no zone and takes no cell from another; terra would read a missing number as 0.
+corners <- function(east) sprintf("[[[0,0],[%1$d,0],[%1$d,4],[0,4],[0,0]]]", east)
+feature <- "{\"type\":\"Feature\",\"properties\":{\"number\":%s,\"name\":%s},\"geometry\":{\"type\":\"Polygon\",\"coordinates\":%s}}"
+features <- sprintf(feature, c("5", "null"), c("\"west\"", "\"\""), corners(c(4L, 8L)))
+path <- file("missing.geojson")
+writeLines(c("{\"type\":\"FeatureCollection\",\"crs\":{\"type\":\"name\",\"properties\":{\"name\":\"urn:ogc:def:crs:EPSG::32632\"}},\"features\":[",
+  paste(features, collapse = ",\n"), "]}"), path)
+shapes <- polygons(c(box(0, 4), box(0, 8)), number = c(5, NA))
+expect_identical(cells_of(zones = path, zone_field = "number"), c("5" = 16L))
+expect_identical(cells_of(zones = path, zone_field = "name"), c(west = 16L))
+expect_identical(cells_of(zones = shapes, zone_field = "number"), c("5" = 16L))
+expect_identical(refusal(rcell_composition(land, zones = path, zone_field = "x"))$text, "no field x: there are number, name")
+
+# Decimals and long numbers are labels, each with all its digits.
+shapes <- polygons(c(box(0, 4), box(4, 8)), share = c(0.1 + 0.2, 0.3), code = c(5, 3e9), half = c(1, 2.5))
+path <- stored(shapes, "decimals.gpkg")
+expect_identical(cells_of(zones = path, zone_field = "share"), c("0.30000000000000004" = 16L, "0.3" = 16L))
+expect_identical(cells_of(zones = shapes, zone_field = "code"), c("5.0" = 16L, "3000000000.0" = 16L))
+expect_identical(cells_of(zones = path, zone_field = "half"), c("1.0" = 16L, "2.5" = 16L))
+
+# Without a field a zone has the number of its feature: the fid of a layer, the row of a SpatVector.
+expect_identical(cells_of(zones = path), c("1" = 16L, "2" = 16L))
+shapes$FID <- 7:8
+path <- stored(shapes, "zones.shp")
+expect_identical(cells_of(zones = path), c("0" = 16L, "1" = 16L))
+expect_identical(cells_of(zones = path, zone_field = "FID"), c("7" = 16L, "8" = 16L))
+shapes$FID <- NULL
+expect_identical(cells_of(zones = shapes), c("1" = 16L, "2" = 16L))
+
+# Several layers.
+two <- stored(shapes, "two.gpkg", "first")
+writeVector(shapes[1], two, layer = "second", insert = TRUE)
+text <- sprintf("has the layers first, second: choose one, for example layer = \"first\" or \"%s|layername=first\"", two)
+expect_identical(refusal(rcell_composition(land, zones = two))$text, text)
+expect_identical(cells_of(zones = two, layer = "second"), c("1" = 16L))
+expect_identical(cells_of(zones = paste0(two, "|layername=second")), c("1" = 16L))
+expect_identical(refusal(rcell_composition(land, zones = two, layer = "x"))$text, "no layer x: there are first, second")
+
+# Polygons below others: the later one has the cells, and the warning names each feature that loses some.
+stack <- polygons(c(box(0, 4), box(0, 4), box(2, 8), box(0.1, 0.2)), name = c("a", "b", "c", "d"))
+hidden <- polygons(rep(box(0, 4), 3), name = c("a", "b", "c"))
+expect_warning(rcell_composition(land, zones = hidden), "features 1, 2 lose cells")
+expect_warning(rcell_composition(land, zones = stack), "16 cells are in more than one polygon, the first at row 1, column 1: the later polygon has them, and feature 1 loses cells")
+expect_warning(rcell_composition(land, zones = stack), "zones: 1 of 4 polygons contain no centre of a cell: feature 4")
+expect_warning(rcell_composition(land, zones = stack, zone_field = "name"), "and feature 1 [(]a[)] loses cells")
+expect_identical(cells_of(zones = stack, zone_field = "name"), c(b = 8L, c = 24L))
+
+# What is no layer of polygons.
+expect_identical(refusal(rcell_composition(land, zones = vect("POINT (1 1)", crs = "EPSG:32632")))$text, "not polygons, but points")
+expect_identical(refusal(rcell_composition(land, zones = file("none.gpkg")))$text,
+  sprintf("cannot open: %s: No such file or directory", file("none.gpkg")))
+writeLines("north", file("text.md"))
+expect_true(grepl("neither polygons nor a raster", refusal(rcell_composition(land, zones = file("text.md")))$text))
+expect_identical(refusal(rcell_composition(land, zones = land, zone_field = "x"))$text, "zone_field= names a field of polygons, and zones= is a raster")
+expect_identical(refusal(rcell_composition(land, zone_field = "x"))$text, "zone_field= and layer= need zones=")
+
+# An output is no file that the call reads: a raster, its sidecars, the sources of a VRT, a crosswalk.
+labelled <- land
+levels(labelled) <- data.frame(value = 1, cover = "wood")
+writeRaster(labelled, file("in.tif"), datatype = "INT1U")
+writeLines(sprintf("<VRTDataset rasterXSize=\"8\" rasterYSize=\"4\"><GeoTransform>0, 1, 0, 4, 0, -1</GeoTransform><VRTRasterBand dataType=\"Byte\" band=\"1\"><SimpleSource><SourceFilename>%s</SourceFilename><SourceBand>1</SourceBand></SimpleSource></VRTRasterBand></VRTDataset>", file("in.tif")), file("of.vrt"))
+writeLines(c("value,new", "1,2"), file("rules.csv"))
+before <- tools::md5sum(list.files(room, full.names = TRUE))
+same <- "the output file is the input file: give another filename="
+expect_identical(refusal(rcell_majority(file("of.vrt"), filename = file("in.tif"), overwrite = TRUE))$text, same)
+expect_identical(refusal(rcell_majority(file("in.tif"), filename = file("in.tif.aux.xml"), overwrite = TRUE))$text, same)
+expect_identical(refusal(rcell_reclass(land, file("rules.csv"), filename = file("rules.csv"), overwrite = TRUE))$text, same)
+expect_identical(refusal(rcell_align(land, to = file("in.tif"), filename = file("in.tif"), overwrite = TRUE))$text, same)
+expect_identical(tools::md5sum(names(before)), before)
+
+unlink(room, recursive = TRUE)
+expect_identical(leftovers(), character())
