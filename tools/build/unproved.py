@@ -4,7 +4,8 @@
     unproved.py [--example] [PROGRAM..]      without names, all programs
 
 `rt try` has clang compile a program for a run that looks for mistakes. Here a substitute for clang takes the same code before that,
-and the kit's clang compiles it as it compiles a proved program. What is up to date is not compiled again. bin/ is for proved programs, and is
+and the kit's clang compiles it. It is several times slower than the proved program and takes more of the stack, so it is not for
+benchmarks. What is up to date is not compiled again. bin/ is for proved programs, and is
 left as it is. With --example the land cover of examples/land-cover is counted with test-bin/rcell.
 """
 import argparse
