@@ -8,11 +8,10 @@ import sys
 
 # The order of use; what is public and not named here follows under the last heading.
 GROUPS = {
-    "Answers": "composition cross change patches zonal majority align",
+    "Answers": "composition cross change patches adjacency zonal majority reclass clump align",
     "Scripts": "run table grid",
-    "Maps": "Map bands Grid Region Aligned",
-    "Tables": "Table StatsTable Pivot Change Result",
-    "Errors": "RcellError Refused BadMap OtherRegion OtherCrs ReadFailed WriteFailed OutOfMemory Killed "
+    "Maps and results": "Raster MapLike bands Region Aligned Change Result",
+    "Errors": "RcellError BadArgument Refused BadMap OtherRegion OtherCrs ReadFailed WriteFailed OutOfMemory Killed "
     "MissingLibrary MissingProgram WrongProgram",
     "Others": "",
 }
