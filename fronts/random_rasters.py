@@ -4,7 +4,7 @@
 
 Sixteen rasters of one place go through one call of a package, and their cells come back with the labels of one of them. A raster that is no
 map must be rejected, by row and column if a cell is bad, and so must maps of two places. Of r.rcell its own part is tried, from the
-numbers that GRASS hands out to the text of a grid; `shell` is rcell-tif and rcell; `tiles` writes one map of each call by tiles.
+numbers that GRASS hands out to the text of a grid; `shell` is `rcell-gis convert` and rcell; `tiles` writes one map of each call by tiles.
 Progress comes every 5,000 rasters; a group is made again by --seed and --from. The last line is 'N passed, M failed, K skipped'.
 """
 
@@ -408,16 +408,12 @@ def answer_of_grass(asked: Asked) -> Answer:
 
 
 def answer_of_shell(asked: Asked) -> Answer:
-    sys.path[:0] = [str(REPOSITORY / "helpers")] * (str(REPOSITORY / "helpers") not in sys.path)
-    import rcell_tif
-
     def text_of(path: str) -> bytes:
-        written: list[bytes] = []
-        dataset = gdal.Open(path)
-        rcell_tif.write_grid(
-            f"{os.environ['RCELL']}-pipe", dataset, rcell_tif.one_band(dataset), written.append
-        )
-        return b"".join(written)
+        words = [str(REPOSITORY / "helpers/rcell-gis"), "convert", path, f"{path}.txt"]
+        ran = subprocess.run(words, capture_output=True, check=False)
+        if ran.returncode:
+            raise ValueError(ran.stderr.decode())
+        return pathlib.Path(f"{path}.txt").read_bytes()
 
     return answer_of_program(asked, text_of)
 

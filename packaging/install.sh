@@ -37,7 +37,7 @@ list() {
     done
 }
 
-# The helpers go to bin, their pages to the others, and their modules below share/rcell, with the Python package, which rcell-gis runs.
+# rcell-gis goes to bin, its page to the others, and the Python package, which it runs, below share/rcell.
 helpers() {
     files python/src | grep -v '\.pyc$' | while read -r file; do echo "644 $file $shared/${file#python/src/}"; done
     files helpers | while read -r file; do

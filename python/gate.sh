@@ -21,7 +21,7 @@ else
     add 'with numpy alone' "$python" tests/gate.py
     if has 'pytest, hypothesis, rasterio, osgeo, pandas, xarray, rioxarray, zarr, distributed, tqdm, psutil, cryptography, pyproj, fiona, geopandas, matplotlib, numpydoc, scipy' && command -v grass > /dev/null; then
         add 'at the edge' "$python" tests/gate.py tests/test_gdal.py tests/test_edge.py tests/test_edge_files.py
-        add 'the calls' "$python" tests/gate.py tests/test_last_mile.py tests/test_shell.py tests/test_inputs.py tests/test_grass.py
+        add 'the calls' "$python" tests/gate.py tests/test_last_mile.py tests/test_shell.py tests/test_shell_texts.py tests/test_inputs.py tests/test_grass.py
         add 'zones, legends, areas and arguments' "$python" tests/gate.py tests/test_zones.py tests/test_legends.py tests/test_areas.py tests/test_arguments.py tests/test_more_answers.py
         add 'with Dask' "$python" tests/gate.py tests/tiles/test_dask.py tests/tiles/test_memory.py
         add 'random rasters by tiles' "$python" ../fronts/random_rasters.py --count 320 tiles

@@ -7,7 +7,7 @@ dist=${1:-dist}
 copy_tracked r/rcell "$room/source/rcell"
 inst=$room/source/rcell/inst
 for name in rcell rcell-pipe; do install -D -m 755 "bin/$name-static" "$inst/bin/$name"; done
-# The code of rcell-explain, which finds what to write instead of a bad line.
+# The code that finds what to write instead of a bad line.
 copy_tracked python/src/rcell/core "$inst/python/rcell/core"
 install -m 644 python/src/rcell/__init__.py "$inst/python/rcell"
 # The maps that docs/r.md works with, and that the tests hold against terra.

@@ -73,9 +73,7 @@ class Recorder:
             self.requests.append(f"{self._folder}/request{len(self.requests)}")
             lines = [script, *(f"r.out.ascii input={name}" for name in wanted)]
             with open(self.requests[-1], "wb") as file:
-                file.writelines(
-                    request([runs._sent(*each) for each in maps.items()], "\n".join(lines).encode())
-                )
+                file.writelines(request(runs._sent(maps), "\n".join(lines).encode()))
             return asked(script, maps, wanted, *rest)
 
         runs._frames = recording  # type: ignore[assignment]

@@ -539,7 +539,11 @@ def test_the_program_judges_the_script_before_a_map_is_missed() -> None:
         ("r.stats -cn lc", 13, "r.stats -cn input=lc"),
         ("r.stats -c in=lc", 12, "r.stats -c input=lc"),
         ("r.stats -c input=lc output=t.txt", 21, "r.stats -c input=lc"),
-        ("r.stats -c -1 input=lc", None, "one of the two"),
+        (
+            "r.stats -c -1 input=lc",
+            None,
+            "one of the two: `-1` goes neither with `-c` nor with `after=`",
+        ),
         ("r.stat input=lc", None, "r.stats input=lc"),
         ("r.reclass input=lc output=k\n1 = 1 a", None, "a line `end` after the last rule"),
         ("r.mapcalc x = lc = 2", 18, "r.mapcalc x = lc == 2"),

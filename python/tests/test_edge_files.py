@@ -160,7 +160,7 @@ def test_an_input_is_no_output(room: pathlib.Path) -> None:
     ran = shell(room, f"{TIF}x.tif --out n=./x.tif")
     assert (ran.returncode, ran.stderr) == (
         2,
-        "rcell-gis: arguments: ./x.tif: two outputs go to one file: choose another name\n",
+        "rcell-gis: ./x.tif: two outputs go to one file: choose another name\n",
     )
 
 
@@ -361,7 +361,7 @@ def test_a_command_states_a_reference_system(raster: Write) -> None:
         f"b={plain}",
     ]
     ran = subprocess.run(words, capture_output=True, text=True, env=environment(), check=False)
-    assert (ran.returncode, 'state it with crs="EPSG:25832"' in ran.stderr) == (1, True)
+    assert (ran.returncode, "state it with --crs EPSG:25832" in ran.stderr) == (1, True)
     ran = subprocess.run(
         [*words, "--crs", "EPSG:25832"],
         capture_output=True,

@@ -99,7 +99,7 @@ def test_a_table_has_the_ending_of_one(room: pathlib.Path, capsys: Any) -> None:
         assert main(["composition", "m.tif", "--out", name]) == 2
         assert (
             capsys.readouterr().err
-            == f"rcell-gis: arguments: {name}: a table is written as .csv, .tsv, .txt, .md or .json\n"
+            == f"rcell-gis: {name}: a table is written as .csv, .tsv, .txt, .md or .json\n"
         )
     assert files_of(room) == before
 

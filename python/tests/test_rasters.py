@@ -85,7 +85,11 @@ def test_without_georeference(raster: Write) -> None:
 @pytest.mark.parametrize(
     ("array", "words", "told"),
     [
-        (np.stack([LAND, LAND]), {}, "has 2 bands: give one, as rasterio.band(dataset, 1)"),
+        (
+            np.stack([LAND, LAND]),
+            {},
+            "has 2 bands: choose one, for example rasterio.band(dataset, 1)",
+        ),
         (LAND, {"transform": (25, 1, 0, 0, -25, 0)}, "a rotated transform"),
         (
             LAND,

@@ -100,7 +100,7 @@ def test_every_argument_has_a_help_text() -> None:
             each for action in parsers for sub in action.choices.values() for each in without(sub)
         ]
 
-    assert without(shell._words()) == []
+    assert without(shell._parser()[0]) == []
 
 
 def test_an_empty_table_says_so(raster: Write, capfdbinary: Any) -> None:
@@ -112,7 +112,8 @@ def test_an_empty_table_says_so(raster: Write, capfdbinary: Any) -> None:
     with pytest.raises(SystemExit):
         main(["patches", raster(LAND, nodata=0), "--classes", "31;32"])
     assert (
-        "give whole numbers with commas between them, as 31,32, not 31;32" in said(capfdbinary)[1]
+        "give whole numbers with commas between them, for example 31,32; got 31;32"
+        in said(capfdbinary)[1]
     )
 
 
@@ -243,8 +244,8 @@ def test_maps_are_written_all_or_none(tmp_path: Any, capsys: Any) -> None:
             4,
             "lc: cannot open: /nowhere: No such file or directory",
         ),
-        (["run", "r.stats -c input=lc", "lc"], 2, "arguments: lc: write NAME=PATH"),
-        (["cross", "lc=MAP", "lc=MAP"], 2, "arguments: lc=MAP: the name lc is given twice"),
+        (["run", "r.stats -c input=lc", "lc"], 2, "lc: write NAME=PATH"),
+        (["cross", "lc=MAP", "lc=MAP"], 2, "lc=MAP: the name lc is given twice"),
         (
             ["run", "/nowhere/script", "lc=MAP"],
             4,
@@ -253,7 +254,7 @@ def test_maps_are_written_all_or_none(tmp_path: Any, capsys: Any) -> None:
         (
             ["run", "r.clump input=lc output=k", "lc=MAP", "--out", "j=j.tif"],
             2,
-            "name must be a map of the script; got 'j', and there are lc, k",
+            "no map j: there are lc, k",
         ),
         (
             ["run", "r.clump input=lc output=k", "lc=MAP", "--out", "k=/nowhere/k.tif"],
@@ -263,15 +264,10 @@ def test_maps_are_written_all_or_none(tmp_path: Any, capsys: Any) -> None:
         (
             ["majority", "MAP", "MAP"],
             2,
-            "arguments: MAP: the output file is the input file: choose another name",
+            "MAP: the output file is the input file: choose another name",
         ),
-        (["majority", "MAP", "m.tif", "--size", "4"], 2, "size must be odd, from 3 to 15; got 4"),
-        (
-            ["zonal", "MAP", "MAP", "--quantiles", "a"],
-            2,
-            "arguments: --quantiles are numbers from 0 to 1, not a",
-        ),
-        (["change", "MAP"], 2, "after must be a map, unless before is a list of maps; got None"),
+        (["majority", "MAP", "m.tif", "--size", "4"], 2, "--size must be odd, from 3 to 15; got 4"),
+        (["change", "MAP"], 2, "give two maps or more, in the order of their years"),
         (
             ["composition", "MAP", "--labels", "/nowhere.csv"],
             4,

@@ -27,7 +27,7 @@ LICENCES = {
 NOBODY = 65534
 ELSEWHERE = {"TZ": "Asia/Kolkata", "LC_ALL": "C.UTF-8", "LANG": "de_DE.UTF-8"}
 STRAY = (
-    "helpers/rcell-tif~",
+    "helpers/rcell-gis~",
     "examples/secret.key",
     "docs/notes.md",
     "r/rcell/R/x.R",

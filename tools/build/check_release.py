@@ -1,6 +1,6 @@
 #!/usr/bin/env python3
 """Makes the release of what is built, and tries it: the static programs against the documents and the models, its files
-(tools/build/check_artefacts.py), the quick start, the helpers and the joiner from the unpacked files, `make install`.
+(tools/build/check_artefacts.py), the quick start, rcell-gis and the joiner from the unpacked files, `make install`.
 
     check_release.py [--keep FOLDER]
 
@@ -156,7 +156,7 @@ def check_needs(count, folder, names):
     )
     said = (depends.stdout + depends.stderr).strip()
     count.add(
-        "the package depends on python3 alone, for the helpers", "" if said == "python3" else said
+        "the package depends on python3 alone, for rcell-gis", "" if said == "python3" else said
     )
 
 
@@ -198,6 +198,25 @@ def fault_of_pipe(programs):
     return "" if is_right else f"status {ran.returncode}, {ran.stdout!r}, {ran.stderr!r}"
 
 
+def fault_of_gis(programs, room):
+    """What is wrong with rcell-gis of this folder on a grid, to an ESRI ASCII grid and back, or ''."""
+    with tempfile.TemporaryDirectory(prefix="gis-", dir=room) as here:
+        with open(f"{here}/upper.txt", "w", encoding="ascii") as file:
+            file.write(BANDS["upper"])
+        for words in (("upper.txt", "upper.asc"), ("upper.asc", "again.txt")):
+            ran = subprocess.run(
+                [f"{programs}/rcell-gis", "convert", *words],
+                cwd=here,
+                capture_output=True,
+                text=True,
+            )
+            if ran.returncode:
+                return f"status {ran.returncode}, {ran.stderr!r}"
+        with open(f"{here}/again.txt", encoding="ascii") as file:
+            text = file.read()
+    return "" if text == BANDS["upper"] else f"it came back as {text!r}"
+
+
 def fault_of_page(prefix, name):
     """What is wrong with the manual page of a program below a prefix, or ''."""
     found = next(iter(glob.glob(f"{prefix}/{PAGES}/{name}.1*")), None)
@@ -235,7 +254,7 @@ def check_links(count, what, prefix):
 
 
 def check_unpacked(count, room, folder, names):
-    """From the tarball and from the package: the quick start, then the pages, rcell-join, rcell-pipe and the helpers."""
+    """From the tarball and from the package: the quick start, then the pages, rcell-join, rcell-pipe and rcell-gis."""
     for kind, ending, programs in (
         ("tarball", "linux-x86_64.tar.gz", "rcell-*/bin"),
         ("package", ".deb", "unpacked/usr/bin"),
@@ -254,7 +273,7 @@ def check_unpacked(count, room, folder, names):
         check_links(count, f"the {kind}", os.path.dirname(found))
         count.add(f"rcell-join of the {kind}", fault_of_joining(found, room))
         count.add(f"rcell-pipe of the {kind}", fault_of_pipe(found))
-        count.add_run(f"helpers of the {kind}", [sys.executable, "helpers/tests", "--bin", found])
+        count.add(f"rcell-gis of the {kind}", fault_of_gis(found, room))
 
 
 def check_install(count, room):

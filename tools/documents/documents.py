@@ -15,7 +15,7 @@ Its fenced blocks are taken from the top:
 The folder that a block goes to with `cd` is also the next one's. With --write what is printed takes the place of what is shown.
 Of docs/grass.md the program's side of each table is also run (differences.py), and the flags and keys that docs/commands.md,
 docs/rcell-join.md name are tried (command_options.py). What needs no program is tried first, and with --texts
-alone, or what ends in a WORD, as in `--texts links`: docs/errors.md has the table of python/src/rcell/core/messages.json (messages.py), docs/crates.svg the crates of crates.txt
+alone, or what ends in a WORD, as in `--texts links`: docs/errors.md has each message of the program (messages.py), docs/crates.svg the crates of crates.txt
 (crate_graph.py), docs/proofs.md and README.md the numbers of lines that have to be believed (reading.py), README.md and docs/speed.md
 the figures of bench/RESULTS.md (figures.py), each link and anchor leads somewhere (links.py), the edits, clauses and laws that the
 documents cite exist (citations.py), the text before a block to be saved names its file (saved_blocks.py), the code of the site
@@ -418,7 +418,7 @@ def main():
         "rcell-pipe": os.path.abspath(settings.pipe),
     }
     texts = [
-        ("the messages", lambda: messages.check(settings.write)),
+        ("the messages", lambda: messages.check()),
         ("the links", links.check),
         ("the citations", citations.check),
         ("the blocks to be saved", saved_blocks.check),

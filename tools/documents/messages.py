@@ -1,8 +1,4 @@
-"""The table of messages in docs/errors.md, which is made from python/src/rcell/core/messages.json.
-
-The table is the one that the file gives, and the file has each message of the program, and no other. rcell-explain says the same
-causes.
-"""
+"""The messages of the program: docs/errors.md has a row for each, and python/src/rcell/core/messages.json a sentence, and neither has more."""
 import glob
 import json
 import os
@@ -14,56 +10,28 @@ sys.path.insert(1, f"{ROOT}/tools/build")
 
 import build
 
-FILE, DOCUMENT = f"{ROOT}/python/src/rcell/core/messages.json", f"{ROOT}/docs/errors.md"
-TABLES = re.compile(r"^## Of the command line .*", re.MULTILINE | re.DOTALL)
+FILE, DOCUMENT = "python/src/rcell/core/messages.json", "docs/errors.md"
+ROW = re.compile(r"^\| `([^`]+)` \|", re.MULTILINE)
 # Kinds of an error that no run of the program reports.
 UNREPORTED = {"reader failed"}
 
 
-def read_parts():
-    with open(FILE, encoding="utf-8") as file:
-        return json.load(file)["parts"]
+def sentences():
+    """The messages that have a sentence; an entry that is not a message is about a word of a line, and has its key."""
+    with open(f"{ROOT}/{FILE}", encoding="utf-8") as file:
+        parts = json.load(file)
+    return {text for part in parts.values() for text in part} - {
+        "null_value",
+        "options that exclude each other",
+        "quotient",
+        "separator",
+    }
 
 
-def filled(text, example):
-    """A text of the table with the words of the example; a bar would end its cell."""
-    text = re.sub(r"\{([a-z_]+)\}", lambda found: example.get(found[1], found[0]), text)
-    return text.replace("|", "\\|")
-
-
-def rows_of(part):
-    """The rows of a part, as lists of cells: the text once, then a row for each cause."""
-    for message in part["messages"]:
-        for at, cause in enumerate(message["causes"]):
-            example = cause.get("example", {})
-            is_first = at == 0
-            cells = [f"`{message['text']}`" if is_first else ""]
-            cells += [message["source"] if is_first else ""] if part.get("sources") else []
-            cells += [filled(cause["cause"], example), filled(cause["instead"], example)]
-            cells += [message["line"] if is_first else ""] if part.get("lines") else []
-            yield cells
-
-
-def table_of(part):
-    heads = [
-        "Text",
-        *["Source"] * bool(part.get("sources")),
-        "Cause",
-        "What to do",
-        *["Line"] * bool(part.get("lines")),
-    ]
-    lines = ["| " + " | ".join(heads) + " |", "|" + "---|" * len(heads)]
-    lines += [
-        "|" + "".join(f" {cell} |" if cell else " |" for cell in cells) for cells in rows_of(part)
-    ]
-    return "\n".join(lines)
-
-
-def tables():
-    return (
-        "".join(f"## {part['title']}\n\n{table_of(part)}\n\n" for part in read_parts()).rstrip("\n")
-        + "\n"
-    )
+def rows():
+    """The messages that the tables of the document begin with."""
+    with open(f"{ROOT}/{DOCUMENT}", encoding="utf-8") as file:
+        return set(ROW.findall(file.read().partition("## Of the command line")[2]))
 
 
 def messages_of_the_code():
@@ -84,37 +52,13 @@ def messages_of_the_code():
     return found - UNREPORTED
 
 
-def check(write=False):
-    """How many messages have their rows, and what is wrong with the file or the document."""
-    with open(DOCUMENT, encoding="utf-8") as file:
-        document = file.read()
-    right = TABLES.sub(lambda _: tables(), document)
-    if write and right != document:
-        with open(DOCUMENT, "w", encoding="utf-8") as file:
-            file.write(right)
-    faults = (
-        []
-        if write or right == document
-        else [
-            "docs/errors.md: the table is not that of python/src/rcell/core/messages.json (tools/documents/documents.py --texts --write)"
-        ]
-    )
-    texts, code = {
-        message["text"] for part in read_parts() for message in part["messages"]
-    }, messages_of_the_code()
-    faults += [
-        f"python/src/rcell/core/messages.json: no row for the message '{text}'"
-        for text in sorted(code - texts)
+def check():
+    """How many messages the document and the file have, and which are missing or no messages."""
+    code = messages_of_the_code()
+    faults = [
+        f"{name}: {told} '{text}'"
+        for name, found in ((DOCUMENT, rows()), (FILE, sentences()))
+        for told, texts in (("nothing of", code - found), ("there is no message", found - code))
+        for text in sorted(texts)
     ]
-    faults += [
-        f"python/src/rcell/core/messages.json: no such message: '{text}'"
-        for text in sorted(texts - code)
-    ]
-    for part in read_parts():
-        faults += [
-            f"python/src/rcell/core/messages.json: {message['text']}: an example lacks a word: {cells}"
-            for message in part["messages"]
-            for cells in rows_of({**part, "messages": [message]})
-            if re.search(r"\{[a-z_]+\}", "".join(cells))
-        ]
-    return len(code & texts), faults
+    return len(code), faults

@@ -14,7 +14,7 @@ Without words all checks are made, and these are they:
     random       100 runs of tools/grass/runs.py: grids and scripts made at random, in both
     addon        the tests of grass/r.rcell in the three locations, on a million cells
     tasks        tools/grass/tasks.py: five tasks on 20 million cells, with GRASS, rcell and r.rcell
-    gdal         GDAL reads what bin/rcell writes, and what it writes as AAIGrid comes back through rcell-aaigrid; the commands of
+    gdal         GDAL reads what bin/rcell writes, and what it writes as AAIGrid comes back through `rcell-gis convert`; the commands of
                  the documents export a GeoTIFF
     pictures     the pictures of docs/howto.md are those that its commands make
 What is not installed is skipped with a message. The last line is 'N passed, M failed'.
@@ -312,7 +312,9 @@ def to_gdal(room, text, script, path, form):
 
 def from_gdal(room):
     """What rcell writes of what GDAL wrote as AAIGrid."""
-    return by_rcell(room, ran([f"{ROOT}/helpers/rcell-aaigrid", "back.asc"], room), WRITES)
+    return by_rcell(
+        room, ran([f"{ROOT}/helpers/rcell-gis", "convert", "back.asc", "-"], room), WRITES
+    )
 
 
 def grids_by_gdal():
@@ -335,7 +337,7 @@ def exports_by_gdal():
     blocks = [
         block
         for name in ("README.md", "docs/howto.md")
-        for word in ("landuse.asc", "rcell-tif landuse.tif")
+        for word in ("landuse.asc", "rcell-gis convert landuse.tif")
         for block in blocks_with(name, word)
     ]
     for place, commands in dict(blocks).items():
@@ -360,7 +362,8 @@ def pictures_by_gdal():
                 file.write(file_of("docs/howto.md", name))
         ran(
             [
-                f"{ROOT}/helpers/rcell-aaigrid",
+                f"{ROOT}/helpers/rcell-gis",
+                "convert",
                 f"{ROOT}/examples/study/landcover.asc",
                 "landcover.txt",
             ],

@@ -3,7 +3,7 @@
 
     files.py [--count N] [--tiffs N] [--seed N]
 
-AAIGrids go through rcell-aaigrid, grids through rcell and rcell.core, TIFFs with changed or missing bytes through rcell-tif and the package. What is
+AAIGrids go through rcell.core.esri_grids, grids through rcell and rcell.core, TIFFs with changed or missing bytes through both readers. What is
 written is compared with a plain reading of the same text, or for TIFFs with what GDAL's own arrays say; what is rejected is rejected by the
 exceptions that end in one line. TIFFs of which GDAL alone reads other cells each time are left out, and counted. Each kind gets N files. Needs
 numpy and, for TIFFs, GDAL's Python. The last line is 'N passed, M failed'.
@@ -24,7 +24,7 @@ from fractions import Fraction
 
 ROOT = os.path.abspath(f"{__file__}/../../..")
 BIN = os.environ.get("RCELL_BIN", f"{ROOT}/bin")
-sys.path[:0] = [f"{ROOT}/tools/model", f"{ROOT}/helpers", f"{ROOT}/python/src"]
+sys.path[:0] = [f"{ROOT}/tools/model", f"{ROOT}/python/src"]
 sys.dont_write_bytecode = True
 GREATEST = 2**31 - 1
 PROGRESS = 5000
@@ -92,14 +92,6 @@ NODATA = [
     "+7",
     "00",
 ]
-
-
-def loaded(name):
-    """A helper program as a module."""
-    loader = importlib.machinery.SourceFileLoader(name.replace("-", "_"), f"{ROOT}/helpers/{name}")
-    module = importlib.util.module_from_spec(importlib.util.spec_from_loader(loader.name, loader))
-    loader.exec_module(module)
-    return module
 
 
 def value_of(word):
@@ -173,17 +165,14 @@ def hostile_aaigrid(chance):
     return text.encode("utf-8"), nodata, words
 
 
-def fault_of_aaigrid(helper, chance, folder):
+def fault_of_aaigrid(esri_grids, chance, folder):
     text, nodata, words = hostile_aaigrid(chance)
     with open(f"{folder}/in.asc", "wb") as file:
         file.write(text)
-    source, written = os.open(f"{folder}/in.asc", os.O_RDONLY), []
     try:
-        helper.convert(helper.Settings(["in.asc", "out"]), source, written.append)
-    except helper.Refused:
+        written = list(esri_grids.grid_of_esri(f"{folder}/in.asc"))
+    except esri_grids.Refused:
         return None
-    finally:
-        os.close(source)
     found = cells_of(b"".join(written))
     if found is None or words is None:  # rcell rejects it, or the header was spoiled
         return None
@@ -275,23 +264,17 @@ def hostile_tiff(chance, gdal, numpy, path):
         file.write(data[: chance.randint(8, len(data))] if chance.random() < 0.2 else data)
 
 
-def ways_of_tiff(helper, gdal, rcell):
+def ways_of_tiff(rcell, gdal_reader):
     """What reads a TIFF, with the exceptions that end in one line."""
 
-    def by_helper(path):
-        written = []
-        dataset = gdal.Open(path)
-        helper.write_grid(f"{BIN}/rcell-pipe", dataset, helper.one_band(dataset), written.append)
-        return cells_of(b"".join(written))
+    def with_gdal(path):
+        return with_rasterio(gdal_reader.open_raster("m", path))
 
-    def by_package(path):
+    def with_rasterio(path):
         cells = rcell.run("r.stats -1 input=m", m=path)[0].categories[:, 0].tolist()
-        return [None if cell == helper.NULL else cell for cell in cells]
+        return [None if cell == -GREATEST - 1 else cell for cell in cells]
 
-    return (by_helper, (helper.Refused, RuntimeError, MemoryError)), (
-        by_package,
-        (rcell.RcellError, MemoryError),
-    )
+    return [(way, (rcell.RcellError, MemoryError)) for way in (with_gdal, with_rasterio)]
 
 
 def fault_of_tiff(ways, chance, gdal, numpy, path):
@@ -309,7 +292,7 @@ def fault_of_tiff(ways, chance, gdal, numpy, path):
     kept = shutil.copy(
         path, f"{tempfile.gettempdir()}/hostile-{os.getpid()}-{chance.randrange(10**6)}.tif"
     )
-    return f"{kept}: the helper and the package differ"
+    return f"{kept}: the readers differ"
 
 
 def is_unsteady(path):
@@ -357,17 +340,15 @@ def main():
     settings = words.parse_args()
     resource.setrlimit(resource.RLIMIT_AS, (MEMORY, MEMORY))
     import model_grids
-    import rcell_tif
-    from rcell.core import listing, printing
+    from rcell.core import esri_grids, listing, printing
 
-    aaigrid = loaded("rcell-aaigrid")
     with tempfile.TemporaryDirectory(prefix="rcell-hostile-") as folder:
         counts = [
             tried(
                 "AAIGrid",
                 settings.count,
                 settings.seed,
-                lambda chance: fault_of_aaigrid(aaigrid, chance, folder),
+                lambda chance: fault_of_aaigrid(esri_grids, chance, folder),
             ),
             tried(
                 "grid",
@@ -383,14 +364,15 @@ def main():
             importlib.import_module("rasterio")
         except ImportError as fault:
             print(
-                f"skipped  helpers/hostile TIFFs: {fault}; install: apt-get install python3-gdal python3-rasterio"
+                f"skipped  hostile TIFFs: {fault}; install: apt-get install python3-gdal python3-rasterio"
             )
         else:
             import rcell
+            from rcell.readers import gdal as gdal_reader
 
             os.environ.setdefault("RCELL", f"{BIN}/rcell")
             gdal.UseExceptions()
-            ways = ways_of_tiff(rcell_tif, gdal, rcell)
+            ways = ways_of_tiff(rcell, gdal_reader)
             counts.append(
                 tried(
                     "TIFF",

@@ -7,7 +7,7 @@ ROOT = pathlib.Path(__file__).resolve().parent.parent.parent
 LICENCE = "Apache-2.0 OR GPL-2.0-or-later"
 SPDX = f"SPDX-License-Identifier: {LICENCE}"
 TOP_LINES = 5
-HELPERS = ("rcell-aaigrid", "rcell-explain", "rcell-split", "rcell-tif")
+HELPERS = ("rcell-gis",)
 # Each place that names the licence, and its line in the form of that place.
 NAMED = {
     "LICENSE.md": SPDX,

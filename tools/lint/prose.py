@@ -28,10 +28,10 @@ FOR_DEVELOPERS = {
     "qgis/README.md",
     "grass/README.md",
 }
-# Folders whose messages are checked, and the table of causes that rcell-explain and the packages print.
-MESSAGES_OF, CAUSES = (
+# Modules whose messages are checked, and the sentences that the packages print.
+MESSAGES_OF, SENTENCES = (
     re.compile(
-        r"helpers/.*\.py|python/src/rcell/core/(advice|causes|files|grids|listing|mending|process|protocol)\.py"
+        r"python/src/rcell/core/(converting|esri_grids|explaining|files|hints|listing|printing|process|protocol)\.py"
     ),
     "python/src/rcell/core/messages.json",
 )
@@ -171,13 +171,8 @@ def messages():
     """The messages that are checked, each with its file and line."""
     for name in filter(MESSAGES_OF.fullmatch, tracked()):
         yield from ((name, number, text) for number, text in strings_of(name))
-    for part in json.loads((ROOT / CAUSES).read_text(encoding="utf-8"))["parts"]:
-        for message in part["messages"]:
-            yield from (
-                (CAUSES, message["text"], cause[key])
-                for cause in message["causes"]
-                for key in ("cause", "instead")
-            )
+    for sentences in json.loads((ROOT / SENTENCES).read_text(encoding="utf-8")).values():
+        yield from ((SENTENCES, text, sentence) for text, sentence in sentences.items())
 
 
 def phrases_in_sources():

@@ -1,5 +1,5 @@
 # SPDX-License-Identifier: Apache-2.0 OR GPL-2.0-or-later
-"""The command line of `rcell-gis`: it reads GeoTIFFs, and writes tables as CSV, Markdown or JSON, and GeoTIFFs."""
+"""The command line of rcell-gis. A command imports what it needs: texts are converted and explained without numpy."""
 
 from __future__ import annotations
 
@@ -10,98 +10,94 @@ import importlib
 import io
 import json
 import os
+import re
 import shlex
+import shutil
+import signal
 import sys
 import warnings
-from typing import Any, Callable, Iterator, NoReturn, Sequence
+from typing import Any, Callable, Iterator, NamedTuple, NoReturn, Optional, Sequence
 
-from .core.advice import lines_of_error
+from .core.errors import Killed, OtherCrs, OtherRegion, RcellError, Refused, WriteFailed
 from .core.files import (
     Output,
     end_on_signals,
     open_standard_streams,
     opened,
+    private_folder,
     read_all,
     write_all,
     writing,
 )
-
-from .core.change import change
-from .core.columns import Table
-from .core.composition import composition, cross
-from .core.crs import UNITS_OF_AREA
-from .core.errors import Killed, OtherCrs, OtherRegion, RcellError, Refused, WriteFailed
-from .core.writing import replacing, told_of, write_beside
-from .geotiff import write_geotiff
-from .core.libraries import need
-from .core.majority import SIZES
-from .core.patches import patches
-from .core.scripts import Run, Stats
-from .frames import align, majority
-from .raster import Raster
-from ._version import __version__
-from .core.zonal import zonal
+from .core.hints import lines_of_error, near
+from .core.host import Host, serving
+from .core.process import begin_work, end_work, has_work
 
 __all__ = ["emit", "main", "script_of"]
 
 NAME = "rcell-gis"
+DESCRIPTION = "Tables and maps of rasters, counted with rcell."
 EPILOG = """\
-MAP is anything that GDAL reads, or a grid of rcell; ZONES may also be polygons, each of which has the cells whose centre is in it.
-A legend is a CSV with the header value,label, a style of QGIS (.qml) or a raster with labels. `rcell-gis COMMAND --help` says more.
-Status: 0 done; 1 a map, legend or script is invalid; 2 the command line is; 3 out of memory; 4 a file could not be read or written."""
+MAP is anything that GDAL reads, or a grid of rcell. ZONES may also be polygons: a cell is in the one that has its centre.
+A legend is a CSV with the columns value and label, or a style of QGIS (.qml). `rcell-gis COMMAND --help` lists options.
+Status: 0 done; 1 bad input; 2 command line; 3 out of memory; 4 a file could not be read or written."""
 FORMATS = ("csv", "tsv", "markdown", "json")
-_ENDINGS = {
-    ".csv": "csv",
-    ".tsv": "tsv",
-    ".txt": "csv",
+ENDINGS = {
     "": "csv",
+    ".csv": "csv",
+    ".txt": "csv",
+    ".tsv": "tsv",
     ".md": "markdown",
     ".json": "json",
 }
-_PICTURES = (".png", ".svg", ".pdf")
-_MEMORY, _FILES, _COMMAND_LINE = 3, 4, 2
+PICTURES = (".png", ".svg", ".pdf")
+MAPS = (".tif", ".tiff", ".txt", ".asc", *PICTURES)
+BAD_INPUT, COMMAND_LINE, MEMORY, FILES, INTERRUPTED = 1, 2, 3, 4, 130
+LONGEST_NAME = 255  # bytes of the name of a file
 
 
 class _Parser(argparse.ArgumentParser):
     """A parser whose errors have one line."""
 
+    def __init__(self, **words: Any) -> None:
+        formatter = argparse.RawDescriptionHelpFormatter
+        super().__init__(allow_abbrev=False, formatter_class=formatter, **words)
+
     def error(self, message: str) -> NoReturn:
         """End with status 2 and a message of one line."""
         sys.stderr.write(f"{self.prog}: {message}; see {self.prog} --help\n")
-        sys.exit(_COMMAND_LINE)
+        sys.exit(COMMAND_LINE)
 
 
-# The words
+class Command(NamedTuple):
+    """A command: its synopsis, what it does, its words and options as OPTIONS has them, and the function that runs it."""
+
+    synopsis: str
+    does: str
+    words: str
+    options: str
+    run: Callable[[argparse.Namespace], Optional[int]]
 
 
-def _words() -> argparse.ArgumentParser:
-    words = _Parser(
-        prog=NAME,
-        description=__doc__,
-        epilog=EPILOG,
-        formatter_class=argparse.RawDescriptionHelpFormatter,
-    )
-    words.add_argument("--version", action="version", version=f"{NAME} {__version__}")
-    commands = words.add_subparsers(
-        dest="command", required=True, metavar="COMMAND", parser_class=_Parser
-    )
-    for name, (run, told, kinds, options) in COMMANDS.items():
-        parser = commands.add_parser(name, help=told, description=f"Writes {told}.")
-        parser.set_defaults(run=run, area="none")
-        for words_of in (*(OPTIONS[kind] for kind in kinds.split()), options, OPTIONS["crs"]):
-            for option, settings in words_of.items():
-                parser.add_argument(option, **settings)
-    commands.add_parser("tiles", help="maps that are larger than the memory", add_help=False)
-    return words
+# The words of a command line
 
 
 def _wholes(text: str) -> list[int]:
     try:
         return [int(word) for word in text.split(",")]
     except ValueError:
-        raise argparse.ArgumentTypeError(
-            f"give whole numbers with commas between them, as 31,32, not {text}"
-        ) from None
+        told = f"give whole numbers with commas between them, for example 31,32; got {text}"
+        raise argparse.ArgumentTypeError(told) from None
+
+
+def _shares(text: str) -> list[float]:
+    try:
+        return [float(word) for word in text.split(",")]
+    except ValueError:
+        told = (
+            f"give numbers from 0 to 1 with commas between them, for example 0.25,0.5; got {text}"
+        )
+        raise argparse.ArgumentTypeError(told) from None
 
 
 def _pairs(words: Sequence[str]) -> dict[str, str]:
@@ -110,182 +106,258 @@ def _pairs(words: Sequence[str]) -> dict[str, str]:
     for word in words:
         name, equals, path = word.partition("=")
         if not (name and equals and path):
-            raise Refused(f"{word}: write NAME=PATH", status=_COMMAND_LINE)
+            raise Refused(f"{word}: write NAME=PATH", status=COMMAND_LINE)
         if name in found:
-            raise Refused(f"{word}: the name {name} is given twice", status=_COMMAND_LINE)
+            raise Refused(f"{word}: the name {name} is given twice", status=COMMAND_LINE)
         found[name] = path
     return found
 
 
-# The commands. Each sets `given` to the files that it reads, by the names that errors use for them.
+def _parsed(words: list[str]) -> argparse.Namespace:
+    """Return the settings of a command line; end with status 2 if it is invalid."""
+    parser, commands = _parser()
+    if words and not words[0].startswith("-") and words[0] not in commands:
+        close = [f"did you mean {name}?" for name in near(words[0], commands)]
+        parser.error(": ".join([f"no command {words[0]}", *close]))
+    settings, rest = parser.parse_known_args(_joined(words))
+    if settings.command is None:
+        parser.error("a command is missing")
+    if rest:
+        parser = commands[settings.command]
+        known = [option for action in parser._actions for option in action.option_strings]
+        close = [f"did you mean {name}?" for name in near(rest[0].partition("=")[0], known)]
+        parser.error(": ".join([f"{rest[0]} is not expected", *close]))
+    return settings
 
 
-def _composition(words: argparse.Namespace) -> None:
-    words.given = {"map": words.map, **({"zones": words.zones} if words.zones else {})}
-    _put(
-        words,
-        composition(
-            words.map,
-            area=_unit(words),
-            include_null=words.include_null,
-            **_options(words, "zones labels zone_labels zone_field crs"),
-        ),
+def _joined(words: list[str]) -> list[str]:
+    """Join an option and its value if that begins like a negative number: argparse takes `-1,2` for an option."""
+    found: list[str] = []
+    for word in words:
+        if found and re.match(r"-\d", word) and re.match(r"--\w[^=]*$", found[-1]):
+            found[-1] += f"={word}"
+        else:
+            found.append(word)
+    return found
+
+
+def _parser() -> tuple[_Parser, dict[str, _Parser]]:
+    lines = (f"  {name + ' ' + each.synopsis:<31}{each.does}" for name, each in COMMANDS.items())
+    text = "\n".join([DESCRIPTION, "", *lines])
+    parser = _Parser(prog=NAME, description=text, epilog=EPILOG, usage=f"{NAME} COMMAND ..")
+    parser.add_argument("--version", action="store_true", help="prints the name and the version")
+    commands = parser.add_subparsers(
+        dest="command", metavar="COMMAND", parser_class=_Parser, help=argparse.SUPPRESS
     )
+    found = {}
+    for name, command in COMMANDS.items():
+        found[name] = commands.add_parser(name, description=f"Writes {command.does}.")
+        found[name].set_defaults(run=command.run, options=command.options.split())
+        for word in (*command.words.split(), *command.options.split()):
+            option, settings = OPTIONS[word]
+            found[name].add_argument(option, **settings)
+    return parser, found
+
+
+# The commands
+
+
+def _call(name: str) -> Callable[..., Any]:
+    """Return a call of the package that returns its table as columns."""
+    call: Callable[..., Any] = getattr(importlib.import_module("rcell"), name).__wrapped__
+    return call
+
+
+def _options(words: argparse.Namespace) -> dict[str, Any]:
+    """Return the options of a call that are given."""
+    own = {"format", "out", "band", "table", "legends"}
+    names = {"each_zone": "each"}
+    given = {
+        names.get(name, name): getattr(words, names.get(name, name))
+        for name in words.options
+        if name not in own
+    }
+    given.update({"zones": words.zones} if words.command == "zonal" else {})
+    if given.get("area") == "none":
+        return {**_kept(given), "area": None}
+    return _kept(given)
+
+
+def _kept(given: dict[str, Any]) -> dict[str, Any]:
+    return {
+        name: value for name, value in given.items() if value is not None and value is not False
+    }
+
+
+def _map(words: argparse.Namespace, path: str, name: str = "map") -> Any:
+    """Return a map for a call: its path, or one of its bands."""
+    if words.__dict__.get("band") is None:
+        return path
+    return importlib.import_module("rcell.readers").open_raster(name, path, words.band)
+
+
+def _of_each(words: argparse.Namespace) -> None:
+    """Write the tables of one or more maps, below each other."""
+    call, options, tables = _call(words.command), _options(words), []
+    for path in words.maps:
+        words.given = {"values" if words.command == "zonal" else "map": path}
+        words.given.update({"zones": words.zones} if words.__dict__.get("zones") else {})
+        table = call(_map(words, path), **options)
+        tables.append((path, table.columns, table.rows))
+    words.given = {}
+    if len(tables) == 1:
+        _put(words, *tables[0][1:])
+        return
+    columns = [*dict.fromkeys(name for _, names, _ in tables for name in names)]
+    rows = []
+    for path, names, values in tables:
+        rows += [(path, *map(dict(zip(names, row)).get, columns)) for row in values]
+    _put(words, ("file", *columns), rows)
 
 
 def _cross(words: argparse.Namespace) -> None:
     words.given = _pairs(words.maps)
-    _put(
-        words,
-        cross(
-            words.given,
-            area=_unit(words),
-            labels=_pairs(words.labels),
-            include_null=words.include_null,
-            crs=words.crs,
-        ),
-    )
+    maps = {name: _map(words, path, name) for name, path in words.given.items()}
+    legends = {"labels": _pairs(words.labels)} if words.labels else {}
+    table = _call("cross")(maps, **{**_options(words), **legends})
+    _put(words, table.columns, table.rows)
 
 
 def _change(words: argparse.Namespace) -> None:
-    names = (
-        ("before", "after")
-        if len(words.maps) == 2
-        else [f"map_{at + 1}" for at in range(len(words.maps))]
-    )
-    words.given = dict(zip(names, words.maps))
-    found = change(
-        words.maps, years=words.years, area=_unit(words), labels=words.labels, crs=words.crs
-    )
-    _put(words, getattr(found, words.table))
+    if len(words.maps) < 2:
+        raise Refused("give two maps or more, in the order of their years", status=COMMAND_LINE)
+    several = [f"map_{number}" for number in range(1, len(words.maps) + 1)]
+    words.given = dict(zip(several if len(words.maps) > 2 else ("before", "after"), words.maps))
+    maps = [_map(words, path) for path in words.maps]
+    table = getattr(_call("change")(maps, **_options(words)), words.table)
+    _put(words, table.columns, table.rows)
 
 
-def _patches(words: argparse.Namespace) -> None:
-    words.given = {"map": words.map, **({"zones": words.zones} if words.zones else {})}
-    rest = _options(
-        words, "connectivity zones classes min_cells core_depth labels zone_labels zone_field crs"
-    )
-    _put(words, patches(words.map, area=_unit(words), **rest))
+def _to_map(words: argparse.Namespace) -> None:
+    """Write the map that a call returns."""
+    words.given = {"map": words.map, **({"to": words.to} if words.command == "align" else {})}
 
-
-def _zonal(words: argparse.Namespace) -> None:
-    words.given = {"values": words.map, "zones": words.zones}
-    try:
-        quantiles = [float(word) for word in words.quantiles.split(",")]
-    except ValueError:
-        raise Refused(
-            f"--quantiles are numbers from 0 to 1, not {words.quantiles}", status=_COMMAND_LINE
-        ) from None
-    _put(
-        words,
-        zonal(words.map, words.zones, quantiles, **_options(words, "zone_field zone_labels crs")),
-    )
-
-
-def _majority(words: argparse.Namespace) -> None:
-    words.given = {"map": words.map}
-    _write_maps(
-        [words.target], lambda: [majority(words.map, words.size, words.fill, crs=words.crs)]
-    )
-
-
-def _align(words: argparse.Namespace) -> None:
-    words.given = {"map": words.map, "to": words.to}
-
-    def made() -> list[Raster]:
-        found = align(words.map, words.to, words.resample, crs=words.crs)
+    def made() -> list[Any]:
+        call = getattr(importlib.import_module("rcell"), words.command)
+        found = call(_map(words, words.map), **_options(words))
         words.account = found.aligned
         return [found]
 
     _write_maps([words.target], made)
-    words.out = None
-    _write_table(words, words.account._fields, [tuple(words.account)])
+    if words.account is not None:
+        _put(words, words.account._fields, [tuple(words.account)])
 
 
 def _run(words: argparse.Namespace) -> None:
-    words.given, paths = _pairs(words.maps), _pairs(words.out)
-    result: list[Any] = []
+    words.given, paths = _pairs(words.maps), _pairs(words.outs)
+    if words.each is not None:
+        _run_each(words)
+        return
+    outputs: list[Any] = []
 
-    def made() -> list[Raster]:
-        script = script_of(words.script)
-        result.extend(Run(script, words.given, {}, words.crs).outputs(list(paths)))
-        return [Raster._of(found) for found in result[len(result) - len(paths) :]]
+    def made() -> list[Any]:
+        outputs.extend(_outputs(words, list(paths)))
+        return outputs[len(outputs) - len(paths) :]
 
     _write_maps(list(paths.values()), made)
-    tables = [output.table() for output in result if isinstance(output, Stats)]
+    tables = [output.table() for output in outputs if hasattr(output, "table")]
     if tables:
-        form = words.format or "csv"
-        emit("\n".join(_written(form, table.columns, table.rows) for table in tables))
+        texts = (_written(words.format or "csv", table.columns, table.rows) for table in tables)
+        emit("\n".join(texts))
 
 
-def _write_maps(targets: list[str], make: Callable[[], list[Raster]]) -> None:
-    """Write maps to files, all or none; raise Refused if a file is read too, or its format is not known."""
-    for path in targets:
-        if not path.lower().endswith((".tif", ".tiff", ".txt", *_PICTURES)):
-            raise Refused(
-                f"{path}: a map is written as .tif, .tiff, .txt or a picture ({', '.join(_PICTURES)})",
-                status=_COMMAND_LINE,
-            )
-    with writing(*targets):
-        grids = make()
-    with contextlib.ExitStack() as files:  # the files get their names at the end
-        parts = [files.enter_context(replacing(path)) for path in targets]
-        for grid, path, part in zip(grids, targets, parts):
-            try:
-                _write_map(grid, part, os.path.splitext(path)[1].lower())
-            except WriteFailed as error:
-                raise WriteFailed(str(error).replace(part, path)) from None
+def _outputs(words: argparse.Namespace, wanted: Sequence[str] = ()) -> list[Any]:
+    """Return what a script writes, and then the maps that are wanted."""
+    maps = {name: _map(words, path, name) for name, path in words.given.items()}
+    scripts = importlib.import_module("rcell.core.scripts")
+    run = scripts.Run(script_of(words.script), maps, {}, words.crs)
+    for name in wanted:
+        if name not in run.sources and name not in run.made:
+            told = f"no map {name}: there are {', '.join([*run.sources, *run.made])}"
+            raise Refused(told, status=COMMAND_LINE)
+    raster = importlib.import_module("rcell").Raster
+    found = run.outputs(wanted)
+    return [output if hasattr(output, "table") else raster._of(output) for output in found]
 
 
-def _write_map(grid: Raster, path: str, ending: str) -> None:
-    """Write a map in the format of an ending, which `path` need not have: links are followed."""
-    if ending == ".txt":
-        write_beside(path, grid.text())
-    elif ending in _PICTURES:
-        need("matplotlib", "plot", "to draw a map").use("Agg")
-        with told_of(path):
-            grid.plot().figure.savefig(path, format=ending[1:], bbox_inches="tight", dpi=150)
-    else:
-        write_geotiff(grid, path)
+def _run_each(words: argparse.Namespace) -> None:
+    """Write each table and map of a script to a file of a new folder, which gets its name when all are complete."""
+    folder = os.path.abspath(words.each)
+    if os.path.lexists(folder):
+        raise Refused(f"{words.each} is there already: choose another name", status=COMMAND_LINE)
+    if words.outs:
+        raise Refused("--each and --out exclude each other", status=COMMAND_LINE)
+    outputs = _outputs(words)
+    told = importlib.import_module("rcell.core.writing").told_of
+    with told(words.each), contextlib.ExitStack() as kept:
+        begin_work()
+        kept.callback(end_work)
+        room = private_folder(os.path.dirname(folder), os.path.basename(folder))
+        kept.callback(shutil.rmtree, room, ignore_errors=True)
+        digits = max(2, len(str(len(outputs))))
+        for number, output in enumerate(outputs, 1):
+            is_table, form = hasattr(output, "table"), words.format or "csv"
+            ending = f".{'md' if form == 'markdown' else form}"
+            ending = ending if is_table else _ending_of_maps(words)
+            name = f"r.stats-{','.join(output.maps)}" if is_table else f"r.out.ascii-{output.name}"
+            name = f"{number:0{digits}}-{name}"
+            path = os.path.join(room, name[: LONGEST_NAME - len(ending)] + ending)
+            if is_table:
+                table = output.table()
+                with open(path, "w", encoding="utf-8", errors="surrogateescape") as file:
+                    file.write(_written(form, table.columns, table.rows))
+            else:
+                _write_map(output, path, ending)
+        os.mkdir(folder)  # a folder that another process has made meanwhile is an error
+        os.rename(room, folder)
+        os.chmod(folder, 0o777 & ~_mask())
 
 
-def _options(words: argparse.Namespace, names: str) -> dict[str, Any]:
-    return {name: getattr(words, name) for name in names.split()}
+def _mask() -> int:
+    mask = os.umask(0)
+    os.umask(mask)
+    return mask
 
 
-def _unit(words: argparse.Namespace) -> str | None:
-    return None if words.area == "none" else str(words.area)
+def _ending_of_maps(words: argparse.Namespace) -> str:
+    """Return .txt if all maps of a run are grids of rcell, else .tif."""
+    is_text = all(path.lower().endswith(".txt") for path in words.given.values())
+    return ".txt" if is_text else ".tif"
 
 
-@contextlib.contextmanager
-def _writing_a_table(path: str | None) -> Iterator[None]:
-    """While the block runs, raise Refused if the file of a table is read; raise it at once if its ending is wrong."""
-    if path is None:
-        yield
+def _convert(words: argparse.Namespace) -> None:
+    words.given = {"map": words.map}
+    converting = importlib.import_module("rcell.core.converting")
+    ending = os.path.splitext(words.target)[1].lower()
+    is_plain = words.band is None and words.like is None and words.crs is None
+    if words.target == "-" or ending in (".txt", ".asc"):
+        with writing(words.target):
+            text = converting.converted(words.map, ending == ".asc") if is_plain else None
+            if text is None:
+                text = converting.printed_map(_raster(words), ending == ".asc")
+            with _told(words.target), Output(words.target) as output:
+                for piece in text:
+                    write_all(output.stream(), piece)
         return
-    if os.path.splitext(path)[1].lower() not in _ENDINGS:
-        told = f"{path}: a table is written as .csv, .tsv, .txt, .md or .json"
-        raise Refused(told, status=_COMMAND_LINE)
-    with writing(path):
-        yield
+    _write_maps([words.target], lambda: [_raster(words)])
 
 
-def _put(words: argparse.Namespace, table: Table) -> None:
-    """Write a table to its file or to standard output."""
-    _write_table(words, table.columns, table.rows)
+def _raster(words: argparse.Namespace) -> Any:
+    """Return a map to convert, with the reference system and the extent of another one if asked for."""
+    grid = importlib.import_module("rcell").grid
+    found = grid("", "map", {"map": _map(words, words.map)}, crs=words.crs)
+    if words.like is None:
+        return found
+    return importlib.import_module("rcell.core.converting").like(found, words.like)
 
 
-def _write_table(
-    words: argparse.Namespace, columns: Sequence[str], rows: Sequence[Sequence[Any]]
-) -> None:
-    ending = os.path.splitext(words.out or "")[1].lower()
-    text = _written(words.format or _ENDINGS[ending], columns, rows)
-    if not rows:
-        _tell("note: the table is empty: all cells are null or left out")
-    if not words.out:
-        emit(text)
-        return
-    write_beside(words.out, text.encode("utf-8", "surrogateescape"))
+def _explain(words: argparse.Namespace) -> int:
+    explaining = importlib.import_module("rcell.core.explaining")
+    status: int = explaining.explain(words.script, words.maps)
+    return status
+
+
+# What is written
 
 
 def _written(form: str, columns: Sequence[str], rows: Sequence[Sequence[Any]]) -> str:
@@ -320,222 +392,336 @@ def _markdown(columns: Sequence[str], rows: Sequence[Sequence[Any]]) -> str:
     return "\n".join([head, f"|{'|'.join(sides)}|", *rest]) + "\n"
 
 
-# Each command with its function, its result, the options that it shares with others, and its own options.
-
-OPTIONS: dict[str, dict[str, dict[str, Any]]] = {
-    "map": {"map": {"metavar": "MAP", "help": "a raster that GDAL reads, or a grid of rcell"}},
-    "target": {
-        "target": {"metavar": "OUT.tif", "help": "the map to write: .tif, .txt or a picture"}
-    },
-    "format": {
-        "--format": {
-            "choices": list(FORMATS),
-            "help": "csv if not given, unless the name of the file says otherwise",
-        }
-    },
-    "out": {"--out": {"metavar": "FILE", "help": "a file in place of standard output"}},
-    "area": {
-        "--area": {
-            "choices": [*UNITS_OF_AREA, "none"],
-            "default": "auto",
-            "help": "the unit of areas; ha if not given and the map has a reference system",
-        }
-    },
-    "labels": {"--labels": {"metavar": "LEGEND", "help": "the labels of the classes"}},
-    "null": {"--include-null": {"action": "store_true", "help": "adds what is null"}},
-    "zones": {"--zones": {"metavar": "ZONES", "help": "a map, or polygons"}},
-    "field": {
-        "--zone-field": {
-            "metavar": "FIELD",
-            "help": "the field of polygons that has the ids or names of the zones",
-        },
-        "--zone-labels": {"metavar": "LEGEND", "help": "the labels of the zones"},
-    },
-    "crs": {
-        "--crs": {
-            "metavar": "EPSG:CODE",
-            "help": "the coordinate reference system of maps that have none",
-        }
-    },
-}
-_AGAIN = {"action": "append", "default": []}
-_NAMED = {
-    "maps": {
-        "metavar": "NAME=MAP",
-        "nargs": "+",
-        "help": "maps, by their names in the table or the script",
-    }
-}
-COMMANDS: dict[
-    str, tuple[Callable[[argparse.Namespace], None], str, str, dict[str, dict[str, Any]]]
-] = {
-    "composition": (
-        _composition,
-        "the cells, area and percentage of each class, in all or by zone",
-        "map area labels zones field null format out",
-        {},
-    ),
-    "cross": (
-        _cross,
-        "how often the classes of several maps occur together",
-        "area null format out",
-        {
-            **_NAMED,
-            "--labels": {
-                "metavar": "NAME=LEGEND",
-                "help": "a legend for a map; may be given again",
-                **_AGAIN,
-            },
-        },
-    ),
-    "change": (
-        _change,
-        "what became of each class between two or more years",
-        "area labels format out",
-        {
-            "maps": {
-                "metavar": "MAP",
-                "nargs": "+",
-                "help": "two maps or more, in the order of their years",
-            },
-            "--years": {"type": _wholes, "metavar": "YEAR,..", "help": "one for each map"},
-            "--table": {
-                "choices": ["table", "matrix", "summary"],
-                "default": "table",
-                "help": "a row for each change, a matrix, or gains and losses by class",
-            },
-        },
-    ),
-    "patches": (
-        _patches,
-        "the patches of a map",
-        "map area labels zones field format out",
-        {
-            "--connectivity": {
-                "type": int,
-                "choices": [4, 8],
-                "default": 4,
-                "help": "8: cells that share a corner are of one patch as well",
-            },
-            "--classes": {
-                "type": _wholes,
-                "metavar": "CLASS,..",
-                "help": "patches of these classes alone",
-            },
-            "--min-cells": {
-                "type": int,
-                "metavar": "CELLS",
-                "help": "patches of so many cells or more alone",
-            },
-            "--core-depth": {
-                "type": int,
-                "default": 1,
-                "metavar": "N",
-                "help": "steps from the border of a patch to its core",
-            },
-        },
-    ),
-    "zonal": (
-        _zonal,
-        "sums, means and quantiles by zone",
-        "field format out",
-        {
-            "map": {"metavar": "VALUES", "help": "a map of whole numbers"},
-            "zones": {"metavar": "ZONES", "help": "a map, or polygons"},
-            "--quantiles": {
-                "default": "0.5",
-                "metavar": "Q,..",
-                "help": "from 0 to 1; the median if not given",
-            },
-        },
-    ),
-    "majority": (
-        _majority,
-        "the most frequent class of the square around each cell",
-        "map target",
-        {
-            "--size": {
-                "type": int,
-                "default": 3,
-                "metavar": "N",
-                "help": f"rows and columns of the square: odd, {SIZES[0]} to {SIZES[-1]}",
-            },
-            "--fill": {"action": "store_true", "help": "gives null cells a class as well"},
-        },
-    ),
-    "align": (
-        _align,
-        "a map on the grid of another one, and an account of used and lost cells",
-        "map target format",
-        {
-            "--to": {"required": True, "metavar": "OTHER", "help": "the map whose grid it gets"},
-            "--resample": {
-                "metavar": "nearest",
-                "help": "takes the nearest cell if the grids are not apart by whole cells",
-            },
-        },
-    ),
-    "run": (
-        _run,
-        "the tables of a script on standard output, and its maps in files",
-        "format",
-        {
-            "script": {
-                "metavar": "SCRIPT",
-                "help": 'a file, `-`, or a line, as "r.stats -c input=lc"',
-            },
-            **_NAMED,
-            "--out": {
-                "metavar": "NAME=FILE",
-                "help": "a map, and a .tif, .txt or picture for it; may be given again",
-                **_AGAIN,
-            },
-        },
-    ),
-}
-
-
-# Functions that the command line of tiles also uses
-
-
-def script_of(word: str) -> str:
-    """Return the text of a script: of a file, of standard input, or the word itself."""
-    if word == "-":
-        with _told_of_script("standard input"):
-            return read_all(sys.stdin.fileno()).decode("utf-8", "surrogateescape")
-    if not os.path.exists(word) and word.startswith("r."):
-        return word
-    opened(word)
-    with _told_of_script(word), open(
-        word, encoding="utf-8", errors="surrogateescape", newline=""
-    ) as file:
-        return file.read()
+def _put(words: argparse.Namespace, columns: Sequence[str], rows: Sequence[Sequence[Any]]) -> None:
+    """Write a table to its file or to standard output."""
+    out = words.__dict__.get("out")
+    ending = os.path.splitext(out or "")[1].lower()
+    text = _written(words.format or ENDINGS[ending], columns, rows)
+    if not rows:
+        _tell("note: the table is empty: all cells are null or left out")
+    if out is None:
+        emit(text)
+        return
+    with _told(out), Output(out) as output:
+        write_all(output.stream(), text.encode("utf-8", "surrogateescape"))
 
 
 @contextlib.contextmanager
-def _told_of_script(path: str) -> Iterator[None]:
-    """Raise errors in reading a script as Refused."""
-    try:
+def _writing_a_table(path: Optional[str]) -> Iterator[None]:
+    """While the block runs, raise Refused if the file of a table is read; raise it at once if its ending is wrong."""
+    if path is None:
         yield
-    except (OSError, ValueError) as error:
-        raise Refused(
-            f"cannot open {path}: {getattr(error, 'strerror', None) or error}",
-            "script",
-            status=_FILES,
-        ) from None
+        return
+    if os.path.splitext(path)[1].lower() not in ENDINGS:
+        told = f"{path}: a table is written as .csv, .tsv, .txt, .md or .json"
+        raise Refused(told, status=COMMAND_LINE)
+    with writing(path):
+        yield
+
+
+def _write_maps(targets: Sequence[str], make: Callable[[], list[Any]]) -> None:
+    """Write maps to files, all or none; raise Refused if a file is read too, or its format is not known."""
+    for path in targets:
+        if not path.lower().endswith(MAPS):
+            told = f"{path}: a map is written as .tif, .tiff, .txt, .asc or a picture ({', '.join(PICTURES)})"
+            raise Refused(told, status=COMMAND_LINE)
+    with writing(*targets):
+        maps = make()
+    replacing = importlib.import_module("rcell.core.writing").replacing
+    with contextlib.ExitStack() as files:  # the files get their names at the end
+        parts = [files.enter_context(replacing(path)) for path in targets]
+        for raster, path, part in zip(maps, targets, parts):
+            try:
+                _write_map(raster, part, os.path.splitext(path)[1].lower())
+            except WriteFailed as error:
+                raise WriteFailed(str(error).replace(part, path)) from None
+
+
+def _write_map(raster: Any, path: str, ending: str) -> None:
+    """Write a map in the format of an ending, which `path` need not have: links are followed."""
+    if ending in (".txt", ".asc"):
+        converting = importlib.import_module("rcell.core.converting")
+        with _told(path), open(path, "wb") as file:
+            file.writelines(converting.printed_map(raster, ending == ".asc"))
+    elif ending in PICTURES:
+        libraries = importlib.import_module("rcell.core.libraries")
+        libraries.need("matplotlib", "plot", "to draw a map").use("Agg")
+        with _told(path):
+            figure = raster.plot().figure
+            figure.savefig(path, format=ending[1:], bbox_inches="tight", dpi=150)
+    else:
+        importlib.import_module("rcell.geotiff").write_geotiff(raster, path)
+
+
+def _told(path: str) -> contextlib.AbstractContextManager[None]:
+    """Raise what goes wrong with files as a WriteFailed of a path."""
+    told: contextlib.AbstractContextManager[None] = importlib.import_module(
+        "rcell.core.writing"
+    ).told_of("standard output" if path == "-" else path)
+    return told
 
 
 def emit(text: str) -> None:
     """Write to standard output immediately, so that Python does not try again at exit after an error."""
     sys.stdout.flush()
-    with told_of("standard output"), Output("-") as output:
-        write_all(output.stream(), text.encode("utf-8", "surrogateescape"))
+    shown = _printable(text) if os.isatty(1) else text
+    with _told("-"), Output("-") as output:
+        write_all(output.stream(), shown.encode("utf-8", "surrogateescape"))
+
+
+def script_of(word: str) -> str:
+    """Return the text of a script: of a file, of standard input, or the word itself."""
+    if word != "-" and not os.path.exists(word) and word.startswith("r."):
+        return word
+    try:
+        if word == "-":
+            raw = read_all(sys.stdin.fileno())
+        else:
+            opened(word)
+            with open(word, "rb") as file:
+                raw = file.read()
+    except (OSError, ValueError) as error:
+        reason = getattr(error, "strerror", None) or error
+        path = "standard input" if word == "-" else word
+        raise Refused(f"cannot open {path}: {reason}", "script", status=FILES) from None
+    return raw.decode("utf-8", "surrogateescape")
+
+
+# The options of all commands, by the names of their values, and the commands.
+
+OPTIONS: dict[str, tuple[str, dict[str, Any]]] = {
+    "map": ("map", {"metavar": "MAP", "help": "a raster that GDAL reads, or a grid of rcell"}),
+    "maps": ("maps", {"metavar": "MAP", "nargs": "+", "help": "rasters that GDAL reads, or grids"}),
+    "named": (
+        "maps",
+        {
+            "metavar": "NAME=MAP",
+            "nargs": "+",
+            "help": "maps, by their names in the table or script",
+        },
+    ),
+    "target": (
+        "target",
+        {"metavar": "OUT", "help": "the map to write: .tif, .txt, .asc, .png, .svg or .pdf"},
+    ),
+    "script": (
+        "script",
+        {"metavar": "SCRIPT", "help": 'a file, `-`, or a line, for example "r.stats -c input=lc"'},
+    ),
+    "zone_map": ("zones", {"metavar": "ZONES", "help": "a map, or polygons"}),
+    "zones": ("--zones", {"metavar": "ZONES", "help": "a map, or polygons"}),
+    "zone_field": (
+        "--zone-field",
+        {"metavar": "FIELD", "help": "the field of polygons with the ids or names of the zones"},
+    ),
+    "zone_labels": ("--zone-labels", {"metavar": "LEGEND", "help": "the labels of the zones"}),
+    "layer": (
+        "--layer",
+        {"metavar": "NAME", "help": "the layer of polygons, if there are several"},
+    ),
+    "each_zone": (
+        "--each",
+        {"action": "store_true", "help": "takes one polygon after another: they may overlap"},
+    ),
+    "band": ("--band", {"type": int, "metavar": "N", "help": "the band, if there are several"}),
+    "labels": ("--labels", {"metavar": "LEGEND", "help": "the labels of the classes"}),
+    "legends": (
+        "--labels",
+        {
+            "metavar": "NAME=LEGEND",
+            "action": "append",
+            "default": [],
+            "help": "a legend for a map; may be given again",
+        },
+    ),
+    "area": (
+        "--area",
+        {"choices": ["ha", "km2", "m2", "none"], "help": "the unit of areas; ha if not given"},
+    ),
+    "include_null": ("--include-null", {"action": "store_true", "help": "adds null cells"}),
+    "crs": (
+        "--crs",
+        {"metavar": "EPSG:CODE", "help": "the reference system of maps that have none"},
+    ),
+    "connectivity": (
+        "--connectivity",
+        {"type": int, "choices": [4, 8], "help": "8: cells that share a corner touch as well"},
+    ),
+    "classes": (
+        "--classes",
+        {"type": _wholes, "metavar": "CLASS,..", "help": "only patches of these classes"},
+    ),
+    "min_cells": (
+        "--min-cells",
+        {"type": int, "metavar": "N", "help": "only patches of at least so many cells"},
+    ),
+    "core_depth": (
+        "--core-depth",
+        {"type": int, "metavar": "N", "help": "steps from the border of a patch to its core"},
+    ),
+    "years": ("--years", {"type": _wholes, "metavar": "YEAR,..", "help": "one for each map"}),
+    "table": (
+        "--table",
+        {
+            "choices": ["table", "matrix", "summary"],
+            "default": "table",
+            "help": "a row for each change, a matrix, or gains and losses by class",
+        },
+    ),
+    "quantiles": (
+        "--quantiles",
+        {"type": _shares, "metavar": "Q,..", "help": "from 0 to 1; the median if not given"},
+    ),
+    "size": (
+        "--size",
+        {"type": int, "metavar": "N", "help": "rows and columns of the square: odd, 3 to 15"},
+    ),
+    "fill": ("--fill", {"action": "store_true", "help": "gives null cells a class as well"}),
+    "rules": (
+        "--rules",
+        {"required": True, "metavar": "FILE", "help": "a CSV with the columns value and new"},
+    ),
+    "other": (
+        "--other",
+        {"choices": ["keep", "null"], "help": "what becomes of classes without a rule"},
+    ),
+    "to": ("--to", {"required": True, "metavar": "OTHER", "help": "the map whose grid it gets"}),
+    "resample": (
+        "--resample",
+        {
+            "choices": ["nearest"],
+            "help": "takes the nearest cell if grids are apart by less than one",
+        },
+    ),
+    "like": (
+        "--like",
+        {"metavar": "MAP", "help": "takes the reference system and the extent of this map"},
+    ),
+    "outs": (
+        "--out",
+        {
+            "dest": "outs",
+            "metavar": "NAME=FILE",
+            "action": "append",
+            "default": [],
+            "help": "a map, and the file for it; may be given again",
+        },
+    ),
+    "each": (
+        "--each",
+        {"metavar": "DIR", "help": "a new folder with a file for each table and map"},
+    ),
+    "format": ("--format", {"choices": FORMATS, "help": "csv if the file does not say otherwise"}),
+    "out": ("--out", {"metavar": "FILE", "help": "a file in place of standard output"}),
+}
+_ZONES = "zones zone_field zone_labels layer"
+_TABLE = "band crs format out"
+COMMANDS = {
+    "composition": Command(
+        "MAP...",
+        "the cells, area and percentage of each class, in all or by zone",
+        "maps",
+        f"{_ZONES} each_zone labels area include_null {_TABLE}",
+        _of_each,
+    ),
+    "cross": Command(
+        "NAME=MAP...",
+        "how often the classes of several maps occur together",
+        "named",
+        f"legends area include_null {_TABLE}",
+        _cross,
+    ),
+    "change": Command(
+        "MAP MAP...",
+        "what became of each class between two or more years",
+        "maps",
+        f"years table labels area {_TABLE}",
+        _change,
+    ),
+    "patches": Command(
+        "MAP...",
+        "the patches of a map: connected cells of one class",
+        "maps",
+        f"connectivity classes min_cells core_depth {_ZONES} labels area {_TABLE}",
+        _of_each,
+    ),
+    "zonal": Command(
+        "VALUES... ZONES",
+        "sums, means and quantiles by zone",
+        "maps zone_map",
+        f"quantiles zone_field zone_labels layer each_zone {_TABLE}",
+        _of_each,
+    ),
+    "adjacency": Command(
+        "MAP...",
+        "how often cells of two classes share an edge",
+        "maps",
+        f"labels {_TABLE}",
+        _of_each,
+    ),
+    "majority": Command(
+        "MAP OUT",
+        "the most frequent class of the square around each cell",
+        "map target",
+        "size fill band crs",
+        _to_map,
+    ),
+    "reclass": Command(
+        "MAP OUT --rules FILE",
+        "a map with other classes, by a CSV with the columns value, new and label",
+        "map target",
+        "rules other band crs",
+        _to_map,
+    ),
+    "clump": Command(
+        "MAP OUT",
+        "a map with the number of the patch of each cell",
+        "map target",
+        "connectivity classes min_cells band crs",
+        _to_map,
+    ),
+    "align": Command(
+        "MAP OUT --to OTHER",
+        "a map on the grid of another one, and an account of used and lost cells",
+        "map target",
+        "to resample band crs format",
+        _to_map,
+    ),
+    "run": Command(
+        "SCRIPT NAME=MAP...",
+        "the tables of a script, and maps in files",
+        "script named",
+        "outs each band crs format",
+        _run,
+    ),
+    "convert": Command(
+        "IN OUT",
+        "GeoTIFF, ESRI ASCII or what GDAL reads, as .tif, .asc, .txt (a grid of rcell) or a picture",
+        "map target",
+        "band like crs",
+        _convert,
+    ),
+    "explain": Command(
+        "SCRIPT NAME=GRID...",
+        "what rcell writes; if it fails, the line with a mark and what to write instead",
+        "script named",
+        "",
+        _explain,
+    ),
+    "tiles": Command(
+        "COMMAND",
+        "tables and maps by tiles, of maps that are larger than memory",
+        "",
+        "",
+        lambda _: None,
+    ),
+}
 
 
 # The end
 
 
-def main(words: Sequence[str] | None = None) -> int:
+def main(words: Optional[Sequence[str]] = None) -> int:
     """Run a command line and return its exit status.
 
     Examples
@@ -543,49 +729,91 @@ def main(words: Sequence[str] | None = None) -> int:
     >>> main(["composition", "/nowhere.tif"])
     4
     """
-    if words is None:
-        open_standard_streams()
-        end_on_signals()
     given = list(sys.argv[1:] if words is None else words)
+    try:
+        if words is None:
+            open_standard_streams()
+            end_on_signals()
+            if signal.getsignal(signal.SIGINT) != signal.SIG_IGN:
+                signal.signal(signal.SIGINT, _end_on_interrupt)
+        with warnings.catch_warnings(), serving(Host("shell", warn=_warn)):
+            warnings.simplefilter("default", UserWarning)
+            warnings.showwarning = lambda message, *_, **__: _warn(str(message))
+            return _status_of(given)
+    except KeyboardInterrupt:
+        return INTERRUPTED
+
+
+def _end_on_interrupt(*_: Any) -> None:
+    """End at once if nothing would be left, since libraries turn an interrupt of their import into other errors."""
+    if not has_work():
+        os._exit(INTERRUPTED)
+    sys.unraisablehook = lambda _: None  # raised where Python ignores it, it would be printed
+    raise KeyboardInterrupt
+
+
+def _status_of(given: list[str]) -> int:
+    """Run a command line, and return its status; errors become a line on standard error."""
     if given[:1] == ["tiles"]:
+        begin_work()  # a cluster
         return int(importlib.import_module("rcell.tiles._command").main(given[1:]))
-    settings = argparse.Namespace(given={})
-    with warnings.catch_warnings():
-        warnings.simplefilter("default", UserWarning)
-        warnings.showwarning = lambda message, *_, **__: _tell(f"warning: {message}")
-        try:
-            settings = _words().parse_args(given, settings)
-            table = None if settings.run is _run else getattr(settings, "out", None)
-            with _writing_a_table(table):
-                settings.run(settings)
-        except KeyboardInterrupt:
-            return 130
-        except RcellError as error:
-            if isinstance(error, (OtherRegion, OtherCrs)):
-                error.advice = _align_words(error, settings.given)
-            _tell(_in_one_line(error))
-            return _status(error)
-    return 0
+    if given == ["--version"]:
+        emit(f"{NAME} {importlib.import_module('rcell').__version__}\n")
+        return 0
+    settings = _parsed(given)
+    settings.given = {}
+    try:
+        with _writing_a_table(settings.__dict__.get("out")):
+            return settings.run(settings) or 0
+    except RcellError as error:
+        if isinstance(error, (OtherRegion, OtherCrs)):
+            error.advice = _align_words(error, settings.given)
+        _tell(_in_one_line(error, settings.given))
+        return _status(error)
+    except ImportError as error:
+        is_missing = isinstance(error, ModuleNotFoundError)
+        told = f"the Python library {error.name} is missing" if is_missing else str(error)
+        _tell(f"{told}; on Debian: apt-get install python3-rasterio python3-pyproj")
+        return COMMAND_LINE
+    except MemoryError:
+        _tell("out of memory")
+        return MEMORY
+    except OSError as error:
+        _tell(": ".join(str(part) for part in (error.filename, error.strerror or error) if part))
+        return FILES
+
+
+def _warn(text: str) -> None:
+    _tell(f"warning: {text}")
 
 
 def _tell(text: str) -> None:
-    sys.stderr.write(f"{NAME}: {text}\n")
+    with contextlib.suppress(OSError):
+        sys.stderr.write(f"{NAME}: {_printable(text)}\n")
+        sys.stderr.flush()
 
 
-def _in_one_line(error: RcellError) -> str:
+def _printable(text: str) -> str:
+    """Return a text without what a terminal would obey."""
+    return re.sub(r"[\0-\x08\x0b-\x1f\x7f-\x9f]", lambda found: f"\\x{ord(found[0]):02x}", text)
+
+
+def _in_one_line(error: RcellError, given: dict[str, str]) -> str:
     """Return an error, the line of the script and what to write instead, all in one line."""
     if not isinstance(error, Refused):
-        return str(error).replace("\n", "; ")
-    place = f"{error.source}, line {error.line}" if error.line else error.source
+        return "; ".join(line.strip() for line in str(error).split("\n"))
+    source = given.get(error.source, error.source) if error.source == "map" else error.source
+    place = "" if source == "arguments" else f"{source}: "
+    place = f"{source}, line {error.line}: " if error.line else place
     parts = [
-        f"{place}: {error.text}",
+        place + error.text,
         *([f"`{lines_of_error(error.content, error.column)[0].strip()}`"] if error.content else []),
         *([f"try: {error.advice}"] if error.advice else []),
     ]
     return "; ".join(line.strip() for part in parts for line in part.split("\n"))
 
 
-def _align_words(error: Refused, given: dict[str, str]) -> str | None:
+def _align_words(error: Refused, given: dict[str, str]) -> Optional[str]:
     """Return the command that aligns a map with the first one, if both are known."""
     first = next(iter(given), "")
     if not error.advice or error.source not in given or error.source == first:
@@ -598,15 +826,9 @@ def _align_words(error: Refused, given: dict[str, str]) -> str | None:
 
 
 def _status(error: RcellError) -> int:
-    if isinstance(error, Refused):
-        return error.status
-    return (
-        _FILES
-        if isinstance(error, WriteFailed)
-        else _MEMORY
-        if isinstance(error, Killed)
-        else _COMMAND_LINE
-    )
+    if isinstance(error, (WriteFailed, Killed)):
+        return FILES if isinstance(error, WriteFailed) else MEMORY
+    return error.status if isinstance(error, Refused) else COMMAND_LINE
 
 
 if __name__ == "__main__":

@@ -1,13 +1,13 @@
 # SPDX-License-Identifier: Apache-2.0 OR GPL-2.0-or-later
-# Which word of a line is wrong, and what to write instead. The code of rcell-explain finds both; it
-# is in this package, or in Python's. Without Python there is no advice.
+# Which word of a line is wrong, and what to write instead. The code of the Python package finds
+# both; it is in this package, or in Python's. Without Python there is no advice.
 
 ADVICE_SECONDS <- 30
 ADVICE_CODE <- "
 import sys
 code, program, path, line, text, *names = sys.argv[1:]
 sys.path[:0] = [code] if code else []
-from rcell.core.mending import advice
+from rcell.core.hints import advice
 with open(path, 'rb') as script:
     column, found = advice(program, script.read(), names, int(line), text)
 sys.stdout.buffer.write(('%d\\n%s' % (column or 0, found or '')).encode())
@@ -25,7 +25,7 @@ advice_on <- function(program, lines, line, text, names) {
     writeLines(lines, path, useBytes = TRUE)
     words <- c(
       "-B", "-c", ADVICE_CODE, system.file("python", package = "rcell"), program, path, line,
-      sub(" at column [0-9]+$", "", text), names
+      text, names
     )
     printed <- run(python, words, timeout = ADVICE_SECONDS)$stdout
     Encoding(printed) <- "UTF-8"

@@ -90,7 +90,7 @@ class Refused(Fault, RcellError):
     content : str, optional
         The line of the script itself.
     advice : str, optional
-        What to write instead, as `rcell-explain` says it.
+        What to write instead.
     column : int, optional
         The place in the line, in bytes from 1, unless `text` names it.
 
@@ -104,7 +104,7 @@ class Refused(Fault, RcellError):
     script, line 1: number not whole at column 23
       r.mapcalc half = lc * 0.5
                             ^
-      try: r.mapcalc half = lc / 2  (`/` drops the remainder (7 / 2 is 3), so multiply counts of cells instead if fractions matter)
+      try: r.mapcalc half = lc / 2  (`/` drops the remainder: 7 / 2 is 3)
     """
 
 

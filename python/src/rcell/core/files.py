@@ -17,6 +17,7 @@ from contextvars import ContextVar
 from itertools import combinations
 from types import TracebackType
 
+from . import process
 from .errors import Refused
 
 __all__ = [
@@ -273,6 +274,7 @@ class Output:
         self._is_kept = False
 
     def __enter__(self) -> Output:
+        process.begin_work()
         return self
 
     def path(self) -> str:
@@ -319,6 +321,7 @@ class Output:
                 os.close(self._stream)
             if self._room is not None:
                 remove_folder(self._room)
+            process.end_work()
 
     def _copy(self) -> None:
         assert self._special is not None

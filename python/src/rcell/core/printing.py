@@ -14,13 +14,26 @@ import tempfile
 from collections.abc import Callable, Iterable, Iterator
 from typing import Optional
 
-from .process import Started
+from .process import Started, begin_work, end_work
 from .protocol import NotStarted, Rejected, failure_of
 
-__all__ = ["printed", "spooled"]
+__all__ = ["is_text_grid", "printed", "spooled"]
 
 _SCRIPT = b"r.out.ascii input=grid\n"
+_KEYS = b"north|south|east|west|rows|cols|null|type|multiplier"
+_FIRST_LINE = re.compile(rb"\s*(?:%s):" % _KEYS)
 _MESSAGE = re.compile(r"rcell: [^:]*:(\d+): (.*)")
+
+
+def is_text_grid(start: bytes) -> bool:
+    """Return whether a file that starts so is a grid of rcell.
+
+    Examples
+    --------
+    >>> is_text_grid(b"north: 3\\n"), is_text_grid(b"ncols 3\\n")
+    (True, False)
+    """
+    return _FIRST_LINE.match(start) is not None
 
 
 @contextlib.contextmanager
@@ -33,6 +46,7 @@ def spooled(pieces: Iterable[bytes]) -> Iterator[str]:
     ...     print(open(path).read())
     ab
     """
+    begin_work()
     descriptor, path = tempfile.mkstemp(prefix="rcell-")
     try:
         with open(descriptor, "wb") as file:
@@ -40,6 +54,7 @@ def spooled(pieces: Iterable[bytes]) -> Iterator[str]:
         yield path
     finally:
         os.unlink(path)
+        end_work()
 
 
 @contextlib.contextmanager
@@ -60,7 +75,10 @@ def printed(
     seconds, watch
         As in `protocol.run`; so are the errors.
     """
-    with tempfile.TemporaryDirectory(prefix="rcell-") as folder:
+    with contextlib.ExitStack() as kept:
+        begin_work()
+        kept.callback(end_work)
+        folder = kept.enter_context(tempfile.TemporaryDirectory(prefix="rcell-"))
         script, grid = (os.path.join(folder, name) for name in ("script", "grid"))
         with open(script, "wb") as file:
             file.write(_SCRIPT)

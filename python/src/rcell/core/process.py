@@ -15,7 +15,17 @@ from collections.abc import Callable, Iterator, Sequence
 from types import TracebackType
 from typing import Optional
 
-__all__ = ["WATCH_SECONDS", "Started", "above_standard", "close", "found_on_path", "pipe"]
+__all__ = [
+    "WATCH_SECONDS",
+    "Started",
+    "above_standard",
+    "begin_work",
+    "close",
+    "end_work",
+    "found_on_path",
+    "has_work",
+    "pipe",
+]
 
 PIPE_BYTES = 1 << 18  # stays in the cache of a processor, as what is read at once
 READ_BYTES = 1 << 18
@@ -28,6 +38,7 @@ MESSAGE_LIMIT = 1 << 16
 """The programs print one line on standard error; of what another one prints no more is kept."""
 
 _held: set[int] = set()
+_works = 0  # blocks in which a file or a program would be left if this process just ended
 _lock = threading.RLock()
 
 
@@ -39,6 +50,23 @@ def _let_go() -> None:
 
 
 os.register_at_fork(before=_lock.acquire, after_in_parent=_lock.release, after_in_child=_let_go)
+
+
+def begin_work() -> None:
+    """Note that a file is unfinished, or a program runs."""
+    global _works
+    _works += 1
+
+
+def end_work() -> None:
+    """Note that it is finished, or removed, or ended."""
+    global _works
+    _works -= 1
+
+
+def has_work() -> bool:
+    """Return whether this process may not just end."""
+    return _works > 0
 
 
 def found_on_path(name: str) -> str | None:
@@ -129,6 +157,7 @@ class Started:
             close(told)
 
     def __enter__(self) -> Started:
+        begin_work()
         return self
 
     def __exit__(
@@ -139,6 +168,7 @@ class Started:
         self._process.wait()
         close(self._output)
         close(self._told)
+        end_work()
 
     def pieces(self) -> Iterator[bytes]:
         """Yield the output as it comes, until it and the message have ended."""

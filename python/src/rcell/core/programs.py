@@ -64,8 +64,8 @@ def find_beside(
 ) -> str:
     """Return the path of a program.
 
-    The host may find it. Looked for in this order: the argument, an environment variable, next to the program that RCELL names, the scripts of this
-    installation of Python (where the wheel puts it), the path.
+    The host may name it. Else it is the first of: the argument, an environment variable, next to the program that RCELL names, the
+    scripts of this installation of Python (where the wheel puts it), the path.
 
     Raises
     ------

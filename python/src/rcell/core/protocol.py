@@ -8,7 +8,6 @@ the response is read, and no thread is needed.
 from __future__ import annotations
 
 import contextlib
-import importlib
 import os
 import re
 import select
@@ -17,7 +16,7 @@ from collections.abc import Callable, Iterable, Iterator, Mapping, Sequence
 from dataclasses import dataclass, field, replace
 from typing import Any, NamedTuple, NoReturn, Optional, Union
 
-from .advice import lines_of_error
+from .hints import advice, lines_of_error
 from .process import WATCH_SECONDS, Started, close, pipe
 
 __all__ = [
@@ -425,21 +424,16 @@ class Rejected(Exception):
         lines = script.split("\n")
         if not 0 < self.line <= len(lines):
             return parts
-        column = advice = None
+        column, tried = self.column or None, None
         with contextlib.suppress(Exception):  # an error of the advice must not hide the message
-            mending: Any = importlib.import_module(".mending", __package__)
-            column, advice = mending.advice(
-                program,
-                script.encode("utf-8", "surrogateescape"),
-                list(names),
-                self.line,
-                _AT_COLUMN.sub("", self.text),
-            )
+            raw = script.encode("utf-8", "surrogateescape")
+            place, tried = advice(program, raw, list(names), self.line, self.text)
+            column = column or place
         return {
             **parts,
             "content": lines[self.line - 1].rstrip("\r"),
-            "advice": advice,
-            "column": column if self.text == "bad option" else None,
+            "advice": tried,
+            "column": column if self.column or self.text == "bad option" else None,
         }
 
 

@@ -16,7 +16,7 @@ from typing import Any, Iterator, Mapping
 import numpy as np
 
 from .listing import printed_grid
-from .printing import spooled
+from .printing import is_text_grid, spooled
 from .programs import find_program, program_errors
 from .protocol import NULL
 
@@ -30,8 +30,6 @@ __all__ = ["TextMap", "is_grid", "open_path"]
 
 # Room for a header of six short lines, and for blank lines before it.
 HEADER_BYTES = 1 << 16
-_KEYS = ("north", "south", "east", "west", "rows", "cols", "null", "type", "multiplier")
-_FIRST_LINE = re.compile(rb"\s*(?:%s):" % "|".join(_KEYS).encode())
 _EDGE = re.compile(r"[+-]?[0-9]+\.?[0-9]*")
 _VIRTUAL = re.compile(r"/vsi|[A-Za-z][A-Za-z0-9+.-]+:")
 
@@ -96,7 +94,7 @@ class TextMap:
 def is_grid(path: str) -> bool:
     """Return whether a file begins as a text grid."""
     with contextlib.suppress(OSError, ValueError), open(path, "rb") as file:
-        return _FIRST_LINE.match(file.read(64)) is not None
+        return is_text_grid(file.read(64))
     return False
 
 
@@ -127,7 +125,7 @@ def open_path(name: str, path: str | os.PathLike[str]) -> Source:
         raise ReadFailed(name, f"cannot open: {text!r}: no path has a surrogate") from None
     is_file = stat.S_ISREG(os.fstat(stream.fileno()).st_mode)
     head = _head_of(stream, is_file)
-    if _FIRST_LINE.match(head):
+    if is_text_grid(head):
         opened(text)
         if is_file:
             stream.close()
@@ -155,7 +153,7 @@ def _head_of(stream: io.FileIO, is_file: bool) -> bytes:
     while len(head) < HEADER_BYTES:
         piece = stream.read(HEADER_BYTES - len(head))
         head += piece or b""
-        if not piece or is_file or not _FIRST_LINE.match(head) or _fields(head)[1]:
+        if not piece or is_file or not is_text_grid(head) or _fields(head)[1]:
             break
     return head
 

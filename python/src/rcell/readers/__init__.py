@@ -21,8 +21,10 @@ _VECTOR = re.compile(r"\.(gpkg|shp|geojson|json|fgb|gml|kml|sqlite)$", re.IGNORE
 _LAYER = "|layername="
 
 
-def open_raster(name: str, path: str) -> Source:
-    """Return a file that rasterio opens as a map, or that GDAL's own Python opens without rasterio.
+def open_raster(name: str, path: str, band: int | None = None) -> Source:
+    """Return a band of a file that rasterio opens as a map, or that GDAL's own Python opens without rasterio.
+
+    Without a band, the file must have only one.
 
     Raises
     ------
@@ -37,7 +39,7 @@ def open_raster(name: str, path: str) -> Source:
             module = importlib.import_module(f".{library}", __name__)
         except ImportError:
             continue
-        source: Source = module.open_raster(name, path)
+        source: Source = module.open_raster(name, path, band)
         return source
     raise MissingLibrary("rasterio", "gis", "to read a raster")
 

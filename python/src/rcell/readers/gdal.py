@@ -15,6 +15,7 @@ from osgeo import gdal, gdal_array
 
 from ..core.errors import BadMap, ReadFailed
 from ..core.files import opened
+from ..core.host import option
 from ..core.labels import legend_of_band
 from ..core.legends import Legend
 from ..core.region import Region, Transform, check_upright
@@ -284,7 +285,7 @@ def _only_band(name: str, dataset: Any) -> int:
     alphas = _alphas(dataset)
     bands = [band for band in range(1, dataset.RasterCount + 1) if band not in alphas]
     if len(bands) != 1:
-        raise BadMap(name, f"has {len(bands)} bands: choose one")
+        raise BadMap(name, f"has {len(bands)} bands: choose one, for example {option('band', 1)}")
     return bands[0]
 
 

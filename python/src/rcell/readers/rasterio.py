@@ -14,6 +14,7 @@ from typing import Any, Iterator, Mapping
 import numpy as np
 
 from ..core.files import opened
+from ..core.host import host, option
 from ..core.errors import BadMap, RcellError, ReadFailed
 from ..core.labels import legend_of_band
 from ..core.legends import Legend
@@ -47,7 +48,7 @@ _IDENTITY: Transform = (1.0, 0.0, 0.0, 0.0, 1.0, 0.0)
 MOST_BLOCK_CELLS = 1 << 23
 
 
-def open_raster(name: str, given: Any) -> RasterMap:
+def open_raster(name: str, given: Any, band: int | None = None) -> RasterMap:
     """Return a raster as a map.
 
     Parameters
@@ -55,6 +56,8 @@ def open_raster(name: str, given: Any) -> RasterMap:
     name : str
         The name of the map, for errors.
     given : path, rasterio.DatasetReader or rasterio.Band
+    band : int, optional
+        Without it, the raster must have only one.
 
     Raises
     ------
@@ -70,7 +73,7 @@ def open_raster(name: str, given: Any) -> RasterMap:
         dataset = (
             open_dataset(name, os.fspath(given)) if isinstance(given, (str, os.PathLike)) else given
         )
-        return RasterMap.of_dataset(name, dataset, None)
+        return RasterMap.of_dataset(name, dataset, band)
 
 
 @contextlib.contextmanager
@@ -228,6 +231,9 @@ class RasterMap:
         """Return a band of an open dataset as a map; without a band, the dataset must have only one."""
         enums = need("rasterio.enums", "gis", _PURPOSE)
         band = only_band(name, dataset, enums) if band is None else band
+        if band not in dataset.indexes:
+            count = dataset.count
+            raise BadMap(name, f"has {count} band{'' if count == 1 else 's'}, and no band {band}")
         transform, is_upside_down = upright(name, dataset)
         region = in_region(name, Region.from_transform, transform, dataset.height, dataset.width)
         opened(*dataset.files)
@@ -320,7 +326,9 @@ def only_band(name: str, dataset: Any, enums: Any) -> int:
     """Return the only band that is not an alpha band; raise BadMap if there are several."""
     bands = sorted({*dataset.indexes} - {*alphas(dataset, enums)})
     if len(bands) != 1:
-        raise BadMap(name, f"has {len(bands)} bands: give one, as rasterio.band(dataset, 1)")
+        is_python = host().words == "python"
+        one = "rasterio.band(dataset, 1)" if is_python else option("band", 1)
+        raise BadMap(name, f"has {len(bands)} bands: choose one, for example {one}")
     return int(bands[0])
 
 

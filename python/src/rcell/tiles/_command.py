@@ -21,7 +21,7 @@ COMMAND_LINE, MEMORY, FILES = 2, 3, 4
 
 
 def main(argv: Sequence[str]) -> int:
-    """Run `python3 -m rcell tiles` with the words after `tiles`, and return the exit status.
+    """Run `rcell-gis tiles` with the words after `tiles`, and return the exit status.
 
     The statuses are the program's: 0 done, 1 rejected, 2 the command line, 3 memory, 4 files and workers.
 
@@ -62,7 +62,7 @@ def _status(fault: Exception) -> int:
 
 def _parser() -> argparse.ArgumentParser:
     parser = argparse.ArgumentParser(
-        prog="python3 -m rcell tiles", description="Maps of any size, by tiles."
+        prog="rcell-gis tiles", description="Maps of any size, by tiles."
     )
     commands = parser.add_subparsers(required=True, metavar="COMMAND")
     table = _command(commands, "table", _table, "the table of a script with one r.stats, as CSV")

@@ -1,0 +1,71 @@
+# SPDX-License-Identifier: Apache-2.0 OR GPL-2.0-or-later
+"""Maps from one format to another: `rcell-gis convert`. Texts need the standard library alone."""
+
+from __future__ import annotations
+
+from collections.abc import Iterator
+from typing import Any, Optional
+
+from .errors import Refused
+from .esri_grids import esri_of_grid, grid_of_esri, is_esri
+from .files import opened, read_some
+from .printing import is_text_grid, printed
+from .programs import find_program, program_errors
+
+__all__ = ["converted", "like", "printed_map"]
+
+HEAD_BYTES = 1 << 12
+_STATUS = 2
+
+
+def converted(path: str, to_esri: bool) -> Optional[Iterator[bytes]]:
+    """Return the text of a grid of rcell, or of an ESRI ASCII grid, in one of the two formats; None if the file is neither."""
+    try:
+        with open(path, "rb") as file:
+            start = read_some(file.fileno(), HEAD_BYTES)
+    except OSError:
+        return None  # GDAL may know the path
+    if is_esri(start) and not to_esri:
+        opened(path)
+        return grid_of_esri(path)
+    if is_text_grid(start):
+        opened(path)
+        return esri_of_grid(_printed(path)) if to_esri else _printed(path)
+    return None
+
+
+def _printed(path: str) -> Iterator[bytes]:
+    program = find_program()
+    with program_errors("", ["map"], program), printed(program, path) as pieces:
+        yield from pieces
+
+
+def printed_map(raster: Any, to_esri: bool) -> Iterator[bytes]:
+    """Yield the text of a map as a grid of rcell, or as an ESRI ASCII grid."""
+    pieces = iter([raster.text()])
+    return esri_of_grid(pieces) if to_esri else pieces
+
+
+def like(raster: Any, path: str) -> Any:
+    """Return a map with the reference system and the exact extent of another map, from which it may differ by half a cell.
+
+    Raises
+    ------
+    Refused
+        Its size is another one, or an edge differs by more.
+    """
+    from .sources import source_of
+
+    other = source_of("like", path)
+    mine, its = raster.region, other.region
+    if mine.shape != its.shape:
+        told = f"{its.rows} rows and {its.cols} columns; the map has {mine.rows} and {mine.cols}"
+        raise Refused(f"{path} has {told}", "like", status=1)
+    height, width = ((its.north - its.south) / its.rows, (its.east - its.west) / its.cols)
+    for edge, size in (("north", height), ("south", height), ("east", width), ("west", width)):
+        if abs(getattr(mine, edge) - getattr(its, edge)) * 2 > size:
+            told = f"{edge} is {getattr(its, edge)}, and {getattr(mine, edge)} in the map"
+            raise Refused(f"{path}: {told}: more than half a cell apart", "like", status=1)
+    crs = raster.crs if other.crs is None else other.crs
+    kept = {"labels": raster.labels, "colors": raster.colors}
+    return type(raster)(raster.array, other.transform, crs, **kept)

@@ -1,0 +1,204 @@
+# SPDX-License-Identifier: Apache-2.0 OR GPL-2.0-or-later
+"""ESRI ASCII grids (GDAL's AAIGrid) as grids of rcell, and back, with exact edges. Needs the standard library alone."""
+
+from __future__ import annotations
+
+import re
+from collections.abc import Iterable, Iterator
+from fractions import Fraction
+from typing import Optional
+
+from .edges import DECIMALS, UNITS, edge_text
+from .errors import Refused
+from .files import PIECE, read_some
+from .host import warn
+
+__all__ = ["esri_of_grid", "grid_of_esri", "is_esri"]
+
+NULL = b"-2147483648"  # no category has this value
+KEYS = b"ncols nrows xllcorner yllcorner xllcenter yllcenter cellsize dx dy nodata_value".split()
+HEADER_BYTES = 1 << 16
+MOST_WORDS = 1 << 16  # different cells whose conversion is remembered
+GDAL_DECIMALS = 12  # of a cell size, which GDAL cuts there
+ROUNDED_FROM = (
+    10**10
+)  # beyond it, programs write floats of 32 bits with different numbers of digits
+FORGOTTEN = (b"-9999", b"-32768")
+_NUMBER = re.compile(rb"[+-]?(\d+\.?\d*|\.\d+)(e[+-]?\d{1,3})?", re.IGNORECASE)
+_LONGEST = 64  # bytes of a number
+
+
+def is_esri(start: bytes) -> bool:
+    """Return whether a file that starts so is an ESRI ASCII grid.
+
+    Examples
+    --------
+    >>> is_esri(b"NCOLS 3\\n"), is_esri(b"north: 3\\n")
+    (True, False)
+    """
+    return start.split(None, 1)[:1] != [] and start.split(None, 1)[0].lower() in KEYS
+
+
+def _number(text: bytes) -> Optional[Fraction]:
+    is_number = len(text) <= _LONGEST and _NUMBER.fullmatch(text)
+    return Fraction(text.decode()) if is_number else None
+
+
+def _shown(word: bytes) -> str:
+    return repr(word[:_LONGEST].decode("ascii", "backslashreplace"))
+
+
+class _Header:
+    """The values of a header by key, the place and line where the cells begin, and the six lines for rcell."""
+
+    def __init__(self, start: bytes) -> None:
+        self.values: dict[bytes, bytes] = {}
+        self.end, self.line = 0, 1
+        for raw in start.splitlines(keepends=True):
+            words = raw.split()
+            if words and words[0].lower() not in KEYS:
+                break
+            if words and (len(words) != 2 or words[0].lower() in self.values):
+                raise Refused(
+                    "a line of the header has one key and one value, and no key is there twice",
+                    "map",
+                    self.line,
+                )
+            self.values.update({words[0].lower(): words[1]} if words else {})
+            self.end, self.line = self.end + len(raw), self.line + 1
+        self.cols, self.rows = self.side(b"ncols"), self.side(b"nrows")
+        west, east = self.edges(b"x", b"dx", self.cols, "east")
+        south, north = self.edges(b"y", b"dy", self.rows, "north")
+        texts = [edge_text(round(edge * UNITS)) for edge in (north, south, east, west)]
+        self.text = "north: {}\nsouth: {}\neast: {}\nwest: {}\n".format(*texts)
+        self.text += f"rows: {self.rows}\ncols: {self.cols}\n"
+
+    def side(self, key: bytes) -> int:
+        text = self.values.get(key, b"")
+        if not re.fullmatch(rb"[1-9]\d{0,9}", text):
+            raise Refused(f"{key.decode()} is a whole number above 0, not {_shown(text)}", "map")
+        return int(text)
+
+    def value(self, *keys: bytes) -> tuple[Fraction, bytes]:
+        """Return the value of the first of these keys that is there, and its text."""
+        key = next((key for key in keys if key in self.values), None)
+        if key is None:
+            raise Refused(f"the header has no {keys[0].decode()}", "map")
+        found = _number(self.values[key])
+        if found is None:
+            raise Refused(f"{key.decode()} is a number, not {_shown(self.values[key])}", "map")
+        return found, self.values[key]
+
+    def edges(self, axis: bytes, step: bytes, count: int, name: str) -> tuple[Fraction, Fraction]:
+        """Return the two edges of an axis; the upper one is corrected if the cell size was cut."""
+        size, text = self.value(step, b"cellsize")
+        is_centre = axis + b"llcorner" not in self.values and axis + b"llcenter" in self.values
+        low = self.value(axis + (b"llcenter" if is_centre else b"llcorner"))[0]
+        low -= size / 2 if is_centre else 0
+        high = low + size * count
+        decimals = len(text.partition(b".")[2])
+        if decimals < GDAL_DECIMALS or text.endswith(b"0") or b"e" in text.lower():
+            return low, high
+        most = Fraction(count, 2 * 10**decimals)
+        near = (round(high, digits) for digits in range(DECIMALS + 1))
+        right = next((edge for edge in near if abs(edge - high) <= most), high)
+        if edge_text(round(right * UNITS)) != edge_text(round(high * UNITS)):
+            warn(
+                f"{name}: {edge_text(round(right * UNITS))}, because the {decimals} decimals of the cell size would make it "
+                f"{edge_text(round(high * UNITS))}"
+            )
+        return low, right
+
+
+class _Cells(dict[bytes, bytes]):
+    """The text of each cell in the grid; each different word is converted once."""
+
+    def __init__(self, null: Optional[bytes]) -> None:
+        super().__init__()
+        self.null, self.value = null, None if null is None else _number(null)
+        self.forgotten: set[bytes] = set()
+
+    def __missing__(self, word: bytes) -> bytes:
+        if len(self) >= MOST_WORDS:
+            self.clear()
+        self[word] = text = self.text(word)
+        self.forgotten.update({text}.intersection(FORGOTTEN))
+        return text
+
+    def text(self, word: bytes) -> bytes:
+        value = _number(word)
+        if self.is_null(word, value):
+            return b"*"
+        if value is None or value.denominator != 1:
+            raise Refused(f"the cell {_shown(word)} is not a whole number")
+        return b"%d" % value
+
+    def is_null(self, word: bytes, value: Optional[Fraction]) -> bool:
+        if value is None or self.value is None:
+            return self.null is not None and word.strip(b"+-").lower() == self.null.lower()
+        difference = abs(value - self.value)
+        is_rounded = abs(self.value) > ROUNDED_FROM and difference * 10**6 <= abs(self.value)
+        return difference == 0 or is_rounded
+
+
+def grid_of_esri(path: str) -> Iterator[bytes]:
+    """Yield an ESRI ASCII grid as a grid of rcell.
+
+    Raises
+    ------
+    Refused
+        The header or a cell is invalid; with its line.
+    """
+    with open(path, "rb") as file:
+        pieces = iter(lambda: read_some(file.fileno(), PIECE), b"")
+        start = b""
+        while len(start) < HEADER_BYTES and (piece := next(pieces, b"")):
+            start += piece
+        header = _Header(start)
+        yield header.text.encode()
+        cells, count = _Cells(header.values.get(b"nodata_value")), 0
+        for number, line in enumerate(_lines(start[header.end :], pieces), header.line):
+            words = line.split()
+            count += len(words)
+            if not words:
+                continue
+            try:
+                yield b" ".join([cells[word] for word in words]) + b"\n"
+            except Refused as error:
+                raise Refused(error.text, "map", number) from None
+    if count != header.rows * header.cols:
+        told = f"{header.rows} rows of {header.cols} cells in the header, and {count} cells"
+        raise Refused(told, "map")
+    for word in sorted(cells.forgotten):
+        warn(f"cells are {word.decode()}, which the header does not declare as null")
+
+
+def _lines(start: bytes, pieces: Iterable[bytes]) -> Iterator[bytes]:
+    rest = start
+    for piece in pieces:
+        *lines, rest = (rest + piece).split(b"\n")
+        yield from lines
+    yield from rest.split(b"\n")
+
+
+def esri_of_grid(pieces: Iterator[bytes]) -> Iterator[bytes]:
+    """Yield a grid, as rcell prints it, as an ESRI ASCII grid."""
+    start = b""
+    while start.count(b"\n") < 6:
+        start += next(pieces)
+    *lines, rest = start.split(b"\n", 6)
+    values = dict(line.decode().split(": ") for line in lines)
+    rows, cols = int(values["rows"]), int(values["cols"])
+    north, south, east, west = (
+        Fraction(values[edge]) for edge in ("north", "south", "east", "west")
+    )
+    wide, high = (east - west) / cols, (north - south) / rows
+    sizes = [("cellsize", wide)] if wide == high else [("dx", wide), ("dy", high)]
+    header = (
+        f"ncols {cols}\nnrows {rows}\nxllcorner {values['west']}\nyllcorner {values['south']}\n"
+    )
+    header += "".join(f"{key} {float(size)!r}\n" for key, size in sizes)
+    yield header.encode() + b"NODATA_value %s\n" % NULL
+    yield rest.replace(b"*", NULL)
+    for piece in pieces:
+        yield piece.replace(b"*", NULL)

@@ -1,0 +1,133 @@
+# SPDX-License-Identifier: Apache-2.0 OR GPL-2.0-or-later
+"""Run rcell on text grids, and explain its message: `rcell-gis explain`. Needs the standard library alone."""
+
+from __future__ import annotations
+
+import os
+import re
+import subprocess
+import sys
+from collections.abc import Iterator, Sequence
+from typing import Optional
+
+from .hints import advice, lines_of_error, near, sentence
+from .printing import is_text_grid
+from .programs import find_pipe, find_program
+
+__all__ = ["explain"]
+
+_MESSAGE = re.compile(r"rcell: ([A-Za-z0-9_.]+):([0-9]+): (.*)")
+_COLUMN = re.compile(r" at column ([0-9]+)$")
+_EDGE = re.compile(rb"(?m)^[ \t]*(north|south|east|west|rows|cols):[ \t]*(\S+)")
+_WHOLE = re.compile(rb"[+-]?[0-9]{1,10}")
+HEAD_BYTES, SCRIPT_BYTES = 1 << 12, 1 << 20
+LONGEST_LINE = 1 << 20  # bytes of a line that is looked at
+
+
+def explain(script: str, words: Sequence[str]) -> int:
+    """Run rcell on a script and NAME=PATH words, print after its message what to do, and return its status.
+
+    Its output goes to standard output unchanged.
+    """
+    ran = subprocess.run([find_program(), script, *words], stderr=subprocess.PIPE, check=False)
+    message = ran.stderr.decode("utf-8", "backslashreplace")
+    found = _MESSAGE.match(message)
+    lines = [message.rstrip("\n")] if message else []
+    if found:
+        paths = dict(word.partition("=")[::2] for word in words)
+        lines += [
+            "  " + line for line in _explained(script, paths, found[1], int(found[2]), found[3])
+        ]
+    sys.stdout.flush()
+    sys.stderr.write("".join(f"{_printable(line)}\n" for line in lines))
+    return ran.returncode if ran.returncode >= 0 else 128 - ran.returncode
+
+
+def _explained(
+    script: str, paths: dict[str, str], source: str, line: int, text: str
+) -> Iterator[str]:
+    """Yield the line of an error with a mark, and what to do."""
+    message = _COLUMN.sub("", text)
+    if text.startswith(("cannot open", "read failed", "write failed")):
+        known = "write failed after N bytes" if text.startswith("write") else text
+        path = script if source == "script" else paths.get(source, "")
+        yield f"try: {_near_file(path) or sentence('files', known)}"
+    elif source == "script":
+        yield from _of_script(script, list(paths), line, text)
+    elif source in paths:
+        yield from _of_grid(paths, source, line, message)
+    else:
+        yield f"try: {sentence('arguments', 'usage: rcell SCRIPT NAME=PATH...' if 'usage' in text else text)}"
+
+
+def _near_file(path: str) -> Optional[str]:
+    """Return the nearest name of a file that is not there."""
+    folder, name = os.path.split(path)
+    if os.path.exists(path) or not os.path.isdir(folder or "."):
+        return None
+    return next(
+        (os.path.join(folder, close) for close in near(name, os.listdir(folder or "."))), None
+    )
+
+
+def _of_script(script: str, names: list[str], line: int, text: str) -> Iterator[str]:
+    with open(script, "rb") as file:
+        content = file.read(SCRIPT_BYTES) if os.path.isfile(script) else b""
+    lines = content.decode("utf-8", "surrogateescape").split("\n")
+    if not 0 < line <= len(lines):
+        yield f"try: {sentence('script', text)}"
+        return
+    place, tried = advice(find_pipe(), content, names, line, text)
+    found = _COLUMN.search(text)
+    yield from lines_of_error(lines[line - 1].rstrip("\r"), int(found[1]) if found else place)
+    if tried:
+        yield "try: " + tried.replace("\n", "\n       ")
+
+
+def _of_grid(paths: dict[str, str], name: str, line: int, text: str) -> Iterator[str]:
+    path = paths[name]
+    if not os.path.isfile(path):
+        yield f"try: {sentence('grid', text)}"
+        return
+    with open(path, "rb") as file:
+        start = file.read(HEAD_BYTES)
+        if not is_text_grid(start):
+            yield f"{path} is not a grid of rcell"
+            yield f"try: rcell-gis convert {path} {os.path.splitext(path)[0]}.grid.txt"
+            return
+        file.seek(0)
+        raw = next((each for number, each in enumerate(file, 1) if number == line), b"")
+    if text == "other region":
+        yield from _other_region(paths, name, start)
+    elif raw and len(raw) <= LONGEST_LINE:
+        word = _bad_word(raw, start) if text in ("bad cell", "cell out of range") else None
+        yield from lines_of_error(raw.rstrip(b"\r\n").decode("utf-8", "surrogateescape"), word)
+    yield f"try: {sentence('grid', text)}"
+
+
+def _bad_word(raw: bytes, start: bytes) -> Optional[int]:
+    """Return the column of the first word that is not a cell."""
+    found = re.search(rb"(?m)^[ \t]*null:[ \t]*(\S+)", start)
+    null = found[1] if found else b"*"
+    for word in re.finditer(rb"\S+", raw):
+        is_cell = _WHOLE.fullmatch(word[0]) and abs(int(word[0])) < 2**31
+        if word[0] != null and not is_cell:
+            return word.start() + 1
+    return None
+
+
+def _other_region(paths: dict[str, str], name: str, start: bytes) -> Iterator[str]:
+    """Yield each line of the header that differs from the first grid."""
+    first = next(iter(paths))
+    with open(paths[first], "rb") as file:
+        wanted = dict(_EDGE.findall(file.read(HEAD_BYTES)))
+    for key, value in _EDGE.findall(start):
+        if wanted.get(key, value) != value:
+            told = f"{key.decode()} is {value.decode()} in {name}"
+            yield f"{told}, and {wanted[key].decode()} in {first}"
+
+
+def _printable(text: str) -> str:
+    return "".join(
+        each if each.isprintable() or each == "\t" else f"\\x{ord(each):02x}" for each in text
+    )

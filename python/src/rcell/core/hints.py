@@ -1,0 +1,371 @@
+# SPDX-License-Identifier: Apache-2.0 OR GPL-2.0-or-later
+"""What to write instead of a line of a script that rcell rejects: a line that rcell accepts, or one sentence.
+
+The corrections are guesses at usual mistakes. rcell-pipe judges at most two of them, and only one that it accepts is proposed. No
+result of a run depends on this module. Lines have one character per byte here, as columns count bytes.
+"""
+
+from __future__ import annotations
+
+import functools
+import json
+import os
+import re
+from collections.abc import Callable, Iterable, Iterator, Sequence
+from fractions import Fraction
+from typing import Optional, Union
+
+__all__ = ["advice", "lines_of_error", "near", "sentence"]
+
+SHOWN_BYTES, LONGEST_LINE = 100, 300
+MOST_CHECKS, PLAN_SECONDS = 2, 10
+LONGEST_MENDED = 4000  # bytes of a line
+MOST_NAMES = 400
+COMMANDS = ("r.mapcalc", "r.reclass", "r.clump", "r.stats", "r.out.ascii")
+# The flags and the keys of a command.
+OPTIONS = {
+    "r.reclass": ("", ("input", "output")),
+    "r.clump": ("d", ("input", "output")),
+    "r.stats": ("clnN1", ("input", "separator", "null_value", "after")),
+    "r.out.ascii": ("", ("input", "null_value")),
+}
+FUNCTIONS = "if isnull null abs min max mode row col nrows ncols eval nmin nmax nmode".split()
+KEYS = {"in": "input", "map": "input", "out": "output", "fs": "separator", "null": "null_value"}
+SEPARATORS = {"pipe", "comma", "space", "tab"}
+OPERATORS = dict(
+    zip("and or mod div eq ne lt gt le ge".split(), "&& || / % == != < > <= >=".split()),
+    **{"<>": "!=", "=>": ">=", "=<": "<=", "≤": "<=", "≥": ">=", "≠": "!=", "×": "*", "÷": "/"},
+)
+
+_MARK = "\0"  # before the place of the error
+_NO_BYTES = re.compile("[\ud800-\udc7f\udd00-\udfff]")  # surrogates that are no escapes of bytes
+_COLUMN = re.compile(r" at column (\d+)$")
+_MADE = re.compile(r"\boutput=([\w.]+)|^[ \t]*r\.mapcalc[ \t]+([\w.]+)[ \t]*=", re.MULTILINE)
+_WORD = re.compile(r"[^ \t\r]+")
+_NAME = re.compile(r"[A-Za-z_][\w.]*", re.ASCII)
+
+Replacement = Union[str, "Callable[[re.Match[str]], str]"]
+
+
+def _power(match: re.Match[str]) -> str:
+    return "(" + " * ".join([match[1]] * int(match[2])) + ")"
+
+
+def _operator(match: re.Match[str]) -> str:
+    sign = match[0].replace(_MARK, "").encode("latin-1").decode("utf-8", "replace")
+    return OPERATORS.get(sign.lower(), match[0])
+
+
+def _lower(match: re.Match[str]) -> str:
+    return match[0].lower()
+
+
+def _whole(match: re.Match[str]) -> str:
+    """Return a comparison, a product or a quotient with a decimal number in whole numbers."""
+    sign, value = match[1].strip(), Fraction(match[2])
+    if sign in ("<", ">=", ">", "<="):
+        return f"{sign} {value // 1 + (value.denominator > 1 and sign in ('<', '>='))}"
+    if value.denominator == 1 or sign not in ("*", "/") or not value:
+        return f"{match[1]}{value}" if value.denominator == 1 else match[0]
+    up, down = value.as_integer_ratio() if sign == "*" else value.as_integer_ratio()[::-1]
+    return f"* {up} / {down}" if up > 1 < down else f"/ {down}" if down > 1 else f"* {up}"
+
+
+_COMMENT = (r"[ \t]*\0?#.*", "")
+_FLAG = (r"[ \t]\0?-\0?-\0?(?:o|overwrite|q|quiet|v|verbose|help|ui)\b", "")
+_QUOTES = (r"[\"']", "")
+_KEY = (r"^([ \t]*r\.mapcalc[ \t]+)expression=", r"\1")
+_NEXT = (r"^\0?[ \t]*(?=[rg]\.[a-z])", "end\n")
+# For each message what is replaced in a line. All replacements are tried together, then the first alone.
+REWRITES: dict[str, list[tuple[str, Replacement]]] = {
+    "unknown command": [
+        (r"^\0?\xef\xbb\xbf|\xc2\xa0", " "),
+        (r"^[ \t]*\0?[rR]\.\w+", _lower),
+    ],
+    "bad option": [
+        _COMMENT,
+        (r"[ \t]\0?(?:--\S*|(?:[<>|]|2>|&>).*)", ""),
+        (r"\xe2\x80[\x93\x94]", "-"),
+        (r"-[ \t]+(?=\w)", "-"),
+        _QUOTES,
+        (r"[ \t]*\0?=[ \t]*", "="),
+    ],
+    "bad name": [
+        _QUOTES,
+        (r"@[\w.]*", ""),
+        (r"[ \t]*=[ \t]*", "="),
+        (r",[ \t]+", ","),
+        (r",+(?=[ \t]|$)", ""),
+        (r"(?<=\w)-(?=\w)", "_"),
+    ],
+    "bad rule": [
+        _NEXT,
+        (r"^\0?[ \t]*end\b.+", "end"),
+        (r"^\0?[ \t]*(-?\d+):(-?\d+):(-?\d+).*", r"\1 thru \2 = \3"),
+    ],
+    "bad number in rule": [
+        _NEXT,
+        (r"==+", "="),
+        (r"[ \t]*;[ \t]*", "\n"),
+        (r"(\d)[ \t]*(?:-|\.\.|:|\bto\b)[ \t]*(-?\d+)(?=.*=)", r"\1 thru \2"),
+        (r"(?i)(=[ \t]*)(?:na|nan|null|nodata|none|null\(\))(?!\S)", r"\1NULL"),
+        (r"(=[ \t]*)(?=[^\s\d*+-])(?!(?:NULL|null)(?!\S))", r"\g<1>1 "),
+    ],
+    "bad byte": [
+        _COMMENT,
+        _QUOTES,
+        _FLAG,
+        _KEY,
+        (r"@[\w.]*", ""),
+        (r"\0;[ \t]*(?:r\.mapcalc[ \t]+)?(?=\S)|\0;[ \t]*", "\nr.mapcalc "),
+        (r"\nr\.mapcalc $", ""),
+        (r"([A-Za-z_][\w.]*)[ \t]*\0\^[ \t]*([23])(?![\w.])", _power),
+        (r"\0[\xc2-\xe2][\x80-\xbf]+", _operator),
+    ],
+    "unexpected token": [
+        _FLAG,
+        _KEY,
+        (r"([A-Za-z_][\w.]*)[ \t]*\0?\*\0?\*[ \t]*([23])(?![\w.])", _power),
+        (r"<\0?>|=\0?>|=\0?<|(?i:\0(?:and|or|mod|div|eq|ne|lt|gt|le|ge))(?![\w.])", _operator),
+        (r"(?i)(?<![\w.])not[ \t]+\0?(?=\S)", "!"),
+        (r"^([ \t]*r\.mapcalc[ \t]+[\w.]+[ \t]*)\0?=\0?=", r"\1="),
+        (r"\0=(?!=)", "=="),
+        (r"(\[[^\[\],]*)\0\]", r"\1,0]"),
+        (r"^([ \t]*r\.mapcalc[ \t]+[\w.]+)\0-([\w.]*[ \t]*=)", r"\1_\2"),
+        (r"\0\)", ""),
+    ],
+    "number not whole": [(r"([*/<>]=?[ \t]*|)\0?(\d+\.\d*|\.\d+)", _whole)],
+    "unknown function": [
+        (r"(?i)\0(?:int|float|double)(?=[ \t]*\()", ""),
+        (r"\0?\b\w*[A-Z]\w*(?=[ \t]*\()", _lower),
+    ],
+    "wrong number of arguments": [(r"\0null(?=[ \t]*\()", "isnull")],
+    "unknown map": [
+        _FLAG,
+        (r"(?i)\0null(?![\w.(])", "null()"),
+        (r"\0(n?rows?|n?cols?)(?![\w.(])", r"\1()"),
+    ],
+}
+
+
+class _Error:
+    """A line that is rejected: its bytes as text, the message, and the names of the maps that are there."""
+
+    def __init__(self, text: str, line: str, column: int, names: list[str]) -> None:
+        self.text, self.line, self.names = text, line, names
+        self.part = "expression" if column else "script"
+        self.command = (_WORD.findall(line) or [""])[0]
+        self.bad = None if column else self.bad_word()
+        self.at = column - 1 if column else self.bad.start() if self.bad else 0
+
+    def bad_word(self) -> Optional[re.Match[str]]:
+        """Return the word that is not an option, or the name that is no map."""
+        if self.text == "unknown map":
+            values = re.compile(r"(?<=[=,])[A-Za-z_][\w.]*(?=[,\s]|$)", re.ASCII)
+            words = values.finditer(self.line) if self.command in OPTIONS else ()
+            return next((word for word in words if word[0] not in self.names), None)
+        if self.text not in ("bad option", "bad name"):
+            return None
+        seen: set[str] = set()
+        for word in [*_WORD.finditer(self.line)][1:]:
+            key, equals, value = word[0].partition("=")
+            if not self.is_option(key, equals, value) or key in seen:
+                return word
+            seen.add(key)
+        return None
+
+    def is_option(self, key: str, equals: str, value: str) -> bool:
+        flags, keys = OPTIONS.get(self.command, ("", ()))
+        if key.startswith("-"):
+            return len(key) > 1 and set(key[1:]) <= set(flags) and not equals
+        if self.text == "bad name" and key in ("input", "output"):
+            several = value.split(",") if self.command == "r.stats" else [value]
+            return all(_NAME.fullmatch(name) and len(name) <= 64 for name in several)
+        is_right = {
+            "separator": value in SEPARATORS or len(value) == 1,
+            "null_value": 1 <= len(value) <= 64 and (self.command == "r.stats" or ":" not in value),
+            "input": value.count(",") < 16,
+        }
+        return bool(equals) and key in keys and is_right.get(key, True)
+
+    # What may be right
+
+    def lines(self) -> Iterator[str]:
+        """Yield lines that may be meant, the likeliest first."""
+        marked = self.line[: self.at] + _MARK + self.line[self.at :]
+        changed, first = marked, None
+        for pattern, new in REWRITES.get(self.text, ()):
+            after = re.sub(pattern, new, changed, flags=re.ASCII)
+            first = after if first is None and after != changed else first
+            changed = after
+        found = [changed, first, *self.near_lines()]
+        for line in found:
+            if (
+                line is not None
+                and (line := line.replace(_MARK, "").rstrip()) != self.line.rstrip()
+            ):
+                yield line
+
+    def near_lines(self) -> Iterator[str]:
+        """Yield the line with the nearest map, command, option or function, or with what is missing."""
+        head, tail = self.line[: self.at], self.line[self.at :]
+        word = (_NAME.match(tail) or _WORD.match(tail) or [""])[0]
+        rest = tail[len(word) :]
+        if self.text == "unknown command":
+            yield from (head + name + rest for name in near(word.lower(), COMMANDS, 0.75))
+        elif self.text == "bad option" and self.bad:
+            yield from (
+                head + new + tail[len(self.bad[0]) :].lstrip(" " * (not new))
+                for new in self.near_options()
+            )
+        elif self.text == "unknown map":
+            yield from (head + name + rest for name in near(word, self.names))
+        elif self.text == "unknown function":
+            yield from (head + name + rest for name in near(word, FUNCTIONS))
+        elif self.text == "map exists":
+            made = _MADE.search(self.line)
+            name = made and (made[1] or made[2])
+            yield from [self.line.replace(f"{name}", f"{name}_2", 1)] if name else []
+        elif self.text == "missing option":
+            missing = [key for key in ("input", "output") if f"{key}=" not in self.line]
+            yield " ".join(
+                [
+                    self.line,
+                    *(f"{key}={self.names[0] if key == 'input' else 'NAME'}" for key in missing),
+                ]
+            )
+        elif self.text == "unexpected token":
+            yield self.line + ")" * (self.line.count("(") - self.line.count(")"))
+
+    def near_options(self) -> Iterator[str]:
+        """Yield what may be meant by a word that is not an option; the empty text leaves it out."""
+        assert self.bad
+        flags, keys = OPTIONS.get(self.command, ("", ()))
+        key, equals, value = self.bad[0].partition("=")
+        if key.startswith("-"):
+            known = "".join(dict.fromkeys(letter for letter in key[1:] if letter in flags))
+            yield "-" + known if known else key.lower() if set(key[1:].lower()) <= set(
+                flags
+            ) and key != "-" else ""
+        elif not equals:
+            yield f"input={key}"
+        elif key not in keys:
+            yield from (
+                f"{new}={value}" for new in [KEYS.get(key), *near(key, keys)] if new in keys
+            )
+        yield "" if key not in ("separator", "null_value", "input") or self.line.count(
+            key + "="
+        ) > 1 else self.bad[0]
+
+    def divides(self, new: str) -> bool:
+        """Return whether a correction divides where the line multiplied."""
+        return self.text == "number not whole" and new.count("/") > self.line.count("/")
+
+    def sentence(self) -> str:
+        """Return what to do about the message."""
+        text = self.text
+        if text == "bad option":
+            text = "options that exclude each other"
+            if self.bad:
+                key = self.bad[0].partition("=")[0]
+                text = key if sentence("script", key) else self.text
+        flags, keys = OPTIONS.get(self.command, ("", ()))
+        options = " ".join([*(f"-{flag}" for flag in flags), *(f"{key}=" for key in keys)])
+        return sentence(self.part, text).format(
+            maps=", ".join(self.names[:12]) or "no map",
+            command=self.command,
+            options=options,
+            functions=", ".join(FUNCTIONS),
+        )
+
+
+def advice(
+    program: str, script: bytes, names: Sequence[str], line: int, text: str
+) -> tuple[Optional[int], Optional[str]]:
+    """Return the column of the word that a message without one is about, and what to write instead; None if unknown.
+
+    Parameters
+    ----------
+    program : str
+        The path of rcell-pipe.
+    script : bytes
+    names : sequence of str
+        The maps that are given.
+    line : int
+        The line that is rejected, from 1.
+    text : str
+        The message.
+    """
+    lines = script.decode("latin-1").split("\n")
+    column = _COLUMN.search(text)
+    made = (name or other for name, other in _MADE.findall("\n".join(lines[: line - 1])))
+    error = _Error(
+        _COLUMN.sub("", text),
+        lines[line - 1].rstrip("\r"),
+        int(column[1]) if column else 0,
+        [*dict.fromkeys([*names, *made])],
+    )
+    tried = dict.fromkeys(error.lines()) if len(error.line) <= LONGEST_MENDED else {}
+    place = error.bad.start() + 1 if error.bad else None
+    for new in list(tried)[:MOST_CHECKS]:
+        mended = "\n".join([*lines[: line - 1], new, *lines[line:]])
+        if _is_accepted(program, names, mended, line + new.count("\n")):
+            note = f"  ({sentence('expression', 'quotient')})" * error.divides(new)
+            return place, new.strip().encode("latin-1").decode("utf-8", "surrogateescape") + note
+    return place, error.sentence() or None
+
+
+def _is_accepted(program: str, names: Sequence[str], script: str, line: int) -> bool:
+    """Return whether rcell-pipe finds nothing wrong up to a line of a script."""
+    from . import protocol  # which needs this module for its errors
+
+    try:
+        protocol.plan(program, names, script.encode("latin-1"), seconds=PLAN_SECONDS)
+    except protocol.Rejected as error:
+        return error.line > line or error.text == "missing end"
+    return True
+
+
+def near(word: str, known: Iterable[str], cutoff: float = 0.6) -> list[str]:
+    """Return a list of the known word most similar to this one, or an empty list.
+
+    Examples
+    --------
+    >>> near("contry", ["country", "zones"])
+    ['country']
+    """
+    import difflib  # only errors need it
+
+    return difflib.get_close_matches(word[:64], list(known)[:MOST_NAMES], 1, cutoff)
+
+
+@functools.lru_cache(maxsize=None)
+def _sentences() -> dict[str, dict[str, str]]:
+    path = os.path.join(os.path.dirname(os.path.realpath(__file__)), "messages.json")
+    with open(path, encoding="utf-8") as file:
+        found: dict[str, dict[str, str]] = json.load(file)
+    return found
+
+
+def sentence(part: str, text: str) -> str:
+    """Return what to do about a message of a part: `arguments`, `files`, `grid`, `script` or `expression`; empty if unknown."""
+    return _sentences()[part].get(text, "")
+
+
+def lines_of_error(content: str, column: Optional[int]) -> list[str]:
+    """Return a line of a script and, if a column is given (in bytes, from 1), a mark under it; of a long line the part around it."""
+    raw = _NO_BYTES.sub("\ufffd", content).encode("utf-8", "surrogateescape")
+    start = (column or 1) - 1
+    begin = (
+        0
+        if len(raw) <= LONGEST_LINE
+        else max(0, min(start - SHOWN_BYTES // 3, len(raw) - SHOWN_BYTES))
+    )
+    end = len(raw) if len(raw) <= LONGEST_LINE else begin + SHOWN_BYTES
+    cut, rest = ".." * (begin > 0), ".." * (end < len(raw))
+    line = (
+        cut + raw[begin:end].decode("utf-8", "replace" if cut or rest else "surrogateescape") + rest
+    )
+    before = cut + raw[begin:start].decode("utf-8", "replace")
+    mark = "".join("\t" if letter == "\t" else " " for letter in before) + "^"
+    return [line] if column is None else [line, mark]
