@@ -5,7 +5,7 @@
     edits.py --stale                                           only that each edit still fits its files, in a second
 
 A check judges each function by itself, over the contracts of what it calls. So edits of different functions are made in one copy of
-the crate and do not touch each other, and only these functions are checked. An edit is rejected if a function that it changes is not
+the crate and do not touch each other, and only these functions are checked: the written proofs of all others are holes. An edit is rejected if a function that it changes is not
 proved for a reason of its own, and not because it calls another that is not proved. What is not rejected in company is tried again,
 in the end alone. A turned definition (edit_files.py) is tried alone: the proof of each law that it names has to fail.
 
@@ -33,7 +33,9 @@ import edit_files
 import turned_definitions
 
 VERDICT = re.compile(r"^(?:fn|impl|enum|struct|trait) \w+::(\S+): (.*)$")
-PROVED = re.compile(r"proved\b|assumed\b|no proof: it calls .*, which (?:is|are) not proved$")
+PROVED = re.compile(
+    r"proved\b|assumed\b|no holes|depends on a hole|no proof: it calls .*, which (?:is|are) not proved$"
+)
 BY_CALL = re.compile(r"not proved; it (?:calls|waits for)\b")
 OPEN = re.compile(r"`search` did not prove|^note: \S+: it is not proved that")
 FALSE = "allow values at which this goal is false"
@@ -170,15 +172,41 @@ def changed_copy(crate, edits, room):
         pathlib.Path(room, name).write_text(text, encoding="utf-8")
 
 
+# The proof of a function whose written proof is left out.
+HOLE = """use Rattle.{crate}.proofs.{module}.Statement.{{statement}}
+
+pub {name}_spec : {{M : Type 1}} → statement M
+{name}_spec = ?
+"""
+WRITTEN = ("Answers.antt", "Invariants.antt")
+
+
+def leave_holes(crate, changed, room):
+    """Puts a hole in place of each written proof but those of some functions, which are (file, name), and of their closures.
+
+    So a check takes the other functions by their contracts.
+    """
+    proofs = pathlib.Path(room, "proofs")
+    for folder in {it.parent for name in WRITTEN for it in proofs.rglob(name)}:
+        parts = folder.relative_to(proofs).parts
+        # The functions of a cycle of calls have one proof.
+        if folder.name.startswith("+") or any(is_of("::".join(parts), *it) for it in changed):
+            continue
+        for name in WRITTEN:
+            (folder / name).unlink(missing_ok=True)
+        text = HOLE.format(crate=crate, module=".".join(parts), name=folder.name)
+        (folder / "Proof.antt").write_text(text, encoding="utf-8")
+
+
 class Checks:
     """Runs checks of a crate over what the checks before them kept, and counts them and their processor seconds."""
 
     def __init__(self, crate, kept):
         self.crate, self.kept, self.count, self.seconds = crate, kept, 0, 0.0
 
-    def run(self, room, functions, crate=None):
+    def run(self, room, functions, crate=None, words=()):
         """Check the crate in a folder, or only some functions of it; return the output."""
-        words = [*(crate or self.crate).command("check"), "--incremental", self.kept]
+        words = [*(crate or self.crate).command("check"), "--incremental", self.kept, *words]
         words += [word for it in sorted(functions) for word in ("--only", it)]
         with tempfile.TemporaryFile("w+", encoding="utf-8", errors="replace") as output:
             ran = subprocess.Popen(  # pylint: disable=consider-using-with
@@ -191,19 +219,19 @@ class Checks:
 
     def of_edits(self, edits, is_full=False):
         """Check what these edits change, or the full crate with them; return the reasons of functions, and the output."""
-        functions = {
-            "::".join([*modules_of(name), function])
-            for edit in edits
-            for name, function in edit.functions
-            if not edit.is_outside and not is_full
-        }
+        changed = {it for edit in edits for it in edit.functions}
+        is_full = is_full or any(edit.is_outside for edit in edits)
+        functions = {"::".join([*modules_of(name), function]) for name, function in changed}
         with tempfile.TemporaryDirectory(prefix="rcell-edits-") as room:
             changed_copy(self.crate, edits, room)
-            said = self.run(room, functions)
-            while unknown := NO_FUNCTION.findall(said):
-                # Nothing but the full check judges what cannot be named.
-                functions = set() if set(unknown) - functions else functions - set(unknown)
-                said = self.run(room, functions)
+            if is_full:
+                said = self.run(room, ())
+            else:
+                leave_holes(self.crate.name, changed, room)
+                said = self.run(room, functions, words=["--allow-holes"])
+        if not is_full and NO_FUNCTION.search(said):
+            # Nothing but the full check judges what cannot be named.
+            return self.of_edits(edits, is_full=True)
         return reasons_of(said), said
 
     def of_laws(self, edit, home):

@@ -118,6 +118,7 @@ OUTPUTS = [
         {"first": "written?"},
     ),
     (f"fn all::first: {WAITS}\nfn all::second: proved\nimpl all::ThreeDebug: proved", {}),
+    ("fn all::first: no holes\nfn all::second: depends on a hole in `all.proofs.first.Proof`", {}),
     ("fn all::first: no proof: it calls `all::a` and `all::b`, which are not proved", {}),
     ("impl all::ThreeEq: not proved; it waits for the proof of `eq`", {}),
     ("fn all::first: not proved", {"first": "written"}),
@@ -280,6 +281,25 @@ def faults_of_counts():
     ) else f"counting.sh: status {ran.returncode}, {ran.stdout}"
 
 
+def faults_of_holes():
+    """All written proofs are holes but those of a changed function, its closure, and a cycle."""
+    kept = ("words/first", "words/fn/first/map", "words/+all", "words/Reader/next")
+    with tempfile.TemporaryDirectory() as room:
+        for name in (*kept, "words/second", "first", "words/fn/second/map"):
+            folder = pathlib.Path(room, "proofs", name)
+            folder.mkdir(parents=True)
+            (folder / "Answers.antt").touch()
+        changed = {("src/words.rt", "first"), ("src/words.rt", "Reader::next")}
+        edits.leave_holes("one", changed, room)
+        found = {
+            str(it.parent.relative_to(f"{room}/proofs"))
+            for it in pathlib.Path(room, "proofs").rglob("Answers.antt")
+        }
+        text = pathlib.Path(room, "proofs/words/second/Proof.antt").read_text(encoding="utf-8")
+    yield "" if found == set(kept) else f"written proofs that stay: {found}"
+    yield "" if "proofs.words.second.Statement" in text and "second_spec = ?" in text else text
+
+
 def faults_of_unproved():
     """The substitute for clang hands on what is not the program's code, and takes that code; a part about proofs is skipped."""
     with tempfile.TemporaryDirectory() as folder:
@@ -344,6 +364,7 @@ def main():
             faults_of_groups,
             faults_of_trying,
             faults_of_files,
+            faults_of_holes,
             faults_of_unproved,
             faults_of_lint,
         )
