@@ -14,9 +14,9 @@ export PATH="$room/venv/bin:/usr/bin:/bin" HOME="$room" LC_ALL=C.UTF-8 PYTHONDON
 mkdir "$room/examples" && cp -r python/tests python/tools python/pyproject.toml "$room" && cp -r examples/rasters examples/study.ipynb "$room/examples"
 types="python3 -m mypy --cache-dir $room/mypy --config-file"
 
-echo "python: the programs are $(python3 -c 'import rcell; print(rcell.program(), rcell.joiner(), rcell.__version__)')"
+echo "python: the programs are $(python3 -c 'import rcell; rcell.show_versions()')"
 add tests sh -c 'cd "$1" && python3 tests/gate.py --cov=rcell --cov-report=term --cov-fail-under=90 tests' sh "$room"
-check 'the programs of the wheel' test "$(python3 -c 'import rcell; from rcell.core.programs import find_pipe; print(rcell.program(), find_pipe(), rcell.joiner())')" \
+check 'the programs of the wheel' test "$(python3 -c 'from rcell.core.joiner import find_joiner; from rcell.core.programs import find_pipe, find_program; print(find_program(), find_pipe(), find_joiner())')" \
     = "$room/venv/bin/rcell $room/venv/bin/rcell-pipe $room/venv/bin/rcell-join"
 check 'types of the package' $types python/pyproject.toml python/src python/tools
 check 'types of the benchmarks' env MYPYPATH=python/bench $types python/pyproject.toml python/bench/*.py

@@ -230,7 +230,7 @@ def test_a_library_with_closed_streams(room: pathlib.Path) -> None:
     code = "import os, sys, rcell; t = rcell.run('r.stats -c input=m', m=sys.argv[1])[0]; open(sys.argv[2], 'w').write(str(t.values.tolist()))"
     for closed in ("<&-", ">&-", "2>&-", "<&- >&- 2>&-"):
         ran = shell(room, f"{sys.executable} -c {shlex.quote(code)} in.txt out {closed}")
-        assert (ran.returncode, (room / "out").read_text()) == (0, "[(7, 3), (8, 3)]"), closed
+        assert (ran.returncode, (room / "out").read_text()) == (0, "[[7, 3], [8, 3]]"), closed
 
 
 @pytest.mark.parametrize("name", ["SIGHUP", "SIGINT", "SIGTERM", "SIGQUIT", "SIGXCPU"])

@@ -368,7 +368,7 @@ def _colored(array: Any, categories: list[int], colors: dict[int, str]) -> tuple
     spare = (color for name in _PALETTES for color in matplotlib.colormaps[name].colors)
     palette = [colors.get(category) or next(spare) for category in categories]
     places = np.searchsorted(categories, array.filled(categories[0]))
-    shown = np.ma.MaskedArray(places, np.ma.getmaskarray(array))
+    shown: Any = np.ma.MaskedArray(places, np.ma.getmaskarray(array))
     edges = np.arange(len(categories) + 1) - 0.5
     norm = colors_of.BoundaryNorm(edges, len(categories))
     return shown, colors_of.ListedColormap(palette), norm

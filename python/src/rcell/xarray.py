@@ -12,6 +12,7 @@ from collections.abc import Iterable
 from typing import TYPE_CHECKING, Any
 
 from . import frames
+from .core.change import Change
 from .core.errors import BadArgument, BadMap, MissingLibrary
 from .core.protocol import NULL
 from .core.runs import planned
@@ -103,7 +104,7 @@ class Accessor:
         """
         return frames.cross(self._maps, **options)
 
-    def change(self, after: Any = None, **options: Any) -> frames.Change:
+    def change(self, after: Any = None, **options: Any) -> Change:
         """Compare maps of two or more years; see `rcell.change`.
 
         Parameters
@@ -292,10 +293,10 @@ class Accessor:
         >>> xarray.DataArray(np.array([[1, 1, 2], [3, 2, 2]]), dims=("y", "x")).rcell.clump().values.tolist()
         [[1, 1, 2], [3, 2, 2]]
         """
+        only = self._only()
         if self._is_lazy and classes is None and min_cells is None and not options:
             return self._mosaic().clump(next(iter(self._maps)), connectivity=connectivity)
-        made = frames.clump(self._only(), connectivity, classes, min_cells, **options)
-        return self._like(made)
+        return self._like(frames.clump(only, connectivity, classes, min_cells, **options))
 
     def table(
         self,
@@ -336,7 +337,8 @@ class Accessor:
         """
         if self._is_lazy:
             return self._mosaic(crs, more).table(script, area, percent, compute=False).compute()
-        return frames.table(script, self._maps, area=area, percent=percent, crs=crs, **more)
+        maps = named_once(self._maps, more)
+        return frames.table(script, maps, area=area, percent=percent, crs=crs)
 
     def grid(self, script: str, *, crs: Any = None, **more: MapLike) -> Any:
         """Return the map that an expression makes.

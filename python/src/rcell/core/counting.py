@@ -185,12 +185,15 @@ def counts_of(values: Integers, measure: Measure) -> Counts:
 
 def _in_order(table: Integers) -> Integers:
     """Return a table with its rows in ascending order, null last."""
-    return table[_order_of(table)]
+    ordered: Integers = table[_order_of(table)]
+    return ordered
 
 
 def _order_of(classes: Integers) -> NDArray[np.intp]:
     """Return the order of rows of classes, null last; rows that are equal stay in their order."""
-    return np.lexsort(np.where(classes == NULL, np.iinfo(np.int64).max, classes).T[::-1])
+    ordered = np.where(classes == NULL, np.iinfo(np.int64).max, classes)
+    order: NDArray[np.intp] = np.lexsort(ordered.T[::-1])
+    return order
 
 
 def places_of(ordered: Integers) -> NDArray[np.intp]:

@@ -269,7 +269,7 @@ def table(
         met = f"{tables} tables and {len(outputs) - tables} maps" if outputs else "no r.stats"
         told = f"one table is asked for, and the script has {met}: rcell.run returns all outputs"
         raise Refused(told, "script")
-    [stats] = outputs
+    stats = outputs[0]
     return stats.matrix(measure, percent) if pivot else stats.table(measure, percent)
 
 

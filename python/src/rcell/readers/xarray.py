@@ -245,10 +245,9 @@ def _flat(name: str, array: Any) -> Any:
     others = [dim for dim in array.dims if dim not in kept]
     if len(kept) != 2 or any(array.sizes[dim] != 1 for dim in others):
         sizes = ", ".join(f"{dim} {array.sizes[dim]}" for dim in array.dims)
-        raise BadMap(
-            name,
-            f"a DataArray of {array.ndim} dimensions ({sizes}), and a map has two: select one, as .isel(band=0)",
-        )
+        left = next((dim for dim in others if array.sizes[dim] != 1), "band")
+        told = f"a DataArray of {array.ndim} dimensions ({sizes}), and a map has two"
+        raise BadMap(name, f"{told}: select one, for example .isel({left}=0)")
     return array.isel({dim: 0 for dim in others}).transpose(*kept)
 
 

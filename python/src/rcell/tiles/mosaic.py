@@ -20,7 +20,7 @@ from ..core.protocol import NULL
 from ..core.errors import BadArgument, RcellError, Refused
 from ..core.joiner import check_files, find_joiner
 from ..core.sources import named_once
-from ..core.patches import check_connectivity
+from ..core.arguments import check_connectivity
 from ..core.runs import planned
 from ..core.region import CELL_LIMIT, SIDE_LIMIT
 from ..readers.xarray import data_array
