@@ -182,7 +182,7 @@ WRITTEN = ("Answers.antt", "Invariants.antt")
 
 
 def leave_holes(crate, changed, room):
-    """Puts a hole in place of each written proof but those of some functions, which are (file, name), and of their closures.
+    """Puts a hole in place of each written proof except of some functions, which are (file, name), and of their closures.
 
     So a check takes the other functions by their contracts.
     """

@@ -282,7 +282,7 @@ def faults_of_counts():
 
 
 def faults_of_holes():
-    """All written proofs are holes but those of a changed function, its closure, and a cycle."""
+    """All written proofs are holes except of a changed function, its closure, and a cycle."""
     kept = ("words/first", "words/fn/first/map", "words/+all", "words/Reader/next")
     with tempfile.TemporaryDirectory() as room:
         for name in (*kept, "words/second", "first", "words/fn/second/map"):
