@@ -5,6 +5,10 @@
 HEADER_BYTES <- 65536L
 CATEGORY_LIMIT <- 2147483647
 HEADER_LINE <- "^[ \t\r\n]*(north|south|east|west|rows|cols|null|type|multiplier):"
+# The parameters of functions that take maps by name.
+PARAMETERS <- c(
+  "area", "percent", "wide", "labels", "include_null", "filename", "overwrite", "crs", "maps"
+)
 # Paths of GDAL that are not files of this machine.
 ADDRESS <- "^/vsi|^[A-Za-z][A-Za-z0-9+.-]+:"
 
@@ -23,7 +27,18 @@ named_maps <- function(dots, maps) {
   twice <- names(named)[duplicated(names(named))]
   if (length(twice)) refuse(sprintf("the map %s is given twice", twice[[1]]), status = 2L)
   check_names(names(named))
+  for (name in names(dots)) check_spelling(name, dots[[name]])
   named
+}
+
+# A path of no file under a name that is nearly a parameter's is a misspelt parameter.
+check_spelling <- function(name, map) {
+  near <- PARAMETERS[adist(name, PARAMETERS) <= 2L]
+  if (!length(near) || !is_path(map) || is_address(map) || file.exists(native_path(map))) {
+    return(invisible())
+  }
+  text <- "%s= would be a map, and there is no file %s: did you mean %s=?"
+  refuse(sprintf(text, name, map, near[[1]]), status = 2L)
 }
 
 # Return maps by name as sources; `crs` states the reference system of maps that have none.
