@@ -103,6 +103,10 @@ def draw_model(country: QgsRasterLayer) -> None:
 
     model = QgsProcessingModelAlgorithm()
     model.fromFile(MODEL)
+    for name in model.childAlgorithms():
+        is_valid, reasons = model.validateChildAlgorithm(name)
+        if not is_valid:
+            raise RuntimeError(f"{name} would be red in the designer: {reasons}")
     found = processing.run(
         model,
         {
