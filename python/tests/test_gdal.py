@@ -3,12 +3,14 @@
 from __future__ import annotations
 
 import pathlib
+import sys
 from typing import Any, Callable
 
 import numpy as np
 import pytest
 
 import rcell
+from rcell.core.crs import _known as known
 from rcell.core.protocol import NULL
 from rcell.core.scripts import run
 from rcell.core.zones import Feature
@@ -158,7 +160,7 @@ def test_places_and_bands_that_are_rejected(made: Made) -> None:
     assert refusal(lambda: made(place=(0, 1, 0.5, 0, 0.5, -1))).startswith("a rotated transform")
     assert "west to east" in refusal(lambda: made(place=(10, -1, 0, 100, 0, -1)))
     assert "more than ten digits" in refusal(lambda: made(place=(1e11, 1, 0, 1, 0, -1)))
-    assert refusal(lambda: made(bands=2)) == "has 2 bands: choose one"
+    assert refusal(lambda: made(bands=2)) == "has 2 bands: choose one, for example band=1"
     assert refusal(lambda: made(bands=2, band=3)) == "has 2 bands, and no band 3"
     assert made(bands=2, band=2).band == 2
     assert "type CFloat32" in refusal(lambda: made(kind="CFloat32"))
@@ -176,6 +178,30 @@ def test_files_that_are_not_there_or_broken(made: Made, tmp_path: pathlib.Path) 
     with open(source.path, "r+b") as file:
         file.truncate(100_000)
     assert refusal(lambda: counts(source)).startswith("rows ")
+
+
+def test_files_are_read_without_rasterio_fiona_and_pyproj(
+    tmp_path: pathlib.Path, monkeypatch: pytest.MonkeyPatch
+) -> None:
+    """A machine that has GDAL's Python alone."""
+    lc, zones = str(tmp_path / "lc.tif"), str(tmp_path / "zones.geojson")
+    dataset = gdal.GetDriverByName("GTiff").Create(lc, 2, 2, 1, gdal.GDT_Byte)
+    dataset.SetGeoTransform((10.0, 0.1, 0.0, 50.0, 0.0, -0.1))
+    dataset.SetProjection("EPSG:4326")
+    dataset.GetRasterBand(1).WriteArray(np.array([[1, 2], [2, 2]], np.uint8))
+    del dataset
+    box = "[[[10, 49.8], [10.1, 49.8], [10.1, 50], [10, 50], [10, 49.8]]]"
+    shape = f'{{"type": "Polygon", "coordinates": {box}}}'
+    feature = f'{{"type": "Feature", "properties": {{"id": 7}}, "geometry": {shape}}}'
+    pathlib.Path(zones).write_text(f'{{"type": "FeatureCollection", "features": [{feature}]}}')
+    usual = rcell.composition(lc, zones=zones, zone_field="id")
+    for library in ("rasterio", "fiona", "pyproj"):
+        monkeypatch.setitem(sys.modules, library, None)
+    known.cache_clear()
+    found = rcell.composition(lc, zones=zones, zone_field="id")
+    known.cache_clear()
+    assert found.to_numpy(float) == pytest.approx(usual.to_numpy(float), rel=1e-12)
+    assert list(found.columns) == list(usual.columns)
 
 
 def test_labels_of_the_caller_win(made: Made) -> None:

@@ -3,6 +3,7 @@
 
 from __future__ import annotations
 
+import contextlib
 import importlib
 import os
 import re
@@ -34,14 +35,9 @@ def open_raster(name: str, path: str, band: int | None = None) -> Source:
         It cannot be a map.
     MissingLibrary
     """
-    for library in ("rasterio", "gdal"):
-        try:
-            module = importlib.import_module(f".{library}", __name__)
-        except ImportError:
-            continue
-        source: Source = module.open_raster(name, path, band)
-        return source
-    raise MissingLibrary("rasterio", "gis", "to read a raster")
+    reader = _reader("rasterio", "gdal", "gis", "to read a raster")
+    source: Source = reader.open_raster(name, path, band)
+    return source
 
 
 def open_polygons(given: Any, layer: Optional[str] = None) -> Optional[Layer]:
@@ -85,14 +81,9 @@ def open_polygons(given: Any, layer: Optional[str] = None) -> Optional[Layer]:
 
 def _open_layer(path: str, layer: Optional[str]) -> Layer:
     """Return a layer of a file as fiona opens it, or GDAL's own Python without fiona."""
-    for library in ("fiona", "ogr"):
-        try:
-            module = importlib.import_module(f".{library}", __name__)
-        except ImportError:
-            continue
-        polygons: Layer = module.open_layer("zones", path, layer)
-        return polygons
-    raise MissingLibrary("fiona", "vector", "to read polygons")
+    reader = _reader("fiona", "ogr", "vector", "to read polygons")
+    polygons: Layer = reader.open_layer("zones", path, layer)
+    return polygons
 
 
 def crs_of(text: str) -> Crs:
@@ -104,13 +95,18 @@ def crs_of(text: str) -> Crs:
         The text is not understood.
     MissingLibrary
     """
-    for name in ("pyproj", "osr"):
-        try:
-            module = importlib.import_module(f".{name}", __name__)
-        except ImportError:
-            continue
-        system: Crs = module.crs_of(text)
-        return system
-    raise MissingLibrary(
-        "pyproj", "gis", f"to understand the coordinate reference system {text[:60]!r}"
-    )
+    purpose = f"to understand the coordinate reference system {text[:60]!r}"
+    system: Crs = _reader("pyproj", "osr", "gis", purpose).crs_of(text)
+    return system
+
+
+def _reader(library: str, other: str, extra: str, purpose: str) -> Any:
+    """Return the reader over a library, or without it the reader over GDAL's own Python.
+
+    The plugin for QGIS carries the second ones only.
+    """
+    for name, needed in ((library, library), (other, "osgeo")):
+        with contextlib.suppress(ImportError):
+            importlib.import_module(needed)
+            return importlib.import_module(f".{name}", __name__)
+    raise MissingLibrary(library, extra, purpose)
