@@ -41,5 +41,5 @@ def open_layer(name: str, path: str, layer: Optional[str] = None) -> Polygons:
             ]
             fields = tuple(records[0][1]) if records else ()
             return Polygons(name, source.crs_wkt or None, fields, records)
-    except (fiona.errors.FionaError, fiona.errors.FionaValueError, OSError, ValueError) as error:
+    except (fiona.errors.FionaError, KeyError, OSError, ValueError) as error:
         raise ReadFailed(name, f"cannot open: {path}: {error}") from None
