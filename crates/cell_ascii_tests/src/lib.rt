@@ -1,11 +1,8 @@
-//! What the definitions of a grid text say, as a plain program, and tests of the reader against it.
+//! Tests of reading grids: worked texts, row by row, and in pieces of many sizes.
 #![tactic(auto)]
 
 #[cfg(test)]
 mod assertions;
-mod definition;
-#[cfg(test)]
-mod edits;
 #[cfg(test)]
 mod grids;
 #[cfg(test)]

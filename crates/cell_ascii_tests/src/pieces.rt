@@ -3,13 +3,14 @@
 
 ghost use Rattle.std.specs.Prelude.{◌<◌};
 
-use crate::definition::fault::text_fault;
-use crate::edits::expect;
+use crate::assertions::assert_same;
 use cell_ascii::grid_fault::GridFault;
 use cell_ascii::grid_reader::read_map;
+use cell_core::cell::Cell;
 use cell_core::map::CellMap;
+use cell_core::memory::Memory;
 use cell_core::source::MemorySource;
-use std::alloc::AllocGlobal;
+use std::alloc::{AllocGlobal, Global};
 use std::process::Abort;
 use std::test::Fail;
 
@@ -39,15 +40,48 @@ fn read_behind<R: AllocGlobal>(
     Ok(read_map(rt.alloc(), MemorySource::new(bytes, piece, false)))
 }
 
-// Each text is read as the definitions say, where a piece ends at each of its places once.
+// The cells of a map, row by row.
+fn cells_of(alloc: Global, map: &CellMap) -> Result<Vec<Cell>, Memory> {
+    let region = map.region();
+    let mut found = Vec::new(alloc);
+    for row in 0..region.rows() {
+        for col in 0..region.cols() {
+            found.push(map.cell(row, col))?;
+        }
+    }
+    Ok(found)
+}
+
+// Both are the same map, or the same error.
+fn expect_same<R: Abort + AllocGlobal>(
+    rt: &R,
+    answer: &Result<CellMap, GridFault>,
+    wanted: &Result<CellMap, GridFault>,
+) -> Result<(), Fail> {
+    match (answer, wanted) {
+        (Ok(map), Ok(other)) => {
+            assert_same!(rt; map.region(), other.region());
+            let (cells, others) = (cells_of(rt.alloc(), map)?, cells_of(rt.alloc(), other)?);
+            assert_same!(rt; cells.as_slice(), others.as_slice());
+            Ok(())
+        }
+        (Err(fault), Err(other)) => {
+            assert_same!(rt; *fault, *other);
+            Ok(())
+        }
+        _ => Err("a map and an error".into()),
+    }
+}
+
+// Each text is read as it is in one piece, where a piece ends at each of its places once.
 fn agrees_in_pieces<R: Abort + AllocGlobal>(rt: &R, piece: usize) -> Result<(), Fail>
     requires { 0 < piece }
 {
     for &text in &TEXTS {
-        let reported = text_fault(rt.alloc(), text, false)?;
+        let wanted = read_behind(rt, 0, text, 1000)?;
         for place in 0..text.len() {
             let answer = read_behind(rt, piece - 1 - place % piece, text, piece)?;
-            expect(rt, answer, text, reported)?;
+            expect_same(rt, &answer, &wanted)?;
         }
     }
     Ok(())

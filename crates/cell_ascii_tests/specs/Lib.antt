@@ -1,2 +1,0 @@
--- What the slow program of a grid text holds.
-pub mod Seen

@@ -1,2 +1,0 @@
--- What the slow program of values cites of steps.
-pub mod Steps
