@@ -5,5 +5,4 @@ pub mod Index
 pub mod Moved
 pub mod Placing
 pub mod Steps
-pub mod Transposed
 pub mod Worked

@@ -8,6 +8,5 @@ pub mod Binding
 pub mod Compact
 pub mod Formula
 pub mod Reach
-pub mod Transposed
 pub mod Value
 pub mod parts

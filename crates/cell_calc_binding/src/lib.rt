@@ -9,7 +9,6 @@
 //! - `bound`: `Bound`, such an expression; `top`, one more than the largest index; `reach`, how
 //!   many rows it reads above and below
 //! - `compacting`: `over_read_maps`, the same expression over just the maps that it reads
-//! - `transposing`: `transposed`, the same expression over maps whose rows and columns are swapped
 //!
 //! The map `g` one row below and one row above (`bound_of` calls `parse` and `resolve`):
 //!
@@ -26,4 +25,3 @@ pub mod binding;
 pub mod bound;
 pub mod cell_operators;
 pub mod compacting;
-pub mod transposing;

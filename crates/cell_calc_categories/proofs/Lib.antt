@@ -1,4 +1,3 @@
 -- What several proofs share.
 pub mod Categories
 pub mod MapLemmas
-pub mod TransposedMapLemmas

@@ -1,4 +1,3 @@
 -- Maps of the values of expressions.
 pub mod MapValues
-pub mod TransposedMaps
 pub mod parts

@@ -27,15 +27,10 @@ pub enum Joining {
 // A map goes run by run if it has so many cells to a run: cell by cell is faster where runs are shorter.
 const CELLS_A_RUN: usize = 4;
 
-// How many runs a map has. One of few columns may have fewer, since to count them takes longer than it saves.
+// How many runs a map has.
 fn number_of_runs(map: &CellMap) -> usize {
-    let region = map.region();
-    let cols = region.cols() as usize;
-    if cols <= CELLS_A_RUN {
-        return region.rows() as usize * cols;
-    }
     let mut count: usize = 0;
-    for row in 0..region.rows() {
+    for row in 0..map.region().rows() {
         count = count.saturating_add(map.runs(row).len());
     }
     count

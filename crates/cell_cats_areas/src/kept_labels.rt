@@ -16,27 +16,20 @@ pub(crate) struct KeptLabels {
     kept: LabelForm,
 }
 
-// So many labels and their number are as large as a `Vec`, which another row has in their place.
-const FEW: usize = 4;
-
 // The labels of a row: each with how many cells side by side have it, or one by one, which takes less memory if most runs are short.
-// A few labels are kept in the row itself, without memory of their own.
 #[derive(Debug, Drop)]
 enum LabelForm {
-    Few(usize, [u32; FEW]),
     Runs(Vec<(u32, u32)>),
     Cells(Vec<u32>),
 }
 
 impl Model for KeptLabels {
     ghost use Rattle.std.specs.Prelude.{ℕ, List};
-    ghost use Rattle.cell_cats_areas.specs.parts.LabelForms.{labels_kept, AreFew};
+    ghost use Rattle.cell_cats_areas.specs.parts.LabelForms.{labels_kept};
 
     ghost Value = { List ℕ };
 
     ghost view = { λ row. labels_kept row.kept };
-
-    ghost invariant = { λ row. AreFew row.kept };
 }
 
 impl KeptLabels {
@@ -53,15 +46,7 @@ impl KeptLabels {
     pub(crate) fn of_line(alloc: Global, line: &[Labelled]) -> Result<KeptLabels, Memory>
         ensures { IfOk result (λ labels. labels ≡ map (λ x. x.label) line.now) }
     {
-        let count = line.len();
-        if count <= FEW {
-            let mut labels = [NO_LABEL; FEW];
-            copy_labels(line, &mut labels[..count]);
-            return Ok(KeptLabels {
-                kept: LabelForm::Few(count, labels),
-            });
-        }
-        let mut labels = vec![in alloc; NO_LABEL; count]?;
+        let mut labels = vec![in alloc; NO_LABEL; line.len()]?;
         copy_labels(line, labels.as_mut_slice());
         Ok(KeptLabels {
             kept: LabelForm::Cells(labels),
@@ -76,7 +61,6 @@ impl KeptLabels {
         ensures { cells.new ≡ map (number_for table.now) self }
     {
         match &self.kept {
-            LabelForm::Few(count, labels) => write_cell_numbers(&labels[..*count], table, cells),
             LabelForm::Runs(runs) => write_run_numbers(runs, table, cells),
             LabelForm::Cells(labels) => write_cell_numbers(labels, table, cells),
         }

@@ -2,5 +2,4 @@ mod ByteLemmas
 pub mod LabelLemmas
 pub mod RowLemmas
 pub mod RunLemmas
-pub mod MapRowLemmas
 pub mod MarkLemmas

@@ -20,8 +20,7 @@ use std::marker::Model;
 
 /// A raster map of whole numbers (GRASS: a CELL map): its region, its rows from the top, and the
 /// labels of its categories. Rows and columns count from 0. A row is kept as its runs, or as
-/// its cells if these take less memory, in a byte each if they are null or from 0 to 254. A map of at most 16
-/// columns has no row of its own: its cells follow one another.
+/// its cells if these take less memory, in a byte each if they are null or from 0 to 254.
 #[derive(Debug, Drop)]
 pub struct CellMap {
     alloc: Global,
@@ -212,8 +211,8 @@ impl MapBuilder {
         self.rows.push_bytes(bytes)
     }
 
-    /// Puts the row that runs make below the others, as [`MapBuilder::push_row`] does. A row of more than 16 columns is kept as
-    /// these runs, which takes less memory than its cells if they are at most half as many.
+    /// Puts the row that runs make below the others, as [`MapBuilder::push_row`] does. It is kept as these runs, which takes less
+    /// memory than its cells if they are at most half as many.
     ///
     /// # Errors
     ///

@@ -1,6 +1,5 @@
 -- What several proofs share.
 pub mod WindowLemmas
-pub mod TransposedLemmas
 pub mod LoadingLemmas
 pub mod TextLemmas
 pub mod OutputLemmas

@@ -1,20 +1,16 @@
 //! Maps of values.
 
-ghost use Rattle.std.specs.Prelude.{◌≡◌, ◌<◌, ◌≤◌, ◌+◌, length, slice_get, Some, IfOk, IfSome, All};
-ghost use Rattle.std.specs.List.{range_with_len};
+ghost use Rattle.std.specs.Prelude.{◌≡◌, ◌<◌, ◌≤◌, ◌+◌, length, slice_get, Some, IfOk};
 ghost use Rattle.cell_core_values.specs.Region.{RegionValue};
 ghost use Rattle.cell_calc_binding.specs.Reach.{top_of};
-ghost use Rattle.cell_calc_binding.specs.Transposed.{AreTransposed};
 ghost use Rattle.rcell.specs.Making.{AreValues};
 ghost use Rattle.rcell.specs.parts.WindowsSet.{AreMapPlaces, AreOfRegion, AreSet, picked_maps};
 ghost use Rattle.cell_calc_categories.specs.MapValues.{HasValues};
-ghost use Rattle.cell_calc_categories.specs.TransposedMaps.{AreSidesSwapped};
 
 use cell_calc::rows_of_values::eval_row;
 use cell_calc::window::RowWindow;
 use cell_calc_binding::bound::Bound;
 use cell_calc_categories::map_by_category::map_by_category;
-use cell_calc_categories::transposed_map::{transposed_map, transposed_region};
 use cell_core::cell::Cell;
 use cell_core::map::{CellMap, MapBuilder};
 use cell_core::memory::Memory;
@@ -111,61 +107,7 @@ fn evaluate_over(
     Ok(builder.finish())
 }
 
-// The maps at places with rows and columns swapped, and their own places.
-fn transposed_maps(
-    alloc: Global,
-    places: &[usize],
-    maps: &[CellMap],
-    region: Region,
-    sides: Region,
-) -> Result<(Vec<CellMap>, Vec<usize>), Memory>
-    requires within { AreMapPlaces maps.now places.now }
-    requires regions { AreOfRegion region maps.now }
-    requires sides { AreSidesSwapped region sides }
-    ensures maps { IfOk result
-        (λ others. AreTransposed (picked_maps places.now maps.now) others.0.items) }
-    ensures regions { IfOk result (λ others. AreOfRegion sides others.0.items) }
-    ensures places { IfOk result (λ others. others.1.items ≡ range_with_len 0 (length places.now)) }
-    ensures count { IfOk result (λ others. length others.0.items ≡ length places.now) }
-{
-    let mut others = Vec::new(alloc);
-    let mut own = Vec::new(alloc);
-    for i in 0..places.len() {
-        let other = transposed_map(alloc, map_at(maps, places, i), sides)?;
-        others.push(other)?;
-        own.push(i)?;
-    }
-    Ok((others, own))
-}
-
-// The same by the maps with rows and columns swapped, if the maps are narrow.
-fn evaluate_transposed(
-    alloc: Global,
-    bound: &Bound,
-    places: &[usize],
-    maps: &[CellMap],
-    region: Region,
-) -> Result<Option<CellMap>, Memory>
-    requires places { top_of bound.now ≡ length places.now }
-    requires within { AreMapPlaces maps.now places.now }
-    requires regions { AreOfRegion region maps.now }
-    ensures { IfOk result (λ found. IfSome found
-        (HasValues bound.now region (picked_maps places.now maps.now))) }
-{
-    if !bound.is_faster_transposed(region) {
-        return Ok(None);
-    }
-    let Some(sides) = transposed_region(region) else {
-        return Ok(None);
-    };
-    let turned = bound.transposed(alloc)?;
-    let (others, own) = transposed_maps(alloc, places, maps, region, sides)?;
-    let made = evaluate_over(alloc, &turned, own.as_slice(), others.as_slice(), sides)?;
-    let back = transposed_map(alloc, &made, region)?;
-    Ok(Some(back))
-}
-
-// The same in the fastest of three ways.
+// The same by the table of a category, if that is faster.
 fn evaluate_fast(
     alloc: Global,
     bound: &Bound,
@@ -182,9 +124,6 @@ fn evaluate_fast(
         if let Some(made) = map_by_category(alloc, bound, map_at(maps, places, 0))? {
             return Ok(made);
         }
-    }
-    if let Some(made) = evaluate_transposed(alloc, bound, places, maps, region)? {
-        return Ok(made);
     }
     evaluate_over(alloc, bound, places, maps, region)
 }
