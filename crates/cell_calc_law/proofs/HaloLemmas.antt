@@ -17,7 +17,7 @@ use Rattle.cell_calc_binding.specs.Reach.{up_of, down_of, up_of_all, down_of_all
 use Rattle.cell_calc_binding.specs.Value.{value, argument_values}
 use Rattle.cell_parts.specs.Parts.{Rectangle, AreCutOut, cut_out}
 use Rattle.cell_parts.proofs.CutLemmas.{length-take-most, nothing-cut, row-cut, first-or}
-use Rattle.cell_calc_law.specs.HaloParts.{left_of, left_of_all, right_of, right_of_all, calls, call_any, asks_rows, asks_cols, HaloIsEnough, value_seen_from, values_seen_from, SeenFromItself, ReachIsEnough}
+use Rattle.cell_calc_law.specs.HaloParts.{left_of, left_of_all, right_of, right_of_all, calls, call_any, asks_rows, asks_cols, HaloIsEnough, value_seen_from, values_seen_from, ReachIsEnough}
 
 -- ---- an item of a stretch of a list, by an offset
 
@@ -228,18 +228,6 @@ module _ (region : RegionValue) (r : Rectangle) (row col : ℕ) where
           let first = first-halo (λ i. up_of i a) (λ i. down_of i a) (λ i. left_of i a) (λ i. right_of i a) (λ i. up_of_all i xs) (λ i. down_of_all i xs) (λ i. left_of_all i xs) (λ i. right_of_all i xs) false false false false h in
           let second = second-halo (λ i. up_of i a) (λ i. down_of i a) (λ i. left_of i a) (λ i. right_of i a) (λ i. up_of_all i xs) (λ i. down_of_all i xs) (λ i. left_of_all i xs) (λ i. right_of_all i xs) false false false false h in
           ap (λ (x : CellValue). x ∷ values_seen_from xs part here there) (same-reported a first) ∙ ap (λ (l : List CellValue). value a whole there ∷ l) (sames-reported xs second)
-
-mutual
-  pub seen-from-itself : SeenFromItself
-  seen-from-itself (Negated a) maps s = ap negated_cell (seen-from-itself a maps s)
-  seen-from-itself (Not a) maps s = ap inverted_cell (seen-from-itself a maps s)
-  seen-from-itself (Binary op a b) maps s = ap (λ x. operator_value op x (value_seen_from b maps s s)) (seen-from-itself a maps s) ∙ ap (λ y. operator_value op (value a maps s) y) (seen-from-itself b maps s)
-  seen-from-itself (Call g xs) maps s = ap (call_result g s) (all-of-itself xs maps s)
-  seen-from-itself _ maps s = refl
-
-  all-of-itself : (xs : Formulas) (maps : List Grid) (s : GridPosition) → values_seen_from xs maps s s ≡ argument_values xs maps s
-  all-of-itself NoTrees maps s = refl
-  all-of-itself (Then a xs) maps s = ap (λ (x : CellValue). x ∷ values_seen_from xs maps s s) (seen-from-itself a maps s) ∙ ap (λ (l : List CellValue). value a maps s ∷ l) (all-of-itself xs maps s)
 
 pub reach-is-enough : ReachIsEnough
 reach-is-enough f whole part region r row col all cut h =

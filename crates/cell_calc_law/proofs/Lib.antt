@@ -1,7 +1,5 @@
-pub mod ColumnLemmas
 pub mod FollowLemmas
 pub mod HaloLemmas
-pub mod LineLemmas
 pub mod LocalLemmas
 pub mod MapLemmas
 pub mod ReachLemmas

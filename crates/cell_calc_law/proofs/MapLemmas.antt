@@ -11,8 +11,6 @@ use Rattle.cell_calc_binding.specs.CellOperators.{chosen_cell, truth, is_null}
 use Rattle.cell_calc_binding.specs.Formula.{Formula, Map}
 use Rattle.cell_calc_binding.specs.Value.{value}
 use Rattle.rcell.specs.Making.{AreValues}
-use Rattle.cell_calc_law.specs.LocalLaw.{OneMapOfValues, CopyIsTheMap, EitherWayIsTheSame, either_way}
-use Rattle.cell_calc_law.proofs.LocalLemmas.{value-here}
 
 -- rows of one region, of which each cell is the same, are the same
 module _ (region : RegionValue) (xs ys : List (List CellValue)) (x : IsFilled region xs) (y : IsFilled region ys) where
@@ -49,25 +47,13 @@ fills f shelf x are =
       width = λ i d lt. are.filled.width i d lt ∙ cols;
     }
 
-pub one-map-of-values : OneMapOfValues
+-- expressions that have the same value at each cell make the same map
+pub one-map-of-values : (f g : Formula) (shelf : ShelfValue) (x y : Grid) → AreValues f shelf x → AreValues g shelf y
+    → ((row col : ℕ) → row < shelf.region.rows → col < shelf.region.cols
+    → value f shelf.maps (grid_position shelf.region row col) ≡ value g shelf.maps (grid_position shelf.region row col))
+    → x ≡ y
 one-map-of-values f g shelf x y are_x are_y same =
     same_grid x y (are_x.region ∙ sym are_y.region)
     (same_rows shelf.region x.rows y.rows (fills f shelf x are_x) (fills g shelf y are_y) (λ r c r_lt c_lt.
     are_x.cells r c r_lt c_lt ∙ same r c r_lt c_lt ∙ sym (are_y.cells r c r_lt c_lt)))
     (are_x.labels ∙ sym are_y.labels)
-
-either : (v : CellValue) → chosen_cell (truth (is_null v)) v v ≡ v
-either None = refl
-either (Some n) = refl
-
-pub either-way-is-the-same : EitherWayIsTheSame
-either-way-is-the-same g shelf x y are_x are_y =
-    one-map-of-values (either_way g) g shelf y x are_y are_x (λ row col _ _.
-    either (value g shelf.maps (grid_position shelf.region row col)))
-
-pub copy-is-the-map : CopyIsTheMap
-copy-is-the-map shelf place g x is filled are =
-    same_rows shelf.region x.rows g.rows (fills (Map place (pos 0) (pos 0)) shelf x are) filled (λ r c r_lt c_lt.
-    are.cells r c r_lt c_lt
-    ∙ value-here shelf.maps place (pos 0) (pos 0) (grid_position shelf.region r c) refl refl
-    ∙ ap (λ o. option_map_or (λ m. cell_at m r c) o None) is)

@@ -1,19 +1,25 @@
 -- A rectangle with as many rows and columns around it as an expression reaches has what it reads.
 use Rattle.std.proofs.Common.{◌+◌, ◌-◌, ◌<◌, ◌≤◌, max, min, cond, eqb, ap, sym, ◌∙◌, arith, inl, inr, ⊎_elim}
-use Rattle.std.specs.Prelude.{◌≡◌, ℕ, ◌⊎◌, Bool, true, false}
+use Rattle.std.specs.Prelude.{◌≡◌, ℕ, ◌⊎◌, Bool, true, false, List, All}
 use Rattle.std.proofs.lemmas.Bool.{cases_lt}
 use Rattle.cell_core_values.specs.Region.{RegionValue}
-use Rattle.cell_calc_binding.specs.Applied.{grid_position}
+use Rattle.cell_core.specs.Grid.{Grid, IsFilled}
+use Rattle.cell_calc_binding.specs.Applied.{GridPosition, grid_position}
 use Rattle.cell_calc_language.specs.Grammatical.{up_by, down_by}
 use Rattle.cell_calc_binding.specs.Formula as formula
 use Rattle.cell_calc_binding.specs.Formula.{Formula, Formulas}
 use Rattle.cell_calc_binding.specs.Reach.{up_of, down_of, up_of_all, down_of_all}
 use Rattle.cell_calc_binding.specs.Value.{value}
 use Rattle.cell_calc_law.specs.HaloParts.{left_of, right_of, left_of_all, right_of_all, ReadsWithin, value_seen_from}
-use Rattle.cell_parts.specs.Parts.{Rectangle}
+use Rattle.cell_calc_law.specs.HaloParts.{calls, asks_rows, asks_cols}
+use Rattle.cell_parts.specs.Parts.{Rectangle, AreCutOut}
 use Rattle.cell_calc_law.specs.ReachParts as reached
 use Rattle.cell_calc_law.specs.ReachParts.{Halo, reach_of, reach_of_all, IsWithinReach, with_halo, IsCellInside}
 use Rattle.cell_calc_law.proofs.HaloLemmas.{halo-is-enough, reach-is-enough}
+
+-- a cell of the region, as one of a part of it
+abbrev pub position_in : Rectangle → (row col : ℕ) → GridPosition
+position_in r row col = record { rows = r.rows; cols = r.cols; row = row - r.top; col = col - r.left }
 
 own-most : (b : Bool) (n : ℕ) → cond b n 0 ≤ n
 own-most true n = omega arith
@@ -121,15 +127,25 @@ module _ (f : Formula) (region : RegionValue) (r : Rectangle) (row col : ℕ) (i
       ap (λ n. grid_position region n (h.left + (col - h.left))) (back r.top (reach_of f).up row is.below)
       ∙ ap (λ n. grid_position region row n) (back r.left (reach_of f).left col is.right)
 
-pub its-reach-is-enough : reached.ItsReachIsEnough
+-- with a halo of its reach, an expression that does not ask for rows and columns has the values of the full map in a rectangle
+pub its-reach-is-enough : (f : Formula) (whole part : List Grid) (region : RegionValue) (r : Rectangle)
+    → All (λ m. IsFilled region m.rows) whole → AreCutOut (with_halo region (reach_of f) r) whole part
+    → calls asks_rows f ≡ false → calls asks_cols f ≡ false
+    → (row col : ℕ) → IsCellInside region r row col
+    → value f part (position_in (with_halo region (reach_of f) r) row col) ≡ value f whole (grid_position region row col)
 its-reach-is-enough f whole part region r all cut no_rows no_cols row col holds =
     halo-is-enough f whole part region (with_halo region (reach_of f) r) _ _ all cut
     (record { reads = reads f region r row col holds; rows = inl no_rows; cols = inl no_cols })
     ∙ ap (value f whole) (there f region r row col holds)
 
-pub its-reach-is-enough-elsewhere : reached.ItsReachIsEnoughElsewhere
+-- and any expression does if row() and its like are reported of the cell in the full map
+pub its-reach-is-enough-elsewhere : (f : Formula) (whole part : List Grid) (region : RegionValue) (r : Rectangle)
+    → All (λ m. IsFilled region m.rows) whole → AreCutOut (with_halo region (reach_of f) r) whole part
+    → (row col : ℕ) → IsCellInside region r row col
+    → value_seen_from f part (position_in (with_halo region (reach_of f) r) row col) (grid_position region row col)
+    ≡ value f whole (grid_position region row col)
 its-reach-is-enough-elsewhere f whole part region r all cut row col holds =
-    let here = reached.position_in (with_halo region (reach_of f) r) row col in
+    let here = position_in (with_halo region (reach_of f) r) row col in
     ap (value_seen_from f part here) (sym (there f region r row col holds))
     ∙ reach-is-enough f whole part region (with_halo region (reach_of f) r) _ _ all cut (reads f region r row col holds)
     ∙ ap (value f whole) (there f region r row col holds)

@@ -14,8 +14,7 @@ use Rattle.cell_calc_binding.specs.Offsets.{item_at, cell_in, cell_at_offset, ro
 use Rattle.cell_stats_combinations.specs.Combinations.{Combination, combination_cmp, combination_at, all_combinations}
 use Rattle.cell_stats_counts.specs.Counts.{count_of}
 use Rattle.cell_calc_law.specs.LocalLaw.{cells_alone, cells_of_shelf}
-use Rattle.cell_calc_law.specs.ShiftLaw.{ShiftsAddUp, NullBeyondTheEdge, ShiftsOnlyLose}
-use Rattle.cell_calc_law.proofs.LineLemmas.{line-most, line-shifted, total, total-same}
+use Rattle.cell_calc_law.specs.ShiftLaw.{ShiftsAddUp, NullBeyondTheEdge}
 use Rattle.cell_parts.proofs.SumLemmas.{line, line-same, line-none, count-line, count-lines}
 
 -- ---- offsets add up
@@ -95,91 +94,3 @@ null-beyond-the-edge shelf place a b x all are row col row_lt col_lt far = are.c
         row-beyond shelf.region (slice_get shelf.maps place) (fills-at shelf.region shelf.maps place all) _ _ rows
     by (inr cols) =
         col-beyond shelf.region (slice_get shelf.maps place) (fills-at shelf.region shelf.maps place all) _ _ cols
-
--- ---- counts of a shifted map
-
--- 1 if a combination is the one
-abbrev is-one : Combination → Combination → ℕ
-is-one k l = cond (eq_by_cmp combination_cmp k l) 1 0
-
-count-all : (maps : List Grid) (picks : List ℕ) (k : Combination) (rows cols : ℕ)
-    → count_of k (all_combinations maps picks rows cols)
-    ≡ total (λ row col. is-one k (combination_at maps picks row col)) rows cols
-count-all maps picks k rows cols =
-    let one = λ (row col : ℕ). is-one k (combination_at maps picks row col) in
-    let row_of_cells = λ (row : ℕ). map (combination_at maps picks row) (range_with_len 0 cols) in
-    count-lines row_of_cells k 0 rows
-    ∙ line-same (λ row. count_of k (row_of_cells row)) (λ row. line (one row) 0 cols) 0 rows (λ row _ _.
-    count-line (combination_at maps picks row) k 0 cols)
-
-past-pos : (n i : ℕ) → n ≤ i → (to : ℕ) → pos i ≡ pos to → n ≤ to
-past-pos n i past to same = let e : i ≡ to = cc in omega (arith, e, past)
-
-past-neg : (n i : ℕ) → (to : ℕ) → negsuc i ≡ pos to → n ≤ to
-past-neg n i to same = cc
-
--- 1 if a cell has the category
-abbrev has : ℤ → CellValue → ℕ
-has category c = is-one (Some category ∷ []) (c ∷ [])
-
--- the cells of a map at every row and column: none has the category outside the region
-module _ (category : ℤ) (region : RegionValue) (o : Option Grid) (fills : Fills region o) where
-  abbrev at : ℤ → ℤ → ℕ
-  at r c = has category (cell_in o r c)
-
-  cols-shifted : (b r : ℤ)
-      → line (λ col. at r (pos col +ℤ b)) 0 region.cols ≤ line (λ col. at r (pos col)) 0 region.cols
-  cols-shifted b r =
-      line-shifted (at r) region.cols
-      (λ i past. ap (has category) (col-beyond region o fills r (pos i) (past-pos region.cols i past)))
-      (λ i. ap (has category) (col-beyond region o fills r (negsuc i) (past-neg region.cols i))) b
-
-  -- a whole row beyond has none
-  row-none : (b r : ℤ) → ((to : ℕ) → r ≡ pos to → region.rows ≤ to)
-      → line (λ col. at r (pos col +ℤ b)) 0 region.cols ≡ 0
-  row-none b r far =
-      line-none (λ col. at r (pos col +ℤ b)) 0 region.cols (λ col _ _.
-      ap (has category) (row-beyond region o fills r (pos col +ℤ b) far))
-
-  rows-shifted : (a b : ℤ)
-      → total (λ row col. at (pos row +ℤ a) (pos col +ℤ b)) region.rows region.cols
-      ≤ total (λ row col. at (pos row) (pos col +ℤ b)) region.rows region.cols
-  rows-shifted a b =
-      line-shifted (λ r. line (λ col. at r (pos col +ℤ b)) 0 region.cols) region.rows
-      (λ i past. row-none b (pos i) (past-pos region.rows i past))
-      (λ i. row-none b (negsuc i) (past-neg region.rows i)) a
-
-  both-shifted : (a b : ℤ)
-      → total (λ row col. at (pos row +ℤ a) (pos col +ℤ b)) region.rows region.cols
-      ≤ total (λ row col. at (pos row) (pos col)) region.rows region.cols
-  both-shifted a b =
-      let rows = rows-shifted a b in
-      let shifted = λ (row : ℕ). line (λ col. at (pos row) (pos col +ℤ b)) 0 region.cols in
-      let whole = λ (row : ℕ). line (λ col. at (pos row) (pos col)) 0 region.cols in
-      let cols = line-most shifted whole 0 region.rows (λ row _ _. cols-shifted b (pos row)) in
-      omega (arith, rows, cols)
-
-cell-there : (o : Option Grid) (row col : ℕ)
-    → option_map_or (λ m. cell_at m row col) o None ≡ cell_in o (pos row) (pos col)
-cell-there None row col = refl
-cell-there (Some m) row col = refl
-
-pub shifts-only-lose : ShiftsOnlyLose
-shifts-only-lose shelf place a b x all are category =
-    let rows = shelf.region.rows in
-    let cols = shelf.region.cols in
-    let o = slice_get shelf.maps place in
-    let k = Some category ∷ [] in
-    let given_cell = λ (row col : ℕ). option_map_or (λ m. cell_at m row col) o None in
-    let shifted = λ (row col : ℕ). has category (cell_in o (pos row +ℤ a) (pos col +ℤ b)) in
-    let whole = λ (row col : ℕ). has category (cell_in o (pos row) (pos col)) in
-    let made : count_of k (cells_alone shelf.region x) ≡ total shifted rows cols =
-    count-all (x ∷ []) (0 ∷ []) k rows cols
-    ∙ total-same (λ row col. has category (cell_at x row col)) shifted rows cols (λ row col row_lt col_lt.
-    ap (has category) (are.cells row col row_lt col_lt)) in
-    let given : count_of k (cells_of_shelf shelf (place ∷ [])) ≡ total whole rows cols =
-    count-all shelf.maps (place ∷ []) k rows cols
-    ∙ total-same (λ row col. has category (given_cell row col)) whole rows cols (λ row col _ _.
-    ap (has category) (cell-there o row col)) in
-    let fewer = both-shifted category shelf.region o (fills-at shelf.region shelf.maps place all) a b in
-    omega (arith, made, given, fewer)

@@ -11,8 +11,8 @@ use Rattle.cell_calc_binding.specs.Formula.{Formula, Number, Map, Negated, Not, 
 use Rattle.cell_calc_binding.specs.Value.{value, argument_values}
 use Rattle.cell_calc_law.specs.HaloParts.{value_seen_from, values_seen_from}
 use Rattle.cell_parts.specs.Parts.{Rectangle}
-use Rattle.cell_calc_law.specs.ReachParts.{reach_of, position_in, IsCellInside}
-use Rattle.cell_calc_law.proofs.ReachLemmas.{its-reach-is-enough, its-reach-is-enough-elsewhere}
+use Rattle.cell_calc_law.specs.ReachParts.{reach_of, IsCellInside}
+use Rattle.cell_calc_law.proofs.ReachLemmas.{its-reach-is-enough, its-reach-is-enough-elsewhere, position_in}
 use Rattle.rcell.specs.Making.{AreValues}
 use Rattle.cell_calc_law.specs.TileLaw.{haloed_rectangle, IsHaloedTile, TilesMakeTheMap}
 use Rattle.cell_calc_law.specs.TileLaw.{placed, all_placed, placed_call, PlacedTilesMakeTheMap}

@@ -91,10 +91,6 @@ abbrev mutual
   values_seen_from NoTrees maps here reported = []
   values_seen_from (Then a xs) maps here reported = value_seen_from a maps here reported ∷ values_seen_from xs maps here reported
 
--- if they report that spot itself, it is the value
-abbrev pub SeenFromItself : Type 0
-SeenFromItself = (f : Formula) (maps : List Grid) (s : GridPosition) → value_seen_from f maps s s ≡ value f maps s
-
 -- if they report the spot in the full map, any expression has the value over the full map
 abbrev pub ReachIsEnough : Type 0
 ReachIsEnough = (f : Formula) (whole part : List Grid) (region : RegionValue) (r : Rectangle) (row col : ℕ) → All (λ m. IsFilled region m.rows) whole → AreCutOut r whole part → ReadsWithin f region r row col → value_seen_from f part (record { rows = r.rows; cols = r.cols; row = row; col = col }) (grid_position region (r.top + row) (r.left + col)) ≡ value f whole (grid_position region (r.top + row) (r.left + col))

@@ -78,36 +78,3 @@ CountsFollow =
     → count_of (v ∷ []) (cells_alone shelf.region x)
     ≡ sum_by (λ pair. pair.1)
     (filter (λ pair. cell_eq v (given pair.0)) (table_of Nothing (cells_of_shelf shelf picks)))
-
--- after `x = f`: the table of the maps read and of x is the table of these maps, with the value after each combination
-abbrev pub TableHasItsValues : Type 0
-TableHasItsValues =
-    (f : Formula) (picks : List ℕ) (given : Combination → CellValue) → GivesValues given f picks
-    → (shelf : ShelfValue) (name : List ℕ) (x : Grid)
-    → All (λ place. place < length shelf.maps) picks → AreValues f shelf x
-    → table_of Nothing (cells_of_shelf (with_map shelf name x) (picks ++ length shelf.maps ∷ []))
-    ≡ map (λ pair. (pair.0 ++ given pair.0 ∷ [], pair.1)) (table_of Nothing (cells_of_shelf shelf picks))
-
--- after `x = g`: x has the rows of g
-abbrev pub CopyIsTheMap : Type 0
-CopyIsTheMap =
-    (shelf : ShelfValue) (place : ℕ) (g x : Grid) → slice_get shelf.maps place ≡ Some g
-    → IsFilled shelf.region g.rows → AreValues (Map place (pos 0) (pos 0)) shelf x → x.rows ≡ g.rows
-
--- expressions that have the same value at each cell make the same map
-abbrev pub OneMapOfValues : Type 0
-OneMapOfValues =
-    (f g : Formula) (shelf : ShelfValue) (x y : Grid) → AreValues f shelf x → AreValues g shelf y
-    → ((row col : ℕ) → row < shelf.region.rows → col < shelf.region.cols
-    → value f shelf.maps (grid_position shelf.region row col) ≡ value g shelf.maps (grid_position shelf.region row col))
-    → x ≡ y
-
--- if(isnull(g), g, g)
-abbrev pub either_way : Formula → Formula
-either_way g = Call If (Then (Call IsNull (Then g NoTrees)) (Then g (Then g NoTrees)))
-
--- after `x = g` and `y = if(isnull(g), g, g)`: y is x, whatever expression g is
-abbrev pub EitherWayIsTheSame : Type 0
-EitherWayIsTheSame =
-    (g : Formula) (shelf : ShelfValue) (x y : Grid)
-    → AreValues g shelf x → AreValues (either_way g) shelf y → y ≡ x

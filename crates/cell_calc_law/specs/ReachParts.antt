@@ -1,14 +1,11 @@
 -- Parts with a halo: as many rows and columns around a rectangle as an expression reaches.
-use Rattle.std.specs.Prelude.{ℕ, ◌≡◌, ◌≤◌, ◌<◌, ◌+◌, ◌-◌, false, max, min, List, All}
+use Rattle.std.specs.Prelude.{ℕ, ◌≤◌, ◌<◌, ◌+◌, ◌-◌, max, min}
 use Rattle.cell_core_values.specs.Region.{RegionValue}
-use Rattle.cell_core.specs.Grid.{Grid, IsFilled}
 use Rattle.cell_calc_language.specs.Grammatical.{up_by, down_by}
-use Rattle.cell_calc_binding.specs.Applied.{GridPosition, grid_position}
 use Rattle.cell_calc_binding.specs.Formula.{Formula, Number, Map, Negated, Not, Binary, Call, Formulas, NoTrees, Then}
 use Rattle.cell_calc_binding.specs.Reach.{up_of, down_of}
-use Rattle.cell_calc_binding.specs.Value.{value}
-use Rattle.cell_calc_law.specs.HaloParts.{left_of, right_of, calls, asks_rows, asks_cols, value_seen_from}
-use Rattle.cell_parts.specs.Parts.{Rectangle, AreCutOut}
+use Rattle.cell_calc_law.specs.HaloParts.{left_of, right_of}
+use Rattle.cell_parts.specs.Parts.{Rectangle}
 
 -- so many rows up and down, and columns to the left and to the right
 pub record Halo : Type 0 where
@@ -63,10 +60,6 @@ with_halo region h r = record {
   cols = min region.cols (r.left + r.cols + h.right) - (r.left - h.left);
 }
 
--- a cell of the region, as one of a part of it
-abbrev pub position_in : Rectangle → (row col : ℕ) → GridPosition
-position_in r row col = record { rows = r.rows; cols = r.cols; row = row - r.top; col = col - r.left }
-
 -- a rectangle of a region, and a cell of it
 pub record IsCellInside (region : RegionValue) (r : Rectangle) (row col : ℕ) : Type 0 where
   pub high : r.top + r.rows ≤ region.rows
@@ -75,21 +68,3 @@ pub record IsCellInside (region : RegionValue) (r : Rectangle) (row col : ℕ) :
   pub above : row < r.top + r.rows
   pub right : r.left ≤ col
   pub left : col < r.left + r.cols
-
--- with a halo of its reach, an expression that does not ask for rows and columns has the values of the full map in a rectangle
-abbrev pub ItsReachIsEnough : Type 0
-ItsReachIsEnough =
-    (f : Formula) (whole part : List Grid) (region : RegionValue) (r : Rectangle)
-    → All (λ m. IsFilled region m.rows) whole → AreCutOut (with_halo region (reach_of f) r) whole part
-    → calls asks_rows f ≡ false → calls asks_cols f ≡ false
-    → (row col : ℕ) → IsCellInside region r row col
-    → value f part (position_in (with_halo region (reach_of f) r) row col) ≡ value f whole (grid_position region row col)
-
--- and any expression does if row() and its like are reported of the cell in the full map
-abbrev pub ItsReachIsEnoughElsewhere : Type 0
-ItsReachIsEnoughElsewhere =
-    (f : Formula) (whole part : List Grid) (region : RegionValue) (r : Rectangle)
-    → All (λ m. IsFilled region m.rows) whole → AreCutOut (with_halo region (reach_of f) r) whole part
-    → (row col : ℕ) → IsCellInside region r row col
-    → value_seen_from f part (position_in (with_halo region (reach_of f) r) row col) (grid_position region row col)
-    ≡ value f whole (grid_position region row col)

@@ -28,12 +28,3 @@ NullBeyondTheEdge =
     → ((to : ℕ) → pos row +ℤ a ≡ pos to → shelf.region.rows ≤ to)
     ⊎ ((to : ℕ) → pos col +ℤ b ≡ pos to → shelf.region.cols ≤ to)
     → cell_at x row col ≡ None
-
--- after `x = g[a,b]`: no category has more cells in x than in g
-abbrev pub ShiftsOnlyLose : Type 0
-ShiftsOnlyLose =
-    (shelf : ShelfValue) (place : ℕ) (a b : ℤ) (x : Grid)
-    → All (λ m. IsFilled shelf.region m.rows) shelf.maps → AreValues (Map place a b) shelf x
-    → (category : ℤ)
-    → count_of (Some category ∷ []) (cells_alone shelf.region x)
-    ≤ count_of (Some category ∷ []) (cells_of_shelf shelf (place ∷ []))

@@ -1,34 +1,8 @@
 -- A number occurs with one category only, and the entries of a category are its cells.
 use Rattle.cell_cats_areas.proofs.CountLemmas.{no_number_is_left_out}
 use Rattle.cell_stats_counts.specs.Counts.{count_of}
-use Rattle.std.proofs.Common.{
-  ◌≡◌,
-  ℕ,
-  zero,
-  suc,
-  ℤ,
-  pos,
-  ◌<◌,
-  [],
-  ◌∷◌,
-  List,
-  length,
-  get_or,
-  Some,
-  None,
-  IsSome,
-  Bool,
-  true,
-  false,
-  ◌&&◌,
-  not,
-  take,
-  refl,
-  ap,
-  sym,
-  ◌∙◌,
-  arith,
-}
+use Rattle.std.proofs.Common.{◌≡◌, ℕ, zero, suc, ℤ, pos, ◌<◌, [], ◌∷◌, List, length, get_or, Some, None, IsSome, Bool}
+use Rattle.std.proofs.Common.{true, false, ◌&&◌, not, take, refl, ap, sym, ◌∙◌, arith}
 use Rattle.std.specs.Prelude.{Contains}
 use Rattle.std.proofs.Math.Bool.{and-false}
 use Rattle.std.specs.Ordering.{eq_by_cmp, is_eq}
@@ -46,13 +20,8 @@ use Rattle.cell_stats.specs.CategoryTables.{Pairs, IsTable}
 use Rattle.cell_cats_areas.proofs.MeetingLemmas.{some_of}
 use Rattle.cell_parts.proofs.AreaLemmas.{is-some}
 use Rattle.cell_cats_law.proofs.CountLemmas.{counts-same, counted-cell, entry-at, table-sums}
-use Rattle.cell_cats_law.specs.AreaLaw.{
-  NumbersHaveOneCategory,
-  EntriesAreWhole,
-  AreasDivideTheirCategory,
-  NoAreaIsEmpty,
-  cells_of_both,
-}
+use Rattle.cell_cats_law.specs.AreaLaw.{EntriesAreWhole, AreasDivideTheirCategory}
+use Rattle.cell_cats_law.specs.AreaLaw.{NoAreaIsEmpty, cells_of_both}
 
 -- ---- cells that are not null
 
@@ -110,12 +79,6 @@ pub stands-at : (one other : Grid) (skip : Skip) (rows cols : ℕ) (table : Pair
 stands-at one other skip rows cols table is a b n stands =
     let found = entry-at skip (one ∷ other ∷ []) (0 ∷ 1 ∷ []) rows cols table is (a ∷ b ∷ []) n stands in
     record { at = grid_position found.0 found.1; first = ap first-cell found.2; second = ap second-cell found.2 }
-
-pub numbers-have-one-category : NumbersHaveOneCategory
-numbers-have-one-category j m numbers is skip rows cols table is_table number one other a b first second =
-    let p = stands-at m numbers skip rows cols table is_table one number a first in
-    let q = stands-at m numbers skip rows cols table is_table other number b second in
-    sym p.first ∙ one-category j m numbers is p.at q.at number p.second q.second ∙ q.first
 
 -- ---- tests with the same result
 

@@ -8,7 +8,7 @@ use Rattle.cell_cats_areas.proofs.LawLemmas.{cases_before, within_le}
 use Rattle.cell_cats_areas.proofs.CountLemmas.{no_number_is_left_out}
 use Rattle.cell_cats_areas.proofs.MeetingLemmas.{some_of}
 use Rattle.cell_parts.proofs.AreaLemmas.{before-then, is-some}
-use Rattle.cell_cats_law.specs.CornerLaw.{CornersOnlyJoin, NumbersOnlyFall, CornersAddNoArea, OneByCorners}
+use Rattle.cell_cats_law.specs.CornerLaw.{AreBothClumpings, CornersOnlyJoin, CornersAddNoArea}
 use Rattle.cell_cats_law.proofs.AreaLemmas.{some-below, none-below, stands-at}
 
 widen-leads : (p : Position) (others : List Position) (q : Position) → LeadsTo Edges p others q →
@@ -64,7 +64,9 @@ module _ (m : Grid) (p : Position) (n k : ℕ) (by_edges : HasNumber Edges m p n
       (by_edges.up_to.exactly q).1 (first-by-edges m q is.0, up-to-too q is.1)) in
       omega (arith, fewer, by_corners.count, by_edges.count)
 
-pub numbers-only-fall : NumbersOnlyFall
+-- no cell has a larger number by corners than by edges
+pub numbers-only-fall : (m edges corners : Grid) → AreBothClumpings m edges corners → (p : Position) (n k : ℕ)
+    → cell_at_position edges p ≡ Some (pos n) → cell_at_position corners p ≡ Some (pos k) → k ≤ n
 numbers-only-fall m edges corners both p n k is_n is_k =
     let some = some-below Edges m edges both.by_edges p (pos n) is_n in
     let one = both.by_edges.numbered p some in
@@ -86,17 +88,3 @@ corners-add-no-area m edges corners both n occurs =
     let same_least : least.0 ≡ n = let e = sym least.1 ∙ occurs.1 in cc in
     let same_all : all.0 ≡ number.0 = let e = sym all.1 ∙ number.2 in cc in
     all.3 n (omega (arith, least.2, same_least)) (omega (arith, fall, same_all))
-
-pub one-by-corners : OneByCorners
-one-by-corners m edges corners both skip rows cols table is_table number one other a b first second =
-    let p = stands-at edges corners skip rows cols table is_table number one a first in
-    let q = stands-at edges corners skip rows cols table is_table number other b second in
-    sym p.second ∙ by number p.at q.at p.first q.first ∙ q.second
-  where
-    by : (c : CellValue) (p q : Position) → cell_at_position edges p ≡ c → cell_at_position edges q ≡ c →
-        cell_at_position corners p ≡ cell_at_position corners q
-    by (Some v) p q here there = corners-only-join m edges corners both p q (is-some (cell_at_position edges p) v here)
-        (here ∙ sym there)
-    by None p q here there =
-        both.by_corners.nulls p (none-below Edges m edges both.by_edges p here)
-        ∙ sym (both.by_corners.nulls q (none-below Edges m edges both.by_edges q there))

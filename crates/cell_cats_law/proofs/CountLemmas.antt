@@ -1,35 +1,7 @@
 -- Counts among the cells of maps, and sums over the entries of their table.
 use Rattle.std.proofs.lemmas.Bool.{cases_order}
-use Rattle.std.proofs.Common.{
-  ◌≡◌,
-  ℕ,
-  zero,
-  suc,
-  ◌+◌,
-  ◌<◌,
-  ◌≤◌,
-  map,
-  [],
-  ◌∷◌,
-  ◌++◌,
-  List,
-  length,
-  get_or,
-  Some,
-  Bool,
-  true,
-  false,
-  ◌&&◌,
-  not,
-  cond,
-  refl,
-  ap,
-  sym,
-  ◌∙◌,
-  arith,
-  IsTrue,
-  ⊎_elim,
-}
+use Rattle.std.proofs.Common.{◌≡◌, ℕ, zero, suc, ◌+◌, ◌<◌, ◌≤◌, map, [], ◌∷◌, ◌++◌, List, length, get_or, Some, Bool}
+use Rattle.std.proofs.Common.{true, false, ◌&&◌, not, cond, refl, ap, sym, ◌∙◌, arith, IsTrue, ⊎_elim}
 use Rattle.std.specs.Prelude.{count_by, sum_by, filter, All, Contains}
 use Rattle.std.specs.List.{flat_map, range_with_len}
 use Rattle.std.specs.Ordering.{eq_by_cmp, is_eq}
@@ -39,13 +11,8 @@ use Rattle.std.proofs.lemmas.List.Sums.{sum_by-cons, sum_by-append}
 use Rattle.cell_core.specs.Grid.{Grid}
 use Rattle.cell_stats_combinations.specs.declared.skip.Skip.{Skip}
 use Rattle.cell_stats_combinations.specs.declared.skip.Skip.TheVariants.{Nothing}
-use Rattle.cell_stats_combinations.specs.Combinations.{
-  Combination,
-  combination_cmp,
-  combination_cmp_total,
-  combination_at,
-  all_combinations,
-}
+use Rattle.cell_stats_combinations.specs.Combinations.{Combination, combination_cmp, combination_cmp_total}
+use Rattle.cell_stats_combinations.specs.Combinations.{combination_at, all_combinations}
 use Rattle.cell_stats_combinations.specs.LeftOut.{kept_cells, is_left_out}
 use Rattle.cell_stats_combinations.proofs.OrderLemmas.{combination_cmp-exact, is_equal}
 use Rattle.cell_stats_counts.specs.Counts.{count_of}
@@ -185,21 +152,6 @@ entry-at skip maps picks rows cols table is k n stands =
 
 -- ---- tests on a list
 
-in-more : (t : Combination → Bool) (x : Combination) (xs : List Combination) →
-    (0 < count_by t xs → (y : Combination) × Contains xs y × (t y ≡ true)) → (b : Bool) → t x ≡ b →
-    0 < count_by t (x ∷ xs) → (y : Combination) × Contains (x ∷ xs) y × (t y ≡ true)
-in-more t x xs rest true is some = (x, (0, omega arith, refl), is)
-in-more t x xs rest false is some =
-    let here : one-if (t x) ≡ 0 = ap one-if is in
-    let behind = rest (omega (arith, some, count_by-cons t x xs, here)) in
-    (behind.0, (suc behind.1.0, omega (arith, behind.1.1), behind.1.2), behind.2)
-
--- if some of a list are counted, there is one
-pub counted-in : (t : Combination → Bool) (xs : List Combination) → 0 < count_by t xs →
-    (x : Combination) × Contains xs x × (t x ≡ true)
-counted-in t [] some = absurd (omega (arith, some))
-counted-in t (x ∷ xs) some = in-more t x xs (counted-in t xs) (t x) refl some
-
 pub count-alike : (t u : Combination → Bool) (xs : List Combination) → All (λ x. t x ≡ u x) xs →
     count_by t xs ≡ count_by u xs
 count-alike t u [] same = refl
@@ -289,15 +241,6 @@ counts-self (k ∷ cells) zero d within =
     omega (arith, count_cons k k cells, one)
 counts-self (k ∷ cells) (suc i) d within =
     omega (arith, count_cons (get_or cells i d) k cells, counts-self cells i d (omega (arith, within)))
-
--- the combination of a cell is an entry of the table that leaves nothing out
-pub entry-of : (cells : List Combination) (table : Pairs) → IsTable Nothing cells table → (k : Combination) →
-    Contains cells k → Contains table (k, count_of k cells)
-entry-of cells table is k stands =
-    let some : 0 < count_of (get_or cells stands.0 k) cells = counts-self cells stands.0 k stands.1 in
-    let same : count_of (get_or cells stands.0 k) cells ≡ count_of k cells =
-    ap (λ (x : Combination). count_of x cells) stands.2 in
-    (is.counted k (count_of k cells)).1 (refl, (omega (arith, some, same), refl))
 
 either-zero : (b : Bool) → ◌≡◌ {A = ℕ} (cond b 0 0) 0
 either-zero true = refl

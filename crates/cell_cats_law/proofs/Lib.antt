@@ -9,5 +9,4 @@ pub mod ReclassLemmas
 pub mod AreaLemmas
 pub mod CornerLemmas
 pub mod PartLemmas
-pub mod RenumberedLemmas
 pub mod WithoutLemmas

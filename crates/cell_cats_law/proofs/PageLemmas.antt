@@ -10,7 +10,7 @@ use Rattle.cell_stats.specs.CategoryTables.{Pairs, rest_after}
 use Rattle.cell_stats.proofs.SortedLemmas.{both_true, is_less}
 use Rattle.cell_stats.proofs.RestLemmas.{rest-behind}
 use Rattle.cell_stats.proofs.TableLemmas.{ascending_to}
-use Rattle.cell_cats_law.specs.PageLaw.{up_to, PagesJoin, RestFollows, RestOfRest}
+use Rattle.cell_cats_law.specs.PageLaw.{up_to, PagesJoin, RestFollows}
 
 -- an entry is in the rest exactly if it comes after the combination
 rest-in : (k : Combination) (e : Combination × ℕ) (es : Pairs) → combination_cmp k e.0 ≡ Less →
@@ -92,34 +92,3 @@ follows (e ∷ page) rest last s =
 
 pub rest-follows : RestFollows
 rest-follows skip cells page rest last is = follows page rest last (ascending_to (page ++ last ∷ rest) is.ascending)
-
--- what is greater than the later is greater than the earlier
-greater-too : (j k x : Combination) (o : Ordering) → combination_cmp j k ≡ o → is_le o ≡ true →
-    combination_cmp k x ≡ Less → combination_cmp j x ≡ Less
-greater-too j k x Less is le less = combination_cmp_total.trans j k x is less
-greater-too j k x Equal is le less = combination_cmp_total.congr j k x is ∙ less
-greater-too j k x Greater is le less = cc
-
--- one entry more
-rest-more : (e : Combination × ℕ) (es : Pairs) (j k : Combination) → is_le (combination_cmp j k) ≡ true →
-    rest_after k (rest_after j es) ≡ rest_after k es → rest_after k (rest_after j (e ∷ es)) ≡ rest_after k (e ∷ es)
-rest-more e es j k le later = by (combination_cmp k e.0) (is_lt (combination_cmp j e.0)) refl refl
-  where
-    past : (b : Bool) → is_lt (combination_cmp k e.0) ≡ false → is_lt (combination_cmp j e.0) ≡ b →
-        rest_after k (rest_after j (e ∷ es)) ≡ rest_after k (e ∷ es)
-    past true out first = ap (rest_after k) (rest-in j e es (is_less _ first)) ∙ rest-out k e (rest_after j es) out
-        ∙ later ∙ sym (rest-out k e es out)
-    past false out first = ap (rest_after k) (rest-out j e es first) ∙ later ∙ sym (rest-out k e es out)
-
-    by : (o : Ordering) (b : Bool) → combination_cmp k e.0 ≡ o → is_lt (combination_cmp j e.0) ≡ b →
-        rest_after k (rest_after j (e ∷ es)) ≡ rest_after k (e ∷ es)
-    by Less b is first =
-        ap (rest_after k) (rest-in j e es (greater-too j k e.0 (combination_cmp j k) refl le is))
-        ∙ rest-in k e (rest_after j es) is
-        ∙ ap (λ (r : Pairs). e ∷ r) later ∙ sym (rest-in k e es is)
-    by Equal b is first = past b (ap is_lt is) first
-    by Greater b is first = past b (ap is_lt is) first
-
-pub rest-of-rest : RestOfRest
-rest-of-rest [] j k le = refl
-rest-of-rest (e ∷ es) j k le = rest-more e es j k le (rest-of-rest es j k le)

@@ -1,29 +1,6 @@
 -- The cells of a map by rules, and what is counted of them.
-use Rattle.std.proofs.Common.{
-  ◌≡◌,
-  ℕ,
-  zero,
-  suc,
-  ◌<◌,
-  map,
-  [],
-  ◌∷◌,
-  List,
-  get_or,
-  Some,
-  None,
-  Bool,
-  true,
-  false,
-  ◌&&◌,
-  not,
-  refl,
-  ap,
-  sym,
-  ◌∙◌,
-  arith,
-  subst,
-}
+use Rattle.std.proofs.Common.{◌≡◌, ℕ, zero, suc, ◌<◌, map, [], ◌∷◌, List, get_or, Some, None, Bool, true, false, ◌&&◌}
+use Rattle.std.proofs.Common.{not, refl, ap, sym, ◌∙◌, arith, subst}
 use Rattle.std.specs.Prelude.{count_by, Contains, All, if◌then◌else◌}
 use Rattle.std.proofs.lemmas.List.Elements.{Contains-get_or, All-head, All-tail}
 use Rattle.std.specs.Cmp.{tied_itself}
@@ -34,27 +11,15 @@ use Rattle.cell_cats.specs.Rule.{RuleValue, lists, is_star_rule, last_such, outc
 use Rattle.cell_cats.specs.Reclass.{reclassed_map, new_row}
 use Rattle.cell_stats_combinations.specs.declared.skip.Skip.{Skip}
 use Rattle.cell_stats_combinations.specs.declared.skip.Skip.TheVariants.{Nothing, AnyNull, AllNull}
-use Rattle.cell_stats_combinations.specs.Combinations.{
-  Combination,
-  combination_cmp,
-  combination_cmp_total,
-  cell_of_map,
-  combination_at,
-  all_combinations,
-}
+use Rattle.cell_stats_combinations.specs.Combinations.{Combination, combination_cmp, combination_cmp_total, cell_of_map}
+use Rattle.cell_stats_combinations.specs.Combinations.{combination_at, all_combinations}
 use Rattle.cell_stats_combinations.specs.LeftOut.{is_left_out}
 use Rattle.cell_stats_combinations.proofs.OrderLemmas.{combination_cmp-exact, is_equal}
 use Rattle.cell_stats_counts.specs.Counts.{count_of}
 use Rattle.cell_stats.specs.CategoryTables.{Pairs, IsTable}
-use Rattle.cell_cats_law.specs.ReclassLaw.{
-  sent,
-  IsReclassed,
-  AreSentApart,
-  ReclassKeepsCells,
-  RenamingKeepsCounts,
-  UnnamedIsNull,
-}
-use Rattle.cell_cats_law.proofs.CountLemmas.{counts-same, count-alike, counted-in, entry-of, table-sums}
+use Rattle.cell_cats_law.specs.ReclassLaw.{sent, IsReclassed, ReclassKeepsCells}
+use Rattle.cell_cats_law.specs.ReclassLaw.{UnnamedIsNull}
+use Rattle.cell_cats_law.proofs.CountLemmas.{counts-same, count-alike, table-sums}
 
 -- ---- what no rule names
 
@@ -147,65 +112,3 @@ reclass-keeps-cells rules maps old new is others rows cols skip table is_table t
     ∙ sym (table-sums skip cells table is_table t)
 
 -- ---- rules that only rename
-
-module _ (rules : List RuleValue) (cells : List Combination) (table : Pairs) (is_table : IsTable Nothing cells table)
-    (apart : AreSentApart rules table) (to : Combination) where
-  abbrev goes : Combination → Bool
-  goes k = eq_by_cmp combination_cmp to (sent rules k)
-
-  goes-alone : (from x : Combination) → Contains cells from → Contains cells x → sent rules from ≡ to → (b : Bool) →
-      eq_by_cmp combination_cmp from x ≡ b → goes x ≡ b
-  goes-alone from x stands also is true same =
-      let one : from ≡ x = combination_cmp-exact from x (is_equal _ same) in
-      let there : sent rules x ≡ to = ap (sent rules) (sym one) ∙ is in
-      ap (eq_by_cmp combination_cmp to) there ∙ ap is_eq (tied_itself combination_cmp_total to)
-  goes-alone from x stands also is false same = by (goes x) refl
-    where
-      by : (b : Bool) → goes x ≡ b → b ≡ false
-      by false e = refl
-      by true e =
-          let there : to ≡ sent rules x = combination_cmp-exact to (sent rules x) (is_equal _ e) in
-          let one : from ≡ x = apart (from, count_of from cells) (x, count_of x cells)
-          (entry-of cells table is_table from stands) (entry-of cells table is_table x also) (is ∙ there) in
-          let itself : eq_by_cmp combination_cmp from x ≡ true = ap (eq_by_cmp combination_cmp from) (sym one)
-          ∙ ap is_eq (tied_itself combination_cmp_total from) in
-          cc
-
-  -- as many are sent there as have the one combination that is
-  goes-count : (from : Combination) → Contains cells from → sent rules from ≡ to →
-      count_by goes cells ≡ count_of from cells
-  goes-count from stands is =
-      count-alike goes (eq_by_cmp combination_cmp from) cells (λ i d within.
-      let x = get_or cells i d in
-      goes-alone from x stands (Contains-get_or cells i d within) is (eq_by_cmp combination_cmp from x) refl)
-
-  renamed-from : (n : ℕ) → 0 < n → n ≡ count_by goes cells →
-      (from : Combination) × (sent rules from ≡ to) × Contains table (from, n)
-  renamed-from n some is =
-      let one = counted-in goes cells (omega (arith, some, is)) in
-      let there : sent rules one.0 ≡ to = sym (combination_cmp-exact to (sent rules one.0) (is_equal _ one.2)) in
-      let same : count_of one.0 cells ≡ n = sym (is ∙ goes-count one.0 one.1 there) in
-      (one.0, there, subst (λ (m : ℕ). Contains table (one.0, m)) same (entry-of cells table is_table one.0 one.1))
-
-  renamed-to : (n : ℕ) (from : Combination) → sent rules from ≡ to → Contains table (from, n) →
-      (0 < n) × (n ≡ count_by goes cells)
-  renamed-to n from is stands =
-      let counted = (is_table.counted from n).0 stands in
-      let one = counted-in (eq_by_cmp combination_cmp from) cells (omega (arith, counted.1.0, counted.1.1)) in
-      let same : from ≡ one.0 = combination_cmp-exact from one.0 (is_equal _ one.2) in (
-        counted.1.0,
-        counted.1.1
-            ∙ sym (goes-count from (subst (λ (k : Combination). Contains cells k) (sym same) one.1) is),
-      )
-
-pub renaming-keeps-counts : RenamingKeepsCounts
-renaming-keeps-counts rules maps old new is others rows cols table renamed is_table is_renamed apart to n =
-    let cells = all_combinations maps (old ∷ others) rows cols in
-    let counts = count-sent rules maps old new is others rows cols to in (
-      λ stands.
-          let counted = (is_renamed.counted to n).0 stands in
-          renamed-from rules cells table is_table apart to n counted.1.0 (counted.1.1 ∙ counts),
-      λ from.
-          let both = renamed-to rules cells table is_table apart to n from.0 from.1 from.2 in
-          (is_renamed.counted to n).1 (refl, (both.0, both.1 ∙ sym counts)),
-    )

@@ -1,24 +1,6 @@
 -- A map in which one whole area is made null: its other areas.
-use Rattle.std.proofs.Common.{
-  ◌≡◌,
-  ℤ,
-  ◌≢◌,
-  [],
-  ◌∷◌,
-  List,
-  Some,
-  None,
-  IsSome,
-  Bool,
-  true,
-  false,
-  cond,
-  ◌↔◌,
-  refl,
-  ap,
-  sym,
-  ◌∙◌,
-}
+use Rattle.std.proofs.Common.{◌≡◌, ℤ, ◌≢◌, [], ◌∷◌, List, Some, None, IsSome, Bool, true, false, cond, ◌↔◌, refl, ap}
+use Rattle.std.proofs.Common.{sym, ◌∙◌}
 use Rattle.std.specs.Prelude.{All}
 use Rattle.std.proofs.lemmas.List.Elements.{All-nil, All-cons, All-head, All-tail}
 use Rattle.std.specs.Ordering.{eq_by_cmp}
@@ -29,7 +11,7 @@ use Rattle.cell_cats_areas.specs.Areas.{Position, cell_at_position, LeadsTo, Are
 use Rattle.cell_cats_areas.proofs.PathLemmas.{AreJoined-adjacent}
 use Rattle.cell_stats_combinations.specs.Combinations.{combination_cmp}
 use Rattle.cell_cats_law.proofs.CountLemmas.{counts-same}
-use Rattle.cell_cats_law.specs.AreaLaw.{IsWithout, OtherAreasStay, OtherAreasKeepTheirSize}
+use Rattle.cell_cats_law.specs.AreaLaw.{IsWithout, OtherAreasStay}
 use Rattle.cell_cats_areas.proofs.MeetingLemmas.{some_of}
 use Rattle.cell_parts.proofs.AreaLemmas.{is-some}
 use Rattle.cell_cats_law.proofs.AreaLemmas.{some-below, first-cell, tests-same}
@@ -112,44 +94,6 @@ module _ (j : Joining) (m numbers : Grid) (is : IsClumping j m numbers) (number 
               ((is.same p q was_p was_q).0 was)),
         )
 
-    -- a cell of another area is left
-    left-over : (p : Position) (was : ℤ) → was ≢ number → cell_at_position numbers p ≡ Some was →
-        IsSome (cell_at_position less p)
-    left-over p was other here =
-        let v = some_of (cell_at_position m p) (some-below j m numbers is p was here) in
-        is-some (cell_at_position less p) v.0 (kept-cell p (by (gone p) refl) ∙ v.1)
-      where
-        by : (b : Bool) → gone p ≡ b → b ≡ false
-        by false e = refl
-        by true e =
-            let same : cell_at_position numbers p ≡ Some number =
-            (cell_eq-Decides (cell_at_position numbers p) (Some number)).0 e in
-            let one : was ≡ number = let both = sym here ∙ same in cc in
-            absurd (other one)
-
-    pub others-keep-their-size : (p : Position) (was now : ℤ) → was ≢ number → cell_at_position numbers p ≡ Some was →
-        cell_at_position renumbered p ≡ Some now → (q : Position) →
-        eq_by_cmp combination_cmp (Some now ∷ [])
-        (cell_at_position renumbered q ∷ []) ≡ eq_by_cmp combination_cmp (Some was ∷ []) (cell_at_position numbers q ∷ [])
-    others-keep-their-size p was now other is_was is_now q =
-        let left_p = left-over p was other is_was in
-        tests-same (Some now ∷ []) (cell_at_position renumbered q ∷ []) (Some was ∷ []) (cell_at_position numbers q ∷ [])
-        (λ (e : Some now ∷ [] ≡ cell_at_position renumbered q ∷ []).
-        let same : cell_at_position renumbered q ≡ Some now = sym (ap first-cell e) in
-        let left_q = some-below j less renumbered is_less q now same in
-        ap (λ (c : CellValue). c ∷ []) (sym is_was ∙ (others-stay p q left_p left_q).0 (is_now ∙ sym same)))
-        (λ (e : Some was ∷ [] ≡ cell_at_position numbers q ∷ []).
-        let same : cell_at_position numbers q ≡ Some was = sym (ap first-cell e) in
-        let left_q = left-over q was other same in
-        ap (λ (c : CellValue). c ∷ []) (sym is_now ∙ (others-stay p q left_p left_q).1 (is_was ∙ sym same)))
-
 pub other-areas-stay : OtherAreasStay
 other-areas-stay j m numbers is number less renumbered without is_less =
     others-stay j m numbers is number less without renumbered is_less
-
-pub other-areas-keep-their-size : OtherAreasKeepTheirSize
-other-areas-keep-their-size j m numbers is k less renumbered without is_less p was now other one two rows cols =
-    let same = others-keep-their-size j m numbers is k less without renumbered is_less p was now other one two in
-    counts-same (renumbered ∷ []) (numbers ∷ []) (0 ∷ []) (0 ∷ []) (eq_by_cmp combination_cmp (Some now ∷ []))
-    (eq_by_cmp combination_cmp (Some was ∷ []))
-    (λ row col. same (record { row = row; col = col })) rows cols

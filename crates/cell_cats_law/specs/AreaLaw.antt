@@ -18,13 +18,6 @@ cells_of m rows cols = all_combinations (m ∷ []) (0 ∷ []) rows cols
 abbrev pub cells_of_both : Grid → Grid → (rows cols : ℕ) → List Combination
 cells_of_both m numbers rows cols = all_combinations (m ∷ numbers ∷ []) (0 ∷ 1 ∷ []) rows cols
 
--- in the table of a map and its clump map each number occurs with one category only
-abbrev pub NumbersHaveOneCategory : Type 0
-NumbersHaveOneCategory = (j : Joining) (m numbers : Grid) → IsClumping j m numbers
-    → (skip : Skip) (rows cols : ℕ) (table : Pairs) → IsTable skip (cells_of_both m numbers rows cols) table
-    → (number one other : CellValue) (a b : ℕ) → Contains table (one ∷ number ∷ [], a)
-    → Contains table (other ∷ number ∷ [], b) → one ≡ other
-
 -- an entry of it counts the whole area
 abbrev pub EntriesAreWhole : Type 0
 EntriesAreWhole = (j : Joining) (m numbers : Grid) → IsClumping j m numbers
@@ -65,20 +58,3 @@ OtherAreasStay = (j : Joining) (m numbers : Grid) → IsClumping j m numbers
     → (p q : Position) → IsSome (cell_at_position less p) → IsSome (cell_at_position less q)
     → (cell_at_position renumbered p ≡ cell_at_position renumbered q)
     ↔ (cell_at_position numbers p ≡ cell_at_position numbers q)
-
--- and each other area keeps its size
-abbrev pub OtherAreasKeepTheirSize : Type 0
-OtherAreasKeepTheirSize = (j : Joining) (m numbers : Grid) → IsClumping j m numbers
-    → (number : ℤ) (less renumbered : Grid) → IsWithout m numbers number less → IsClumping j less renumbered
-    → (p : Position) (was now : ℤ) → was ≢ number → cell_at_position numbers p ≡ Some was
-    → cell_at_position renumbered p ≡ Some now → (rows cols : ℕ)
-    → count_of (Some now ∷ []) (cells_of renumbered rows cols)
-    ≡ count_of (Some was ∷ []) (cells_of numbers rows cols)
-
--- and the numbers close up: numbers below the number of the area stay, and numbers above it are one less
-abbrev pub NumbersCloseUp : Type 0
-NumbersCloseUp = (j : Joining) (m numbers : Grid) → IsClumping j m numbers → (number : ℕ)
-    → Occurs numbers number → (less renumbered : Grid) → IsWithout m numbers (pos number) less
-    → IsClumping j less renumbered → (p : Position) (n : ℕ) → cell_at_position numbers p ≡ Some (pos n)
-    → (n < number → cell_at_position renumbered p ≡ Some (pos n))
-    × (number < n → cell_at_position renumbered p ≡ Some (pos (n - 1)))

@@ -19,20 +19,7 @@ CornersOnlyJoin = (m edges corners : Grid) → AreBothClumpings m edges corners 
     → IsSome (cell_at_position edges p) → cell_at_position edges p ≡ cell_at_position edges q
     → cell_at_position corners p ≡ cell_at_position corners q
 
--- no cell has a larger number by corners than by edges
-abbrev pub NumbersOnlyFall : Type 0
-NumbersOnlyFall = (m edges corners : Grid) → AreBothClumpings m edges corners → (p : Position) (n k : ℕ)
-    → cell_at_position edges p ≡ Some (pos n) → cell_at_position corners p ≡ Some (pos k) → k ≤ n
-
 -- there are no more areas by corners than by edges: each number by corners is one by edges
 abbrev pub CornersAddNoArea : Type 0
 CornersAddNoArea = (m edges corners : Grid) → AreBothClumpings m edges corners → (n : ℕ) → Occurs corners n
     → Occurs edges n
-
--- the table of both clump maps shows for each number by edges one by corners
-abbrev pub OneByCorners : Type 0
-OneByCorners = (m edges corners : Grid) → AreBothClumpings m edges corners
-    → (skip : Skip) (rows cols : ℕ) (table : Pairs)
-    → IsTable skip (all_combinations (edges ∷ corners ∷ []) (0 ∷ 1 ∷ []) rows cols) table
-    → (number one other : CellValue) (a b : ℕ) → Contains table (number ∷ one ∷ [], a)
-    → Contains table (number ∷ other ∷ [], b) → one ≡ other

@@ -18,8 +18,3 @@ PagesJoin = (skip : Skip) (cells : List Combination) (table : Pairs) → IsTable
 abbrev pub RestFollows : Type 0
 RestFollows = (skip : Skip) (cells : List Combination) (page rest : Pairs) (last : Combination × ℕ)
     → IsTable skip cells (page ++ last ∷ rest) → rest_after last.0 (page ++ last ∷ rest) ≡ rest
-
--- the rest of a rest, after a combination that comes no earlier, is the rest of the full table after it
-abbrev pub RestOfRest : Type 0
-RestOfRest = (table : Pairs) (j k : Combination) → is_le (combination_cmp j k) ≡ true
-    → rest_after k (rest_after j table) ≡ rest_after k table

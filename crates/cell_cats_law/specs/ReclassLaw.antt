@@ -41,17 +41,3 @@ ReclassKeepsCells = (rules : List RuleValue) (maps : List Grid) (old new : ℕ) 
     → is_left_out skip to ≡ false
     → count_of to (all_combinations maps (new ∷ others) rows cols)
     ≡ sum_by (λ pair. pair.1) (sent_to rules to table)
-
--- no two entries are sent to one combination
-abbrev pub AreSentApart : List RuleValue → Pairs → Type 0
-AreSentApart rules table = (a b : Combination × ℕ) → Contains table a → Contains table b
-    → sent rules a.0 ≡ sent rules b.0 → a.0 ≡ b.0
-
--- rules that send no two entries to one only rename them: each count is in the new table under the new name
-abbrev pub RenamingKeepsCounts : Type 0
-RenamingKeepsCounts = (rules : List RuleValue) (maps : List Grid) (old new : ℕ) → IsReclassed rules maps old new
-    → (others : List ℕ) (rows cols : ℕ) (table renamed : Pairs)
-    → IsTable Nothing (all_combinations maps (old ∷ others) rows cols) table
-    → IsTable Nothing (all_combinations maps (new ∷ others) rows cols) renamed → AreSentApart rules table
-    → (to : Combination) (n : ℕ)
-    → Contains renamed (to, n) ↔ ((from : Combination) × (sent rules from ≡ to) × Contains table (from, n))

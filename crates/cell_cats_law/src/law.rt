@@ -1,14 +1,8 @@
 //! What clump maps say of the map that they number, and of each other.
 
-ghost use Rattle.cell_cats_law.specs.AreaLaw.{AreasDivideTheirCategory, EntriesAreWhole, NoAreaIsEmpty, NumbersHaveOneCategory};
-ghost use Rattle.cell_cats_law.specs.AreaLaw.{NumbersCloseUp, OtherAreasKeepTheirSize, OtherAreasStay};
-ghost use Rattle.cell_cats_law.specs.CornerLaw.{CornersAddNoArea, CornersOnlyJoin, NumbersOnlyFall, OneByCorners};
+ghost use Rattle.cell_cats_law.specs.AreaLaw.{AreasDivideTheirCategory, EntriesAreWhole, NoAreaIsEmpty, OtherAreasStay};
+ghost use Rattle.cell_cats_law.specs.CornerLaw.{CornersAddNoArea, CornersOnlyJoin};
 ghost use Rattle.cell_cats_law.specs.PartLaw.{PartsPrintTheWhole, ReclassedPartsAreParts, ReclassedPartsHaveTheLabels};
-
-/// In the table of a map and its clump map each number occurs with one category only.
-pub fn numbers_have_one_category()
-    ensures { NumbersHaveOneCategory }
-{}
 
 /// An entry of that table counts the whole area: as many cells as have its number.
 pub fn entries_are_whole()
@@ -30,34 +24,14 @@ pub fn other_areas_stay()
     ensures { OtherAreasStay }
 {}
 
-/// And each other area keeps its size, whatever its number is now.
-pub fn other_areas_keep_their_size()
-    ensures { OtherAreasKeepTheirSize }
-{}
-
-/// And the numbers close up: those before the number of the area stay, and those after it are one less.
-pub fn numbers_close_up()
-    ensures { NumbersCloseUp }
-{}
-
 /// Corners only join: cells of one area by edges are of one area by edges and corners.
 pub fn corners_only_join()
     ensures { CornersOnlyJoin }
 {}
 
-/// No cell has a larger number by corners than by edges.
-pub fn numbers_only_fall()
-    ensures { NumbersOnlyFall }
-{}
-
 /// There are no more areas by corners than by edges: each number of the one clump map is one of the other.
 pub fn corners_add_no_area()
     ensures { CornersAddNoArea }
-{}
-
-/// The table of both clump maps shows for each number by edges one number by corners.
-pub fn one_by_corners()
-    ensures { OneByCorners }
 {}
 
 /// Whatever rectangle is cut out of maps: by rules it is what is cut out of the maps by rules.

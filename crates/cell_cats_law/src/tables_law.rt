@@ -1,7 +1,7 @@
 //! What tables say of each other.
 
-ghost use Rattle.cell_cats_law.specs.PageLaw.{PagesJoin, RestFollows, RestOfRest};
-ghost use Rattle.cell_cats_law.specs.ReclassLaw.{ReclassKeepsCells, RenamingKeepsCounts, UnnamedIsNull};
+ghost use Rattle.cell_cats_law.specs.PageLaw.{PagesJoin, RestFollows};
+ghost use Rattle.cell_cats_law.specs.ReclassLaw.{ReclassKeepsCells, UnnamedIsNull};
 
 /// The entries of a table up to a combination, and then its rest after it, are the table.
 pub fn pages_join()
@@ -13,11 +13,6 @@ pub fn rest_follows()
     ensures { RestFollows }
 {}
 
-/// The rest of a rest, after a combination that comes no earlier, is the rest of the full table after it.
-pub fn rest_of_rest()
-    ensures { RestOfRest }
-{}
-
 /// Null stays null; a category that no rule lists becomes null if no rule is one of `*`.
 pub fn unnamed_is_null()
     ensures { UnnamedIsNull }
@@ -27,10 +22,4 @@ pub fn unnamed_is_null()
 /// that the rules send there, null and what no rule names included.
 pub fn reclass_keeps_cells()
     ensures { ReclassKeepsCells }
-{}
-
-/// Rules that send no two combinations of a table to one only rename them: each count is in the table of the new map
-/// under the new name, and no other count is.
-pub fn renaming_keeps_counts()
-    ensures { RenamingKeepsCounts }
 {}
