@@ -27,7 +27,7 @@ pub mod law;
 mod line;
 mod pieces;
 pub mod reclassing;
-mod rule;
+pub mod rule;
 pub mod rules;
 
 pub use cell_cats_areas::clump::{Joining, clump, clump_with};

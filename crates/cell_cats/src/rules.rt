@@ -136,7 +136,7 @@ impl Rules {
     }
 
     /// The rules, in order.
-    pub(crate) fn as_slice(&self) -> &[Rule]
+    pub fn as_slice(&self) -> &[Rule]
         ensures { result.now ≡ self.now }
     {
         self.rules.as_slice()

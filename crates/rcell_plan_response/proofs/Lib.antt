@@ -1,5 +1,5 @@
 -- What several proofs share.
 pub mod AppendLemmas
-pub mod LabelLemmas
+pub mod LineLemmas
 pub mod PlanEndLemmas
 pub mod ZipLemmas

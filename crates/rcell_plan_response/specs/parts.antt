@@ -1,4 +1,3 @@
 -- What only private functions and proofs cite.
-pub mod LineDetails
-pub mod LabelsOfLines
+pub mod DetailValues
 pub mod RequestStops

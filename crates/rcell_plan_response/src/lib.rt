@@ -6,8 +6,7 @@
 //! - `plan_response`: `plan_request`, the plan of each statement, as `rcell_plan` makes it
 //! - specs/Responses.antt: the response of every request
 //! - private: `plan_frames`, `plan_options`: a plan as bytes; `made_names`: the names of all maps;
-//!   `plan_details`: what only the text of a statement says, the calls of `position_calls` and the
-//!   labels of `rule_labels`
+//!   `plan_details`: the calls of `position_calls` in a statement and the labels of its rules
 #![tactic(auto)]
 
 mod made_names;
@@ -18,4 +17,3 @@ pub mod plan_request;
 pub mod plan_response;
 mod position_calls;
 pub mod responding;
-mod rule_labels;

@@ -1,17 +1,25 @@
 //! What a plan says of the text of statements.
 
-ghost use Rattle.std.specs.Prelude.{◌≡◌, ◌≤◌, All, IfOk, drop, length, map};
+ghost use Rattle.std.specs.Prelude.{◌≡◌, ◌≤◌, All, IfOk, length, map};
+ghost use Rattle.std.specs.List.{filter_map};
+ghost use Rattle.cell_cats.specs.Reclass.{label_entry};
 ghost use Rattle.rcell_script.specs.Lines.{script_lines};
-ghost use Rattle.rcell_plan_response.specs.PlanDetails.{line_of, statement_calls};
-ghost use Rattle.rcell_plan_response.specs.parts.LabelsOfLines.{rule_label_value};
-ghost use Rattle.rcell_plan_response.specs.parts.LineDetails.{labels_after, details_value, details_by_lines};
+ghost use Rattle.rcell_plan_response.specs.PlanDetails.{command_labels, line_of, statement_calls, statement_details};
+ghost use Rattle.rcell_plan_response.specs.parts.DetailValues.{details_value, rule_label_value};
 
 use crate::position_calls::{PositionCall, calls_in_line};
-use crate::rule_labels::{RuleLabel, labels_up_to_end};
 use bstr::ByteSlice;
+use cell_cats::rule::Rule;
 use cell_core::memory::Memory;
 use rcell_script::statement::{Command, Statement};
 use std::alloc::{AllocError, Global};
+
+/// A category with its label.
+#[derive(Debug, Drop)]
+pub struct RuleLabel<'a> {
+    pub category: i32,
+    pub text: &'a [u8],
+}
 
 /// The calls of functions of the position in a statement, and the labels that its rules give.
 #[derive(Debug, Drop)]
@@ -41,17 +49,6 @@ fn line_of<'a>(lines: &[&'a [u8]], number: usize) -> &'a [u8]
     }
 }
 
-// The lines after so many.
-fn lines_after<'b, 'a>(lines: &'b [&'a [u8]], count: usize) -> &'b [&'a [u8]]
-    ensures { result.now ≡ drop count lines.now }
-{
-    if count <= lines.len() {
-        &lines[count..]
-    } else {
-        &[]
-    }
-}
-
 // The calls in a statement.
 fn statement_calls(
     alloc: Global,
@@ -68,41 +65,53 @@ fn statement_calls(
     }
 }
 
+// The labels of rules, in the order of the rules.
+fn labels_of<'a>(alloc: Global, rules: &'a [Rule]) -> Result<Vec<RuleLabel<'a>>, Memory>
+    ensures { IfOk result (λ labels. map rule_label_value labels.items
+        ≡ filter_map label_entry rules.now) }
+{
+    let mut labels = Vec::new(alloc);
+    for rule in rules {
+        if let Some(category) = rule.labelled_category() {
+            let text = rule.label();
+            labels.push(RuleLabel { category, text })?;
+        }
+    }
+    Ok(labels)
+}
+
 // The labels of a statement.
 fn statement_labels<'a>(
     alloc: Global,
-    lines: &[&'a [u8]],
-    statement: &Statement,
+    statement: &'a Statement,
 ) -> Result<Vec<RuleLabel<'a>>, Memory>
     ensures { IfOk result (λ labels. map rule_label_value labels.items
-        ≡ labels_after (map (λ line. line.now) lines.now) statement.now) }
+        ≡ command_labels statement.now.command) }
 {
     match &statement.command {
-        Command::Reclass { .. } => {
-            labels_up_to_end(alloc, lines_after(lines, statement.line as usize))
-        }
+        Command::Reclass { rules, .. } => labels_of(alloc, rules.as_slice()),
         _ => Ok(Vec::new(alloc)),
     }
 }
 
-/// The details of statements, from the lines of their script.
+/// The details of statements of a script with these lines.
 ///
 /// # Errors
 ///
 /// [`Memory`] if memory ran out.
 pub(crate) fn details_of<'a>(
     alloc: Global,
-    lines: &[&'a [u8]],
-    statements: &[Statement],
+    lines: &[&[u8]],
+    statements: &'a [Statement],
 ) -> Result<Vec<Details<'a>>, Memory>
     requires { All (λ line. length line ≤ 65535) (map (λ line. line.now) lines.now) }
     ensures { IfOk result (λ all. map details_value all.items
-        ≡ map (details_by_lines (map (λ line. line.now) lines.now)) statements.now) }
+        ≡ map (statement_details (map (λ line. line.now) lines.now)) statements.now) }
 {
     let mut all = Vec::new(alloc);
     for statement in statements {
         let calls = statement_calls(alloc, lines, statement)?;
-        let labels = statement_labels(alloc, lines, statement)?;
+        let labels = statement_labels(alloc, statement)?;
         all.push(Details { calls, labels })?;
     }
     Ok(all)

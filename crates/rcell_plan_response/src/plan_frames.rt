@@ -3,13 +3,11 @@
 ghost use Rattle.std.specs.Prelude.{◌≡◌, length, map, flat_map};
 ghost use Rattle.cell_core_devices.specs.Blocks.{Appends};
 ghost use Rattle.rcell_plan_response.specs.PlanFrames.{made_name, margin_bytes, read_bytes, need_bytes, reads_bytes, needs_bytes, plan_head, call_bytes, calls_bytes, category_bytes, plan_label_bytes, plan_labels_bytes, details_bytes, plan_bytes, plans_bytes};
-ghost use Rattle.rcell_plan_response.specs.parts.LabelsOfLines.{rule_label_value};
-ghost use Rattle.rcell_plan_response.specs.parts.LineDetails.{details_value};
+ghost use Rattle.rcell_plan_response.specs.parts.DetailValues.{details_value, rule_label_value};
 
-use crate::plan_details::Details;
+use crate::plan_details::{Details, RuleLabel};
 use crate::plan_options::{name_of_place, push_options};
 use crate::position_calls::PositionCall;
-use crate::rule_labels::RuleLabel;
 use cell_core::block::OutputBlock;
 use cell_core::name::Names;
 use cell_core::sink::Sink;

@@ -10,7 +10,7 @@ ghost use Rattle.rcell_pipe_request.specs.declared.error.RequestError.{RequestEr
 ghost use Rattle.rcell_plan_response.specs.PlanRequests.{PlanRequestValue, plan_request_value};
 ghost use Rattle.rcell_plan_response.specs.PlanFrames.{plans_bytes};
 ghost use Rattle.rcell_plan_response.specs.PlanEnds.{IsPlanResponse};
-ghost use Rattle.rcell_plan_response.specs.parts.LineDetails.{details_value};
+ghost use Rattle.rcell_plan_response.specs.parts.DetailValues.{details_value};
 
 use crate::made_names::all_names;
 use crate::plan_details::{Details, details_of, lines_of};

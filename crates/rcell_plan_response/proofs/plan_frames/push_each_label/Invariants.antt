@@ -1,7 +1,7 @@
 use Rattle.std.proofs.Common.{take, flat_map}
 use Rattle.cell_core_devices.specs.Blocks.{Appends}
 use Rattle.rcell_plan_response.specs.PlanFrames.{plan_label_bytes}
-use Rattle.rcell_plan_response.specs.parts.LabelsOfLines.{rule_label_value}
+use Rattle.rcell_plan_response.specs.parts.DetailValues.{rule_label_value}
 use Rattle.rcell_plan_response.proofs.plan_frames.push_each_label.Given as goal
 
 abbrev pub invariant-loop-label : goal.invariant-loop-label

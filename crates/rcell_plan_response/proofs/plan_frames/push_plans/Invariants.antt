@@ -2,7 +2,7 @@ use Rattle.std.proofs.Common.{take, flat_map, map}
 use Rattle.std.specs.List.{zip}
 use Rattle.cell_core_devices.specs.Blocks.{Appends}
 use Rattle.rcell_plan_response.specs.PlanFrames.{plan_bytes}
-use Rattle.rcell_plan_response.specs.parts.LineDetails.{details_value}
+use Rattle.rcell_plan_response.specs.parts.DetailValues.{details_value}
 use Rattle.rcell_plan_response.proofs.plan_frames.push_plans.Given as goal
 
 abbrev pub invariant-loop-i : goal.invariant-loop-i

@@ -9,8 +9,8 @@ use Rattle.rcell_pipe_response.proofs.EndLemmas.{ends_as, finished_frames}
 use Rattle.rcell_plan_response.specs.PlanDetails.{StatementDetails, statement_details}
 use Rattle.rcell_plan_response.specs.PlanEnds.{IsPlanResponse}
 use Rattle.rcell_plan_response.specs.declared.plan_details.Details.{Details}
-use Rattle.rcell_plan_response.specs.parts.LineDetails.{details_value, details_by_lines}
-use Rattle.rcell_plan_response.proofs.LabelLemmas.{details-by-lines, short-lines}
+use Rattle.rcell_plan_response.specs.parts.DetailValues.{details_value}
+use Rattle.rcell_plan_response.proofs.LineLemmas.{short-lines}
 use Rattle.rcell_plan_response.proofs.PlanEndLemmas.{finished_plan, length-plans}
 use Rattle.rcell_plan_response.proofs.plan_response.plan_statements.Goals as goal
 
@@ -62,8 +62,7 @@ returns g c = λ read is.
     let details : map details_value c.as_slice-3.result.now
     ≡ map (statement_details (script_lines script)) statements =
     ap (map details_value) c.as_slice-3.ensures.value ∙ c.in-Ok-details_of.ensures
-    ∙ ap (λ lines. map (details_by_lines lines) statements) same
-    ∙ details-by-lines c.args.names script statements c.requires.denoted in
+    ∙ ap (λ lines. map (statement_details lines) statements) same in
     ends_as (IsPlanResponse read) None
     (record {
       names = c.args.names;

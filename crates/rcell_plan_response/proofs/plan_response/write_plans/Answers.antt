@@ -2,7 +2,7 @@ use Rattle.std.proofs.Common.{◌++◌, map}
 use Rattle.rcell_pipe_response.specs.FrameBytes.{response_magic}
 use Rattle.rcell_pipe_response.specs.RunEnds.{done_end, end_value}
 use Rattle.rcell_plan_response.specs.PlanFrames.{plans_bytes}
-use Rattle.rcell_plan_response.specs.parts.LineDetails.{details_value}
+use Rattle.rcell_plan_response.specs.parts.DetailValues.{details_value}
 use Rattle.rcell_plan_response.proofs.PlanEndLemmas.{finished_plans}
 use Rattle.rcell_plan_response.proofs.plan_response.write_plans.Goals as goal
 
