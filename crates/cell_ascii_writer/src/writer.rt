@@ -24,8 +24,8 @@ use cell_core::stretches::Stretches;
 use cell_core_values::small_cells::cell_of_byte;
 use itoa::Buffer;
 
-// How many units a coordinate of 1 has.
-const UNIT: u64 = 100000000;
+/// How many units a coordinate of 1 has.
+pub const UNIT: u64 = 100000000;
 
 // How many zeros are at the end.
 fn zeros_at_end(digits: &[u8]) -> usize
@@ -35,17 +35,17 @@ fn zeros_at_end(digits: &[u8]) -> usize
     digits.iter().rev().take_while(|b| **b == b'0').count()
 }
 
-// The digits without the zeros at their end.
-fn without_zeros(digits: &[u8]) -> &[u8]
+/// The digits without the zeros at their end.
+pub fn without_zeros(digits: &[u8]) -> &[u8]
     ensures value { result.now ≡ without_zeros digits.now }
     ensures len { length result.now ≤ length digits.now }
 {
     &digits[..digits.len() - zeros_at_end(digits)]
 }
 
-// The eight digits of a part: the digits of its sum with 10^8, without the leading 1.
+/// The eight digits of a part: the digits of its sum with 10^8, without the leading 1.
 #[tactic(auto, using(std::proofs::lemmas::Fmt::decimal_nonempty))]
-fn eight_digits(buffer: &mut Buffer, part: u64) -> &[u8]
+pub fn eight_digits(buffer: &mut Buffer, part: u64) -> &[u8]
     requires { part < 100000000 }
     ensures value { result.now ≡ drop 1 (decimal (100000000 + part)) }
     ensures len { length result.now ≤ 40 }

@@ -1,22 +1,18 @@
 //! Coordinates as `rcell` prints them, each after its length.
 
-ghost use Rattle.std.specs.Prelude.{◌≡◌, ◌+◌, ◌<◌, ◌≤◌, ◌==◌, ◌++◌, codes, decimal, drop, length, reverse, IfOk, OnOk};
-ghost use Rattle.std.specs.List.{prefix_len};
-ghost use Rattle.cell_core_values.specs.Letters.{byte};
+ghost use Rattle.std.specs.Prelude.{◌≡◌, ◌<◌, ◌++◌, IfOk, OnOk};
 ghost use Rattle.cell_core_devices.specs.Blocks.{Appends};
-ghost use Rattle.cell_ascii_meaning.specs.Writing.{coordinate_text, fraction_text, without_zeros};
+ghost use Rattle.cell_ascii_meaning.specs.Writing.{coordinate_text, fraction_text};
 ghost use Rattle.rcell_pipe_response.specs.FrameBytes.{edges_bytes};
 ghost use Rattle.rcell_pipe_response.specs.parts.Coordinates.{sign_text};
 
 use crate::bytes::push_text;
+use cell_ascii_writer::writer::{UNIT, eight_digits, without_zeros};
 use cell_core::block::OutputBlock;
 use cell_core::region::Region;
 use cell_core::sink::Sink;
 use itoa::Buffer;
 use std::alloc::{AllocError, Global};
-
-// How many units a coordinate of 1 has.
-const UNIT: u64 = 100000000;
 
 /// The edges of a region as texts.
 #[derive(Drop)]
@@ -25,31 +21,6 @@ pub(crate) struct EdgeTexts {
     south: Vec<u8>,
     east: Vec<u8>,
     west: Vec<u8>,
-}
-
-// How many zeros are at the end.
-fn zeros_at_end(digits: &[u8]) -> usize
-    ensures count { result ≡ prefix_len (λ b. b == byte (codes "0")) (reverse digits.now) }
-    ensures within { result ≤ length digits.now }
-{
-    digits.iter().rev().take_while(|b| **b == b'0').count()
-}
-
-// The digits without the zeros at their end.
-fn without_zeros(digits: &[u8]) -> &[u8]
-    ensures { result.now ≡ without_zeros digits.now }
-{
-    &digits[..digits.len() - zeros_at_end(digits)]
-}
-
-// The eight digits of a part: the digits of its sum with 10^8, without the leading 1.
-#[tactic(auto, using(std::proofs::lemmas::Fmt::decimal_nonempty))]
-fn eight_digits(buffer: &mut Buffer, part: u64) -> &[u8]
-    requires { part < 100000000 }
-    ensures { result.now ≡ drop 1 (decimal (100000000 + part)) }
-{
-    let digits = buffer.format(UNIT + part).as_bytes();
-    &digits[1..]
 }
 
 // Adds a point and the eight digits of a part, without the zeros at their end, or nothing if it is 0.
