@@ -28,7 +28,7 @@ from qgis.PyQt.QtGui import QColor
 from .engine.core.area import measure_of
 from .engine.core.columns import Table
 from .engine.core.crs import UNITS_OF_AREA
-from .engine.core.errors import WriteFailed
+from .engine.core.errors import Refused, WriteFailed
 from .engine.core.protocol import NULL
 from .engine.core.sources import ArrayMap, Source, null_cells
 from .tables import Check, distinct, partly, write_raster
@@ -138,9 +138,12 @@ def counted_classes(map: ArrayMap, like: Source, crs: Any) -> list[tuple[int, st
 
 
 def counted(label: str, cells: int, like: Source, crs: Any) -> str:
-    """Return a legend's label with cells and area: in square kilometres if a cell covers at least one, else in hectares."""
-    measure = measure_of("auto", like, like.crs or crs)
-    if measure.unit is None or measure.by_row is not None:
+    """Return a legend's label with cells and area, if all cells have one: in square kilometres from one a cell, else in hectares."""
+    try:
+        measure = measure_of("auto", like, like.crs or crs)
+    except Refused:  # the map has no areas, and a legend needs none
+        measure = None
+    if measure is None or measure.unit is None or measure.by_row is not None:
         return f"{label} ({cells} cells)"
     unit = "km2" if measure.cell >= UNITS_OF_AREA["km2"] else "ha"
     return f"{label} ({cells} cells, {cells * measure.cell / UNITS_OF_AREA[unit]:.10g} {unit})"
