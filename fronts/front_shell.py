@@ -104,6 +104,8 @@ def refusal(status: int, told: str) -> list[str]:
     ):
         return [f"error: status {status}: {told[-300:]!r}"]
     source, _, text = lines[0].partition(": ")[2].partition(": ")
+    if source.startswith("--"):
+        source, text = "arguments", lines[0].partition(": ")[2]
     cell = re.search(r"the cell at row (\d+), column (\d+)", text)
     place = [f"row: {cell[1]}", f"column: {cell[2]}"] if cell else []
     return [f"kind: {kind_of(text)}", f"source: {source}", *place, f"text: {text}"]

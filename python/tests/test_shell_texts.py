@@ -80,7 +80,10 @@ def test_esri_grids_are_read_without_libraries(room: pathlib.Path, nodata: str, 
 @pytest.mark.parametrize(
     ("text", "told"),
     [
-        (ESRI.format("0", CELLS.format("2.5")), "line 7: the cell '2.5' is not a whole number"),
+        (
+            ESRI.format("0", CELLS.format("2.5")),
+            "line 7: the cell '2.5' is not a whole number",
+        ),
         (ESRI.format("0", "1 2"), "3 rows of 4 cells in the header, and 2 cells"),
         (
             ESRI.format("0", "").replace("ncols 4", "ncols 0"),
@@ -88,13 +91,20 @@ def test_esri_grids_are_read_without_libraries(room: pathlib.Path, nodata: str, 
         ),
         (ESRI.format("0", "").replace("cellsize 1.0\n", ""), "the header has no dx"),
         (ESRI.format("0", "").replace("1.0", "1,0"), "cellsize is a number, not '1,0'"),
-        ("ncols 4\nncols 4\n", "line 2: a line of the header has one key and one value"),
+        (
+            "ncols 4\nncols 4\n",
+            "line 2: a line of the header has one key and one value",
+        ),
     ],
 )
 def test_what_is_wrong_with_an_esri_grid(room: pathlib.Path, text: str, told: str) -> None:
     (room / "m.asc").write_text(text)
     ran = bare("convert", "m.asc", "m.txt")
-    assert (ran.returncode, ran.stderr.count("\n"), os.path.exists("m.txt")) == (1, 1, False)
+    assert (ran.returncode, ran.stderr.count("\n"), os.path.exists("m.txt")) == (
+        1,
+        1,
+        False,
+    )
     assert told in ran.stderr
 
 
@@ -131,7 +141,12 @@ def test_a_grid_and_an_esri_grid_and_back(room: pathlib.Path) -> None:
     ).replace("1.0", "1.0")
     assert (room / "b.txt").read_text() == (room / "c.txt").read_text() == GRID
     with rasterio.open("m.asc") as dataset:
-        assert dataset.nodata == -(2**31) and dataset.read(1).tolist()[2] == [3, 3, 1, 1]
+        assert dataset.nodata == -(2**31) and dataset.read(1).tolist()[2] == [
+            3,
+            3,
+            1,
+            1,
+        ]
     ran = bare("convert", "m.asc", "m.tif")
     assert ran.returncode == 2 and "library numpy is missing" in ran.stderr
 
@@ -266,7 +281,9 @@ def test_explanations_of_files_and_extents(room: pathlib.Path) -> None:
     )
 
 
-def test_an_error_of_a_script_starts_at_most_two_processes(monkeypatch: pytest.MonkeyPatch) -> None:
+def test_an_error_of_a_script_starts_at_most_two_processes(
+    monkeypatch: pytest.MonkeyPatch,
+) -> None:
     from rcell.core import protocol
 
     plan, asked = protocol.plan, []
@@ -356,3 +373,18 @@ def test_an_interrupt_is_silent_at_any_moment(raster: Write) -> None:
 def test_version() -> None:
     version = (ROOT / "VERSION").read_text()
     assert run("--version").stdout == f"rcell-gis {version}"
+
+
+def test_reclass_clump_and_adjacency(raster: Write, room: pathlib.Path, capfd: Any) -> None:
+    path = raster(LAND, nodata=0)
+    (room / "rules.csv").write_text("value,new,label\n1-2,1,wood\n3,,\n")
+    assert main(["reclass", path, "r.tif", "--rules", "rules.csv"]) == 0
+    assert main(["clump", path, "k.txt", "--connectivity", "8", "--classes", "2"]) == 0
+    assert main(["adjacency", path]) == 0
+    expected = rcell.adjacency(path)
+    lines = capfd.readouterr().out.splitlines()
+    assert lines[0] == ",".join(expected.columns) and len(lines) == len(expected) + 1
+    assert rcell.composition("r.tif", area=None)["label"].tolist() == ["wood"]
+    assert len(rcell.composition("k.txt", area=None)) == len(rcell.patches(path, 8, classes=[2]))
+    assert main(["reclass", path, "rules.csv", "--rules", "rules.csv"]) == 2
+    assert main(["reclass", path, "x.tif", "--rules", "nowhere.csv"]) == 4

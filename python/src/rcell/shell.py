@@ -202,6 +202,7 @@ def _of_each(words: argparse.Namespace) -> None:
     for path in words.maps:
         words.given = {"values" if words.command == "zonal" else "map": path}
         words.given.update({"zones": words.zones} if words.__dict__.get("zones") else {})
+        words.several = path if len(words.maps) > 1 else None
         table = call(_map(words, path), **options)
         tables.append((path, table.columns, table.rows))
     words.given = {}
@@ -768,7 +769,7 @@ def _status_of(given: list[str]) -> int:
     except RcellError as error:
         if isinstance(error, (OtherRegion, OtherCrs)):
             error.advice = _align_words(error, settings.given)
-        _tell(_in_one_line(error, settings.given))
+        _tell(_in_one_line(error, settings.__dict__.get("several")))
         return _status(error)
     except ImportError as error:
         is_missing = isinstance(error, ModuleNotFoundError)
@@ -798,11 +799,11 @@ def _printable(text: str) -> str:
     return re.sub(r"[\0-\x08\x0b-\x1f\x7f-\x9f]", lambda found: f"\\x{ord(found[0]):02x}", text)
 
 
-def _in_one_line(error: RcellError, given: dict[str, str]) -> str:
-    """Return an error, the line of the script and what to write instead, all in one line."""
+def _in_one_line(error: RcellError, path: Optional[str]) -> str:
+    """Return an error, of one of several maps with its path, the line of the script and what to write instead, in one line."""
     if not isinstance(error, Refused):
         return "; ".join(line.strip() for line in str(error).split("\n"))
-    source = given.get(error.source, error.source) if error.source == "map" else error.source
+    source = path or error.source if error.source in ("map", "values") else error.source
     place = "" if source == "arguments" else f"{source}: "
     place = f"{source}, line {error.line}: " if error.line else place
     parts = [
