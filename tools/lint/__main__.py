@@ -100,7 +100,7 @@ def faults_of_tool(tool):
     if not left:
         return []
     words = {
-        "black": ["black", "--check", "--quiet", *left],
+        "black": ["black", "--config", "pyproject.toml", "--check", "--quiet", *left],
         "flake8": ["flake8", *left],
         "mypy": ["mypy", "--no-error-summary", "tools/lint"],
     }[tool]
