@@ -65,7 +65,13 @@ description_of <- function(path) {
 
 # Return what GDAL knows about a file and terra does not report.
 file_facts <- function(path) {
-  lines <- description_of(path)
+  loose_rows <- character()
+  keep <- function(w) {
+    if (startsWith(conditionMessage(w), "iRow")) loose_rows <<- conditionMessage(w)
+    invokeRestart("muffleWarning")
+  }
+  describe_it <- function() withCallingHandlers(with_path(path, describe(path)), warning = keep)
+  lines <- tryCatch(describe_it(), error = function(e) character())
   starts <- grep("^Band [0-9]+ ", lines)
   ends <- c(starts[-1], length(lines) + 1L) - 1L
   list(
@@ -73,7 +79,8 @@ file_facts <- function(path) {
     alpha = which(grepl("ColorInterp=Alpha", lines[starts], fixed = TRUE)),
     has_crs = if (length(lines)) any(grepl("^Coordinate System is:", lines)) else NA,
     is_rotated = any(grepl("^GeoTransform =", lines)),
-    has_points_alone = any(grepl("^GCP\\[", lines)) && !any(grepl("^Origin = ", lines))
+    has_points_alone = any(grepl("^GCP\\[", lines)) && !any(grepl("^Origin = ", lines)),
+    loose_rows = loose_rows
   )
 }
 
@@ -101,6 +108,10 @@ files_in <- function(path) {
 # exact as floats, masks next to the cells, and, before GDAL 3.7, signed bytes (-5 is read as 251).
 check_file <- function(name, raster, facts, band) {
   if (is.null(facts)) return(invisible())
+  # GDAL would write the table without these rows over the file when the cells have been read.
+  if (length(facts$loose_rows)) {
+    read_failed(name, sprintf("cannot be read: its attribute table: %s", facts$loose_rows))
+  }
   if (facts$is_rotated) bad_map(name, ROTATED)
   if (facts$has_points_alone) {
     bad_map(name, "has ground control points and no transform: warp it first")
