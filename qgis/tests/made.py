@@ -2,6 +2,7 @@
 
 from __future__ import annotations
 
+import contextlib
 import os
 from typing import Any, Iterator
 
@@ -119,6 +120,16 @@ def commonest(cells: NDArray[Any], size: int) -> NDArray[np.int32]:
             values, times = np.unique(square[square != 0], return_counts=True)
             made[row, col] = values[times.argmax()] if values.size else 0
     return made
+
+
+def running(path: str) -> list[str]:
+    """The processes that a program has."""
+    found = []
+    for number in filter(str.isdigit, os.listdir("/proc")):
+        with contextlib.suppress(OSError), open(f"/proc/{number}/cmdline", "rb") as file:
+            if file.read().startswith(path.encode()):
+                found.append(number)
+    return found
 
 
 def left_in(folder: str) -> list[str]:

@@ -20,7 +20,6 @@ from typing import Any
 import made
 import numpy as np
 from osgeo import gdal, ogr
-from test_core_program import running
 
 ZIP = os.environ["RCELL_QGIS_ZIP"]
 # Debian's qgis_process gives it the options of the desktop program, and it then fails.
@@ -107,8 +106,10 @@ class ProcessTest(unittest.TestCase):
     def test_it_is_listed(self) -> None:
         told = self.process("list").stdout
         for name in (
+            "adjacency",
             "align",
             "change",
+            "clump",
             "composition",
             "cross",
             "majority",
@@ -279,14 +280,18 @@ class ProcessTest(unittest.TestCase):
                 words, env=self.environment(), stdout=subprocess.DEVNULL, stderr=subprocess.DEVNULL
             )
             ends = time.monotonic() + 60
-            while not running(self.program) and waiting.poll() is None and time.monotonic() < ends:
+            while (
+                not made.running(self.program)
+                and waiting.poll() is None
+                and time.monotonic() < ends
+            ):
                 time.sleep(0.02)
             waiting.send_signal(number)
             waiting.wait(30)
             ends = time.monotonic() + 10
-            while running(self.program) and time.monotonic() < ends:
+            while made.running(self.program) and time.monotonic() < ends:
                 time.sleep(0.05)
-            self.assertEqual(running(self.program), [])
+            self.assertEqual(made.running(self.program), [])
             self.assertEqual([name for name in os.listdir(self.room) if "no." in name], [])
 
 
