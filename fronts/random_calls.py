@@ -34,6 +34,7 @@ FRONTS = ("python", "shell", "qgis", "r")
 BATCH = 500
 EXACT = 1e-9
 ID_DIGITS = 11
+IDS_OF = ("zone", "class", "patch", "from", "to", "neighbour", "cells", "sides")
 PLANT_CALLS = 600
 IDS = 2**63 - 1
 ROOM = "/dev/shm" if os.access("/dev/shm", os.W_OK) else None
@@ -107,13 +108,15 @@ def are_equal(wanted: Lines, found: Lines) -> bool:
     if any(len(one) != len(other) for one, other in rows):
         return False
     columns = zip(*([*zip(one, other)] for one, other in rows if len(one) == len(rows[0][0])))
-    return all(map(are_near, columns)) and all(
+    return all(map(are_near, rows[0][0], columns)) and all(
         one == other for one, other in rows if len(one) != len(rows[0][0])
     )
 
 
-def are_near(column: Sequence[tuple[str, str]]) -> bool:
+def are_near(title: str, column: Sequence[tuple[str, str]]) -> bool:
     """Whether the values of a column are the same, measures in all but their last digits."""
+    if title in IDS_OF:
+        return all(one == other for one, other in column)
     numbers = [(number_of(one), number_of(other)) for one, other in column]
     largest = max((abs(one) for one, _ in numbers if one is not None), default=0.0)
     return all(
@@ -194,11 +197,18 @@ class Calls:
         self.found.words += [name] * is_word
         return made
 
-    def raster(self, name: str, is_word: bool = True, frame: Frame | None = None) -> Made:
-        """A raster, which rarely has no reference system."""
+    def raster(
+        self,
+        name: str,
+        is_word: bool = True,
+        frame: Frame | None = None,
+        like: Raster | None = None,
+    ) -> Made:
+        """A raster, which rarely has no reference system; perhaps with the classes of another one."""
         has_system = not self.chance(0.03)
+        codes = [] if like is None or self.chance(0.3) else np.unique(like.cells).tolist()
         made = inputs.raster_of(
-            self.random, self.folder, f"{self.name}_{name}", frame or self.frame, crs=has_system
+            self.random, self.folder, f"{self.name}_{name}", frame or self.frame, has_system, codes
         )
         return self.add(name, made, is_word)
 
@@ -319,7 +329,8 @@ def cross(calls: Calls) -> Lines:
 
 def change(calls: Calls) -> Lines:
     names = ["a", "b", "c"][: int(calls.random.integers(2, 4))]
-    maps = [calls.raster(name).held for name in names]
+    maps = [calls.raster(names[0]).held]
+    maps += [calls.raster(name, like=maps[0]).held for name in names[1:]]
     shared: dict[int, str] = {}
     for it in maps:
         assert it is not None

@@ -157,6 +157,14 @@ def classes_of(random: Any, kind: str) -> list[int]:
     return sorted({int(it) for it in chosen})
 
 
+def holds(kind: str, code: int) -> bool:
+    """Whether a type holds a class."""
+    dtype = np.dtype(TYPES[kind][1])
+    if dtype.kind == "f":
+        return dtype == np.float64 or abs(code) <= 2**24
+    return bool(np.iinfo(dtype).min <= code <= np.iinfo(dtype).max)
+
+
 def cells_of(random: Any, classes: Sequence[int], shape: tuple[int, int]) -> Any:
     """Noise, or larger spots of it."""
     step = one_of(random, (1, 1, 2, 4))
@@ -166,11 +174,16 @@ def cells_of(random: Any, classes: Sequence[int], shape: tuple[int, int]) -> Any
 
 
 def raster_of(
-    random: Any, folder: pathlib.Path, name: str, frame: Frame, *, crs: bool = True
+    random: Any,
+    folder: pathlib.Path,
+    name: str,
+    frame: Frame,
+    has_system: bool,
+    codes: Sequence[int],
 ) -> Made:
-    """A random raster of a frame; `crs` says whether it has a reference system."""
+    """A random raster of a frame, of some classes or of random ones."""
     kind = one_of(random, [it for it in TYPES if it != "Int8" or random.random() < 0.3])
-    classes = classes_of(random, kind)
+    classes = [code for code in codes if holds(kind, code)] or classes_of(random, kind)
     cells = cells_of(random, classes, (frame.rows, frame.cols))
     null = random.random(cells.shape) < one_of(random, (0, 0, 0.1, 0.4))
     labels = {}
@@ -178,7 +191,7 @@ def raster_of(
         codes = [it for it in classes if random.random() < 0.8]
         labels = dict(zip(codes, (one_of(random, LABELS) for _ in codes)))
     form = Form(kind, labels, one_of(random, ("nodata", "nodata", "mask", "alpha", "nan")))
-    system = frame.system if crs else NONE
+    system = frame.system if has_system else NONE
     made = Made(
         f"{name}.tif",
         None,
@@ -420,7 +433,8 @@ def legend_of(
 ) -> tuple[str, dict[int, str] | None]:
     """A legend of some classes in a file, and its labels; None if it must be rejected."""
     kept = [code for code in codes if random.random() < 0.9] or list(codes)
-    labels = {code: one_of(random, LABELS) for code in kept}
+    pool = LABELS[: one_of(random, (3, 6, len(LABELS)))]
+    labels = {code: one_of(random, pool) for code in kept}
     if random.random() < 0.4:
         entries = list(labels.items())
         bad = random.random() < 0.08
