@@ -271,8 +271,8 @@ def ways_of_tiff(rcell, gdal_reader):
         return with_rasterio(gdal_reader.open_raster("m", path))
 
     def with_rasterio(path):
-        cells = rcell.run("r.stats -1 input=m", m=path)[0].categories[:, 0].tolist()
-        return [None if cell == -GREATEST - 1 else cell for cell in cells]
+        cells = rcell.run("r.stats -1 input=m", m=path)[0]["m"]
+        return [int(cell) if known else None for cell, known in zip(cells, cells.notna())]
 
     return [(way, (rcell.RcellError, MemoryError)) for way in (with_gdal, with_rasterio)]
 

@@ -18,7 +18,7 @@ import sys
 import warnings
 from typing import Any, Callable, Iterator, NamedTuple, NoReturn, Optional, Sequence
 
-from .core.errors import Killed, OtherCrs, OtherRegion, RcellError, Refused, WriteFailed
+from .core.errors import BadMap, Killed, OtherCrs, OtherRegion, RcellError, Refused, WriteFailed
 from .core.files import (
     Output,
     end_on_signals,
@@ -769,6 +769,11 @@ def _status_of(given: list[str]) -> int:
     except RcellError as error:
         if isinstance(error, (OtherRegion, OtherCrs)):
             error.advice = _align_words(error, settings.given)
+        elif isinstance(error, BadMap) and error.advice and error.source in settings.given:
+            stem, ending = os.path.splitext(settings.given[error.source])
+            for mark in ("", "_rounded"):
+                new = shlex.quote(f"{stem}{mark}{ending}")
+                error.advice = error.advice.replace(f"{error.source}{mark}.tif", new)
         _tell(_in_one_line(error, settings.__dict__.get("several")))
         return _status(error)
     except ImportError as error:

@@ -87,8 +87,11 @@ def open_raster(
         The raster has several bands, scaled values, a rotated transform, or control points instead of a transform.
     """
     dataset = open_dataset(name, path)
-    with quiet():
-        found = _map_of(name, path, dataset, band, null_ranges, uses_nodata)
+    try:
+        with quiet():
+            found = _map_of(name, path, dataset, band, null_ranges, uses_nodata)
+    except RuntimeError as error:  # of GDAL, if its exceptions are in use
+        raise ReadFailed(name, f"cannot open: {path}: {str(error).strip()}") from None
     return found if uses_style else replace(found, style_path="")
 
 
