@@ -21,9 +21,6 @@ from cases import MAPS, Case, Scratch, cases, kind_of, notes
 warnings.simplefilter("ignore", rasterio.errors.NotGeoreferencedWarning)
 PROGRAM = os.path.join(os.path.dirname(__file__), "..", "helpers", "rcell-gis")
 FLAGS = ("include_null", "fill")
-# Until the program has the new names.
-OLD_NAMES = {"min_cells": "least", "include_null": "null"}
-HELP: dict[str, str] = {}
 
 
 def ran(words: list[str]) -> tuple[int, str, str]:
@@ -49,14 +46,6 @@ def ran(words: list[str]) -> tuple[int, str, str]:
     return status, texts[0], texts[1]
 
 
-def option_of(command: str, name: str) -> str:
-    """The option of a parameter."""
-    if command not in HELP:
-        HELP[command] = ran([command, "--help"])[1]
-    option = f"--{name.replace('_', '-')}"
-    return option if option in HELP[command] or name not in OLD_NAMES else f"--{OLD_NAMES[name]}"
-
-
 def words_of(case: Case, target: str) -> list[str]:
     """The words of a call, which writes a map to `target`."""
     words = [
@@ -65,7 +54,7 @@ def words_of(case: Case, target: str) -> list[str]:
     ]
     words += [target] if case.call in MAPS else []
     for key, text in case.options.items():
-        option = option_of(case.call, key)
+        option = f"--{key.replace('_', '-')}"
         value = case.maps[text] if key in ("zones", "to") else text
         words += [option] if key in FLAGS else [option, value]
     return [case.call, *words, *(["--out", target] if case.outs and case.call not in MAPS else [])]

@@ -14,7 +14,6 @@ import copy
 import math
 import os
 import pathlib
-import re
 import shutil
 import sys
 import tempfile
@@ -39,8 +38,6 @@ PLANT_CALLS = 600
 IDS = 2**63 - 1
 ROOM = "/dev/shm" if os.access("/dev/shm", os.W_OK) else None
 GOOD = ("equal", "refused")
-# A call that a package does not have.
-ABSENT = re.compile("has no attribute|was not found|Algorithm .* not found|invalid choice")
 AREAS = ("", "", "none", "ha", "km2", "m2")
 STATED = "EPSG:32632"
 Lines = list[str]
@@ -90,9 +87,7 @@ class Trial:
         return "\n".join([*lines, ""])
 
     def judged(self, front: str, found: Lines) -> str:
-        """Whether a result is `equal`, `refused` as documented, `different`, or `absent` as the call is."""
-        if found[0].startswith("error") and ABSENT.search(found[0]):
-            return "absent"
+        """Whether a result is `equal`, `refused` as documented, or `different`."""
         is_refused = any(line.startswith("text: ") for line in found) and found[0][:5] != "error"
         if self.answer is None or front in self.refused:
             return "refused" if is_refused else "different"
@@ -533,9 +528,7 @@ def run(front_names: Sequence[str], count: int, seed: int, start: int) -> tuple[
             wrong += names
         tidy(folder, wrong)
     for front, counts in totals.items():
-        parts = ", ".join(
-            f"{counts[it]} {it}" for it in ("equal", "refused", "absent", "different")
-        )
+        parts = ", ".join(f"{counts[it]} {it}" for it in ("equal", "refused", "different"))
         print(
             f"fronts: {front}: {sum(counts.values())} random calls: {parts}; seed {seed}, from {start}"
         )
