@@ -7,6 +7,7 @@ import contextlib
 import importlib
 import os
 import re
+import warnings
 from typing import TYPE_CHECKING, Any, Optional
 
 from ..core.errors import BadArgument, MissingLibrary, ReadFailed
@@ -106,7 +107,9 @@ def _reader(library: str, other: str, extra: str, purpose: str) -> Any:
     The plugin for QGIS carries the second ones only.
     """
     for name, needed in ((library, library), (other, "osgeo")):
-        with contextlib.suppress(ImportError):
+        with contextlib.suppress(ImportError), warnings.catch_warnings():
+            # In a virtual environment Debian's pyproj warns, although PROJ finds its files.
+            warnings.filterwarnings("ignore", "Valid PROJ data directory not found")
             importlib.import_module(needed)
             return importlib.import_module(f".{name}", __name__)
     raise MissingLibrary(library, extra, purpose)

@@ -3,16 +3,11 @@
 
 from __future__ import annotations
 
-import warnings
 import math
 from dataclasses import dataclass
 from typing import Any
 
-with warnings.catch_warnings():
-    # In a virtual environment Debian's pyproj warns, although PROJ finds its files.
-    warnings.filterwarnings("ignore", "Valid PROJ data directory not found")
-    import pyproj
-
+import pyproj
 
 from ..core.arrays import NDArray
 from ..core.crs import CONFIDENCE, Crs, eastward
