@@ -32,6 +32,7 @@ from .core.files import (
 from .core.hints import lines_of_error, near
 from .core.host import Host, serving
 from .core.process import begin_work, end_work, has_work
+from .shell_options import OPTIONS
 
 __all__ = ["emit", "main", "script_of"]
 
@@ -41,7 +42,6 @@ EPILOG = """\
 MAP is anything that GDAL reads, or a grid of rcell. ZONES may also be polygons: a cell is in the one that has its centre.
 A legend is a CSV with the columns value and label, or a style of QGIS (.qml). `rcell-gis COMMAND --help` lists options.
 Status: 0 done; 1 bad input; 2 command line; 3 out of memory; 4 a file could not be read or written."""
-FORMATS = ("csv", "tsv", "markdown", "json")
 ENDINGS = {
     "": "csv",
     ".csv": "csv",
@@ -80,24 +80,6 @@ class Command(NamedTuple):
 
 
 # The words of a command line
-
-
-def _wholes(text: str) -> list[int]:
-    try:
-        return [int(word) for word in text.split(",")]
-    except ValueError:
-        told = f"give whole numbers with commas between them, for example 31,32; got {text}"
-        raise argparse.ArgumentTypeError(told) from None
-
-
-def _shares(text: str) -> list[float]:
-    try:
-        return [float(word) for word in text.split(",")]
-    except ValueError:
-        told = (
-            f"give numbers from 0 to 1 with commas between them, for example 0.25,0.5; got {text}"
-        )
-        raise argparse.ArgumentTypeError(told) from None
 
 
 def _pairs(words: Sequence[str]) -> dict[str, str]:
@@ -488,133 +470,7 @@ def script_of(word: str) -> str:
     return raw.decode("utf-8", "surrogateescape")
 
 
-# The options of all commands, by the names of their values, and the commands.
-
-OPTIONS: dict[str, tuple[str, dict[str, Any]]] = {
-    "map": ("map", {"metavar": "MAP", "help": "a raster that GDAL reads, or a grid of rcell"}),
-    "maps": ("maps", {"metavar": "MAP", "nargs": "+", "help": "rasters that GDAL reads, or grids"}),
-    "named": (
-        "maps",
-        {
-            "metavar": "NAME=MAP",
-            "nargs": "+",
-            "help": "maps, by their names in the table or script",
-        },
-    ),
-    "target": (
-        "target",
-        {"metavar": "OUT", "help": "the map to write: .tif, .txt, .asc, .png, .svg or .pdf"},
-    ),
-    "script": (
-        "script",
-        {"metavar": "SCRIPT", "help": 'a file, `-`, or a line, for example "r.stats -c input=lc"'},
-    ),
-    "zone_map": ("zones", {"metavar": "ZONES", "help": "a map, or polygons"}),
-    "zones": ("--zones", {"metavar": "ZONES", "help": "a map, or polygons"}),
-    "zone_field": (
-        "--zone-field",
-        {"metavar": "FIELD", "help": "the field of polygons with the ids or names of the zones"},
-    ),
-    "zone_labels": ("--zone-labels", {"metavar": "LEGEND", "help": "the labels of the zones"}),
-    "layer": (
-        "--layer",
-        {"metavar": "NAME", "help": "the layer of polygons, if there are several"},
-    ),
-    "each_zone": (
-        "--each",
-        {"action": "store_true", "help": "takes one polygon after another: they may overlap"},
-    ),
-    "band": ("--band", {"type": int, "metavar": "N", "help": "the band, if there are several"}),
-    "labels": ("--labels", {"metavar": "LEGEND", "help": "the labels of the classes"}),
-    "legends": (
-        "--labels",
-        {
-            "metavar": "NAME=LEGEND",
-            "action": "append",
-            "default": [],
-            "help": "a legend for a map; may be given again",
-        },
-    ),
-    "area": (
-        "--area",
-        {"choices": ["ha", "km2", "m2", "none"], "help": "the unit of areas; ha if not given"},
-    ),
-    "include_null": ("--include-null", {"action": "store_true", "help": "adds null cells"}),
-    "crs": (
-        "--crs",
-        {"metavar": "EPSG:CODE", "help": "the reference system of maps that have none"},
-    ),
-    "connectivity": (
-        "--connectivity",
-        {"type": int, "choices": [4, 8], "help": "8: cells that share a corner touch as well"},
-    ),
-    "classes": (
-        "--classes",
-        {"type": _wholes, "metavar": "CLASS,..", "help": "only patches of these classes"},
-    ),
-    "min_cells": (
-        "--min-cells",
-        {"type": int, "metavar": "N", "help": "only patches of at least so many cells"},
-    ),
-    "core_depth": (
-        "--core-depth",
-        {"type": int, "metavar": "N", "help": "steps from the border of a patch to its core"},
-    ),
-    "years": ("--years", {"type": _wholes, "metavar": "YEAR,..", "help": "one for each map"}),
-    "table": (
-        "--table",
-        {
-            "choices": ["table", "matrix", "summary"],
-            "default": "table",
-            "help": "a row for each change, a matrix, or gains and losses by class",
-        },
-    ),
-    "quantiles": (
-        "--quantiles",
-        {"type": _shares, "metavar": "Q,..", "help": "from 0 to 1; the median if not given"},
-    ),
-    "size": (
-        "--size",
-        {"type": int, "metavar": "N", "help": "rows and columns of the square: odd, 3 to 15"},
-    ),
-    "fill": ("--fill", {"action": "store_true", "help": "gives null cells a class as well"}),
-    "rules": (
-        "--rules",
-        {"required": True, "metavar": "FILE", "help": "a CSV with the columns value and new"},
-    ),
-    "other": (
-        "--other",
-        {"choices": ["keep", "null"], "help": "what becomes of classes without a rule"},
-    ),
-    "to": ("--to", {"required": True, "metavar": "OTHER", "help": "the map whose grid it gets"}),
-    "resample": (
-        "--resample",
-        {
-            "choices": ["nearest"],
-            "help": "takes the nearest cell if grids are apart by less than one",
-        },
-    ),
-    "like": (
-        "--like",
-        {"metavar": "MAP", "help": "takes the reference system and the extent of this map"},
-    ),
-    "outs": (
-        "--out",
-        {
-            "dest": "outs",
-            "metavar": "NAME=FILE",
-            "action": "append",
-            "default": [],
-            "help": "a map, and the file for it; may be given again",
-        },
-    ),
-    "each": (
-        "--each",
-        {"metavar": "DIR", "help": "a new folder with a file for each table and map"},
-    ),
-    "format": ("--format", {"choices": FORMATS, "help": "csv if the file does not say otherwise"}),
-    "out": ("--out", {"metavar": "FILE", "help": "a file in place of standard output"}),
-}
+# The commands, with the words and options that each accepts.
 _ZONES = "zones zone_field zone_labels layer"
 _TABLE = "band crs format out"
 COMMANDS = {

@@ -1,0 +1,156 @@
+# SPDX-License-Identifier: Apache-2.0 OR GPL-2.0-or-later
+"""The options of `rcell-gis`, by the names of their values."""
+
+from __future__ import annotations
+
+import argparse
+from typing import Any
+
+__all__ = ["OPTIONS"]
+
+FORMATS = ("csv", "tsv", "markdown", "json")
+
+
+def _wholes(text: str) -> list[int]:
+    try:
+        return [int(word) for word in text.split(",")]
+    except ValueError:
+        told = f"give whole numbers with commas between them, for example 31,32; got {text}"
+        raise argparse.ArgumentTypeError(told) from None
+
+
+def _shares(text: str) -> list[float]:
+    try:
+        return [float(word) for word in text.split(",")]
+    except ValueError:
+        told = (
+            f"give numbers from 0 to 1 with commas between them, for example 0.25,0.5; got {text}"
+        )
+        raise argparse.ArgumentTypeError(told) from None
+
+
+OPTIONS: dict[str, tuple[str, dict[str, Any]]] = {
+    "map": ("map", {"metavar": "MAP", "help": "a raster that GDAL reads, or a grid of rcell"}),
+    "maps": ("maps", {"metavar": "MAP", "nargs": "+", "help": "rasters that GDAL reads, or grids"}),
+    "named": (
+        "maps",
+        {
+            "metavar": "NAME=MAP",
+            "nargs": "+",
+            "help": "maps, by their names in the table or script",
+        },
+    ),
+    "target": (
+        "target",
+        {"metavar": "OUT", "help": "the map to write: .tif, .txt, .asc, .png, .svg or .pdf"},
+    ),
+    "script": (
+        "script",
+        {"metavar": "SCRIPT", "help": 'a file, `-`, or a line, for example "r.stats -c input=lc"'},
+    ),
+    "zone_map": ("zones", {"metavar": "ZONES", "help": "a map, or polygons"}),
+    "zones": ("--zones", {"metavar": "ZONES", "help": "a map, or polygons"}),
+    "zone_field": (
+        "--zone-field",
+        {"metavar": "FIELD", "help": "the field of polygons with the ids or names of the zones"},
+    ),
+    "zone_labels": ("--zone-labels", {"metavar": "LEGEND", "help": "the labels of the zones"}),
+    "layer": (
+        "--layer",
+        {"metavar": "NAME", "help": "the layer of polygons, if there are several"},
+    ),
+    "each_zone": (
+        "--each",
+        {"action": "store_true", "help": "takes one polygon after another: they may overlap"},
+    ),
+    "band": ("--band", {"type": int, "metavar": "N", "help": "the band, if there are several"}),
+    "labels": ("--labels", {"metavar": "LEGEND", "help": "the labels of the classes"}),
+    "legends": (
+        "--labels",
+        {
+            "metavar": "NAME=LEGEND",
+            "action": "append",
+            "default": [],
+            "help": "a legend for a map; may be given again",
+        },
+    ),
+    "area": (
+        "--area",
+        {"choices": ["ha", "km2", "m2", "none"], "help": "the unit of areas; ha if not given"},
+    ),
+    "include_null": ("--include-null", {"action": "store_true", "help": "adds null cells"}),
+    "crs": (
+        "--crs",
+        {"metavar": "EPSG:CODE", "help": "the reference system of maps that have none"},
+    ),
+    "connectivity": (
+        "--connectivity",
+        {"type": int, "choices": [4, 8], "help": "8: cells that share a corner touch as well"},
+    ),
+    "classes": (
+        "--classes",
+        {"type": _wholes, "metavar": "CLASS,..", "help": "only patches of these classes"},
+    ),
+    "min_cells": (
+        "--min-cells",
+        {"type": int, "metavar": "N", "help": "only patches of at least so many cells"},
+    ),
+    "core_depth": (
+        "--core-depth",
+        {"type": int, "metavar": "N", "help": "steps from the border of a patch to its core"},
+    ),
+    "years": ("--years", {"type": _wholes, "metavar": "YEAR,..", "help": "one for each map"}),
+    "table": (
+        "--table",
+        {
+            "choices": ["table", "matrix", "summary"],
+            "default": "table",
+            "help": "a row for each change, a matrix, or gains and losses by class",
+        },
+    ),
+    "quantiles": (
+        "--quantiles",
+        {"type": _shares, "metavar": "Q,..", "help": "from 0 to 1; the median if not given"},
+    ),
+    "size": (
+        "--size",
+        {"type": int, "metavar": "N", "help": "rows and columns of the square: odd, 3 to 15"},
+    ),
+    "fill": ("--fill", {"action": "store_true", "help": "gives null cells a class as well"}),
+    "rules": (
+        "--rules",
+        {"required": True, "metavar": "FILE", "help": "a CSV with the columns value and new"},
+    ),
+    "other": (
+        "--other",
+        {"choices": ["keep", "null"], "help": "what becomes of classes without a rule"},
+    ),
+    "to": ("--to", {"required": True, "metavar": "OTHER", "help": "the map whose grid it gets"}),
+    "resample": (
+        "--resample",
+        {
+            "choices": ["nearest"],
+            "help": "takes the nearest cell if grids are apart by less than one",
+        },
+    ),
+    "like": (
+        "--like",
+        {"metavar": "MAP", "help": "takes the reference system and the extent of this map"},
+    ),
+    "outs": (
+        "--out",
+        {
+            "dest": "outs",
+            "metavar": "NAME=FILE",
+            "action": "append",
+            "default": [],
+            "help": "a map, and the file for it; may be given again",
+        },
+    ),
+    "each": (
+        "--each",
+        {"metavar": "DIR", "help": "a new folder with a file for each table and map"},
+    ),
+    "format": ("--format", {"choices": FORMATS, "help": "csv if the file does not say otherwise"}),
+    "out": ("--out", {"metavar": "FILE", "help": "a file in place of standard output"}),
+}
