@@ -69,6 +69,14 @@ def tool(name, *words):
     return [*PYTHON, f"tools/{name}", *words]
 
 
+# The crates whose edits the gate tries; `make edits` tries those of all crates, some four processor seconds an edit.
+EDITED = (
+    "cell_core_devices",
+    "cell_core_values",
+    "rcell_command",
+    "rcell_pipe_request",
+    "rcell_plan",
+)
 # Those before the proofs take seconds: if one fails, the gate ends there.
 EARLY = [
     Part(
@@ -102,7 +110,7 @@ LATE = [
     Part(
         "edits",
         "wrong bodies and turned definitions that the proofs must refuse",
-        [tool("build/edits.py")],
+        [tool("build/edits.py", *EDITED)],
         needs_programs=False,
         needs_proofs=True,
     ),
