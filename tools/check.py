@@ -69,7 +69,7 @@ def tool(name, *words):
     return [*PYTHON, f"tools/{name}", *words]
 
 
-# The crates whose edits the gate tries; `make edits` tries those of all crates, some four processor seconds an edit.
+# The crates whose edits the gate tries; `make edits` tries all edits, some four processor seconds each.
 EDITED = (
     "cell_core_devices",
     "cell_core_values",
