@@ -86,7 +86,7 @@ def refusal(status: int, told: str) -> list[str]:
     lines = [line for line in told.splitlines() if not line.startswith("rcell-gis: warning: ")]
     # A traceback, or a word that the program does not have.
     if (
-        re.search("invalid choice|unrecognized arguments", told)
+        re.search("argument COMMAND: invalid choice|unrecognized arguments", told)
         or len(lines) != 1
         or not lines[0].startswith("rcell-gis")
         or status not in (1, 2, 3, 4)
