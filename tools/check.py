@@ -71,11 +71,16 @@ def tool(name, *words):
 
 # The crates whose edits the gate tries; `make edits` tries all edits, some four processor seconds each.
 EDITED = (
+    "cell_calc_grammar",
     "cell_core_devices",
     "cell_core_values",
+    "cell_join_numbers",
+    "cell_stats_combinations",
     "rcell_command",
     "rcell_pipe_request",
+    "rcell_pipe_response",
     "rcell_plan",
+    "rcell_plan_response",
 )
 # Those before the proofs take seconds: if one fails, the gate ends there.
 EARLY = [
