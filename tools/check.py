@@ -72,6 +72,7 @@ def tool(name, *words):
 # The crates whose edits the gate tries; `make edits` tries all edits, some four processor seconds each.
 EDITED = (
     "cell_calc_grammar",
+    "cell_core",
     "cell_core_devices",
     "cell_core_values",
     "cell_join_numbers",
