@@ -21,5 +21,6 @@
 
 pub mod block;
 pub mod device;
+pub mod history;
 pub mod sink;
 pub mod source;

@@ -4,6 +4,7 @@ ghost use Rattle.std.specs.Prelude.{◌≡◌, ℕ, ◌+◌, ◌<◌, ◌≤◌,
 ghost use Rattle.cell_core_devices.specs.Device.{append_known, Faults, no_faults, after_put, after_flush, flushed_again, Taken, moved_count};
 
 use crate::device::DeviceFault;
+use crate::history::History;
 use std::io::Write;
 use std::marker::Model;
 
@@ -92,33 +93,36 @@ pub fn put_bytes<W: Sink>(out: &mut W, bytes: &[u8]) -> Result<(), WriteFault>
     Ok(())
 }
 
-/// A sink over std's writers. Nothing is known of its bytes. Each `Err` of the writer, of whatever
+/// A sink over std's writers. Its bytes are those that calls of the writer took. Each `Err` of the writer, of whatever
 /// kind, is returned as [`DeviceFault`], and so is a write of 0 bytes.
-#[derive(Debug, Drop)]
+#[derive(Drop)]
 pub struct WriteSink<W> {
     writer: W,
+    took: History,
     refused: bool,
     unflushed: bool,
     flushes: Flushes,
 }
 
 impl<W> Model for WriteSink<W> {
+    ghost use Rattle.std.specs.Prelude.{ℕ, List};
     ghost use Rattle.cell_core_devices.specs.Device.{Faults};
 
-    ghost Value = { W × Faults };
+    ghost Value = { (W × List ℕ) × Faults };
 
-    ghost view = { λ s. (s.writer, record { refused = s.refused; unflushed = s.unflushed; flushes = s.flushes }) };
+    ghost view = { λ s. ((s.writer, s.took.bytes), record { refused = s.refused; unflushed = s.unflushed; flushes = s.flushes }) };
 }
 
 impl<W: Write + Drop> WriteSink<W> {
     /// A sink that hands its bytes to the writer. Takes no memory.
     pub fn new(writer: W) -> WriteSink<W>
-        ensures value { result ≡ (writer, no_faults) }
-        ensures taken { ⟦<WriteSink<W> as Sink>⟧.taken result ≡ None }
+        ensures value { result ≡ ((writer, []), no_faults) }
+        ensures taken { ⟦<WriteSink<W> as Sink>⟧.taken result ≡ Some [] }
         ensures faults { ⟦<WriteSink<W> as Sink>⟧.faults result ≡ no_faults }
     {
         WriteSink {
             writer,
+            took: History::new(),
             refused: false,
             unflushed: false,
             flushes: Flushes::Never,
@@ -127,20 +131,22 @@ impl<W: Write + Drop> WriteSink<W> {
 }
 
 impl<W: Write> Sink for WriteSink<W> {
-    ghost use Rattle.std.specs.Prelude.{None, ◌≡◌, ◌<◌, ◌≤◌, length, IfOk, is_err};
+    ghost use Rattle.std.specs.Prelude.{Some, ◌≡◌, ◌<◌, ◌≤◌, ◌++◌, take, length, IfOk, OnErr, is_err};
     ghost use Rattle.cell_core_devices.specs.Device.{after_put, after_flush};
     ghost use Rattle.std.specs.Io.KnownBytes.{WriteAppends, Keeps};
 
-    ghost taken = { λ _. None };
+    ghost taken = { λ s. Some s.0.1 };
 
     ghost faults = { λ s. s.1 };
 
     fn put(&mut self, bytes: &[u8]) -> Result<usize, DeviceFault>
         requires { 0 < length bytes.now }
         ensures count { IfOk result (λ n. (0 < n) × (n ≤ length bytes.now)) }
+        ensures ok { IfOk result (λ n. self.new.0.1 ≡ self.old.0.1 ++ take n bytes.now) }
+        ensures err { OnErr result (self.new.0.1 ≡ self.old.0.1) }
         ensures faults { self.new.1 ≡ after_put self.old.1 (is_err result) }
         // What the writer holds, if that is known, has grown by what was taken.
-        ensures written { WriteAppends (W.contents self.old.0) (W.contents self.new.0)
+        ensures written { WriteAppends (W.contents self.old.0.0) (W.contents self.new.0.0)
             result bytes.now }
     {
         match self.writer.write(bytes) {
@@ -148,13 +154,17 @@ impl<W: Write> Sink for WriteSink<W> {
                 self.refused = true;
                 Err(DeviceFault)
             }
-            Ok(n) => Ok(n),
+            Ok(n) => {
+                self.took.note(&bytes[..n]);
+                Ok(n)
+            }
         }
     }
 
     fn flush(&mut self) -> Result<(), DeviceFault>
+        ensures taken { self.new.0.1 ≡ self.old.0.1 }
         ensures faults { self.new.1 ≡ after_flush self.old.1 (is_err result) }
-        ensures written { Keeps (W.contents self.old.0) (W.contents self.new.0) }
+        ensures written { Keeps (W.contents self.old.0.0) (W.contents self.new.0.0) }
     {
         self.flushes = self.flushes.again();
         match self.writer.flush() {

@@ -1,10 +1,11 @@
 //! Where bytes come from: a trait, a source over std's readers and one over memory.
 
-ghost use Rattle.std.specs.Prelude.{◌≡◌, ◌<◌, ◌≤◌, Option, None, length, drop, IfOk, MatchResult};
+ghost use Rattle.std.specs.Prelude.{◌≡◌, ◌<◌, ◌≤◌, Option, None, [], length, drop, IfOk, MatchResult};
 ghost use Rattle.cell_core_devices.specs.Asking.{after_take};
 ghost use Rattle.cell_core_devices.specs.Device.{Coming, Takes, Stored, moved_count};
 
 use crate::device::DeviceFault;
+use crate::history::History;
 use std::io::Read;
 use std::marker::Model;
 
@@ -61,38 +62,41 @@ pub trait Source {
         ensures asked { asked self.new ≡ after_take (asked self.old) result };
 }
 
-/// A source over std's readers. Nothing is known of its bytes, and each `Err` of the reader, of
-/// whatever kind, is returned as [`DeviceFault`].
-#[derive(Debug, Drop)]
+/// A source over std's readers. Nothing is known of its bytes to come, and each `Err` of the reader, of
+/// whatever kind, is returned as [`DeviceFault`]. The bytes that calls of the reader gave are remembered in proofs.
+#[derive(Drop)]
 pub struct ReadSource<R> {
     reader: R,
+    gave: History,
     asked: Asked,
 }
 
 impl<R> Model for ReadSource<R> {
+    ghost use Rattle.std.specs.Prelude.{ℕ, List};
     ghost use Rattle.cell_core_devices.specs.declared.source.Asked.{Asked};
 
-    ghost Value = { R × Asked };
+    ghost Value = { (R × List ℕ) × Asked };
 
-    ghost view = { λ s. (s.reader, s.asked) };
+    ghost view = { λ s. ((s.reader, s.gave.bytes), s.asked) };
 }
 
 impl<R: Read + Drop> ReadSource<R> {
     /// A source of the reader's bytes. Takes no memory.
     pub fn new(reader: R) -> ReadSource<R>
-        ensures value { result ≡ (reader, Asked.Going) }
+        ensures value { result ≡ ((reader, []), Asked.Going) }
         ensures coming { ⟦<ReadSource<R> as Source>⟧.coming result ≡ None }
         ensures asked { ⟦<ReadSource<R> as Source>⟧.asked result ≡ Asked.Going }
     {
         ReadSource {
             reader,
+            gave: History::new(),
             asked: Asked::Going,
         }
     }
 }
 
 impl<R: Read> Source for ReadSource<R> {
-    ghost use Rattle.std.specs.Prelude.{None, ◌≡◌, ◌<◌, ◌≤◌, length, IfOk};
+    ghost use Rattle.std.specs.Prelude.{None, ◌≡◌, ◌<◌, ◌≤◌, ◌++◌, take, length, IfOk, OnErr};
     ghost use Rattle.std.specs.Io.KnownBytes.{ReadConsumes};
     ghost use Rattle.cell_core_devices.specs.Asking.{after_take};
 
@@ -104,12 +108,15 @@ impl<R: Read> Source for ReadSource<R> {
         requires { 0 < length buf.old }
         ensures count { IfOk result (λ n. n ≤ length buf.new) }
         // What the reader has left, if that is known, has lost what was taken.
-        ensures read { ReadConsumes (R.remaining self.old.0) (R.remaining self.new.0)
+        ensures read { ReadConsumes (R.remaining self.old.0.0) (R.remaining self.new.0.0)
             result buf.new }
+        ensures gave { IfOk result (λ n. self.new.0.1 ≡ self.old.0.1 ++ take n buf.new) }
+        ensures kept { OnErr result (self.new.0.1 ≡ self.old.0.1) }
         ensures asked { self.new.1 ≡ after_take self.old.1 result }
     {
         match self.reader.read(buf) {
             Ok(n) => {
+                self.gave.note(&buf[..n]);
                 self.asked = self.asked.after_answer(Ok(n));
                 Ok(n)
             }

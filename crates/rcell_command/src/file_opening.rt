@@ -1,6 +1,6 @@
 //! The files that the words name.
 
-ghost use Rattle.std.specs.Prelude.{◌≡◌, ◌≢◌, IfErr, IfOk};
+ghost use Rattle.std.specs.Prelude.{◌≡◌, ◌≢◌, [], IfErr, IfOk};
 ghost use Rattle.cell_core_devices.specs.declared.source.Asked.{Asked};
 
 use cell_core_devices::source::ReadSource;
@@ -23,6 +23,7 @@ pub fn open_file<R: Files, E: Copy>(
 ) -> Result<ReadSource<R::File>, E>
     // Nothing is read yet: the source was not asked, so it has neither ended nor failed.
     ensures asked { IfOk result (λ source. source.1 ≡ Asked.Going) }
+    ensures gave { IfOk result (λ source. source.0.1 ≡ []) }
     ensures reported { IfErr result (λ error. error ≢ memory → error ≡ file) }
 {
     match fs::open(rt, path) {
