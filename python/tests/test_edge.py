@@ -2,6 +2,8 @@
 
 from __future__ import annotations
 
+import contextlib
+import gc
 import importlib
 import os
 import pathlib
@@ -593,3 +595,28 @@ def environment(**words: str) -> dict[str, str]:
         "RCELL": find_program(),
         **words,
     }
+
+
+def test_a_rejected_script_leaves_no_file_open(raster: Write) -> None:
+    path = raster(LAND)
+    scripts = [
+        "r.stats input=b",
+        "nonsense",
+        "r.mapcalc x = m[0,",
+        "r.out.ascii input=q",
+    ]
+
+    def opened() -> list[str]:
+        folder = "/proc/self/fd"
+        found = [f"{folder}/{number}" for number in os.listdir(folder)]
+        return [it for it in found if os.path.realpath(it) == os.path.realpath(path)]
+
+    gc.collect()
+    gc.disable()
+    try:
+        for script in scripts:
+            with contextlib.suppress(rcell.Refused):
+                rcell.table(script, m=path)
+        assert opened() == []
+    finally:
+        gc.enable()

@@ -360,3 +360,25 @@ def test_csv_reads_back(raster: Write, capfdbinary: Any) -> None:
     assert main(["composition", path]) == 0
     lines = list(csv.DictReader(io.StringIO(said(capfdbinary)[0])))
     assert [float(line["area_ha"]) for line in lines] == rcell.composition(path)["area_ha"].tolist()
+
+
+def test_a_library_that_cannot_be_loaded_is_not_called_missing(
+    raster: Write, tmp_path: pathlib.Path
+) -> None:
+    for name in ("rasterio", "osgeo"):
+        (tmp_path / name).mkdir()
+        reason = f"lib{name}.so.32: failed to map segment from shared object"
+        (tmp_path / name / "__init__.py").write_text(f"raise ImportError({reason!r})\n")
+    environment = {**os.environ, "PYTHONPATH": ":".join([str(tmp_path), *sys.path])}
+    ran = subprocess.run(
+        [sys.executable, "-m", "rcell", "composition", raster(LAND)],
+        env=environment,
+        capture_output=True,
+        text=True,
+        check=False,
+    )
+    assert ran.returncode == 2
+    assert ran.stderr == (
+        "rcell-gis: to read a raster the library rasterio is needed, but it cannot be loaded: "
+        "librasterio.so.32: failed to map segment from shared object\n"
+    )

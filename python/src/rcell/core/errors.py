@@ -300,7 +300,7 @@ class WriteFailed(RcellError, OSError):
 
 
 class MissingLibrary(RcellError, ImportError):
-    """A library that this call needs is not installed.
+    """A library that this call needs is not installed, or cannot be loaded.
 
     Parameters
     ----------
@@ -310,6 +310,8 @@ class MissingLibrary(RcellError, ImportError):
         The extra of the wheel that installs it.
     purpose : str
         The task that needs it.
+    reason : str, optional
+        Why it cannot be loaded although it is installed, for example for lack of memory.
 
     Examples
     --------
@@ -318,13 +320,16 @@ class MissingLibrary(RcellError, ImportError):
     to read GeoTIFF the library rasterio is needed: pip install 'rcell[gis]', or Debian's package python3-rasterio
     """
 
-    def __init__(self, library: str, extra: str, purpose: str) -> None:
-        super().__init__(library, extra, purpose)
+    def __init__(self, library: str, extra: str, purpose: str, reason: str = "") -> None:
+        super().__init__(library, extra, purpose, reason)
         self.library = library
         self.extra = extra
         self.purpose = purpose
+        self.reason = reason
 
     def __str__(self) -> str:
+        if self.reason:
+            return f"{self.purpose} the library {self.library} is needed, but it cannot be loaded: {self.reason}"
         package = f"Debian's package python3-{self.library}"
         return f"{self.purpose} the library {self.library} is needed: pip install 'rcell[{self.extra}]', or {package}"
 

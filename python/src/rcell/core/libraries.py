@@ -33,5 +33,7 @@ def need(library: str, extra: str, purpose: str) -> Any:
     """
     try:
         return importlib.import_module(library)
-    except ImportError as error:
+    except ModuleNotFoundError as error:
         raise MissingLibrary((error.name or library).partition(".")[0], extra, purpose) from None
+    except ImportError as error:
+        raise MissingLibrary(library.partition(".")[0], extra, purpose, str(error)) from None

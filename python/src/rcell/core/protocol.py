@@ -698,9 +698,7 @@ def _answered(
 ) -> list[_AnyFrame]:
     """Send a request, and return the frames of its response."""
     with asked([program], sent, seconds, watch) as process:
-        response = _response(process.pieces())
-        ended = process.end()
-    return _check(response, *ended)
+        return _check(_response(process.pieces()), *process.end())
 
 
 def failure_of(status: int, message: bytes) -> Exception:
@@ -718,10 +716,13 @@ def _check(
     """Return the frames of a response, if the program ended well."""
     if response is None or status != response[1].status:
         raise failure_of(status, message)
-    frames, end = response
     if status:
-        raise end
-    return frames
+        try:
+            raise response[1]
+        finally:
+            # An error that its own frame holds would keep the maps of the call open until the next collection.
+            del response
+    return response[0]
 
 
 @contextlib.contextmanager

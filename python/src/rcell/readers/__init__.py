@@ -3,7 +3,6 @@
 
 from __future__ import annotations
 
-import contextlib
 import importlib
 import os
 import re
@@ -106,10 +105,16 @@ def _reader(library: str, other: str, extra: str, purpose: str) -> Any:
 
     The plugin for QGIS carries the second ones only.
     """
+    reason = ""
     for name, needed in ((library, library), (other, "osgeo")):
-        with contextlib.suppress(ImportError), warnings.catch_warnings():
-            # In a virtual environment Debian's pyproj warns, although PROJ finds its files.
-            warnings.filterwarnings("ignore", "Valid PROJ data directory not found")
-            importlib.import_module(needed)
-            return importlib.import_module(f".{name}", __name__)
-    raise MissingLibrary(library, extra, purpose)
+        try:
+            with warnings.catch_warnings():
+                # In a virtual environment Debian's pyproj warns, although PROJ finds its files.
+                warnings.filterwarnings("ignore", "Valid PROJ data directory not found")
+                importlib.import_module(needed)
+                return importlib.import_module(f".{name}", __name__)
+        except ModuleNotFoundError:
+            continue
+        except ImportError as error:  # it is installed
+            reason = reason or str(error)
+    raise MissingLibrary(library, extra, purpose, reason)
