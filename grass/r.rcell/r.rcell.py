@@ -59,12 +59,10 @@
 # %end
 
 import atexit
-import errno
 import os
 import re
 import shutil
 import signal
-import stat
 import subprocess
 import sys
 import tempfile
@@ -79,7 +77,6 @@ NULL = -2147483648  # of r.out.bin and r.in.bin; no category has this value
 MOST_SIDE = 65535  # rows or columns that rcell takes
 MOST_CELLS = 2147483647
 BLOCK_CELLS = 1 << 20  # cells that are sent at a time
-BYTES_OF_A_PIECE = 1 << 20  # of a table that is copied
 SECONDS_OF_A_STEP = 0.5  # of the line of progress
 BLANKS = b" \t\r"
 NAME = re.compile(r"[A-Za-z_][A-Za-z0-9_.]{0,63}")
@@ -491,75 +488,29 @@ def read_script(path):
         ) from None
 
 
-class Table:
-    """The tables of the script: kept aside until all is there, so that the file of this name is never half a table.
+@contextmanager
+def table_file(path, script):
+    """The file for the tables, which gets its name when the block ends well; standard output or a device gets its bytes then."""
+    from rcell.core.errors import Refused
+    from rcell.core.files import Output, check_output
 
-    A link is followed. What is there and is no regular file, such as a device, is written and never replaced.
-    """
-
-    def __init__(self, path, script):
-        self.path, self.file = path, None
-        self.target = os.path.realpath(path) if path not in ("", "-") else ""
-        if (
-            self.target
-            and os.path.isfile(self.target)
-            and script != "-"
-            and os.path.realpath(script) == self.target
-        ):
-            raise Stopped(_("The table <{}> is the script; give it another name").format(path))
-        self.is_stream = not self.target or (
-            os.path.exists(self.target) and not os.path.isfile(self.target)
-        )
-        try:
-            if self.target and os.path.isdir(self.target):
-                raise IsADirectoryError(errno.EISDIR, os.strerror(errno.EISDIR))
-            folder = None if self.is_stream else os.path.dirname(self.target)
-            self.file = tempfile.NamedTemporaryFile(dir=folder, prefix=".rcell-", delete=False)
-        except OSError as fault:
-            raise self.failed(fault) from None
-        atexit.register(self.remove)
-
-    def failed(self, fault):
-        return Stopped(
-            _("The table <{}> cannot be written: {}").format(self.path or "-", fault.strerror)
-        )
-
-    def remove(self):
-        """Removes what did not get its name."""
-        if os.path.exists(self.file.name):
-            os.remove(self.file.name)
-
-    def finish(self):
-        """Gives the file its name, or writes it to standard output, a device or a pipe."""
-        try:
-            self.file.close()
-            if self.is_stream:
-                self.copy()
-            else:
-                os.chmod(self.file.name, self.mode())
-                os.replace(self.file.name, self.target)
-        except BrokenPipeError:  # whoever reads has enough
-            if not self.target:
-                os.dup2(os.open(os.devnull, os.O_WRONLY), sys.stdout.fileno())
-        except OSError as fault:
-            raise self.failed(fault) from None
-
-    def copy(self):
-        from rcell.core.files import write_all
-
-        with open(self.file.name, "rb") as kept, open(
-            self.target or 1, "ab", 0, closefd=bool(self.target)
-        ) as stream:
-            while piece := kept.read(BYTES_OF_A_PIECE):
-                write_all(stream.fileno(), piece)
-
-    def mode(self):
-        """The mode of the file that is replaced, or the mode of a new file."""
-        if os.path.exists(self.target):
-            return stat.S_IMODE(os.stat(self.target).st_mode)
-        mask = os.umask(0)
-        os.umask(mask)
-        return 0o666 & ~mask
+    try:
+        if path and script != "-":
+            check_output(path, [script])
+        with Output(path or "-") as output:
+            yield output
+    except Refused:
+        raise Stopped(
+            _("The table <{}> is the script; give it another name").format(path)
+        ) from None
+    except BrokenPipeError:  # whoever reads has enough
+        if path not in ("", "-"):
+            raise
+        os.dup2(os.open(os.devnull, os.O_WRONLY), sys.stdout.fileno())
+    except OSError as fault:
+        raise Stopped(
+            _("The table <{}> cannot be written: {}").format(path or "-", fault.strerror)
+        ) from None
 
 
 def open_standard_streams():
@@ -574,6 +525,18 @@ def open_standard_streams():
     os.close(descriptor)
     sys.stdout = sys.stdout or open(1, "w", closefd=False)
     sys.stderr = sys.stderr or open(2, "w", closefd=False)
+
+
+def imported(script, statements, sources, outputs, labels, region, progress):
+    """Runs a script for its maps, and imports them with their labels under names of their own."""
+    cells, texts = maps_of(script, statements, sources, outputs, labels)
+    imports = Imports(region)
+    for output, frame in zip(outputs, cells):
+        name = imports.add(output, frame, progress)
+        lines = label_lines(texts[output.name]) if output.name in texts else []
+        if lines:
+            imports.label(name, lines)
+    return imports
 
 
 def done(options, flags):
@@ -599,27 +562,20 @@ def done(options, flags):
         gs.warning(_("The script writes no table, and no map is asked for by output="))
     wanted = labelled_maps(statements) | {it.name for it in outputs}
     labels = {it.name: labels_of(it.map) for it in inputs if it.name in wanted}
-    table = Table(options["table"], options["script"])
     runs = bool(outputs) + any(not it.made for it in statements)
     progress = Progress(region["rows"] * (runs * len(inputs) + len(outputs)))
 
     def sources():
         return [source_of(it, labels.get(it.name, {}), region, progress) for it in inputs]
 
-    table.file.writelines(tables_of(script, statements, sources))
-    cells, texts = maps_of(script, statements, sources, outputs, labels)
-    imports = Imports(region)
-    for output, frame in zip(outputs, cells):
-        name = imports.add(output, frame, progress)
-        lines = label_lines(texts[output.name]) if output.name in texts else []
-        if lines:
-            imports.label(name, lines)
-    progress.end()
-    if table.is_stream:  # which may fail, and then no map gets its name
-        table.finish()
-    imports.finish({name for name, command in made.items() if command == "r.clump"})
-    if not table.is_stream:
-        table.finish()
+    with table_file(options["table"], options["script"]) as table:
+        with open(table.path(), "wb") as file:
+            file.writelines(tables_of(script, statements, sources))
+        imports = imported(script, statements, sources, outputs, labels, region, progress)
+        progress.end()
+        if table.is_special:  # which may fail, and then no map gets its name
+            table.keep()
+        imports.finish({name for name, command in made.items() if command == "r.clump"})
 
 
 def main():

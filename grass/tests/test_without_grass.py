@@ -209,16 +209,16 @@ class Late(unittest.TestCase):
         os.set_blocking(writes, False)
         os.dup2(writes, 1)
         os.close(writes)
-        table, text, read = rcell.Table("-", "script"), b"1 2\n" * 50000, bytearray()
-        table.file.write(text)
+        text, read = b"1 2\n" * 50000, bytearray()
         thread = self.later(
             lambda: [
                 read.extend(os.read(reads, 1 << 16))
                 for _ in iter(lambda: len(read) < len(text), False)
             ]
         )
-        table.finish()
-        table.remove()
+        with rcell.table_file("", "script") as table:
+            with open(table.path(), "wb") as file:
+                file.write(text)
         thread.join()
         os.close(reads)
         self.assertEqual(read, text)
@@ -297,10 +297,9 @@ class Tables(unittest.TestCase):
         self.room = folder.name
 
     def write(self, path, script="-"):
-        table = rcell.Table(path, script)
-        table.file.write(b"1 2\n")
-        table.finish()
-        table.remove()
+        with rcell.table_file(path, script) as table:
+            with open(table.path(), "wb") as file:
+                file.write(b"1 2\n")
 
     def test_links_and_modes(self):
         path, link = f"{self.room}/t", f"{self.room}/link"

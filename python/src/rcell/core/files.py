@@ -277,6 +277,11 @@ class Output:
         process.begin_work()
         return self
 
+    @property
+    def is_special(self) -> bool:
+        """Whether the target is a device, a FIFO or an open descriptor, which gets bytes and no name."""
+        return self._special is not None
+
     def path(self) -> str:
         """Return a new path that ends in the name of the file, for libraries that open files themselves."""
         folder, name = os.path.split(self._target)
