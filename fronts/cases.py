@@ -12,7 +12,12 @@ from dataclasses import dataclass, field, replace
 # The folder with `cases` and `rasters`, which may be another one than this.
 HERE = pathlib.Path(os.environ.get("RCELL_CASES") or pathlib.Path(__file__).resolve().parent)
 TABLES = ("composition", "cross", "change", "patches", "zonal", "adjacency")
-MAPS = ("majority", "align", "reclass", "clump")
+MAPS = ("majority", "align", "reclass", "clump", "sieve", "within")
+# Maps with an account of how they were made, and its columns.
+FACTS = {
+    "align": ("shift_rows", "shift_columns", "cells_used", "cells_repeated", "cells_lost"),
+    "sieve": ("patches_before", "patches_after", "cells_changed", "patches_below"),
+}
 ANSWERS = (*TABLES, *MAPS)
 POLYGONS = re.compile(r"\.(geojson|gpkg|shp|fgb)(\|layername=.*)?$")
 # Options of a call that are files; errors of QGIS and of the shell have no kind but in their text.

@@ -11,7 +11,7 @@ from typing import Any, Callable
 import pandas
 import rasterio.errors
 import rcell
-from cases import MAPS, Case, Scratch, cases, copied, notes
+from cases import FACTS, MAPS, Case, Scratch, cases, copied, notes
 
 KINDS = [
     ("other crs", rcell.OtherCrs),
@@ -25,12 +25,15 @@ KINDS = [
 # The type of each parameter of the ready calls that is not a map.
 OPTIONS: dict[str, Callable[[str], Any]] = {
     "area": lambda text: None if text == "none" else text,
-    **dict.fromkeys(("include_null", "fill"), lambda text: text == "yes"),
+    **dict.fromkeys(("include_null", "fill", "drop"), lambda text: text == "yes"),
     **dict.fromkeys(("labels", "zone_labels", "zone_field", "resample", "crs"), str),
     **dict.fromkeys(("rules", "other"), str),
     **dict.fromkeys(("years", "classes"), lambda text: [int(part) for part in text.split(",")]),
     **dict.fromkeys(("connectivity", "min_cells", "core_depth", "size"), int),
-    "quantiles": lambda text: [float(part) for part in text.split(",")],
+    **dict.fromkeys(
+        ("quantiles", "distances"), lambda text: [float(part) for part in text.split(",")]
+    ),
+    "min_ha": float,
 }
 
 
@@ -87,9 +90,8 @@ def answered(case: Case) -> list[str]:
     if case.outs:
         answer.write(case.outs["out"])
         return [f"written: {case.outs['out']}"]
-    if case.call == "align":
-        facts = answer.aligned
-        names = ("shift_rows", "shift_columns", "cells_used", "cells_repeated", "cells_lost")
+    if case.call in FACTS:
+        facts, names = answer.aligned or answer.sieved, FACTS[case.call]
         return [
             "|".join(names),
             "|".join(plain(getattr(facts, name)) for name in names),

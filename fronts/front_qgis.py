@@ -18,7 +18,7 @@ os.environ.setdefault("QT_QPA_PLATFORM", "offscreen")
 sys.path[:0] = [str(HERE.parent / "qgis"), "/usr/share/qgis/python/plugins"]
 
 from cases import HERE as FOLDER
-from cases import ANSWERS, MAPS, POLYGONS, Case, Scratch, cases, copied, kind_of, notes
+from cases import ANSWERS, FACTS, MAPS, POLYGONS, Case, Scratch, cases, copied, kind_of, notes
 from osgeo import gdal
 from qgis.core import (
     NULL,
@@ -39,7 +39,6 @@ TYPES = {
     QVariant.Double: "number",
     QVariant.String: "text",
 }
-FACTS = ("SHIFT_ROWS", "SHIFT_COLUMNS", "CELLS_USED", "CELLS_REPEATED", "CELLS_LOST")
 
 
 class Feedback(QgsProcessingFeedback):
@@ -124,7 +123,7 @@ def parameters_of(case: Case) -> dict[str, Any]:
                 layer_of(case, text)
                 if key in ("zones", "to")
                 else text == "yes"
-                if key in ("fill", "include_null")
+                if key in ("fill", "include_null", "drop")
                 else text
             )
     return parameters
@@ -152,12 +151,9 @@ def answered(case: Case, room: str) -> list[str]:
     if case.outs:
         lines = [f"written: {path}" for path in case.outs.values()]
     elif case.call in MAPS:
-        facts = (
-            ["|".join(FACTS).lower(), "|".join(plain(found[name]) for name in FACTS)]
-            if case.call == "align"
-            else []
-        )
-        lines = [*facts, *of_raster(found["OUTPUT"])]
+        names = FACTS.get(case.call, ())
+        facts = ["|".join(names), "|".join(plain(found[name.upper()]) for name in names)]
+        lines = [*(facts if names else []), *of_raster(found["OUTPUT"])]
     else:
         lines, types = of_layer(found[part], case.digits), types_of(found[part])
     return lines + notes(case, types, feedback.warnings)

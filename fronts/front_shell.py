@@ -16,11 +16,11 @@ import warnings
 import pandas  # noqa: F401  (loaded before a fork)
 import rasterio
 import rcell  # noqa: F401
-from cases import MAPS, Case, Scratch, cases, kind_of, notes
+from cases import FACTS, MAPS, Case, Scratch, cases, kind_of, notes
 
 warnings.simplefilter("ignore", rasterio.errors.NotGeoreferencedWarning)
 PROGRAM = os.path.join(os.path.dirname(__file__), "..", "helpers", "rcell-gis")
-FLAGS = ("include_null", "fill")
+FLAGS = ("include_null", "fill", "drop")
 
 
 def ran(words: list[str]) -> tuple[int, str, str]:
@@ -105,7 +105,9 @@ def answer(case: Case, room: str) -> list[str]:
     status, out, told = ran(words_of(case, target))
     start = "rcell-gis: warning: "
     warned = [line.removeprefix(start) for line in told.splitlines() if line.startswith(start)]
-    lines = [] if case.call in MAPS and case.call != "align" else of_table(case, out) if out else []
+    lines = (
+        [] if case.call in MAPS and case.call not in FACTS else of_table(case, out) if out else []
+    )
     if status:
         lines = refusal(status, told)
     elif case.outs:

@@ -1,4 +1,4 @@
-"""The calls compared with modules of GRASS: r.stats, r.univar, r.stats.zonal and r.neighbors."""
+"""The calls compared with modules of GRASS: r.stats, r.univar, r.stats.zonal, r.neighbors and r.buffer."""
 
 from __future__ import annotations
 
@@ -134,3 +134,18 @@ def test_the_majority_of_nine(grass: Session) -> None:
     is_clear = (cells > 0) & (ordered[-1] > ordered[-2])
     assert is_clear.mean() > 0.5
     assert (rcell.majority(land).array.filled(0)[is_clear] == theirs[is_clear]).all()
+
+
+def test_buffers(grass: Session) -> None:
+    """r.buffer has 1 for its source and 2, 3, .. for distances."""
+    land = made(5, (30.0, 0, 500_000.0, 0, -30.0, 5_500_000.0), "EPSG:32632", 12)
+    text = grass(
+        "EPSG:32632",
+        "r.mapcalc 'source = if(land == 3, 1, null())' --quiet\n"
+        "r.buffer input=source output=rings distances=45,90,200 --quiet\n"
+        "r.out.ascii input=rings null_value=0 --quiet",
+        land=land,
+    )
+    expected = [[int(word) - 1 for word in line.split()] for line in text.splitlines()[6:]]
+    found = rcell.within(land, [3], [45, 90, 200])
+    assert np.ma.filled(found.array, -1).tolist() == expected

@@ -34,6 +34,7 @@ __all__ = [
     "Refused",
     "Region",
     "Result",
+    "Sieved",
     "WriteFailed",
     "WrongProgram",
     "__version__",
@@ -50,7 +51,9 @@ __all__ = [
     "reclass",
     "run",
     "show_versions",
+    "sieve",
     "table",
+    "within",
     "zonal",
 ]
 
@@ -77,6 +80,7 @@ if TYPE_CHECKING:
         WrongProgram,
     )
     from .core.region import Region
+    from .core.sieve import Sieved
     from .core.sources import MapLike
     from .frames import (
         Result,
@@ -91,7 +95,9 @@ if TYPE_CHECKING:
         patches,
         reclass,
         run,
+        sieve,
         table,
+        within,
         zonal,
     )
     from .raster import Raster
@@ -121,6 +127,7 @@ _MODULES = {
         "WrongProgram",
     ),
     ".core.region": ("Region",),
+    ".core.sieve": ("Sieved",),
     ".core.sources": ("MapLike",),
     ".frames": (
         "Result",
@@ -135,7 +142,9 @@ _MODULES = {
         "patches",
         "reclass",
         "run",
+        "sieve",
         "table",
+        "within",
         "zonal",
     ),
     ".raster": ("Raster",),

@@ -18,6 +18,8 @@ from .core import majority as _majority
 from .core import patches as _patches
 from .core import reclass as _reclass
 from .core import scripts as _scripts
+from .core import sieve as _sieve
+from .core import within as _within
 from .core import zonal as _zonal
 from .core.change import Change
 from .core.columns import Column, Matrix, Table
@@ -42,7 +44,9 @@ __all__ = [
     "patches",
     "reclass",
     "run",
+    "sieve",
     "table",
+    "within",
     "zonal",
 ]
 
@@ -104,7 +108,7 @@ def _frames_of(found: Change) -> Change:
 
 
 def _raster_of(found: Any) -> Raster:
-    """Return a map of the core, or a map and what was done to align it, as a Raster."""
+    """Return a map of the core, or a map and an account of how it was made, as a Raster."""
     return Raster._of(*found) if isinstance(found, tuple) else Raster._of(found)
 
 
@@ -195,5 +199,7 @@ majority = _rastered(_majority.majority)
 align = _rastered(_align.align)
 reclass = _rastered(_reclass.reclass)
 clump = _rastered(_patches.clump)
+sieve = _rastered(_sieve.sieve)
+within = _rastered(_within.within)
 grid = _rastered(_scripts.grid)
 run = _returning("rcell.Result", _result_of)(_scripts.run)

@@ -20,6 +20,7 @@ from .core.errors import BadArgument
 from .core.legends import legend_of
 from .core.libraries import has, need
 from .core.region import Region, Transform
+from .core.sieve import Sieved
 from .core.sources import ArrayMap, array_map, null_cells
 
 __all__ = ["Raster"]
@@ -79,7 +80,7 @@ class Raster:
         given_colors = legend.colors if colors is None else colors
         self._set(array_map(name, array, transform, crs, nodata, legend.labels, given_colors), None)
 
-    def _set(self, source: ArrayMap, aligned: Aligned | None) -> None:
+    def _set(self, source: ArrayMap, account: Aligned | Sieved | None) -> None:
         self._source = source
         self.name = source.name
         self.region = source.region
@@ -87,13 +88,14 @@ class Raster:
         self.crs = source.crs
         self.labels = dict(source.labels)
         self.colors = dict(source.colors)
-        self.aligned = aligned
+        self.aligned = account if isinstance(account, Aligned) else None
+        self.sieved = account if isinstance(account, Sieved) else None
 
     @classmethod
-    def _of(cls, source: ArrayMap, aligned: Aligned | None = None) -> Raster:
-        """Return a map of the core."""
+    def _of(cls, source: ArrayMap, account: Aligned | Sieved | None = None) -> Raster:
+        """Return a map of the core, and an account of how it was made."""
         made = cls.__new__(cls)
-        made._set(source, aligned)
+        made._set(source, account)
         return made
 
     @cached_property

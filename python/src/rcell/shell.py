@@ -153,12 +153,8 @@ def _call(name: str) -> Callable[..., Any]:
 def _options(words: argparse.Namespace) -> dict[str, Any]:
     """Return the options of a call that are given."""
     own = {"format", "out", "band", "table", "legends"}
-    names = {"each_zone": "each"}
-    given = {
-        names.get(name, name): getattr(words, names.get(name, name))
-        for name in words.options
-        if name not in own
-    }
+    names = (ARGUMENTS.get(name, name) for name in words.options if name not in own)
+    given = {name: getattr(words, name) for name in names}
     given.update({"zones": words.zones} if words.command == "zonal" else {})
     if given.get("area") == "none":
         return {**_kept(given), "area": None}
@@ -223,7 +219,7 @@ def _to_map(words: argparse.Namespace) -> None:
     def made() -> list[Any]:
         call = getattr(importlib.import_module("rcell"), words.command)
         found = call(_map(words, words.map), **_options(words))
-        words.account = found.aligned
+        words.account = found.aligned or found.sieved
         return [found]
 
     _write_maps([words.target], made)
@@ -470,7 +466,8 @@ def script_of(word: str) -> str:
     return raw.decode("utf-8", "surrogateescape")
 
 
-# The commands, with the words and options that each accepts.
+# The commands, with the words and options that each accepts, and the arguments of options that have another name.
+ARGUMENTS = {"each_zone": "each", "of_classes": "classes", "smallest": "min_cells"}
 _ZONES = "zones zone_field zone_labels layer"
 _TABLE = "band crs format out"
 COMMANDS = {
@@ -535,6 +532,20 @@ COMMANDS = {
         "a map with the number of the patch of each cell",
         "map target",
         "connectivity classes min_cells band crs",
+        _to_map,
+    ),
+    "sieve": Command(
+        "MAP OUT --min-cells N",
+        "a map without small patches, which are merged into their neighbours, and an account of it",
+        "map target",
+        "smallest min_ha connectivity drop band crs format",
+        _to_map,
+    ),
+    "within": Command(
+        "MAP OUT --classes .. --distances ..",
+        "a map of what is within distances of some classes: buffers",
+        "map target",
+        "of_classes distances band crs",
         _to_map,
     ),
     "align": Command(

@@ -19,6 +19,14 @@ def _wholes(text: str) -> list[int]:
         raise argparse.ArgumentTypeError(told) from None
 
 
+def _distances(text: str) -> list[float]:
+    try:
+        return [float(word) for word in text.split(",")]
+    except ValueError:
+        told = f"give numbers with commas between them, for example 100,500; got {text}"
+        raise argparse.ArgumentTypeError(told) from None
+
+
 def _shares(text: str) -> list[float]:
     try:
         return [float(word) for word in text.split(",")]
@@ -95,6 +103,28 @@ OPTIONS: dict[str, tuple[str, dict[str, Any]]] = {
         "--min-cells",
         {"type": int, "metavar": "N", "help": "only patches of at least so many cells"},
     ),
+    "of_classes": (
+        "--classes",
+        {
+            "type": _wholes,
+            "required": True,
+            "metavar": "CLASS,..",
+            "help": "the classes from which distances are measured",
+        },
+    ),
+    "distances": (
+        "--distances",
+        {"type": _distances, "required": True, "metavar": "METRES,..", "help": "ascending"},
+    ),
+    "smallest": (
+        "--min-cells",
+        {"type": int, "metavar": "N", "help": "the smallest number of cells of a patch"},
+    ),
+    "min_ha": (
+        "--min-ha",
+        {"type": float, "metavar": "HA", "help": "the smallest area of a patch in hectares"},
+    ),
+    "drop": ("--drop", {"action": "store_true", "help": "leaves small patches out"}),
     "core_depth": (
         "--core-depth",
         {"type": int, "metavar": "N", "help": "steps from the border of a patch to its core"},

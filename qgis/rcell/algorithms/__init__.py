@@ -4,8 +4,8 @@
 from __future__ import annotations
 
 from .align import AlignAlgorithm
-from .majority import MajorityAlgorithm
-from .patches import ClumpAlgorithm, PatchesAlgorithm
+from .majority import MajorityAlgorithm, WithinAlgorithm
+from .patches import ClumpAlgorithm, PatchesAlgorithm, SieveAlgorithm
 from .reclass import ReclassAlgorithm
 from .script import ScriptAlgorithm
 from .tables import (
@@ -25,6 +25,8 @@ ALGORITHMS = (
     PatchesAlgorithm,
     ZonalAlgorithm,
     MajorityAlgorithm,
+    SieveAlgorithm,
+    WithinAlgorithm,
     AlignAlgorithm,
     ReclassAlgorithm,
     ScriptAlgorithm,

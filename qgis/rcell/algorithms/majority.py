@@ -1,16 +1,17 @@
 # SPDX-License-Identifier: Apache-2.0 OR GPL-2.0-or-later
-"""rcell:majority, the most frequent class around each cell."""
+"""rcell:majority and rcell:within: maps of the neighbourhood of each cell."""
 
 from __future__ import annotations
 
 from typing import Any
 
-
 from ..engine.core.majority import SIZES as SIDES
 from ..engine.core.majority import majority
+from ..engine.core.within import within
 from ..results import named_classes
 from ..translation import noop, tr
 from .base import RcellAlgorithm
+from .tables import numbers_of
 
 SIZES = [str(size) for size in SIDES]
 
@@ -46,3 +47,41 @@ class MajorityAlgorithm(RcellAlgorithm):
         made = majority(self.rasters[0], size, self.flag("FILL"))
         path = self.put_map(made, named_classes(made))
         return {"OUTPUT": path}
+
+
+class WithinAlgorithm(RcellAlgorithm):
+    """What is within distances of some classes."""
+
+    NAME = "within"
+    TITLE = noop("Within a distance of classes")
+    SHORT = noop("Finds the cells within distances of some classes: buffers, exact to the cell.")
+    TAGS = "buffer, r.buffer, distance, proximity, rings, near, grow"
+    HELP = (
+        noop(
+            "<p>Distances are in metres, ascending, between the centres of cells, up to 255 cells. The result is 0 in the "
+            "classes, 1 up to the first distance, 2 up to the second. A map in degrees is an error: reproject it.</p>"
+        ),
+    )
+
+    def initAlgorithm(self, configuration: Any = None) -> None:
+        """Declare the parameters."""
+        self.add_raster()
+        self.add_text("CLASSES", tr("Classes, separated by commas"))
+        self.add_text("DISTANCES", tr("Distances in metres, separated by commas"), "100,500")
+        self.add_crs()
+        self.add_map(tr("Within"))
+
+    def check_words(self) -> None:
+        """Check the lists of numbers."""
+        self.lists()
+
+    def lists(self) -> list[list[float]]:
+        """Return the classes and the distances."""
+        return [numbers_of(self.text(name.upper()), name) for name in ("classes", "distances")]
+
+    def answer(self) -> dict[str, Any]:
+        """Return the map."""
+        classes, distances = self.lists()
+        made = within(self.rasters[0], map(int, classes), distances, crs=self.crs())
+        self.colours = {}
+        return {"OUTPUT": self.put_map(made, named_classes(made))}

@@ -1,5 +1,5 @@
 # SPDX-License-Identifier: Apache-2.0 OR GPL-2.0-or-later
-"""rcell:patches, the patches of a map."""
+"""rcell:patches, rcell:clump and rcell:sieve: the patches of a map."""
 
 from __future__ import annotations
 
@@ -12,6 +12,7 @@ from qgis.core import (
 
 from ..engine.core.columns import Table
 from ..engine.core.patches import MOST_CORE_DEPTH, clump, patches
+from ..engine.core.sieve import Sieved, sieve
 from ..engine.core.sources import Source
 from ..results import MOST_CLASSES, counted, named_classes
 from ..translation import noop, tr
@@ -138,6 +139,59 @@ class PatchesAlgorithm(_OfPatches):
             legend = _legend(found, raster, zoning["crs"])
             results["MAP"] = self.put_map(made, legend, "MAP", null=0)
         return results
+
+
+class SieveAlgorithm(RcellAlgorithm):
+    """Merges small patches into their neighbours."""
+
+    NAME = "sieve"
+    TITLE = noop("Sieve")
+    SHORT = noop(
+        "Merges patches below a size into the neighbour with the longest common border, until none is left that has a neighbour."
+    )
+    TAGS = (
+        "sieve, minimum mapping unit, eliminate, generalise, r.reclass.area, remove small patches"
+    )
+    HELP = (
+        noop(
+            "<p>The smallest patch is merged first. Of several neighbours with the same border, the first one is taken. "
+            "Give the smallest size in cells or in hectares; in degrees, in cells.</p>"
+        ),
+        noop(
+            "<p>The outputs count patches and changed cells in the result. Patches that border only cells without data stay.</p>"
+        ),
+    )
+
+    def initAlgorithm(self, configuration: Any = None) -> None:
+        """Declare the parameters."""
+        self.add_raster()
+        number = QgsProcessingParameterNumber
+        title = tr("Smallest number of cells of a patch")
+        self.addParameter(number("MIN_CELLS", title, number.Integer, None, True, 1))
+        title = tr("Smallest area of a patch in hectares, in place of cells")
+        self.addParameter(number("MIN_HA", title, number.Double, None, True, 0))
+        self.add_choice("CONNECTIVITY", tr("Connectivity"), CONNECTIVITIES)
+        self.add_flag("DROP", tr("Leave small patches out instead of merging them"))
+        self.add_crs()
+        self.add_map(tr("Sieved"))
+        for name in Sieved._fields:
+            self.addOutput(QgsProcessingOutputNumber(name.upper(), tr(name.replace("_", " "))))
+
+    def answer(self) -> dict[str, Any]:
+        """Return the map, and the numbers of patches and changed cells."""
+        given = {name: self.given.get(name) not in (None, "") for name in ("MIN_CELLS", "MIN_HA")}
+        fewest = self.number("MIN_CELLS") if given["MIN_CELLS"] else None
+        area = self.parameterAsDouble(self.given, "MIN_HA", self.context)
+        made, facts = sieve(
+            self.rasters[0],
+            fewest,
+            area if given["MIN_HA"] else None,
+            int(self.word("CONNECTIVITY")),
+            self.flag("DROP"),
+            crs=self.crs(),
+        )
+        path = self.put_map(made, named_classes(made))
+        return {"OUTPUT": path, **{name.upper(): it for name, it in facts._asdict().items()}}
 
 
 def _legend(found: Table, raster: Source, crs: Any) -> list[tuple[int, str]]:

@@ -243,6 +243,16 @@ class AdjacencyAlgorithm(RcellAlgorithm):
         return {"OUTPUT": self.put_table("OUTPUT", found)}
 
 
+# The lists of numbers that are not whole, and an example of each list.
+_DECIMALS = ("quantiles", "distances")
+_EXAMPLES = {
+    "quantiles": "0.25,0.5",
+    "distances": "100,500",
+    "years": "2012,2018",
+    "classes": "31,32",
+}
+
+
 def numbers_of(text: str, name: str) -> list[float]:
     """Return the numbers of a comma-separated list.
 
@@ -251,18 +261,12 @@ def numbers_of(text: str, name: str) -> list[float]:
     Refused
         A part is not a number, or is a year or class and not an integer.
     """
+    is_whole = name not in _DECIMALS
     try:
-        return [
-            float(part) if name == "quantiles" else int(part)
-            for part in text.split(",")
-            if text.strip()
-        ]
+        parts = text.split(",") if text.strip() else []
+        return [int(part) if is_whole else float(part) for part in parts]
     except ValueError:
-        kind, example = (
-            ("numbers", "0.25,0.5")
-            if name == "quantiles"
-            else ("whole numbers", "2012,2018" if name == "years" else "31,32")
-        )
+        kind, example = "whole numbers" if is_whole else "numbers", _EXAMPLES[name]
         raise Refused(
             f"{name} are {kind} with commas between them, as {example}, and not `{text}`", status=2
         ) from None

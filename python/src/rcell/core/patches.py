@@ -18,7 +18,7 @@ from .protocol import NULL
 from .scripts import Run, Stats
 from .sources import ArrayMap, MapLike, source_of
 
-__all__ = ["clump", "patches"]
+__all__ = ["clump", "clump_line", "patches"]
 
 MOST_CORE_DEPTH = 20
 # Of the sides of a cell on the border of its patch, up to two are ends (north, south) and up to two are flanks (west, east).
@@ -158,7 +158,7 @@ def clump(
     check_connectivity(connectivity)
     fewest = 1 if min_cells is None else whole_number_of("min_cells", min_cells, 1)
     listed = classes_of(classes)
-    script = f"{_clump_line(connectivity)}\nr.stats -c -n input=patch,map"
+    script = f"{clump_line(connectivity)}\nr.stats -c -n input=patch,map"
     stats, numbers = Run(script, {"map": source_of("map", map)}, {}, crs).outputs(["patch"])
     assert isinstance(stats, Stats) and isinstance(numbers, ArrayMap) and stats.cells is not None
     kept = np.zeros(len(stats.categories) + 1, np.bool_)
@@ -169,8 +169,9 @@ def clump(
     return dataclasses.replace(numbers, null=is_null, labels={}, colors={})
 
 
-def _clump_line(connectivity: int) -> str:
-    return f"r.clump {'-d ' if connectivity == 8 else ''}input=map output=patch"
+def clump_line(connectivity: int, name: str = "map") -> str:
+    """Return the line of a script that numbers the patches of a map."""
+    return f"r.clump {'-d ' if connectivity == 8 else ''}input={name} output=patch"
 
 
 def _script(
@@ -180,7 +181,7 @@ def _script(
     leaves = "(isnull(patch[{0}]) ||| patch[{0}] != patch)"
     north, south, west, east = (leaves.format(place) for place in ("-1,0", "1,0", "0,-1", "0,1"))
     core = "if({0}[-1,0] == {0} && {0}[1,0] == {0} && {0}[0,-1] == {0} && {0}[0,1] == {0}, {0}, null())"
-    lines = [_clump_line(connectivity)]
+    lines = [clump_line(connectivity)]
     lines += [
         f"r.mapcalc side = if(isnull(patch), null(), {north} + {south} + {_FLANK} * ({west} + {east}))"
     ]

@@ -1,0 +1,278 @@
+# SPDX-License-Identifier: Apache-2.0 OR GPL-2.0-or-later
+"""A smallest mapping unit: small patches are merged into their neighbours."""
+
+from __future__ import annotations
+
+import dataclasses
+import heapq
+import math
+import numbers
+from collections.abc import Mapping, Sequence
+from typing import Any, NamedTuple, Optional
+
+import numpy as np
+
+from .area import measure_of
+from .arguments import check_connectivity, whole_number_of
+from .arrays import NDArray
+from .errors import BadArgument, RcellError
+from .host import option
+from .patches import clump_line
+from .protocol import NULL
+from .scripts import Run, Stats
+from .sources import ArrayMap, MapLike, Source, source_of
+
+__all__ = ["Sieved", "cells_of_hectares", "sieve"]
+
+# Digits that a number of cells is rounded to, before a part of a cell counts as one more.
+_DIGITS = 9
+_SIDES = {"right": "0,1", "below": "1,0"}
+_CORNERS = {"falling": "1,1", "rising": "1,-1"}
+_CHANGED = "r.mapcalc changed = if(isnull(map), null(), isnull(new) ||| map != new)"
+
+Integers = NDArray[np.int64]
+
+
+class Sieved(NamedTuple):
+    """What `rcell.sieve` did to a map, as counted in the result.
+
+    Parameters
+    ----------
+    patches_before, patches_after : int
+        The patches of the map and of the result.
+    cells_changed : int
+        The cells with another class, or none.
+    patches_below : int
+        The patches below the smallest size that are left: they share no side with another class.
+
+    Examples
+    --------
+    >>> import numpy as np, rcell
+    >>> rcell.sieve(np.array([[1, 1, 2, 3, 3]]), min_cells=2).sieved
+    Sieved(patches_before=3, patches_after=2, cells_changed=1, patches_below=0)
+    """
+
+    patches_before: int
+    patches_after: int
+    cells_changed: int
+    patches_below: int
+
+
+def sieve(
+    map: MapLike,
+    min_cells: Optional[int] = None,
+    min_ha: Optional[float] = None,
+    connectivity: int = 4,
+    drop: bool = False,
+    *,
+    crs: Any = None,
+) -> tuple[ArrayMap, Sieved]:
+    """Merge patches below a size into their neighbours, or leave them out.
+
+    While a patch below the size shares a side with another class, the smallest such patch (of several, the one whose first cell comes
+    first) gets the class of the neighbour with which it shares most sides (of several, the one whose first cell comes first). It
+    then becomes one patch with all patches of this class that it touches.
+
+    Parameters
+    ----------
+    map : path, array, .. as a map of `run`
+    min_cells : int
+        The smallest number of cells of a patch.
+    min_ha : float
+        The smallest area of a patch in hectares, in place of `min_cells`; not in degrees.
+    connectivity : {4, 8}
+        4 connects cells that share an edge, 8 also cells that share a corner.
+    drop : bool
+        Whether small patches become null instead of being merged.
+    crs : any, optional
+        The reference system of a map that has none.
+
+    Returns
+    -------
+    Raster
+        With the labels and colours of the map. Its attribute `sieved` has the numbers of patches and of changed cells, which are
+        counted in the result. A map without small patches is returned unchanged.
+
+    Raises
+    ------
+    Refused
+        As for `run`.
+    BadArgument
+        Both sizes are given, or none; a size is out of range, or in hectares for a map in degrees or without a reference system.
+
+    Examples
+    --------
+    >>> import numpy as np, rcell
+    >>> rcell.sieve(np.array([[1, 1, 2, 3, 3]]), min_cells=2).array.tolist()
+    [[1, 1, 1, 3, 3]]
+    """
+    check_connectivity(connectivity)
+    source = source_of("map", map)
+    steps = {} if drop else {**_SIDES, **(_CORNERS if connectivity == 8 else {})}
+    script = _script("map", connectivity, ["patch,map"], steps)
+    run = Run(script, {"map": source}, {}, crs)
+    fewest = _fewest(min_cells, min_ha, source, run.crs)
+    sizes, *touching, patch = run.outputs(["patch"])
+    assert isinstance(sizes, Stats) and sizes.cells is not None and isinstance(patch, ArrayMap)
+    classes, cells = sizes.categories[:, 1], sizes.cells
+    if drop:
+        new = np.where(cells < fewest, NULL, classes)
+    else:
+        sides, corners = (_Touching.of(cells.size, part) for part in (touching[:2], touching[2:]))
+        new = _Merging(classes, cells, sides, corners).run(fewest)
+    by_number = np.concatenate([[NULL], new]).astype(np.int32)
+    made = by_number[np.maximum(patch.array, 0)]
+    sieved = dataclasses.replace(
+        patch,
+        name="sieved",
+        array=made,
+        null=made == NULL,
+        labels=source.labels,
+        colors=source.colors,
+    )
+    script = _script("new", connectivity, ["patch", "changed"], {} if drop else _SIDES)
+    run = Run(f"{_CHANGED}\n{script}", {"map": source, "new": sieved}, {}, crs)
+    return sieved, _counted(run, fewest, cells.size)
+
+
+def _fewest(min_cells: Any, min_ha: Any, source: Source, crs: Any) -> int:
+    """Return the smallest number of cells of a patch."""
+    if (min_cells is None) == (min_ha is None):
+        met = "neither" if min_cells is None else "both"
+        raise BadArgument(
+            "min_cells", f"or {option('min_ha').rstrip('=')} must be given; got {met}"
+        )
+    if min_ha is None:
+        return whole_number_of("min_cells", min_cells, 1)
+    return cells_of_hectares("min_ha", min_ha, source, crs)
+
+
+def cells_of_hectares(name: str, given: Any, source: Source, crs: Any) -> int:
+    """Return how many cells an argument in hectares is: parts of a cell count as one."""
+    is_number = isinstance(given, numbers.Real) and not isinstance(given, bool)
+    if not is_number or not 0 < given < math.inf:
+        raise BadArgument(name, f"must be a number above 0; got {given!r}")
+    if crs is None:
+        example = option("crs", "EPSG:25832")
+        told = "needs a coordinate reference system, and the map has none: state it, for example"
+        raise BadArgument(name, f"{told} {example}; got {given!r}")
+    measure = measure_of("ha", source, crs)
+    if measure.by_row is not None:
+        told = "is not for maps in degrees, whose cells differ in area"
+        raise BadArgument(name, f"{told}; got {given!r}: give {option('min_cells')}")
+    return max(1, math.ceil(round(float(given) * measure.divisor / measure.cell, _DIGITS)))
+
+
+def _script(name: str, connectivity: int, tables: Sequence[str], steps: Mapping[str, str]) -> str:
+    """Return a script with tables of patches, and of the pairs of patches that are one step from each other."""
+    lines = [clump_line(connectivity, name), *(f"r.stats -c -n input={maps}" for maps in tables)]
+    for title, step in steps.items():
+        other = f"if(patch != patch[{step}], patch[{step}], null())"
+        lines += [f"r.mapcalc {title} = {other}", f"r.stats -c -n input=patch,{title}"]
+    return "\n".join(lines)
+
+
+class _Touching(NamedTuple):
+    """The patches that each patch touches, and how often: patch `n` has the entries from `starts[n]` up to `starts[n + 1]`."""
+
+    starts: list[int]
+    near: memoryview
+    times: memoryview
+
+    @classmethod
+    def of(cls, patches: int, tables: Sequence[Any]) -> _Touching:
+        """Return what tables of pairs of patches say, in both directions; patches count from 0."""
+        pairs = [table.categories - 1 for table in tables] or [np.empty((0, 2), np.int64)]
+        both = np.concatenate([*pairs, *(pair[:, ::-1] for pair in pairs)])
+        order = np.argsort(both[:, 0], kind="stable")
+        times = np.concatenate([table.cells for table in tables] * 2 or [np.empty(0, np.int64)])
+        starts = np.searchsorted(both[order, 0], np.arange(patches + 1))
+        near = np.ascontiguousarray(both[order, 1])
+        return cls(starts.tolist(), near.data, times[order].data)
+
+
+class _Merging:
+    """The patches of a map that become larger patches; a patch has the smallest number of its parts.
+
+    Parameters
+    ----------
+    classes, cells : array of int64
+        Of each patch, in the order of their first cells.
+    sides, corners : _Touching
+    """
+
+    def __init__(
+        self, classes: Integers, cells: Integers, sides: _Touching, corners: _Touching
+    ) -> None:
+        self._classes: list[int] = classes.tolist()
+        self._cells: list[int] = cells.tolist()
+        self._sides, self._corners = sides, corners
+        self._into = list(range(cells.size))
+        self._parts: dict[int, list[int]] = {}
+
+    def run(self, fewest: int) -> Integers:
+        """Return the class of each patch in the end."""
+        small = [(size, patch) for patch, size in enumerate(self._cells) if size < fewest]
+        heapq.heapify(small)
+        while small:
+            size, patch = heapq.heappop(small)
+            if self._into[patch] != patch or self._cells[patch] != size:
+                continue  # it is part of another patch, or has grown
+            shared = self._shared(patch, self._sides)
+            if not shared:
+                continue  # it borders null alone
+            most = max(shared.values())
+            into = min(near for near, times in shared.items() if times == most)
+            touched = [*shared, *self._shared(patch, self._corners)]
+            code = self._classes[into]
+            joined = {patch, *(near for near in touched if self._classes[near] == code)}
+            self._classes[min(joined)] = code
+            grown = self._join(joined, fewest)
+            if self._cells[grown] < fewest:
+                heapq.heappush(small, (self._cells[grown], grown))
+        roots = np.array(self._into, np.int64)
+        while (roots[roots] != roots).any():
+            roots = roots[roots]
+        return np.array(self._classes, np.int64)[roots]
+
+    def _shared(self, patch: int, touching: _Touching) -> dict[int, int]:
+        """Return how often a small patch touches each other patch."""
+        found: dict[int, int] = {}
+        starts, into = touching.starts, self._into
+        for part in self._parts.get(patch, (patch,)):
+            ends = slice(starts[part], starts[part + 1])
+            for near, times in zip(touching.near[ends].tolist(), touching.times[ends].tolist()):
+                near = near if into[near] == near else self._root(near)
+                if near != patch:
+                    found[near] = found.get(near, 0) + times
+        return found
+
+    def _join(self, joined: set[int], fewest: int) -> int:
+        """Make one patch of several and return it; only of small ones the parts are needed later."""
+        grown = min(joined)
+        cells = sum(self._cells[part] for part in joined)
+        parts = (self._parts.pop(part, [part]) for part in joined)
+        if cells < fewest:
+            self._parts[grown] = [part for listed in parts for part in listed]
+        for part in joined:
+            self._into[part] = grown
+        self._cells[grown] = cells
+        return grown
+
+    def _root(self, patch: int) -> int:
+        into = self._into
+        while into[patch] != patch:
+            into[patch] = into[into[patch]]
+            patch = into[patch]
+        return patch
+
+
+def _counted(run: Run, fewest: int, before: int) -> Sieved:
+    """Count the result: a small patch that is left must not share a side with another class."""
+    sizes, changes, *pairs = (part for part in run.outputs() if isinstance(part, Stats))
+    assert sizes.cells is not None and changes.cells is not None
+    small = sizes.categories[sizes.cells < fewest, 0]
+    if any(np.isin(small, pair.categories).any() for pair in pairs):
+        raise RcellError("a small patch with a neighbour is left: this is an error of rcell")
+    counts = dict(zip(changes.categories[:, 0].tolist(), changes.cells.tolist()))
+    return Sieved(before, sizes.cells.size, counts.get(1, 0), small.size)
