@@ -11,7 +11,10 @@ from dataclasses import dataclass, field, replace
 
 # The folder with `cases` and `rasters`, which may be another one than this.
 HERE = pathlib.Path(os.environ.get("RCELL_CASES") or pathlib.Path(__file__).resolve().parent)
-TABLES = ("composition", "cross", "change", "patches", "zonal", "adjacency")
+TABLES = (
+    *("composition", "cross", "change", "patches", "zonal", "adjacency"),
+    *("dominant", "accuracy"),
+)
 MAPS = ("majority", "align", "reclass", "clump", "sieve", "within")
 # Maps with an account of how they were made, and its columns.
 FACTS = {
@@ -19,9 +22,11 @@ FACTS = {
     "sieve": ("patches_before", "patches_after", "cells_changed", "patches_below"),
 }
 ANSWERS = (*TABLES, *MAPS)
+# Calls that the package for R does not have yet.
+NOT_IN_R: tuple[str, ...] = ("dominant", "accuracy")
 POLYGONS = re.compile(r"\.(geojson|gpkg|shp|fgb)(\|layername=.*)?$")
 # Options of a call that are files; errors of QGIS and of the shell have no kind but in their text.
-FILES = ("labels", "zone_labels", "rules")
+FILES = ("labels", "zone_labels", "rules", "areas")
 KINDS = [
     ("other crs", r"its coordinate reference system is |it has no coordinate reference system"),
     ("other region", r"not of the region of |shifted by |cells of "),
@@ -96,7 +101,11 @@ class Case:
     def is_for(self, front: str) -> bool:
         """Whether a package runs the case: r.rcell has scripts alone, and `rcell-gis` only the ready calls."""
         is_answer = self.call in ANSWERS
-        is_outside = {"grass": is_answer, "shell": not is_answer}.get(front, False)
+        is_outside = {
+            "grass": is_answer,
+            "shell": not is_answer,
+            "r": self.call in NOT_IN_R,
+        }.get(front, False)
         return front not in self.left_out and not is_outside
 
 
@@ -130,7 +139,7 @@ def read(path: pathlib.Path) -> Case:
     kind, *words = blocks["call"][0].split()
     options = dict(word.split("=", 1) for word in words if "=" in word)
     for key in FILES:
-        if key in options:
+        if options.get(key, "map") != "map":
             options[key] = _path(options[key])
     outs = [word.rpartition("=") for line in blocks.get("out", []) for word in line.split()]
     return Case(

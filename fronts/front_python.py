@@ -25,9 +25,9 @@ KINDS = [
 # The type of each parameter of the ready calls that is not a map.
 OPTIONS: dict[str, Callable[[str], Any]] = {
     "area": lambda text: None if text == "none" else text,
-    **dict.fromkeys(("include_null", "fill", "drop"), lambda text: text == "yes"),
+    **dict.fromkeys(("include_null", "fill", "each", "drop"), lambda text: text == "yes"),
     **dict.fromkeys(("labels", "zone_labels", "zone_field", "resample", "crs"), str),
-    **dict.fromkeys(("rules", "other"), str),
+    **dict.fromkeys(("rules", "other", "areas", "field"), str),
     **dict.fromkeys(("years", "classes"), lambda text: [int(part) for part in text.split(",")]),
     **dict.fromkeys(("connectivity", "min_cells", "core_depth", "size"), int),
     **dict.fromkeys(
@@ -87,6 +87,11 @@ def answered(case: Case) -> list[str]:
         part = getattr(found, case.options.get("table", "table"))
         return of_frame(case, part.reset_index() if case.options.get("table") == "matrix" else part)
     answer = getattr(rcell, case.call)(*maps, **options)
+    if case.call == "accuracy":
+        part = case.options.get("table", "classes")
+        if part == "summary":
+            return of_frame(case, pandas.DataFrame([answer[2:]], columns=answer._fields[2:]))
+        answer = answer.classes if part == "classes" else answer.matrix.reset_index()
     if case.outs:
         answer.write(case.outs["out"])
         return [f"written: {case.outs['out']}"]

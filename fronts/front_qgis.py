@@ -33,6 +33,8 @@ from qgis.PyQt.QtCore import QVariant
 
 # Parts of a change that are outputs of their own.
 PARTS = {"matrix": "MATRIX", "summary": "SUMMARY"}
+# What the second map of a call is.
+SECOND = {"zonal": "ZONES", "dominant": "ZONES", "accuracy": "REFERENCE"}
 TYPES = {
     QVariant.Int: "integer",
     QVariant.LongLong: "integer",
@@ -99,9 +101,8 @@ def of_layer(layer: Any, digits: int = 12) -> list[str]:
 
 def layer_of(case: Case, name: str) -> Any:
     path = case.maps[name]
-    return (
-        QgsVectorLayer(path, name, "ogr") if POLYGONS.search(path) else QgsRasterLayer(path, name)
-    )
+    is_vector = POLYGONS.search(path) or path.endswith(".csv")
+    return QgsVectorLayer(path, name, "ogr") if is_vector else QgsRasterLayer(path, name)
 
 
 def types_of(layer: Any) -> str:
@@ -114,16 +115,17 @@ def parameters_of(case: Case) -> dict[str, Any]:
     parameters: dict[str, Any] = {
         "INPUT": layers if case.call in ("cross", "change") else layers[0]
     }
-    if case.call == "zonal":
-        parameters["ZONES"] = layers[1]
+    if case.call in SECOND:
+        parameters[SECOND[case.call]] = layers[1]
     for key, text in case.options.items():
         name = {"rules": "RULES_FILE"}.get(key, key.upper())
+        name += "_FILE" * (key == "areas" and text != "map")
         if key != "table":
             parameters[name] = (
                 layer_of(case, text)
                 if key in ("zones", "to")
                 else text == "yes"
-                if key in ("fill", "include_null", "drop")
+                if key in ("fill", "include_null", "each", "drop")
                 else text
             )
     return parameters

@@ -20,7 +20,7 @@ from cases import FACTS, MAPS, Case, Scratch, cases, kind_of, notes
 
 warnings.simplefilter("ignore", rasterio.errors.NotGeoreferencedWarning)
 PROGRAM = os.path.join(os.path.dirname(__file__), "..", "helpers", "rcell-gis")
-FLAGS = ("include_null", "fill", "drop")
+FLAGS = ("include_null", "fill", "each", "drop")
 
 
 def ran(words: list[str]) -> tuple[int, str, str]:

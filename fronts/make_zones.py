@@ -108,6 +108,23 @@ def write_missing() -> None:
         write_layer(f"not_a_number.{ending}", {"share": "real"}, shapes)
 
 
+# Metres to the east and south of the corner of the maps, and the class: two in a cell, at its edges, on null, outside, of no class.
+POINTS = [
+    *((10, 10, 1), (12, 14, 2), (20, 0, 1), (50, 10, 2), (70, 10, 1), (90, 10, 3), (10, 50, 3)),
+    *((30, 50, 1), (50, 50, 1), (90, 70, 2), (70, 70, 1), (100, 10, 3), (30, 30, None)),
+]
+
+
+def write_reference() -> None:
+    """Points with a class, as a number and as a text."""
+    names = {1: "wood", 2: "meadow", 3: "town"}
+    rows = [
+        (f"POINT ({5e5 + east} {54e5 - south})", {"class": code, "name": names.get(code, "")})
+        for east, south, code in POINTS
+    ]
+    write_layer("reference.gpkg", {"class": "int", "name": "text"}, rows, kind=ogr.wkbPoint)
+
+
 def write_kinds() -> None:
     """Fields of all types, in which nothing is missing: the left half and the right half of the map."""
     values = {
@@ -259,6 +276,8 @@ def write_maps() -> None:
     write_virtual("virtual", "cover")
 
 
+# The example of Olofsson et al. 2014: a row for each class of the map, a column for each class of the reference.
+SAMPLE = [[66, 0, 5, 4], [0, 55, 8, 12], [1, 0, 153, 11], [2, 1, 9, 313]]
 LEGENDS = {
     "capitals.csv": "Value,LABEL\n1,wood\n2,heath\n3,moor\n",
     "label_first.csv": "label,value\nwood,1\nheath,2\nmoor,3\n",
@@ -290,6 +309,15 @@ LEGENDS = {
     "crosswalk_short.csv": "value,new,label\n1,10,green\n2,20,meadow\n",
     "crosswalk_ranges.csv": "value,new,label\n1-2,10,green\n3,20,town\n",
     "crosswalk_twice.csv": "value,new,label\n1-2,10,green\n2,20,town\n",
+    "sample.csv": "map,reference,cells\n"
+    + "".join(
+        f"{mapped},{actual},{cells}\n"
+        for mapped, row in enumerate(SAMPLE, 1)
+        for actual, cells in enumerate(row, 1)
+        if cells
+    ),
+    "areas.csv": "value,area\n1,18000\n2,13500\n3,288000\n4,580500\n",
+    "areas_short.csv": "value,area\n1,18000\n2,13500\n3,288000\n",
 }
 PALETTE = '<qgis><pipe><rasterrenderer type="paletted"><colorPalette>{}</colorPalette></rasterrenderer></pipe></qgis>\n'
 RAMP = '<qgis><pipe><rasterrenderer type="singlebandpseudocolor"><rastershader><colorrampshader>{}</colorrampshader></rastershader></rasterrenderer></pipe></qgis>\n'
@@ -327,6 +355,7 @@ STYLES = {
 def main() -> None:
     write_missing()
     write_kinds()
+    write_reference()
     write_shapes()
     write_systems()
     write_maps()

@@ -7,6 +7,7 @@ import datetime
 import re
 from collections.abc import Iterator, Sequence
 from dataclasses import dataclass, replace
+from types import SimpleNamespace
 from typing import Any, Optional
 
 import numpy as np
@@ -66,7 +67,7 @@ def raster_of(layer: QgsRasterLayer, name: str, band: int | None = None) -> Sour
     return raster.with_labels(labels) if labels else raster
 
 
-def zones_of(layer: Any, name: str = "") -> Source | PolygonLayer:
+def zones_of(layer: Any) -> Source | FeatureLayer:
     """Return a layer as zones: a raster, or polygons.
 
     Raises
@@ -75,9 +76,24 @@ def zones_of(layer: Any, name: str = "") -> Source | PolygonLayer:
         It is neither.
     """
     if isinstance(layer, QgsRasterLayer):
-        return raster_of(layer, name or layer.name())
+        return raster_of(layer, layer.name())
     if not isinstance(layer, QgsVectorLayer) or layer.geometryType() != QgsWkbTypes.PolygonGeometry:
         raise BadMap(layer.name(), "neither polygons nor a raster")
+    return _features_of(layer)
+
+
+def reference_of(layer: Any) -> Any:
+    """Return a layer as a reference: a raster, points, or a table as a DataFrame has its columns and rows."""
+    if isinstance(layer, QgsRasterLayer):
+        return raster_of(layer, layer.name())
+    found = _features_of(layer)
+    if layer.geometryType() != QgsWkbTypes.NullGeometry:
+        return found
+    rows = [dict(zip(found.fields, map(plain, attributes))) for _, attributes, _ in found.rows]
+    return SimpleNamespace(columns=found.fields, to_dict=lambda _: rows, files=found.files)
+
+
+def _features_of(layer: QgsVectorLayer) -> FeatureLayer:
     if layer.providerType() == "ogr" and "|" not in layer.source():
         ogr.open_layer(layer.name(), layer.source())  # QGIS takes the first of several layers
     rows = [
@@ -85,12 +101,12 @@ def zones_of(layer: Any, name: str = "") -> Source | PolygonLayer:
         for feature in layer.getFeatures()
     ]
     fields = [field.name() for field in layer.fields()]
-    return PolygonLayer(layer.name(), wkt_of(layer.crs()) or None, fields, rows, layer.source())
+    return FeatureLayer(layer.name(), wkt_of(layer.crs()) or None, fields, rows, layer.source())
 
 
 @dataclass(frozen=True)
-class PolygonLayer:
-    """Polygons of a layer, as the core takes them; only the main thread may ask the layer itself.
+class FeatureLayer:
+    """Polygons or points of a layer, as the core takes them; only the main thread may ask the layer itself.
 
     Attributes
     ----------

@@ -106,12 +106,14 @@ class ProcessTest(unittest.TestCase):
     def test_it_is_listed(self) -> None:
         told = self.process("list").stdout
         for name in (
+            "accuracy",
             "adjacency",
             "align",
             "change",
             "clump",
             "composition",
             "cross",
+            "dominant",
             "majority",
             "patches",
             "reclass",

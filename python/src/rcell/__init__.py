@@ -17,6 +17,7 @@ from __future__ import annotations
 TYPE_CHECKING = False  # typing takes longer to import than all of this module
 
 __all__ = [
+    "Accuracy",
     "Aligned",
     "BadArgument",
     "BadMap",
@@ -38,6 +39,7 @@ __all__ = [
     "WriteFailed",
     "WrongProgram",
     "__version__",
+    "accuracy",
     "adjacency",
     "align",
     "bands",
@@ -45,6 +47,7 @@ __all__ = [
     "clump",
     "composition",
     "cross",
+    "dominant",
     "grid",
     "majority",
     "patches",
@@ -62,6 +65,7 @@ if TYPE_CHECKING:
 
     from . import tiles
     from ._version import __version__
+    from .core.accuracy import Accuracy
     from .core.align import Aligned
     from .core.change import Change
     from .core.errors import (
@@ -84,12 +88,14 @@ if TYPE_CHECKING:
     from .core.sources import MapLike
     from .frames import (
         Result,
+        accuracy,
         adjacency,
         align,
         change,
         clump,
         composition,
         cross,
+        dominant,
         grid,
         majority,
         patches,
@@ -109,6 +115,7 @@ if TYPE_CHECKING:
 # Each name is imported when it is first used: the command line reads and explains files without numpy.
 _MODULES = {
     "._version": ("__version__",),
+    ".core.accuracy": ("Accuracy",),
     ".core.align": ("Aligned",),
     ".core.change": ("Change",),
     ".core.errors": (
@@ -131,12 +138,14 @@ _MODULES = {
     ".core.sources": ("MapLike",),
     ".frames": (
         "Result",
+        "accuracy",
         "adjacency",
         "align",
         "change",
         "clump",
         "composition",
         "cross",
+        "dominant",
         "grid",
         "majority",
         "patches",

@@ -10,10 +10,12 @@ from typing import TYPE_CHECKING, Any, ParamSpec, TypeVar, overload
 
 import numpy as np
 
+from .core import accuracy as _accuracy
 from .core import adjacency as _adjacency
 from .core import align as _align
 from .core import change as _change
 from .core import composition as _composition
+from .core import dominant as _dominant
 from .core import majority as _majority
 from .core import patches as _patches
 from .core import reclass as _reclass
@@ -21,6 +23,7 @@ from .core import scripts as _scripts
 from .core import sieve as _sieve
 from .core import within as _within
 from .core import zonal as _zonal
+from .core.accuracy import Accuracy
 from .core.change import Change
 from .core.columns import Column, Matrix, Table
 from .core.protocol import NULL
@@ -32,12 +35,14 @@ if TYPE_CHECKING:
 
 __all__ = [
     "Result",
+    "accuracy",
     "adjacency",
     "align",
     "change",
     "clump",
     "composition",
     "cross",
+    "dominant",
     "frame_of",
     "grid",
     "majority",
@@ -103,8 +108,10 @@ def _returning(
     return wrap
 
 
-def _frames_of(found: Change) -> Change:
-    return Change(*map(frame_of, found))
+def _frames_of(found: Made) -> Made:
+    """Return a named tuple of a core's call with its tables as DataFrames."""
+    parts = (frame_of(part) if isinstance(part, Table) else part for part in found)
+    return type(found)(*parts)
 
 
 def _raster_of(found: Any) -> Raster:
@@ -194,7 +201,9 @@ patches = _framed(_patches.patches)
 zonal = _framed(_zonal.zonal)
 adjacency = _framed(_adjacency.adjacency)
 table = _framed(_scripts.table)
+dominant = _framed(_dominant.dominant)
 change = _returning("rcell.Change", _frames_of)(_change.change)
+accuracy = _returning("rcell.Accuracy", _frames_of)(_accuracy.accuracy)
 majority = _rastered(_majority.majority)
 align = _rastered(_align.align)
 reclass = _rastered(_reclass.reclass)

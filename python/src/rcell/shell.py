@@ -152,10 +152,10 @@ def _call(name: str) -> Callable[..., Any]:
 
 def _options(words: argparse.Namespace) -> dict[str, Any]:
     """Return the options of a call that are given."""
-    own = {"format", "out", "band", "table", "legends"}
+    own = {"format", "out", "band", "table", "part", "legends"}
     names = (ARGUMENTS.get(name, name) for name in words.options if name not in own)
     given = {name: getattr(words, name) for name in names}
-    given.update({"zones": words.zones} if words.command == "zonal" else {})
+    given.update({"zones": words.zones} if words.command in ("zonal", "dominant") else {})
     if given.get("area") == "none":
         return {**_kept(given), "area": None}
     return _kept(given)
@@ -209,6 +209,16 @@ def _change(words: argparse.Namespace) -> None:
     words.given = dict(zip(several if len(words.maps) > 2 else ("before", "after"), words.maps))
     maps = [_map(words, path) for path in words.maps]
     table = getattr(_call("change")(maps, **_options(words)), words.table)
+    _put(words, table.columns, table.rows)
+
+
+def _accuracy(words: argparse.Namespace) -> None:
+    words.given = {"map": words.map, "reference": words.reference}
+    map = None if words.map == "-" else _map(words, words.map)
+    found = _call("accuracy")(map, words.reference, **_options(words))
+    is_summary = words.table == "summary"
+    summary_of = importlib.import_module("rcell.core.accuracy").summary_of
+    table = summary_of(found) if is_summary else getattr(found, words.table)
     _put(words, table.columns, table.rows)
 
 
@@ -491,6 +501,20 @@ COMMANDS = {
         "maps",
         f"years table labels area {_TABLE}",
         _change,
+    ),
+    "dominant": Command(
+        "MAP... ZONES",
+        "the most and the least frequent class of each zone",
+        "maps zone_map",
+        f"zone_field zone_labels layer each_zone labels area {_TABLE}",
+        _of_each,
+    ),
+    "accuracy": Command(
+        "MAP REFERENCE",
+        "the accuracy of a map, and the areas of its classes as a sample corrects them",
+        "map reference",
+        f"areas part field layer labels area {_TABLE}",
+        _accuracy,
     ),
     "patches": Command(
         "MAP...",

@@ -56,6 +56,13 @@ OPTIONS: dict[str, tuple[str, dict[str, Any]]] = {
         "script",
         {"metavar": "SCRIPT", "help": 'a file, `-`, or a line, for example "r.stats -c input=lc"'},
     ),
+    "reference": (
+        "reference",
+        {
+            "metavar": "REFERENCE",
+            "help": "a map, points, or a CSV with the columns map, reference and cells",
+        },
+    ),
     "zone_map": ("zones", {"metavar": "ZONES", "help": "a map, or polygons"}),
     "zones": ("--zones", {"metavar": "ZONES", "help": "a map, or polygons"}),
     "zone_field": (
@@ -136,6 +143,22 @@ OPTIONS: dict[str, tuple[str, dict[str, Any]]] = {
             "choices": ["table", "matrix", "summary"],
             "default": "table",
             "help": "a row for each change, a matrix, or gains and losses by class",
+        },
+    ),
+    "areas": (
+        "--areas",
+        {
+            "metavar": "AREAS",
+            "help": "the areas of the classes: map counts them, or a CSV with value and area",
+        },
+    ),
+    "field": ("--field", {"metavar": "FIELD", "help": "the field of points with their class"}),
+    "part": (
+        "--table",
+        {
+            "choices": ["classes", "matrix", "summary"],
+            "default": "classes",
+            "help": "a row for each class, the confusion matrix, or one row for all classes",
         },
     ),
     "quantiles": (

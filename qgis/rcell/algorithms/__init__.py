@@ -3,6 +3,7 @@
 
 from __future__ import annotations
 
+from .accuracy import AccuracyAlgorithm
 from .align import AlignAlgorithm
 from .majority import MajorityAlgorithm, WithinAlgorithm
 from .patches import ClumpAlgorithm, PatchesAlgorithm, SieveAlgorithm
@@ -13,6 +14,7 @@ from .tables import (
     ChangeAlgorithm,
     CompositionAlgorithm,
     CrossAlgorithm,
+    DominantAlgorithm,
     ZonalAlgorithm,
 )
 
@@ -24,6 +26,8 @@ ALGORITHMS = (
     ClumpAlgorithm,
     PatchesAlgorithm,
     ZonalAlgorithm,
+    DominantAlgorithm,
+    AccuracyAlgorithm,
     MajorityAlgorithm,
     SieveAlgorithm,
     WithinAlgorithm,

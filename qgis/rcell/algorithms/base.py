@@ -43,7 +43,7 @@ from ..engine.core.protocol import NULL
 from ..engine.core.sources import ArrayMap, Source, sources_of
 from ..engine.readers.gdal import RasterMap, open_dataset
 from ..host import find_program, host_of, watch_of
-from ..layers import PolygonLayer, colours_of, raster_of, wkt_of, zones_of
+from ..layers import FeatureLayer, colours_of, raster_of, wkt_of, zones_of
 from ..results import MOST_CLASSES, fields_of, put_features, put_legend, put_raster
 from ..tables import Check, check_target, is_file_of_table, no_check, write_table
 from ..translation import tr
@@ -75,7 +75,7 @@ class RcellAlgorithm(QgsProcessingAlgorithm):
         self.context = QgsProcessingContext()
         self.feedback = QgsProcessingFeedback()
         self.rasters: list[Source] = []
-        self.zones: Source | PolygonLayer | None = None
+        self.zones: Source | FeatureLayer | None = None
         self.colours: dict[int, Any] = {}
         self.check: Check = no_check
 
@@ -315,7 +315,7 @@ class RcellAlgorithm(QgsProcessingAlgorithm):
             if zones is None or not zones.isValid():
                 raise_unreadable(self.given["ZONES"])
             self.zones = zones_of(zones)
-        is_raster = self.zones is not None and not isinstance(self.zones, PolygonLayer)
+        is_raster = self.zones is not None and not isinstance(self.zones, FeatureLayer)
         self.fit([*self.rasters, self.zones] if is_raster else self.rasters)
 
     def zoning(self) -> dict[str, Any]:
@@ -377,7 +377,7 @@ class RcellAlgorithm(QgsProcessingAlgorithm):
     def inputs(self) -> list[str]:
         """Return the files that are read."""
         maps = [*self.rasters, *([self.zones] if self.zones else [])]
-        files = ("LABELS", "ZONE_LABELS", "RULES_FILE")
+        files = ("LABELS", "ZONE_LABELS", "RULES_FILE", "AREAS_FILE")
         named = [self.path(name) for name in files if self.given.get(name)]
         return [path for map in maps for path in map.files] + list(filter(None, named))
 

@@ -12,6 +12,7 @@ from qgis.core import (
 from ..engine.core.adjacency import adjacency
 from ..engine.core.change import change
 from ..engine.core.composition import composition, cross
+from ..engine.core.dominant import dominant
 from ..engine.core.errors import Refused
 from ..engine.core.zonal import zonal
 from ..layers import raster_of
@@ -217,6 +218,50 @@ class ZonalAlgorithm(RcellAlgorithm):
         quantiles = numbers_of(self.text("QUANTILES"), "quantiles")
         found = zonal(
             self.rasters[0], self.zones, quantiles, each=self.flag("EACH"), **self.zoning()
+        )
+        return {"OUTPUT": self.put_table("OUTPUT", found)}
+
+
+class DominantAlgorithm(RcellAlgorithm):
+    """Finds the most and the least frequent class of each zone."""
+
+    NAME = "dominant"
+    TITLE = noop("Dominant class of zones")
+    SHORT = noop(
+        "Lists the most frequent class of each zone, the least frequent one, and the number of classes."
+    )
+    TAGS = "majority, minority, variety, mode, zonal statistics, dominant, r.mode"
+    HELP = (
+        noop(
+            "<p>Frequencies and percentages are of the zone's cells that have data. Of equally frequent classes the smallest "
+            "counts.</p>"
+        ),
+        _ZONES,
+    )
+
+    def initAlgorithm(self, configuration: Any = None) -> None:
+        """Declare the parameters."""
+        self.add_raster()
+        self.add_zones(False)
+        self.add_flag("EACH", tr("Take polygons that overlap one after another"))
+        self.add_area()
+        self.add_labels()
+        self.add_crs()
+        self.add_table()
+
+    def read(self) -> None:
+        """Read the raster and its zones."""
+        self.read_zoned()
+
+    def answer(self) -> dict[str, Any]:
+        """Return the table."""
+        found = dominant(
+            self.rasters[0],
+            self.zones,
+            self.area(),
+            self.labels(),
+            each=self.flag("EACH"),
+            **self.zoning(),
         )
         return {"OUTPUT": self.put_table("OUTPUT", found)}
 

@@ -9,7 +9,7 @@ from typing import Any, Optional
 
 import numpy as np
 
-from ..readers import open_polygons
+from ..readers import open_features
 from .area import Measure, measure_of
 from .arrays import NDArray
 from .columns import Column
@@ -107,7 +107,7 @@ class Maps:
         each: bool = False,
     ) -> None:
         given: dict[str, Any] = {name: source_of(name, map) for name, map in maps.items()}
-        polygons = None if zones is None else open_polygons(zones, layer)
+        polygons = None if zones is None else open_features("zones", zones, layer)
         self._zones: Optional[Zones] = None
         if polygons is not None:
             first = next(iter(given.values()))

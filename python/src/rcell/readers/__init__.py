@@ -16,7 +16,7 @@ if TYPE_CHECKING:
     from ..core.sources import Source
     from ..core.zones import Layer
 
-__all__ = ["crs_of", "open_polygons", "open_raster"]
+__all__ = ["crs_of", "open_features", "open_raster"]
 
 _VECTOR = re.compile(r"\.(gpkg|shp|geojson|json|fgb|gml|kml|sqlite)$", re.IGNORECASE)
 _LAYER = "|layername="
@@ -40,11 +40,13 @@ def open_raster(name: str, path: str, band: int | None = None) -> Source:
     return source
 
 
-def open_polygons(given: Any, layer: Optional[str] = None) -> Optional[Layer]:
-    """Return polygons as a layer; None for anything else.
+def open_features(name: str, given: Any, layer: Optional[str] = None) -> Optional[Layer]:
+    """Return polygons or points as a layer; None for anything else.
 
     Parameters
     ----------
+    name : str
+        Its name in messages.
     given : path, GeoDataFrame, GeoSeries, GeoJSON as a dict, or Layer
         Paths may name a layer, as `FILE|layername=NAME`.
     layer : str, optional
@@ -59,8 +61,8 @@ def open_polygons(given: Any, layer: Optional[str] = None) -> Optional[Layer]:
     MissingLibrary
     """
     if hasattr(given, "burn"):
-        polygons: Layer = given
-        return polygons
+        found: Layer = given
+        return found
     if isinstance(given, (str, os.PathLike)):
         path, _, named = os.fspath(given).partition(_LAYER)
         if not _VECTOR.search(path):
@@ -70,20 +72,16 @@ def open_polygons(given: Any, layer: Optional[str] = None) -> Optional[Layer]:
                 "layer", f"must be the layer of the path; got {layer!r} and {named!r}"
             )
         if not path.startswith("/vsi") and not os.path.exists(path):
-            raise ReadFailed("zones", f"cannot open: {path}: No such file or directory")
-        return _open_layer(path, layer or named or None)
+            raise ReadFailed(name, f"cannot open: {path}: No such file or directory")
+        found = _reader("fiona", "ogr", "vector", "to read a layer").open_layer(
+            name, path, layer or named or None
+        )
+        return found
     if isinstance(given, dict) or hasattr(given, "geom_type"):
         from .polygons import layer_of
 
-        return layer_of(given)
+        return layer_of(name, given)
     return None
-
-
-def _open_layer(path: str, layer: Optional[str]) -> Layer:
-    """Return a layer of a file as fiona opens it, or GDAL's own Python without fiona."""
-    reader = _reader("fiona", "ogr", "vector", "to read polygons")
-    polygons: Layer = reader.open_layer("zones", path, layer)
-    return polygons
 
 
 def crs_of(text: str) -> Crs:

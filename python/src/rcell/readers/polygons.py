@@ -3,6 +3,7 @@
 
 from __future__ import annotations
 
+import numbers
 from collections.abc import Iterator, Mapping, Sequence
 from dataclasses import dataclass
 from typing import Any, Optional
@@ -59,8 +60,20 @@ class Polygons:
 
     def bounds(self, geometry: Any) -> tuple[float, float, float, float]:
         """Return west, south, east and north of a geometry."""
-        west, south, east, north = need("rasterio.features", "gis", _PURPOSE).bounds(geometry)
-        return west, south, east, north
+        # rasterio has no bounds of points, nor of geometries as fiona has them.
+        is_shape = hasattr(geometry, "bounds")
+        corners = () if is_shape else zip(*_places(geometry["coordinates"]))
+        x, y = (geometry.bounds[::2], geometry.bounds[1::2]) if is_shape else corners
+        return min(x), min(y), max(x), max(y)
+
+
+def _places(coordinates: Any) -> Iterator[Sequence[float]]:
+    """Yield the corners of a geometry of GeoJSON."""
+    if isinstance(coordinates[0], numbers.Real):
+        yield coordinates[:2]
+        return
+    for part in coordinates:
+        yield from _places(part)
 
 
 def _kind(geometry: Any) -> str:
@@ -71,7 +84,7 @@ def _kind(geometry: Any) -> str:
     return "" if is_empty else str(geometry["type"])
 
 
-def layer_of(given: Any) -> Optional[Polygons]:
+def layer_of(name: str, given: Any) -> Optional[Polygons]:
     """Return a GeoDataFrame, a GeoSeries or GeoJSON in memory as a layer; None for anything else."""
     if hasattr(given, "geom_type") and hasattr(given, "crs"):
         shapes = given.geometry
@@ -81,13 +94,13 @@ def layer_of(given: Any) -> Optional[Polygons]:
             table = given.drop(columns=shapes.name)
             properties = table.to_dict("records") or properties
             fields = tuple(map(str, table.columns))
-        return Polygons("zones", given.crs, fields, list(zip(given.index, properties, shapes)))
+        return Polygons(name, given.crs, fields, list(zip(given.index, properties, shapes)))
     if isinstance(given, Mapping) and given.get("type") == "FeatureCollection":
         records = [
             (feature.get("id", place), feature.get("properties") or {}, feature.get("geometry"))
             for place, feature in enumerate(given["features"])
         ]
-        fields = tuple(dict.fromkeys(name for _, properties, _ in records for name in properties))
+        fields = tuple(dict.fromkeys(word for _, properties, _ in records for word in properties))
         whole = [(place, {**dict.fromkeys(fields), **own}, shape) for place, own, shape in records]
-        return Polygons("zones", GEOJSON_CRS, fields, whole)
+        return Polygons(name, GEOJSON_CRS, fields, whole)
     return None

@@ -1,0 +1,363 @@
+# SPDX-License-Identifier: Apache-2.0 OR GPL-2.0-or-later
+"""The accuracy of a map, and the areas of its classes as a reference sample corrects them."""
+
+from __future__ import annotations
+
+import math
+import os
+from collections.abc import Mapping
+from typing import Any, NamedTuple, Optional
+
+import numpy as np
+
+from ..readers import open_features
+from .area import AUTO, unit_of
+from .arguments import MAX_CATEGORY
+from .arrays import NDArray
+from .columns import Column, Matrix, Table, distinct_names
+from .counting import Maps, label_column, legend_for
+from .crs import UNITS_OF_AREA
+from .errors import BadArgument, Refused
+from .host import option
+from .legends import is_missing, rows_of_file, whole_number
+from .points import points_of
+from .sources import MapLike, source_of
+
+__all__ = ["Accuracy", "accuracy", "summary_of"]
+
+_TABLES = (".csv", ".tsv")
+_SHOWN = 5
+
+Integers = NDArray[np.int64]
+Floats = NDArray[np.float64]
+
+
+class Accuracy(NamedTuple):
+    """The agreement of a map with a reference; the result of `accuracy`.
+
+    Parameters
+    ----------
+    matrix : pandas.DataFrame
+        The cells of the sample: a row for each class of the map, a column for each class of the reference.
+    classes : pandas.DataFrame
+        A row for each class: its accuracies and its area, with standard errors.
+    overall, overall_se : float
+        The share of the area that the map has right, and its standard error.
+    kappa : float
+        Cohen's kappa of the estimated shares; NaN if there is one class.
+    quantity, allocation : float
+        The disagreement in the quantities of classes, and in their places. With `overall` they add up to 1.
+    cells : int
+        The size of the sample.
+
+    Examples
+    --------
+    >>> import numpy as np, rcell
+    >>> found = rcell.accuracy(np.array([[1, 1, 2, 2]]), np.array([[1, 2, 2, 2]]))
+    >>> found.overall, found.kappa, found.quantity, found.allocation
+    (0.75, 0.5, 0.25, 0.0)
+    """
+
+    matrix: Any
+    classes: Any
+    overall: float
+    overall_se: float
+    kappa: float
+    quantity: float
+    allocation: float
+    cells: int
+
+
+def accuracy(
+    map: Optional[MapLike],
+    reference: Any,
+    areas: Any = None,
+    area: str | None = "auto",
+    *,
+    field: str | None = None,
+    layer: str | None = None,
+    labels: Any = None,
+    crs: Any = None,
+) -> Accuracy:
+    """Compare a map with a reference, and estimate the areas of its classes from it.
+
+    Parameters
+    ----------
+    map : path, array, .. as a map of `run`, or None
+        None if the reference is a table.
+    reference : map, points or table
+        A map, whose null cells are not in the sample; points, as a path, a GeoDataFrame or GeoJSON; or a table, as a CSV or a
+        DataFrame, with the columns `map`, `reference` and optionally `cells`.
+    areas : "map", dict, Series or path, optional
+        The areas of the map's classes, from which the sample was drawn class by class: "map" counts them in the map; or areas by
+        class, as a dict or as a CSV with the columns `value` and `area`. Without areas the sample counts as a simple random one.
+    area : {"ha", "km2", "m2"} or None
+        The unit of areas, as in `composition`; hectares for areas that are given.
+    field : str, optional
+        The field of points with their class; by default `class`, or `reference`.
+    layer : str, optional
+        The layer of a file of points that has several.
+    labels : path, dict, Series or DataFrame, optional
+        A legend, as in `composition`.
+    crs : any, optional
+        The reference system of maps that have none.
+
+    Returns
+    -------
+    Accuracy
+        A named tuple: `matrix`, `classes`, `overall`, `overall_se`, `kappa`, `quantity`, `allocation`, `cells`. The columns of
+        `classes` are `class`, `label`, `cells_map`, `cells_reference`, `users`, `users_se`, `producers`, `producers_se`, and with areas
+        `mapped_ha`, `area_ha`, `area_se_ha`. Accuracies are shares from 0 to 1, by equations 1 to 11 of Olofsson et al. 2014. What is
+        not defined is NaN. Without areas, standard errors are those of a random sample: of a complete reference they mean nothing.
+
+    Raises
+    ------
+    Refused
+        The sample is empty, a class with an area has no cell in the sample, or the class of a point is not a whole number.
+    BadArgument
+        A class of the sample has no area.
+
+    Examples
+    --------
+    >>> import pandas, rcell
+    >>> sample = pandas.DataFrame({"map": [1, 1, 2], "reference": [1, 2, 2], "cells": [66, 9, 97]})
+    >>> found = rcell.accuracy(None, sample, {1: 18000, 2: 882000})
+    >>> found.classes[["class", "users", "producers", "mapped_ha", "area_ha"]]
+       class  users  producers  mapped_ha   area_ha
+    0      1   0.88   1.000000    18000.0   15840.0
+    1      2   1.00   0.997557   882000.0  884160.0
+    """
+    pairs, maps = _pairs_of(map, reference, field, layer, crs)
+    if not pairs[:, 2].sum():
+        told = "the sample is empty: no cell has a class in the map and in the reference"
+        raise Refused(told, "reference")
+    sizes, unit = _sizes_of(areas, area, maps, crs)
+    with_area = [code for code, size in (sizes or {}).items() if size > 0]
+    classes = np.union1d(np.unique(pairs[:, :2]), np.array(with_area, np.int64))
+    counts = np.zeros((classes.size, classes.size), np.int64)
+    np.add.at(counts, tuple(np.searchsorted(classes, pairs[:, :2].T)), pairs[:, 2])
+    mapped = counts.sum(axis=1).astype(np.float64)
+    if sizes is not None:
+        mapped = np.array([sizes.get(code, 0.0) for code in classes.tolist()])
+        _check_strata(classes, mapped, counts.sum(axis=1))
+    estimate = _Estimate(counts, mapped / mapped.sum())
+    own = [] if maps is None else [source.labels for source in maps.sources.values()]
+    legend = legend_for(labels, next(filter(None, own), {}), [("the sample", classes)])
+    columns = [Column("class", "class", classes)]
+    columns += [label_column("label", classes, legend)] if legend else []
+    columns += estimate.columns()
+    if unit is not None:
+        parts = {"mapped": mapped, "area": mapped.sum() * estimate.shares}
+        parts["area_se"] = mapped.sum() * estimate.shares_se
+        columns += [Column(f"{name}_{unit}", "measure", part) for name, part in parts.items()]
+    matrix = _matrix_of(classes, counts, legend)
+    return Accuracy(matrix, Table(columns), *estimate.summary(), int(counts.sum()))
+
+
+def summary_of(found: Accuracy) -> Table:
+    """Return what an accuracy has besides its tables, as a table of one row."""
+    names = found._fields[2:]
+    parts = ((name, np.array([value])) for name, value in zip(names, found[2:]))
+    return Table(
+        Column(name, "measure" if part.dtype.kind == "f" else "count", part) for name, part in parts
+    )
+
+
+def _matrix_of(classes: Integers, counts: Integers, legend: Mapping[int, str]) -> Matrix:
+    titles, texts = distinct_names([(classes, legend), (classes, legend)], ["map"])
+    key = Column("map", "label", texts) if legend else Column("map", "class", classes)
+    return Matrix([key], "reference", titles, counts, not legend)
+
+
+class _Estimate:
+    """Shares of area by class of the map (rows) and of the reference (columns), from a sample that is stratified by the map.
+
+    Equations are those of Olofsson et al. 2014, Remote Sensing of Environment 148. A stratum of one cell has no variance (NaN), and a
+    stratum without area needs none.
+
+    Parameters
+    ----------
+    counts : array of int64
+        The cells of the sample.
+    weights : array of float64
+        The share of the area of each class of the map.
+    """
+
+    def __init__(self, counts: Integers, weights: Floats) -> None:
+        self._counts, self._rows = counts, counts.sum(axis=1)
+        self._within = counts / np.maximum(self._rows, 1)[:, None]
+        self._joint = weights[:, None] * self._within  # equation 4
+        self.shares = self._joint.sum(axis=0)  # equation 9
+        spread = _ratio(self._within * (1 - self._within), (self._rows - 1)[:, None])
+        self._users_variance = np.diag(spread)  # equation 6
+        self._squares = np.where(weights[:, None] > 0, weights[:, None] ** 2 * spread, 0)
+        self.shares_se = np.sqrt(self._squares.sum(axis=0))  # equation 10
+
+    def columns(self) -> list[Column]:
+        """Return the cells and the accuracies of each class, with their standard errors."""
+        has_rows, own = self._rows > 0, np.diag(self._squares)
+        producers = _ratio(np.diag(self._joint), self.shares)  # equation 3
+        # Equation 7, with shares in place of numbers of cells.
+        others = self._squares.sum(axis=0) - own
+        spread = (1 - producers) ** 2 * own + producers**2 * others
+        measures = {
+            "users": np.where(has_rows, np.diag(self._within), np.nan),  # equation 2
+            "users_se": np.where(has_rows, np.sqrt(self._users_variance), np.nan),
+            "producers": producers,
+            "producers_se": _ratio(np.sqrt(np.maximum(spread, 0)), self.shares),
+        }
+        return [
+            Column("cells_map", "count", self._rows),
+            Column("cells_reference", "count", self._counts.sum(axis=0)),
+            *(Column(name, "measure", values) for name, values in measures.items()),
+        ]
+
+    def summary(self) -> tuple[float, float, float, float, float]:
+        """Return the overall accuracy with its standard error, kappa, and the disagreement in quantity and in allocation."""
+        overall = float(np.trace(self._joint))  # equation 1
+        overall_se = math.sqrt(np.trace(self._squares))  # equation 5
+        marginal = self._joint.sum(axis=1)
+        chance = float(marginal @ self.shares)
+        kappa = (overall - chance) / (1 - chance) if len(marginal) > 1 and chance < 1 else math.nan
+        # Pontius and Millones 2011, International Journal of Remote Sensing 32. Sums of what is wrong, which are exactly 0 if nothing is.
+        wrong = self._joint * (1 - np.eye(len(marginal)))
+        too_much, missed = wrong.sum(axis=1), wrong.sum(axis=0)
+        quantity = float(np.abs(too_much - missed).sum() / 2)
+        allocation = float(np.minimum(too_much, missed).sum())
+        return overall, overall_se, kappa, quantity, allocation
+
+
+def _ratio(above: Any, below: Any) -> Floats:
+    """Return a quotient; NaN if the divisor is not above 0."""
+    return np.asarray(above / np.where(np.asarray(below) > 0, below, np.nan))
+
+
+def _check_strata(classes: Integers, mapped: Floats, rows: Integers) -> None:
+    """Raise an error if a class has an area and no cell in the sample, or cells and no area."""
+    lacking = classes[(mapped > 0) & (rows == 0)].tolist()
+    if lacking:
+        told = f"no cell of the sample is in the class {_listed(lacking)} of the map, which has an area"
+        raise Refused(f"{told}: add cells, or merge the class with another one", "reference")
+    extra = classes[(mapped == 0) & (rows > 0)].tolist()
+    if extra:
+        told = f"must have an area for each class of the sample; got none for {_listed(extra)}"
+        raise BadArgument("areas", told)
+
+
+def _listed(codes: list[int]) -> str:
+    more = f" and {len(codes) - _SHOWN} more" if len(codes) > _SHOWN else ""
+    return ", ".join(str(code) for code in codes[:_SHOWN]) + more
+
+
+# Samples
+
+
+def _pairs_of(
+    map: Any, reference: Any, field: Optional[str], layer: Optional[str], crs: Any
+) -> tuple[Integers, Optional[Maps]]:
+    """Return how often each class of the map and of the reference occur together, and the maps, if there is one."""
+    points = open_features("reference", reference, layer)
+    if points is None:
+        for name, word in (("field", field), ("layer", layer)):
+            if word is not None:
+                raise BadArgument(name, "is for points, and reference is not")
+    pairs = None if points is not None else _pairs_of_table(reference)
+    if map is None:
+        if pairs is None:
+            raise BadArgument("map", "must be given, unless reference is a table; got None")
+        return pairs, None
+    source = source_of("map", map)
+    if pairs is not None:
+        return pairs, Maps({"map": source}, crs)
+    if points is None:
+        maps = Maps({"map": source, "reference": reference}, crs)
+        return maps.tables("r.stats -c -n input=map,reference")[0], maps
+    placed = points_of(points, field, source, crs)
+    maps = Maps({"map": source, "point": placed.map}, crs)
+    return placed.pairs(maps.tables("r.stats -n input=point,map")[0]), maps
+
+
+def _pairs_of_table(given: Any) -> Optional[Integers]:
+    """Return how often pairs of classes occur in a CSV or a DataFrame; None for anything else."""
+    is_path = isinstance(given, (str, os.PathLike))
+    if is_path and os.path.splitext(os.fspath(given))[1].lower() in _TABLES:
+        return _pairs_of_file(os.fspath(given))
+    return _pairs_of_frame(given) if hasattr(given, "columns") else None
+
+
+def _pairs_of_file(path: str) -> Integers:
+    rows = rows_of_file("reference", path, ("map", "reference"), ("cells",))
+    return _pairs((place, row["map"], row["reference"], row.get("cells", 1)) for place, row in rows)
+
+
+def _pairs_of_frame(frame: Any) -> Integers:
+    names = [str(name) for name in frame.columns]
+    if not {"map", "reference"} <= set(names):
+        told = f"no columns map and reference: there are {', '.join(names) or 'none'}"
+        raise Refused(told, "reference")
+    rows = enumerate(frame.to_dict("records"), 1)
+    return _pairs(
+        (f"row {at}", row["map"], row["reference"], row.get("cells", 1)) for at, row in rows
+    )
+
+
+def _pairs(rows: Any) -> Integers:
+    """Return the rows of a table as numbers; rows without a class in the map or in the reference are left out."""
+    found = []
+    for place, mapped, actual, cells in rows:
+        if any(is_missing(value) or value == "" for value in (mapped, actual)):
+            continue
+        numbers = [whole_number(value) for value in (mapped, actual, cells)]
+        for given, value in zip((mapped, actual, cells), numbers):
+            if value is None or abs(value) > MAX_CATEGORY:
+                raise Refused(
+                    f"{place}: {given!r} is not a class or a number of cells", "reference"
+                )
+        if (numbers[2] or 0) < 0:
+            raise Refused(f"{place}: {numbers[2]} cells are fewer than none", "reference")
+        found.append(numbers)
+    return np.array(found, np.int64).reshape(-1, 3)
+
+
+# Areas
+
+
+def _sizes_of(
+    areas: Any, area: Any, maps: Optional[Maps], crs: Any
+) -> tuple[Optional[dict[int, float]], Optional[str]]:
+    """Return the areas of the map's classes, None if none are given, and the unit in which the result has areas."""
+    if areas is None:
+        return None, None
+    if isinstance(areas, str) and areas == "map":
+        if maps is None:
+            raise BadArgument("areas", 'must be areas by class if there is no map; got "map"')
+        measure = maps.measure(area)
+        found = maps.counts([["map"]], measure)[0]
+        known = zip(found.classes[:, 0].tolist(), found.measured().tolist())
+        return {code: float(size) for code, size in known}, measure.unit
+    unit = None if area is None else "ha" if area == AUTO else area
+    if unit is not None and unit not in UNITS_OF_AREA:
+        unit_of(area, crs)
+    return dict(_sizes_given(areas)), unit
+
+
+def _sizes_given(areas: Any) -> Any:
+    """Yield the area of each class of a dict, a Series or a CSV."""
+    if isinstance(areas, (str, os.PathLike)):
+        rows = rows_of_file("areas", os.fspath(areas), ("value", "area"))
+        listed = [(f"{place}: ", row["value"], row["area"]) for place, row in rows]
+    elif hasattr(areas, "items"):
+        listed = [("", code, size) for code, size in areas.items()]
+    else:
+        told = f'must be {option("areas", "map")}, or areas by class; got {areas!r}'
+        raise BadArgument("areas", told)
+    for place, code, given in listed:
+        value = whole_number(code)
+        try:
+            size = float(given)
+        except (TypeError, ValueError):
+            size = math.nan
+        if value is None or not 0 <= size < math.inf:
+            told = f"must be numbers from 0 by class; got {place}{given!r} for {code!r}"
+            raise BadArgument("areas", told)
+        yield value, size

@@ -1,0 +1,91 @@
+# SPDX-License-Identifier: Apache-2.0 OR GPL-2.0-or-later
+"""The most and the least frequent class of each zone."""
+
+from __future__ import annotations
+
+from typing import Any
+
+import numpy as np
+
+from .columns import Column, Table
+from .counting import Maps, label_column, legend_for, places_of
+from .sources import MapLike
+
+__all__ = ["dominant"]
+
+
+def dominant(
+    map: MapLike,
+    zones: Any,
+    area: str | None = "auto",
+    labels: Any = None,
+    zone_labels: Any = None,
+    *,
+    zone_field: str | None = None,
+    layer: str | None = None,
+    each: bool = False,
+    crs: Any = None,
+) -> Table:
+    """Find the most and the least frequent class of each zone, and the number of its classes.
+
+    Parameters
+    ----------
+    map : path, array, .. as a map of `run`
+    zones : map, or path of polygons, GeoDataFrame or GeoSeries
+        As in `composition`.
+    area : {"ha", "km2", "m2"} or None
+        The unit of areas, as in `composition`.
+    labels, zone_labels : path, dict, Series or DataFrame, optional
+        Legends, as in `composition`.
+    zone_field, layer : str, optional
+        As in `composition`.
+    each : bool
+        Whether polygons that overlap are taken one after another, as in `composition`.
+    crs : any, optional
+        The reference system of maps that have none.
+
+    Returns
+    -------
+    pandas.DataFrame
+        Columns `zone`, `zone_label`, `cells`, `area_ha`, `classes` (how many occur), `majority`, `majority_label`,
+        `majority_percent`, `minority`, `minority_label`, `minority_percent`. Frequencies and percentages are of the zone's cells that
+        are not null, in degrees as well; of equally frequent classes the smallest counts. Zones without such a cell have no row.
+
+    Raises
+    ------
+    Refused
+        As for `run`, and for invalid legends and polygons.
+
+    Examples
+    --------
+    >>> import numpy as np, rcell
+    >>> land, zone = np.array([[1, 1, 2, 5]]), np.array([[7, 7, 7, 8]])
+    >>> rcell.dominant(land, zone)[["zone", "cells", "classes", "majority", "minority"]]
+       zone  cells  classes  majority  minority
+    0     7      3        2         1         2
+    1     8      1        1         5         5
+    """
+    maps = Maps({"map": map}, crs, zones, zone_field, layer, each)
+    measure = maps.measure(area)
+    found = maps.counts([["zones", "map"]], measure)[0]
+    zone, classes = found.classes.T
+    first = places_of(zone)
+    sums = [
+        np.add.reduceat(part, first) if first.size else part
+        for part in (found.cells, found.measured())
+    ]
+    columns = maps.columns("zone", zone[first], "zones", zone_labels)
+    columns.append(Column("cells", "count", sums[0]))
+    if found.area is not None:
+        columns.append(Column(f"area_{measure.unit}", "measure", sums[1]))
+    columns.append(Column("classes", "count", np.diff([*first, len(zone)]).astype(np.int64)))
+    legend = legend_for(labels, maps.sources["map"].labels, [(maps.first.name, classes)])
+    for title, sign in (("majority", -1), ("minority", 1)):
+        # The entries of each zone stay together, so its first one is the one that is wanted.
+        at = np.lexsort([classes, sign * found.cells, zone])[first]
+        columns.append(Column(title, "class", classes[at]))
+        if legend:
+            columns.append(label_column(f"{title}_label", classes[at], legend))
+        percent = found.cells[at] * 100.0 / sums[0]
+        columns.append(Column(f"{title}_percent", "measure", percent))
+    return Table(columns)

@@ -1,0 +1,161 @@
+# SPDX-License-Identifier: Apache-2.0 OR GPL-2.0-or-later
+"""Points with a class, and the cells of a map in which they are."""
+
+from __future__ import annotations
+
+from collections.abc import Iterator
+from dataclasses import dataclass
+from typing import Any, Optional
+
+import numpy as np
+
+from .arguments import MAX_CATEGORY
+from .arrays import NDArray
+from .crs import common_crs
+from .errors import BadMap
+from .host import option, warn
+from .legends import is_missing, whole_number
+from .protocol import NULL
+from .sources import ArrayMap, Source
+from .zones import Layer
+
+__all__ = ["Points", "points_of"]
+
+# The fields that have the class if none is named.
+_FIELDS = ("class", "reference")
+_KINDS = ("Point", "MultiPoint")
+
+Integers = NDArray[np.int64]
+
+
+@dataclass(frozen=True)
+class Points:
+    """Points on the grid of a map.
+
+    Attributes
+    ----------
+    map : ArrayMap
+        The cells that have points, numbered from 1; all others are null.
+    cells, classes : array of int64
+        Of each point the number of its cell, and its class.
+    left_out : list of str
+        Why points are not in a cell.
+    total : int
+    """
+
+    map: ArrayMap
+    cells: Integers
+    classes: Integers
+    left_out: list[str]
+    total: int
+
+    def pairs(self, table: Integers) -> Integers:
+        """Return how often each class of the map meets each class of the points; warn of points that are left out.
+
+        Parameters
+        ----------
+        table : array of int64
+            The number of each cell, and its class in the map; cells that are null there are missing.
+        """
+        mapped = np.full(int(self.cells.max(initial=0)) + 1, NULL, np.int64)
+        mapped[table[:, 0]] = table[:, 1]
+        found = mapped[self.cells]
+        kept = found != NULL
+        told = list(self.left_out)
+        if not kept.all():
+            told.append(f"{np.count_nonzero(~kept):,} on null cells")
+        if told:
+            lost = self.total - np.count_nonzero(kept)
+            warn(f"reference: {lost:,} of {self.total:,} points are left out: {', '.join(told)}")
+        both = np.column_stack([found[kept], self.classes[kept]])
+        kinds, cells = np.unique(both, axis=0, return_counts=True)
+        return np.column_stack([kinds, cells])
+
+
+def points_of(layer: Layer, field: Optional[str], like: Source, crs: Any = None) -> Points:
+    """Return the points of a layer on the grid of a map.
+
+    A cell contains its northern and its western edge.
+
+    Parameters
+    ----------
+    layer : Layer
+    field : str, optional
+        The field with the class of each point.
+    like : Source
+    crs : any
+        The reference system of maps that have none.
+
+    Raises
+    ------
+    OtherCrs
+        The points have another reference system than the map.
+    BadMap
+        There is no such field, a feature is not a point, or a class is not a whole number.
+    """
+    name = _field_of(layer, field)
+    titles = {"map": like.name, "reference": layer.name}
+    common_crs({"map": like.crs, "reference": layer.crs}, crs, "ogr2ogr", titles)
+    rows = list(_points(layer, name))
+    known = np.array([row for row in rows if row is not None], np.float64).reshape(-1, 3)
+    width, _, west, _, height, north = like.transform
+    col = np.floor((known[:, 0] - west) / width)
+    row = np.floor((north - known[:, 1]) / -height)
+    high, wide = like.region.shape
+    inside = (row >= 0) & (row < high) & (col >= 0) & (col < wide)
+    told = [
+        (len(rows) - len(known), "without a class"),
+        (np.count_nonzero(~inside), "outside the map"),
+    ]
+    left_out = [f"{count:,} {why}" for count, why in told if count]
+    places = row[inside].astype(np.int64) * wide + col[inside].astype(np.int64)
+    distinct, cells = np.unique(places, return_inverse=True)
+    numbers = np.full(high * wide, NULL, np.int32)
+    numbers[distinct] = np.arange(1, distinct.size + 1)
+    made = ArrayMap(
+        layer.name,
+        numbers.reshape(high, wide),
+        like.region,
+        None,
+        NULL,
+        {},
+        like.crs,
+        like.transform,
+    )
+    classes = known[inside, 2].astype(np.int64)
+    return Points(made, cells.reshape(-1) + 1, classes, left_out, len(rows))
+
+
+def _field_of(layer: Layer, field: Optional[str]) -> str:
+    """Return the field with the classes: the one that is named, or the only one that has a usual name."""
+    usual = [name for name in _FIELDS if name in layer.fields]
+    if field is None and len(usual) == 1:
+        return usual[0]
+    if field is None and usual:
+        told = f"has the fields {' and '.join(usual)}: name one, for example {option('field', usual[1])}"
+        raise BadMap(layer.name, told)
+    if field is None or field not in layer.fields:
+        wanted = " or ".join(_FIELDS) if field is None else field
+        raise BadMap(
+            layer.name, f"no field {wanted}: there are {', '.join(layer.fields) or 'none'}"
+        )
+    return field
+
+
+def _points(layer: Layer, field: str) -> Iterator[Optional[tuple[float, float, int]]]:
+    """Yield the place and the class of each point; None if it has none."""
+    for feature in layer.features(field):
+        value = feature.value
+        if feature.geometry is None or is_missing(value) or value == "":
+            yield None
+            continue
+        if feature.kind not in _KINDS:
+            raise BadMap(layer.name, f"not points: feature {feature.id} is a {feature.kind}")
+        west, south, east, north = layer.bounds(feature.geometry)
+        if (west, south) != (east, north):
+            raise BadMap(layer.name, f"not points: feature {feature.id} has several")
+        code = whole_number(value)
+        if code is None or abs(code) > MAX_CATEGORY:
+            told = f"the class of feature {feature.id} is {value!r}, which is not a whole number"
+            raise BadMap(layer.name, told)
+        yield west, south, code

@@ -1,0 +1,85 @@
+# SPDX-License-Identifier: Apache-2.0 OR GPL-2.0-or-later
+"""rcell:accuracy, a map compared with a reference."""
+
+from __future__ import annotations
+
+from typing import Any
+
+from qgis.core import QgsProcessing, QgsProcessingParameterMapLayer
+
+from ..engine.core.accuracy import accuracy, summary_of
+from ..layers import reference_of
+from ..translation import noop, tr
+from .base import RcellAlgorithm, raise_unreadable
+
+SIZES = ["none", "map"]
+
+
+class AccuracyAlgorithm(RcellAlgorithm):
+    """Compares a map with a reference, and corrects the areas of its classes."""
+
+    NAME = "accuracy"
+    TITLE = noop("Accuracy")
+    SHORT = noop(
+        "Lists the accuracy of each class with standard errors, and areas that a reference sample corrects; with the matrix."
+    )
+    TAGS = "accuracy, confusion matrix, error matrix, kappa, validation, area estimation, sample, AcATaMa, r.kappa"
+    HELP = (
+        noop(
+            "<p>The reference is a raster on the same grid, points with their class in a field, or a table with the fields "
+            "<code>map</code>, <code>reference</code> and <code>cells</code>. Points on cells without data are left out.</p>"
+        ),
+        noop(
+            "<p>If the sample was drawn class by class, the accuracies need the areas of the classes: counted in the map, or "
+            "of a CSV with value,area. Equations are those of Olofsson et al. 2014.</p>"
+        ),
+        noop(
+            "<p>Without areas, standard errors are those of a random sample: of a complete reference they mean nothing.</p>"
+        ),
+    )
+
+    def initAlgorithm(self, configuration: Any = None) -> None:
+        """Declare the parameters."""
+        self.add_raster()
+        kinds = [QgsProcessing.TypeRaster, QgsProcessing.TypeVector]
+        title = tr("Reference: a raster, points or a table")
+        self.addParameter(QgsProcessingParameterMapLayer("REFERENCE", title, None, False, kinds))
+        self.add_text("FIELD", tr("Field of the points with their class"))
+        self.add_choice("AREAS", tr("Areas of the classes"), SIZES)
+        self.add_file("AREAS_FILE", tr("Areas of the classes: a CSV with value,area"))
+        self.add_area()
+        self.add_labels()
+        self.add_crs()
+        self.add_table()
+        self.add_table(tr("Matrix"), "MATRIX", True)
+        self.add_table(tr("Summary"), "SUMMARY", True)
+
+    def read(self) -> None:
+        """Read the raster and the reference."""
+        self.rasters = [self.raster()]
+        layer = self.parameterAsLayer(self.given, "REFERENCE", self.context)
+        if layer is None or not layer.isValid():
+            raise_unreadable(self.given["REFERENCE"], "reference")
+        self.reference = reference_of(layer)
+
+    def answer(self) -> dict[str, Any]:
+        """Return the table and, if they are requested, the matrix and the summary."""
+        sizes = self.word("AREAS")
+        found = accuracy(
+            self.rasters[0],
+            self.reference,
+            self.path("AREAS_FILE") or (None if sizes == SIZES[0] else sizes),
+            self.area(),
+            field=self.text("FIELD") or None,
+            labels=self.labels(),
+            crs=self.crs(),
+        )
+        results = {"OUTPUT": self.put_table("OUTPUT", found.classes)}
+        for name, part in (("MATRIX", found.matrix), ("SUMMARY", summary_of(found))):
+            if self.given.get(name):
+                results[name] = self.put_table(name, part)
+        return results
+
+    def inputs(self) -> list[str]:
+        """Return the files that are read."""
+        return [*super().inputs(), *getattr(self.reference, "files", ())]
