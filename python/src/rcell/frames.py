@@ -23,8 +23,6 @@ from .core import scripts as _scripts
 from .core import sieve as _sieve
 from .core import within as _within
 from .core import zonal as _zonal
-from .core.accuracy import Accuracy
-from .core.change import Change
 from .core.columns import Column, Matrix, Table
 from .core.protocol import NULL
 from .core.sources import ArrayMap

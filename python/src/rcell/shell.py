@@ -504,7 +504,7 @@ COMMANDS = {
     ),
     "dominant": Command(
         "MAP... ZONES",
-        "the most and the least frequent class of each zone",
+        "the most frequent class of each zone, and the rarest",
         "maps zone_map",
         f"zone_field zone_labels layer each_zone labels area {_TABLE}",
         _of_each,

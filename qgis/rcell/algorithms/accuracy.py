@@ -31,10 +31,10 @@ class AccuracyAlgorithm(RcellAlgorithm):
         ),
         noop(
             "<p>If the sample was drawn class by class, the accuracies need the areas of the classes: counted in the map, or "
-            "of a CSV with value,area. Equations are those of Olofsson et al. 2014.</p>"
+            "of a CSV with value,area. The equations are in Olofsson et al. 2014.</p>"
         ),
         noop(
-            "<p>Without areas, standard errors are those of a random sample: of a complete reference they mean nothing.</p>"
+            "<p>Without areas, standard errors are right for a random sample, and mean nothing for a complete reference.</p>"
         ),
     )
 

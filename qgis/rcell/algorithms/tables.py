@@ -223,12 +223,12 @@ class ZonalAlgorithm(RcellAlgorithm):
 
 
 class DominantAlgorithm(RcellAlgorithm):
-    """Finds the most and the least frequent class of each zone."""
+    """Finds the most frequent class of each zone, and the rarest."""
 
     NAME = "dominant"
     TITLE = noop("Dominant class of zones")
     SHORT = noop(
-        "Lists the most frequent class of each zone, the least frequent one, and the number of classes."
+        "Lists the most frequent class of each zone, the rarest one, and the number of classes."
     )
     TAGS = "majority, minority, variety, mode, zonal statistics, dominant, r.mode"
     HELP = (

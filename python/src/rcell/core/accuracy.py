@@ -108,7 +108,7 @@ def accuracy(
         A named tuple: `matrix`, `classes`, `overall`, `overall_se`, `kappa`, `quantity`, `allocation`, `cells`. The columns of
         `classes` are `class`, `label`, `cells_map`, `cells_reference`, `users`, `users_se`, `producers`, `producers_se`, and with areas
         `mapped_ha`, `area_ha`, `area_se_ha`. Accuracies are shares from 0 to 1, by equations 1 to 11 of Olofsson et al. 2014. What is
-        not defined is NaN. Without areas, standard errors are those of a random sample: of a complete reference they mean nothing.
+        not defined is NaN. Without areas, standard errors are right for a random sample, and mean nothing for a complete reference.
 
     Raises
     ------
@@ -172,7 +172,7 @@ def _matrix_of(classes: Integers, counts: Integers, legend: Mapping[int, str]) -
 class _Estimate:
     """Shares of area by class of the map (rows) and of the reference (columns), from a sample that is stratified by the map.
 
-    Equations are those of Olofsson et al. 2014, Remote Sensing of Environment 148. A stratum of one cell has no variance (NaN), and a
+    Equations are numbered as in Olofsson et al. 2014, Remote Sensing of Environment 148. A stratum of one cell has no variance (NaN), and a
     stratum without area needs none.
 
     Parameters

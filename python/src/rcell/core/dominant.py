@@ -1,5 +1,5 @@
 # SPDX-License-Identifier: Apache-2.0 OR GPL-2.0-or-later
-"""The most and the least frequent class of each zone."""
+"""The most frequent class of each zone, and the rarest."""
 
 from __future__ import annotations
 
@@ -26,7 +26,7 @@ def dominant(
     each: bool = False,
     crs: Any = None,
 ) -> Table:
-    """Find the most and the least frequent class of each zone, and the number of its classes.
+    """Find the most frequent class of each zone, the rarest one, and how many classes it has.
 
     Parameters
     ----------
