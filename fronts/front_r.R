@@ -58,32 +58,50 @@ of_grid <- function(grid) {
   apply(cells, 1, paste, collapse = " ")
 }
 
-answers <- c("composition", "cross", "change", "patches", "zonal", "adjacency", "majority", "align", "reclass", "clump")
+# Calls that return maps, and the attribute with an account of how each was made.
+map_calls <- c("majority", "align", "reclass", "clump", "sieve", "within")
+accounts <- c(align = "aligned", sieve = "sieved")
+# Calls that return several tables, and the table that is shown if the case names none.
+parts <- c(change = "table", accuracy = "classes")
+flags <- c("include_null", "fill", "each", "drop")
+texts <- c("zone_field", "field", "layer", "resample", "crs", "other", "level", "allocation")
+files <- c("labels", "zone_labels", "rules", "areas")
 
 # The parameters of a call, by their names in the package.
-options_of <- function(kind, words, maps) {
-  options <- list()
-  for (word in words) options[[sub("=.*", "", word)]] <- sub("^[^=]*=", "", word)
-  Map(function(key, value) switch(key,
-    area = if (value == "none") NULL else value, zones = , to = maps[[value]], labels = , zone_labels = , rules = path_of(value),
-    include_null = , fill = value == "yes", zone_field = , resample = , crs = , other = value, as.numeric(strsplit(value, ",")[[1]])), names(options), options)
+options_of <- function(words, maps) {
+  values <- sub("^[^=]*=", "", words)
+  options <- Map(function(key, value) {
+    if (key == "area") return(if (value == "none") NULL else value)
+    if (key %in% c("zones", "to")) return(maps[[value]])
+    if (key %in% files) return(if (value == "map") value else path_of(value))
+    if (key %in% flags) return(value == "yes")
+    if (key %in% texts) return(value)
+    as.numeric(strsplit(value, ",")[[1]])
+  }, sub("=.*", "", words), values)
+  options
 }
 
 # The ready calls; a case has the names of their parameters.
 answered <- function(kind, words, maps, out) {
   is_option <- grepl("=", words)
+  is_part <- startsWith(words, "table=")
   given <- maps[words[!is_option]]
-  options <- options_of(kind, words[is_option], maps)
-  table <- sub("table=", "", grep("^table=", words, value = TRUE))
+  options <- options_of(words[is_option & !is_part], maps)
   if (!is.null(options$band)) given[[1]] <- terra::rast(given[[1]], lyrs = options$band)
-  options[c("table", "band")] <- NULL
+  options["band"] <- NULL
   if (!is.null(out)) options <- c(options, list(filename = path_of(out), overwrite = TRUE))
-  if (kind != "cross") given <- if (kind == "change" && length(given) > 2L) list(unname(given)) else unname(given)
+  is_series <- kind == "change" && length(given) > 2L
+  if (kind != "cross") given <- if (is_series) list(unname(given)) else unname(given)
   found <- do.call(paste0("rcell_", kind), c(given, options))
   if (!is.null(out)) return(paste("written:", path_of(out)))
-  if (kind == "change") found <- found[[if (length(table)) table else "table"]]
-  if (kind == "align") return(c(of_table(attr(found, "aligned")), of_grid(found)))
-  if (kind %in% c("majority", "reclass", "clump")) return(of_grid(found))
+  if (kind %in% map_calls) {
+    account <- if (kind %in% names(accounts)) of_table(attr(found, accounts[[kind]]))
+    return(c(account, of_grid(found)))
+  }
+  if (kind %in% names(parts)) {
+    part <- c(sub("table=", "", words[is_part]), parts[[kind]])[[1]]
+    found <- if (part == "summary" && kind == "accuracy") as.data.frame(found[-(1:2)]) else found[[part]]
+  }
   of_table(found)
 }
 

@@ -84,8 +84,26 @@ answer_of <- function(request, sources, outputs = list(), wanted = character()) 
   list(frames = frames, labels = labels, source = sources[[1]])
 }
 
-# Run a script of this package and return its frames.
-run_own <- function(script, sources) run_pipe(program_path(), sources, script)
+# Run a script of this package and return its frames. If polygons are taken one after another, the
+# script runs for each part of them, and the rows of its tables are put in order.
+run_own <- function(script, sources) {
+  path <- program_path()
+  parts <- sources$zones$parts
+  if (is.null(parts)) return(run_pipe(path, sources, script))
+  runs <- lapply(parts, function(cells) {
+    sources$zones$cells <- cells
+    run_pipe(path, sources, script)
+  })
+  do.call(Map, c(list(joined_frames), runs))
+}
+
+joined_frames <- function(...) {
+  frames <- list(...)
+  codes <- do.call(Map, c(list(c), lapply(frames, `[[`, "codes")))
+  cells <- unlist(lapply(frames, `[[`, "cells"))
+  order <- do.call(order, codes)
+  list(codes = lapply(codes, `[`, order), cells = cells[order])
+}
 
 # Return an output as a data frame, or as a raster with the geometry of the first map.
 output_of <- function(output, answer) {
@@ -94,10 +112,12 @@ output_of <- function(output, answer) {
   raster_of(frame, answer$source, answer$labels[[frame$maps]])
 }
 
-# The raster of a frame with the geometry of a source, a name and labels. All is set in place: terra
-# copies the cells of a raster that is assigned to.
-raster_of <- function(frame, source, labels, name = frame$maps) {
+# The raster of a frame with the geometry of a source, a name and labels, perhaps with other values
+# for the numbers 1, 2, .. in its cells. All else is set in place: terra copies the cells of a raster
+# that is assigned to.
+raster_of <- function(frame, source, labels, name = frame$maps, new = NULL) {
   raster <- frame$raster
+  if (!is.null(new)) values(raster) <- new[values(raster, mat = FALSE)]
   set.ext(raster, ext(source$raster))
   set.crs(raster, source$crs)
   if (length(labels$codes)) {

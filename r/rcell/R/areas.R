@@ -19,24 +19,26 @@ area_choice <- function(area, is_left_out) {
 }
 
 # The unit of the areas of maps: none if they have no reference system and areas were not asked for.
-unit_of <- function(choice, source) {
+unit_of <- function(choice, source, argument = "area=") {
   if (is.null(choice$unit)) return(NULL)
   kind <- kind_of_crs(source$crs)
+  instead <- if (argument == "area=") ", or use area = NULL" else ""
   if (kind == "none") {
     if (!choice$is_asked_for) return(NULL)
     text <- paste(
-      "area= needs a coordinate reference system, and %s has none:",
-      "state it, for example crs = \"EPSG:25832\", or use area = NULL"
+      "%s needs a coordinate reference system, and %s has none:",
+      "state it, for example crs = \"EPSG:25832\"%s"
     )
-    refuse(sprintf(text, source$name), status = 2L)
+    refuse(sprintf(text, argument, source$name, instead), status = 2L)
   }
   metres <- metres_of_unit(source)
   if (kind == "other" || (kind == "projected" && is.na(metres))) {
     text <- paste(
-      "area= needs a map in metres, feet or degrees, and %s does not say how much of the earth",
-      "a cell covers: use area = NULL"
+      "%s needs a map in metres, feet or degrees, and %s does not say how much of the earth",
+      "a cell covers%s"
     )
-    refuse(sprintf(text, crs_name(source$crs)), status = 2L)
+    instead <- sub("^, or", ":", instead)
+    refuse(sprintf(text, argument, crs_name(source$crs), instead), status = 2L)
   }
   choice$unit
 }

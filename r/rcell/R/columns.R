@@ -34,6 +34,15 @@ class_titles <- function(labels, codes, taken = character()) {
   }, labels, titles, codes)
 }
 
+# The sums of values by their groups, which are numbers from 1 to `count`.
+summed <- function(values, group, count) {
+  total <- numeric(count)
+  if (!length(group)) return(total)
+  sums <- rowsum(as.numeric(values), group, reorder = FALSE)
+  total[as.integer(rownames(sums))] <- sums
+  total
+}
+
 # The cells of a table, their area, and the percentage of the area, or else of the cells, of the
 # part of their group that has data; rows with null have none.
 sized <- function(table, area, group = rep(1L, length(table$cells))) {

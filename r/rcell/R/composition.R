@@ -3,10 +3,11 @@
 # percentages.
 
 rcell_composition <- function(x, zones = NULL, area, labels = NULL, zone_labels = NULL,
-                              zone_field = NULL, layer = NULL, include_null = FALSE, crs = NULL) {
+                              zone_field = NULL, layer = NULL, each = FALSE, include_null = FALSE,
+                              crs = NULL) {
   choice <- area_choice(area, missing(area))
   check_flag(include_null, "include_null")
-  sources <- zoned_sources(x, zones, zone_field, layer, crs)
+  sources <- zoned_sources(x, zones, zone_field, layer, crs, each = each)
   area <- unit_of(choice, sources$map)
   labels <- labels_from(labels, sources$map$labels)
   zone_labels <- labels_from(zone_labels, sources$zones$labels, "zone_labels")
@@ -23,16 +24,17 @@ rcell_composition <- function(x, zones = NULL, area, labels = NULL, zone_labels 
 }
 
 # The sources of a map and, if they are given, its zones.
-zoned_sources <- function(x, zones, zone_field, layer, crs, name = "map") {
+zoned_sources <- function(x, zones, zone_field, layer, crs, name = "map", each = FALSE) {
+  check_flag(each, "each")
   source <- source_of(name, x)
   if (is.null(zones)) {
-    if (!is.null(zone_field) || !is.null(layer)) {
-      refuse("zone_field= and layer= need zones=", status = 2L)
+    if (!is.null(zone_field) || !is.null(layer) || each) {
+      refuse("zone_field=, layer= and each= need zones=", status = 2L)
     }
     return(fitted_sources(list(source), crs))
   }
   source <- with_stated(source, stated_crs(crs))
-  fitted_sources(list(source, zones_source(zones, zone_field, layer, source)), crs)
+  fitted_sources(list(source, zones_source(zones, zone_field, layer, source, each)), crs)
 }
 
 rcell_cross <- function(..., area, labels = NULL, include_null = FALSE, crs = NULL,

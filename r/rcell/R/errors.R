@@ -99,6 +99,13 @@ check_flag <- function(flag, name) {
   refuse(sprintf("%s= is TRUE or FALSE, and not %s", name, shown(flag)), status = 2L)
 }
 
+check_text <- function(text, name) {
+  if (is.null(text) || (is.character(text) && length(text) == 1L && isTRUE(nzchar(text)))) {
+    return(invisible())
+  }
+  refuse(sprintf("%s= must be one text; got %s", name, shown(text)), status = 2L)
+}
+
 # A file could not be written whole; nothing is left of it.
 write_failed <- function(path, text) {
   signal("rcell_write_failed", sprintf("%s cannot be written: %s", path, text), path = path)

@@ -10,9 +10,11 @@ labels_from <- function(legend, own, name = "labels") {
 }
 
 legend_of <- function(legend, name) {
-  if (is_path(legend)) return(legend_of_file(legend, name))
+  if (is_path(legend) && grepl("[.]qml$", legend, ignore.case = TRUE)) {
+    return(legend_of_style(native_path(legend), name))
+  }
   if (inherits(legend, "SpatRaster")) return(labels_of(legend))
-  if (is.data.frame(legend)) return(legend_of_frame(legend, name))
+  if (is_path(legend) || is.data.frame(legend)) return(legend_of_table(legend, name))
   if (!is.atomic(legend) && !is.list(legend) || !length(legend) || is.null(names(legend))) {
     text <- paste(
       "must be the path of a CSV, TSV or QML file, a data frame with the columns value and label,",
@@ -33,53 +35,13 @@ legend_files <- function(...) {
   vapply(paths, native_path, "", USE.NAMES = FALSE)
 }
 
-legend_of_frame <- function(frame, name) {
-  titles <- tolower(names(frame))
-  if (!all(c("value", "label") %in% titles)) {
-    text <- "a data frame of labels must have the columns value and label; got %s"
-    refuse(sprintf(text, paste(names(frame), collapse = ", ")), name, status = 2L)
+legend_of_table <- function(given, name) {
+  table <- table_of_columns(given, name, c("value", "label"), c("colour", "color"))
+  if (is_path(given)) {
+    colours <- c(table$columns$colour, table$columns$color)
+    check_colours(colours, rep(table$places, length.out = length(colours)), name)
   }
-  column <- function(title) as.character(frame[[match(title, titles)]])
-  checked_legend(column("value"), column("label"), name, sprintf("row %d: ", seq_len(nrow(frame))))
-}
-
-legend_of_file <- function(path, name) {
-  path <- native_path(path)
-  if (grepl("[.]qml$", path, ignore.case = TRUE)) return(legend_of_style(path, name))
-  table <- separated_values(path, name)
-  titles <- tolower(trimmed(table$rows[[1]]))
-  if (!all(c("value", "label") %in% titles)) {
-    text <- "%s, line %d: no header with value and label, divided by commas or tabs: %s"
-    refuse(sprintf(text, path, table$lines[[1]], table$first), name)
-  }
-  place_of <- function(options) {
-    places <- which(titles %in% options)
-    if (length(places) > 1L) {
-      refuse(sprintf("%s has two columns %s", path, titles[[places[[2]]]]), name)
-    }
-    places
-  }
-  rows <- table$rows[-1]
-  places <- sprintf("%s, line %d: ", path, table$lines[-1])
-  if (!length(rows)) refuse(sprintf("%s has no values below its header", path), name)
-  check_widths(rows, length(titles), places, name)
-  field <- function(place) {
-    if (!length(place)) return(rep("", length(rows)))
-    trimmed(vapply(rows, function(row) if (length(row) < place) "" else row[[place]], ""))
-  }
-  check_colours(field(place_of(c("colour", "color"))), places, name)
-  checked_legend(field(place_of("value")), field(place_of("label")), name, places)
-}
-
-# Check that no label is cut at a comma.
-check_widths <- function(rows, width, places, name) {
-  for (place in seq_along(rows)) {
-    row <- rows[[place]]
-    if (length(row) > width && any(nzchar(trimmed(row[-seq_len(width)])))) {
-      text <- "%s%d fields under a header of %d: put a label with a comma in quotes"
-      refuse(sprintf(text, places[[place]], length(row), width), name)
-    }
-  }
+  checked_legend(table$columns$value, table$columns$label, name, table$places)
 }
 
 check_colours <- function(colours, places, name) {

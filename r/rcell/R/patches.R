@@ -73,8 +73,8 @@ patch_lines <- function(connectivity, core_depth) {
   )
 }
 
-clump_line <- function(connectivity) {
-  sprintf("r.clump%s input=map output=patch", if (connectivity == 8) " -d" else "")
+clump_line <- function(connectivity, name = "map") {
+  sprintf("r.clump%s input=%s output=patch", if (connectivity == 8) " -d" else "", name)
 }
 
 # The tables of the program as one, a row for each patch in the order of their numbers.
@@ -141,24 +141,15 @@ rcell_clump <- function(x, connectivity = 4, classes = NULL, min_cells = NULL, f
   frames <- run_own(script, sources)
   patches <- list(class = frames[[1]]$codes[[2]], cells = frames[[1]]$cells)
   is_left_out <- !is_selected(patches, classes, min_cells)
-  raster <- raster_of(frames[[2]], sources$map, NULL, "patch")
-  if (any(is_left_out)) {
-    numbers <- values(raster, mat = FALSE)
-    numbers[numbers %in% frames[[1]]$codes[[1]][is_left_out]] <- NA
-    values(raster) <- numbers
-  }
-  written(raster, filename)
+  new <- if (any(is_left_out)) replace(frames[[1]]$codes[[1]], is_left_out, NA)
+  written(raster_of(frames[[2]], sources$map, NULL, "patch", new), filename)
 }
 
 rcell_adjacency <- function(x, labels = NULL, crs = NULL) {
-  script <- c(
-    "r.mapcalc right = map[0,1]", "r.mapcalc below = map[1,0]", "r.stats -cn input=map,right",
-    "r.stats -cn input=map,below"
-  )
   sources <- sources_of(list(map = x), crs)
   labels <- labels_from(labels, sources$map$labels)
   if (is_in_degrees(sources$map)) warn_of_lengths()
-  pairs <- pairs_of(run_own(script, sources))
+  pairs <- pairs_of(run_own(side_lines("map"), sources))
   check_legend(labels, pairs$class, "map")
   size <- res(template_of(sources$map))
   border <- (pairs$ends * size[[1]] + pairs$flanks * size[[2]]) * metres_of_unit(sources$map)
@@ -167,6 +158,14 @@ rcell_adjacency <- function(x, labels = NULL, crs = NULL) {
     list(sides = as.integer(pairs$ends + pairs$flanks), border_m = border)
   )
   frame_of(columns)
+}
+
+# The pairs of a map's cells next to each other, and below each other.
+side_lines <- function(name) {
+  c(
+    sprintf("r.mapcalc right = %s[0,1]", name), sprintf("r.mapcalc below = %s[1,0]", name),
+    sprintf("r.stats -cn input=%s,%s", name, c("right", "below"))
+  )
 }
 
 # Each pair of classes once, the smaller class first: the sides of cells next to each other, which

@@ -26,10 +26,12 @@ rcell_reclass <- function(x, rules, other = NULL, filename = "", overwrite = FAL
 # Rules in the order of their values: the first and last value, the new class, NA for null, and its
 # label.
 rules_of <- function(rules) {
-  if (is_path(rules)) {
-    table <- rules_of_file(rules)
-  } else if (is.data.frame(rules)) {
-    table <- rules_of_frame(rules)
+  if (is_path(rules) || is.data.frame(rules)) {
+    table <- table_of_columns(rules, "rules", c("value", "new"), "label")
+    table <- list(
+      values = table$columns$value, new = table$columns$new, labels = table$columns$label,
+      places = table$places
+    )
   } else if ((is.atomic(rules) || is.list(rules)) && length(rules) && !is.null(names(rules))) {
     if (any(lengths(rules) != 1L)) {
       refuse("each class must have one new class", "rules", status = 2L)
@@ -45,38 +47,6 @@ rules_of <- function(rules) {
     refuse(sprintf(text, shown(rules)), "rules", status = 2L)
   }
   checked_rules(table)
-}
-
-rules_of_file <- function(path) {
-  path <- native_path(path)
-  table <- separated_values(path, "rules")
-  titles <- tolower(trimmed(table$rows[[1]]))
-  if (!all(c("value", "new") %in% titles)) {
-    text <- "%s, line %d: no header with value and new, divided by commas or tabs: %s"
-    refuse(sprintf(text, path, table$lines[[1]], table$first), "rules")
-  }
-  rows <- table$rows[-1]
-  places <- sprintf("%s, line %d: ", path, table$lines[-1])
-  check_widths(rows, length(titles), places, "rules")
-  field <- function(title) {
-    place <- match(title, titles)
-    vapply(rows, function(row) if (is.na(place) || length(row) < place) "" else row[[place]], "")
-  }
-  list(values = field("value"), new = field("new"), labels = field("label"), places = places)
-}
-
-rules_of_frame <- function(frame) {
-  titles <- tolower(names(frame))
-  if (!all(c("value", "new") %in% titles)) {
-    text <- "a data frame of rules must have the columns value and new; got %s"
-    refuse(sprintf(text, paste(names(frame), collapse = ", ")), "rules", status = 2L)
-  }
-  column <- function(title) {
-    place <- match(title, titles)
-    if (is.na(place)) rep("", nrow(frame)) else as.character(frame[[place]])
-  }
-  places <- sprintf("row %d: ", seq_len(nrow(frame)))
-  list(values = column("value"), new = column("new"), labels = column("label"), places = places)
 }
 
 checked_rules <- function(table) {

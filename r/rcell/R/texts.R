@@ -82,3 +82,58 @@ separated_values <- function(path, name) {
   lines <- lines_at(text, fields$places[!duplicated(row)])
   list(rows = rows[!is_blank], lines = lines[!is_blank], first = first)
 }
+
+# The columns of a CSV or TSV file or of a data frame by their titles, in any case and order, as
+# texts, and the places of its rows, which begin the text of an error.
+table_of_columns <- function(given, name, needed, optional = character()) {
+  columns_of <- if (is.data.frame(given)) frame_columns else file_columns
+  table <- columns_of(given, name, needed)
+  columns <- lapply(c(needed, optional), function(title) {
+    place <- which(table$titles == title)
+    if (length(place) > 1L) refuse(sprintf("has two columns %s", title), name)
+    if (length(place)) table$column(place)
+  })
+  names(columns) <- c(needed, optional)
+  list(columns = Filter(Negate(is.null), columns), places = table$places)
+}
+
+file_columns <- function(path, name, needed) {
+  path <- native_path(path)
+  table <- separated_values(path, name)
+  titles <- tolower(trimmed(table$rows[[1]]))
+  if (!all(needed %in% titles)) {
+    text <- "%s, line %d: no header with %s, divided by commas or tabs: %s"
+    listed <- paste(needed, collapse = " and ")
+    refuse(sprintf(text, path, table$lines[[1]], listed, table$first), name)
+  }
+  rows <- table$rows[-1]
+  places <- sprintf("%s, line %d: ", path, table$lines[-1])
+  if (!length(rows)) refuse(sprintf("%s has no values below its header", path), name)
+  check_widths(rows, length(titles), places, name)
+  column <- function(place) {
+    trimmed(vapply(rows, function(row) if (length(row) < place) "" else row[[place]], ""))
+  }
+  list(titles = titles, column = column, places = places)
+}
+
+frame_columns <- function(frame, name, needed) {
+  titles <- tolower(names(frame))
+  if (!all(needed %in% titles)) {
+    text <- "a data frame must have the columns %s; got %s"
+    listed <- paste(needed, collapse = " and ")
+    refuse(sprintf(text, listed, paste(names(frame), collapse = ", ")), name, status = 2L)
+  }
+  column <- function(place) as.character(frame[[place]])
+  list(titles = titles, column = column, places = sprintf("row %d: ", seq_len(nrow(frame))))
+}
+
+# Check that no field is cut at a comma.
+check_widths <- function(rows, width, places, name) {
+  for (place in seq_along(rows)) {
+    row <- rows[[place]]
+    if (length(row) > width && any(nzchar(trimmed(row[-seq_len(width)])))) {
+      text <- "%s%d fields under a header of %d: put a label with a comma in quotes"
+      refuse(sprintf(text, places[[place]], length(row), width), name)
+    }
+  }
+}

@@ -4,12 +4,12 @@
 MEASURES <- c("cells", "sum", "mean", "minimum", "maximum", "variance")
 
 rcell_zonal <- function(values, zones, quantiles = 0.5, zone_labels = NULL, zone_field = NULL,
-                        layer = NULL, crs = NULL) {
+                        layer = NULL, each = FALSE, crs = NULL) {
   is_share <- is.numeric(quantiles) && all(quantiles >= 0 & quantiles <= 1) %in% TRUE
   if (length(quantiles) && !is_share) {
     refuse(sprintf("quantiles= are from 0 to 1, not %s", shown(quantiles)), status = 2L)
   }
-  sources <- zoned_sources(values, zones, zone_field, layer, crs, "values")
+  sources <- zoned_sources(values, zones, zone_field, layer, crs, "values", each)
   zone_labels <- labels_from(zone_labels, sources$zones$labels, "zone_labels")
   table <- count_cells(sources, list(c("zones", "values")))[[1]]
   zone <- unique(table$codes[[1]])

@@ -4,7 +4,8 @@
 \description{Count the cells of each class, in total or by zone, with areas, percentages and labels.}
 \usage{
 rcell_composition(x, zones = NULL, area, labels = NULL, zone_labels = NULL,
-                  zone_field = NULL, layer = NULL, include_null = FALSE, crs = NULL)
+                  zone_field = NULL, layer = NULL, each = FALSE, include_null = FALSE,
+                  crs = NULL)
 }
 \arguments{
 \item{x}{a map: a \code{SpatRaster}, a path or a matrix; see \code{\link{rcell-package}}.}
@@ -18,6 +19,7 @@ UTF-8 whose header has \code{value} and \code{label}, in any case and order; the
 \code{value} and \code{label}; a vector with the classes as its names; or a \code{SpatRaster} with labels.}
 \item{zone_field}{the field of the polygons with the zones.}
 \item{layer}{the layer of a file of polygons that has several.}
+\item{each}{whether polygons that overlap are taken one after another, so that none loses a cell to another one.}
 \item{include_null}{whether to add a row for cells without data, the last of each zone.}
 \item{crs}{as in \code{\link{rcell_run}}.}
 }
@@ -27,7 +29,8 @@ last of several; a warning names the features that lose cells. Whole numbers in 
 zones that are numbered 1, 2, .. in the order of the file. Polygons with the same value are one zone. Without a field, a polygon's zone
 is its own number: the fid of a layer, the row of a \code{SpatVector}. Features without a geometry or without a value (null, NaN, an
 empty text) have no zone. Fields of files are read with GDAL, so long numbers and decimals are exact; in a \code{SpatVector} they are as
-terra has read them, and terra 1.7 reads a missing whole number as 0. Curved polygons are an error.
+terra has read them. terra 1.7 reads a missing whole number as 0: a \code{SpatVector} of a file that has some is an error, and if the file is
+not known, a 0 is a warning. Curved polygons are an error.
 
 In a map in degrees, the area of a cell is its exact area on the ellipsoid of the coordinate reference system, so the cells of each row
 are counted separately.

@@ -4,11 +4,11 @@
 \description{Summarise the whole numbers of a map in each zone.}
 \usage{
 rcell_zonal(values, zones, quantiles = 0.5, zone_labels = NULL, zone_field = NULL,
-            layer = NULL, crs = NULL)
+            layer = NULL, each = FALSE, crs = NULL)
 }
 \arguments{
 \item{values}{a map of whole numbers; see \code{\link{rcell-package}}.}
-\item{zones, zone_labels, zone_field, layer}{as in \code{\link{rcell_composition}}.}
+\item{zones, zone_labels, zone_field, layer, each}{as in \code{\link{rcell_composition}}.}
 \item{quantiles}{numbers from 0 to 1; between two values they are interpolated, as \code{quantile(type = 7)} does.}
 \item{crs}{as in \code{\link{rcell_run}}.}
 }

@@ -63,3 +63,32 @@ surface <- function(major, inverse) {
   e2 <- (2 - 1 / inverse) / inverse
   2 * pi * major^2 * (1 + (1 - e2) * atanh(sqrt(e2)) / sqrt(e2))
 }
+
+# The patches of a map by a flood of its cells in plain R, numbered by their first cells.
+flooded <- function(map, connectivity) {
+  cells <- as_rows(map)
+  found <- matrix(NA_integer_, nrow(cells), ncol(cells))
+  steps <- expand.grid(row = -1:1, col = -1:1)
+  steps <- steps[rowSums(abs(steps)) %in% (if (connectivity == 4) 1 else 1:2), ]
+  number <- 0L
+  for (first in seq_len(length(cells))) {
+    row <- (first - 1) %/% ncol(cells) + 1
+    col <- (first - 1) %% ncol(cells) + 1
+    if (is.na(cells[row, col]) || !is.na(found[row, col])) next
+    number <- number + 1L
+    open <- list(c(row, col))
+    found[row, col] <- number
+    while (length(open)) {
+      here <- open[[length(open)]]
+      open[[length(open)]] <- NULL
+      for (step in seq_len(nrow(steps))) {
+        there <- here + unlist(steps[step, ])
+        if (all(there >= 1 & there <= dim(cells)) && is.na(found[there[1], there[2]]) && cells[there[1], there[2]] %in% cells[row, col]) {
+          found[there[1], there[2]] <- number
+          open[[length(open) + 1L]] <- there
+        }
+      }
+    }
+  }
+  found
+}

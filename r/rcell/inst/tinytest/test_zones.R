@@ -67,6 +67,29 @@ expect_warning(rcell_composition(land, zones = stack), "zones: 1 of 4 polygons c
 expect_warning(rcell_composition(land, zones = stack, zone_field = "name"), "and feature 1 [(]a[)] loses cells")
 expect_identical(cells_of(zones = stack, zone_field = "name"), c(b = 8L, c = 24L))
 
+# One polygon after another: none loses a cell, in all calls that have zones.
+expect_identical(suppressWarnings(cells_of(zones = stack, zone_field = "name", each = TRUE)), c(a = 16L, b = 16L, c = 24L))
+expect_identical(suppressWarnings(rcell_zonal(land, stack, each = TRUE))$cells, c(16L, 16L, 24L))
+found <- suppressWarnings(rcell_dominant(land, stack, zone_field = "name", each = TRUE))
+expect_identical(found$zone_label, c("a", "b", "c"))
+expect_identical(found$cells, c(16L, 16L, 24L))
+expect_identical(refusal(rcell_composition(land, zones = land, each = TRUE))$text, "each= is for polygons, and zones= is a raster")
+
+# terra reads a missing number as 0: a SpatVector of a file that has some is an error, and one of which that is not known a warning.
+counted <- polygons(c(box(0, 4), box(4, 8)), number = c(0L, 5L))
+known <- stored(counted, "known.gpkg")
+expect_silent(found <- rcell_composition(land, zones = vect(known), zone_field = "number"))
+expect_identical(found$zone, c(0L, 5L))
+expect_warning(rcell_composition(land, zones = counted, zone_field = "number"), "the field number of feature 1 is 0, and terra reads a missing number")
+counted$number <- as.numeric(counted$number)
+expect_silent(rcell_composition(land, zones = counted, zone_field = "number"))
+counted$number <- c(NA, 5L)
+lacking <- stored(counted, "lacking.gpkg")
+if (!anyNA(vect(lacking)$number)) {
+  text <- sprintf("the field number has 1 missing numbers, which terra reads as 0: pass the path of the file, \"%s\"", lacking)
+  expect_identical(refusal(rcell_composition(land, zones = vect(lacking), zone_field = "number"))$text, text)
+}
+
 # What is no layer of polygons.
 expect_identical(refusal(rcell_composition(land, zones = vect("POINT (1 1)", crs = "EPSG:32632")))$text, "not polygons, but points")
 expect_identical(refusal(rcell_composition(land, zones = file("none.gpkg")))$text,
@@ -74,7 +97,7 @@ expect_identical(refusal(rcell_composition(land, zones = file("none.gpkg")))$tex
 writeLines("north", file("text.md"))
 expect_true(grepl("neither polygons nor a raster", refusal(rcell_composition(land, zones = file("text.md")))$text))
 expect_identical(refusal(rcell_composition(land, zones = land, zone_field = "x"))$text, "zone_field= names a field of polygons, and zones= is a raster")
-expect_identical(refusal(rcell_composition(land, zone_field = "x"))$text, "zone_field= and layer= need zones=")
+expect_identical(refusal(rcell_composition(land, zone_field = "x"))$text, "zone_field=, layer= and each= need zones=")
 
 # An output is no file that the call reads: a raster, its sidecars, the sources of a VRT, a crosswalk.
 labelled <- land

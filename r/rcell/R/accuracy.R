@@ -1,0 +1,272 @@
+# SPDX-License-Identifier: Apache-2.0 OR GPL-2.0-or-later
+# The accuracy of a map, and the areas of its classes as a reference sample corrects them.
+
+# The fields of points that have the class if none is named.
+CLASS_FIELDS <- c("class", "reference")
+
+rcell_accuracy <- function(x, reference, areas = NULL, area, field = NULL, layer = NULL,
+                           labels = NULL, crs = NULL) {
+  choice <- area_choice(area, missing(area))
+  check_text(field, "field")
+  check_text(layer, "layer")
+  sample <- sample_of(x, reference, field, layer, crs)
+  if (!sum(sample$cells)) {
+    text <- "the sample is empty: no cell has a class in the map and in the reference"
+    refuse(text, "reference")
+  }
+  strata <- strata_of(areas, choice, x, sample$sources, crs)
+  classes <- sort(unique(c(sample$map, sample$reference, strata$class[strata$size > 0])))
+  counts <- matrix(0, length(classes), length(classes))
+  place <- (match(sample$reference, classes) - 1) * length(classes) + match(sample$map, classes)
+  counts[] <- summed(sample$cells, place, length(counts))
+  mapped <- rowSums(counts)
+  if (!is.null(strata)) {
+    mapped <- strata$size[match(classes, strata$class)]
+    mapped[is.na(mapped)] <- 0
+    check_strata(classes, mapped, rowSums(counts))
+  }
+  own <- Find(function(source) length(source$labels$codes) > 0L, sample$sources)$labels
+  labels <- labels_from(labels, own)
+  check_legend(labels, classes, "the sample")
+  estimate <- estimate_of(counts, mapped / sum(mapped))
+  columns <- c(coded("class", classes, labels, "label"), accuracies_of(counts, estimate))
+  if (!is.null(strata$unit)) {
+    sizes <- list(mapped, sum(mapped) * estimate$shares, sum(mapped) * estimate$shares_se)
+    names(sizes) <- paste(c("mapped", "area", "area_se"), strata$unit, sep = "_")
+    columns <- c(columns, sizes)
+  }
+  c(
+    list(matrix = confusion_of(classes, counts, labels), classes = frame_of(columns)),
+    agreement_of(estimate), cells = as.integer(sum(counts))
+  )
+}
+
+confusion_of <- function(classes, counts, labels) {
+  has_labels <- length(labels$codes) > 0L
+  titles <- class_titles(list(labels), list(classes), taken = "map")[[1]]
+  columns <- lapply(seq_along(classes), function(place) as.integer(counts[, place]))
+  frame <- frame_of(c(list(map = if (has_labels) titles else classes), columns))
+  names(frame)[-1] <- titles
+  frame
+}
+
+# Shares of the area by class of the map (rows) and of the reference (columns), from a sample that
+# is stratified by the map, by the equations of Olofsson et al. 2014, Remote Sensing of Environment
+# 148. A stratum of one cell has no variance, and one without area needs none.
+estimate_of <- function(counts, weights) {
+  rows <- rowSums(counts)
+  within <- counts / pmax(rows, 1)
+  joint <- weights * within # equation 4
+  spread <- within * (1 - within) / ifelse(rows > 1, rows - 1, NaN)
+  squares <- weights^2 * spread
+  squares[weights == 0, ] <- 0
+  list(
+    rows = rows, within = within, joint = joint, shares = colSums(joint), # equation 9
+    spread = diag_of(spread), squares = squares, shares_se = sqrt(colSums(squares)) # equation 10
+  )
+}
+
+# R's own makes an identity of a matrix of one cell.
+diag_of <- function(matrix) matrix[cbind(seq_len(nrow(matrix)), seq_len(nrow(matrix)))]
+
+# The cells and the accuracies of each class, with their standard errors.
+accuracies_of <- function(counts, estimate) {
+  has_rows <- estimate$rows > 0
+  shares <- ifelse(estimate$shares > 0, estimate$shares, NaN)
+  producers <- diag_of(estimate$joint) / shares # equation 3
+  own <- diag_of(estimate$squares)
+  others <- colSums(estimate$squares) - own
+  # Equation 7, with shares in place of numbers of cells.
+  squares <- (1 - producers)^2 * own + producers^2 * others
+  list(
+    cells_map = as.integer(estimate$rows), cells_reference = as.integer(colSums(counts)),
+    users = ifelse(has_rows, diag_of(estimate$within), NaN), # equation 2
+    users_se = ifelse(has_rows, sqrt(estimate$spread), NaN), # equation 6
+    producers = producers, producers_se = sqrt(pmax(squares, 0)) / shares
+  )
+}
+
+# The overall accuracy with its standard error, kappa, and the disagreement in the quantities of
+# classes and in their places (Pontius and Millones 2011).
+agreement_of <- function(estimate) {
+  overall <- sum(diag_of(estimate$joint)) # equation 1
+  marginal <- rowSums(estimate$joint)
+  chance <- sum(marginal * estimate$shares)
+  quantity <- sum(abs(marginal - estimate$shares)) / 2
+  has_kappa <- length(marginal) > 1L && chance < 1
+  list(
+    overall = overall, overall_se = sqrt(sum(diag_of(estimate$squares))), # equation 5
+    kappa = if (has_kappa) (overall - chance) / (1 - chance) else NaN,
+    quantity = quantity, allocation = 1 - overall - quantity
+  )
+}
+
+check_strata <- function(classes, mapped, rows) {
+  lacking <- classes[mapped > 0 & rows == 0]
+  if (length(lacking)) {
+    text <- paste(
+      "no cell of the sample is in the class %s of the map, which has an area: add cells,",
+      "or merge the class with another one"
+    )
+    refuse(sprintf(text, shortened(lacking)), "reference")
+  }
+  extra <- classes[mapped == 0 & rows > 0]
+  if (length(extra)) {
+    text <- "areas= must have an area for each class of the sample; got none for %s"
+    refuse(sprintf(text, shortened(extra)), status = 2L)
+  }
+}
+
+# How often classes of the map and of the reference occur together, and the maps, if there are any.
+sample_of <- function(x, reference, field, layer, crs) {
+  is_file <- is_path(reference) && grepl("[.](csv|tsv)$", reference, ignore.case = TRUE)
+  choose <- function(known) class_field(field, known)
+  points <- NULL
+  if (!is_file) points <- features_of(POINTS, reference, layer, choose, !is.null(field))
+  if (is.null(points) && !(is.null(field) && is.null(layer))) {
+    name <- if (is.null(layer)) "field" else "layer"
+    refuse(sprintf("%s= is for points, and reference= is not", name), status = 2L)
+  }
+  if (is_file || is.data.frame(reference)) return(sample_of_table(reference))
+  if (is.null(x)) refuse("x= must be given, unless reference= is a table; got NULL", status = 2L)
+  if (!is.null(points)) return(sample_of_points(x, points, crs))
+  sources <- sources_of(list(map = x, reference = reference), crs)
+  frame <- run_own("r.stats -cn input=map,reference", sources)[[1]]
+  list(
+    map = frame$codes[[1]], reference = frame$codes[[2]], cells = frame$cells, sources = sources
+  )
+}
+
+sample_of_table <- function(reference) {
+  table <- table_of_columns(reference, "reference", c("map", "reference"), "cells")
+  texts <- lapply(table$columns, function(column) ifelse(is.na(column), "", trimmed(column)))
+  if (is.null(texts$cells)) texts$cells <- rep("1", length(texts$map))
+  is_kept <- nzchar(texts$map) & nzchar(texts$reference)
+  texts <- lapply(texts, `[`, is_kept)
+  numbers <- lapply(texts, function(text) {
+    suppressWarnings(as.numeric(ifelse(grepl(WHOLE, text), text, NA)))
+  })
+  is_whole <- lapply(numbers, function(number) !is.na(number) & abs(number) <= CATEGORY_LIMIT)
+  places <- table$places[is_kept]
+  bad <- which(!(is_whole$map & is_whole$reference & is_whole$cells))
+  if (length(bad)) {
+    column <- Find(function(name) !is_whole[[name]][[bad[[1]]]], names(numbers))
+    met <- quoted_if_empty(texts[[column]][[bad[[1]]]])
+    text <- "%s%s is not a class or a number of cells"
+    refuse(sprintf(text, places[[bad[[1]]]], met), "reference")
+  }
+  below <- which(numbers$cells < 0)
+  if (length(below)) {
+    text <- "%s%.0f cells are fewer than none"
+    refuse(sprintf(text, places[[below[[1]]]], numbers$cells[[below[[1]]]]), "reference")
+  }
+  list(
+    map = as.integer(numbers$map), reference = as.integer(numbers$reference),
+    cells = numbers$cells
+  )
+}
+
+# The field that has the class of points: the one that is named, or the only one of a usual name.
+class_field <- function(field, known) {
+  usual <- intersect(CLASS_FIELDS, known)
+  if (is.null(field) && length(usual) == 1L) return(usual)
+  if (is.null(field) && length(usual)) {
+    text <- "has the fields %s: name one, for example field = \"%s\""
+    bad_map("reference", sprintf(text, paste(usual, collapse = " and "), usual[[2]]))
+  }
+  if (is.null(field)) no_field(POINTS, paste(CLASS_FIELDS, collapse = " or "), known)
+  if (field %in% known) field else no_field(POINTS, field, known)
+}
+
+# A map numbers the cells that have points, and the program says which class each of them has.
+sample_of_points <- function(x, points, crs) {
+  source <- with_stated(source_of("map", x), stated_crs(crs))
+  check_crs_of_features(POINTS, points, source)
+  placed <- placed_points(points, source)
+  cells <- rep(NA_integer_, prod(unlist(source$region[c("rows", "cols")])))
+  distinct <- unique(na.omit(placed$cell))
+  cells[distinct] <- seq_along(distinct)
+  numbers <- list(
+    name = "reference", cells = cells, region = source$region, raster = template_of(source),
+    crs = points$crs
+  )
+  sources <- fitted_sources(list(source, numbers), crs)
+  frame <- run_own("r.stats -n input=reference,map", sources)[[1]]
+  map <- frame$codes[[2]][match(match(placed$cell, distinct), frame$codes[[1]])]
+  is_null <- !is.na(placed$cell) & is.na(map)
+  warn_of_left_out(points$count, length(placed$cell), sum(is.na(placed$cell)), sum(is_null))
+  is_kept <- !is.na(map)
+  list(
+    map = map[is_kept], reference = placed$class[is_kept], cells = rep(1, sum(is_kept)),
+    sources = sources
+  )
+}
+
+# The class of each point, and the cell in which it is; a cell has its northern and western edge.
+placed_points <- function(points, source) {
+  if (!length(points$ids)) return(list(cell = integer(), class = integer()))
+  corners <- geom(points$shapes)
+  again <- duplicated(corners[, "geom"])
+  if (any(again)) {
+    feature <- points$ids[[corners[again, "geom"][[1]]]]
+    bad_map("reference", sprintf("not points: feature %.0f has several", feature))
+  }
+  texts <- points$values$texts
+  numbers <- points$values$numbers
+  is_text <- is.na(numbers) & grepl(WHOLE, texts)
+  numbers[is_text] <- as.numeric(texts[is_text])
+  bad <- which(is.na(numbers) | numbers != trunc(numbers) | abs(numbers) > CATEGORY_LIMIT)
+  if (length(bad)) {
+    text <- "the class of feature %.0f is %s, which is not a whole number"
+    bad_map("reference", sprintf(text, points$ids[[bad[[1]]]], texts[[bad[[1]]]]))
+  }
+  template <- template_of(source)
+  col <- floor((corners[, "x"] - xmin(template)) / res(template)[[1]])
+  row <- floor((ymax(template) - corners[, "y"]) / res(template)[[2]])
+  is_in <- row >= 0 & row < nrow(template) & col >= 0 & col < ncol(template)
+  list(cell = ifelse(is_in, row * ncol(template) + col + 1, NA), class = as.integer(numbers))
+}
+
+warn_of_left_out <- function(count, placed, outside, on_null) {
+  left <- c(count - placed, outside, on_null)
+  reasons <- c("without a class", "outside the map", "on null cells")[left > 0]
+  if (!length(reasons)) return(invisible())
+  listed <- paste(left[left > 0], reasons, collapse = ", ")
+  text <- "reference: %d of %d points are left out: %s"
+  warning(sprintf(text, sum(left), count, listed), call. = FALSE)
+}
+
+# The area of each class of the map, from which the sample was drawn, and the unit of the result.
+strata_of <- function(areas, choice, x, sources, crs) {
+  if (is.null(areas)) return(NULL)
+  if (identical(areas, "map")) {
+    if (is.null(x)) {
+      refuse("areas= must be areas by class if there is no map; got \"map\"", status = 2L)
+    }
+    if (is.null(sources)) sources <- sources_of(list(map = x), crs)
+    unit <- unit_of(choice, sources$map)
+    table <- count_cells(sources, list("map"), unit)[[1]]
+    size <- if (is.null(unit)) table$cells else table$area
+    return(list(class = table$codes[[1]], size = as.numeric(size), unit = unit))
+  }
+  if (is_path(areas) || is.data.frame(areas)) {
+    table <- table_of_columns(areas, "areas", c("value", "area"))
+    given <- c(table$columns, list(places = table$places))
+  } else if (is.numeric(areas) && !is.null(names(areas))) {
+    places <- rep("", length(areas))
+    given <- list(value = names(areas), area = as.character(areas), places = places)
+  } else {
+    text <- "areas= must be \"map\", or areas by class, for example c(\"1\" = 18000); got %s"
+    refuse(sprintf(text, shown(areas)), status = 2L)
+  }
+  value <- ifelse(grepl(WHOLE, trimmed(given$value)), trimmed(given$value), NA)
+  size <- suppressWarnings(as.numeric(given$area))
+  bad <- which(is.na(value) | !is.finite(size) | size < 0)
+  if (length(bad)) {
+    place <- bad[[1]]
+    text <- "areas= must be numbers from 0 by class; got %s%s for %s"
+    met <- c(given$places[[place]], given$area[[place]], given$value[[place]])
+    refuse(do.call(sprintf, as.list(c(text, met))), status = 2L)
+  }
+  list(class = as.integer(as.numeric(value)), size = size, unit = choice$unit)
+}

@@ -1,0 +1,294 @@
+# SPDX-License-Identifier: Apache-2.0 OR GPL-2.0-or-later
+# The features of a layer of polygons or points, with the values of one of their fields.
+
+LAYER_MARK <- "|layername="
+# What a layer is read for: its name in messages, and what its features must be.
+POLYGONS <- list(
+  name = "zones", are = "polygons", kinds = c("POLYGON", "MULTIPOLYGON"), type = "wkbMultiPolygon"
+)
+POINTS <- list(
+  name = "reference", are = "points", kinds = c("POINT", "MULTIPOINT"), type = "wkbMultiPoint"
+)
+CURVED_KINDS <- c("CURVEPOLYGON", "MULTISURFACE")
+# So many ranges of features are named in one query.
+RANGES_OF_A_QUERY <- 200L
+SIDECARS_OF_A_LAYER <- c(
+  "shx", "dbf", "prj", "cpg", "sbn", "sbx", "qix", "qpj", "qmd", "shp.xml", "tab", "dat", "map",
+  "id", "ind", "mif", "mid", "xsd", "gfs"
+)
+
+# A layer in GDAL's virtual format, in which features keep their numbers. Of its fields only one is
+# left, as text: terra 1.7 reads a missing whole number as 0 and a long one inexactly.
+VIRTUAL_LAYER <- paste0(
+  "<OGRVRTDataSource><OGRVRTLayer name=\"features\"><SrcDataSource>%s</SrcDataSource>",
+  "<SrcLayer>%s</SrcLayer>%s</OGRVRTLayer></OGRVRTDataSource>"
+)
+FIELD_AS_TEXT <- "<Field name=\"content\" src=\"%s\" type=\"String\"/>"
+GEOMETRY_AS <- "<GeometryType>%s</GeometryType>"
+DATE_OF_GDAL <- "^([0-9]{4})/([0-9]{2})/([0-9]{2})( 00:00:00$)?"
+
+# The features that have a geometry and a value, with their own numbers; NULL if there is no layer.
+# `choose` returns the field that is read of the fields of a layer, or NULL.
+features_of <- function(role, given, layer, choose, is_field_needed) {
+  if (inherits(given, "SpatVector")) {
+    if (!is.null(layer)) {
+      text <- "layer= names a layer of a file, and %s= is a SpatVector"
+      refuse(sprintf(text, role$name), status = 2L)
+    }
+    return(features_of_vector(role, given, choose(names(given))))
+  }
+  if (!is_path(given)) return(NULL)
+  parts <- strsplit(native_path(given), LAYER_MARK, fixed = TRUE)[[1]]
+  path <- parts[[1]]
+  if (length(parts) > 1L) {
+    if (!is.null(layer) && !identical(layer, parts[[2]])) {
+      text <- "layer= is %s, and %s= names the layer %s: give one"
+      refuse(sprintf(text, layer, role$name, parts[[2]]), status = 2L)
+    }
+    layer <- parts[[2]]
+  }
+  if (!is_address(path) && !file.exists(path)) no_such_file(role$name, path)
+  is_named <- !is.null(layer) || is_field_needed
+  layers <- character()
+  if (!is_grid_of_rcell(path) && (is_named || !is_raster(path))) layers <- layers_of(path)
+  if (length(layers)) {
+    return(features_of_layer(role, path, chosen_layer(role, path, layers, layer), choose))
+  }
+  if (!is_grid_of_rcell(path) && !is_raster(path)) {
+    text <- "cannot open: %s: neither %s nor a raster"
+    read_failed(role$name, sprintf(text, path, role$are))
+  }
+  if (is.null(layer)) return(NULL)
+  refuse(sprintf("no layer %s: %s is a raster", layer, path), role$name, status = 2L)
+}
+
+is_raster <- function(path) {
+  opened <- tryCatch(suppressWarnings(with_path(path, rast(path))), error = function(e) NULL)
+  !is.null(opened)
+}
+
+layers_of <- function(path) {
+  layers <- tryCatch(
+    suppressWarnings(with_path(path, vector_layers(path))),
+    error = function(e) character()
+  )
+  utf8_of(layers)
+}
+
+# Return the layer asked for, or the only one.
+chosen_layer <- function(role, path, layers, layer) {
+  listed <- paste(layers, collapse = ", ")
+  if (!is.null(layer)) {
+    if (layer %in% layers) return(layer)
+    refuse(sprintf("no layer %s: there are %s", layer, listed), role$name, status = 2L)
+  }
+  if (length(layers) == 1L) return(layers)
+  text <- sprintf(
+    "has the layers %s: choose one, for example layer = \"%s\" or \"%s%s%s\"",
+    listed, layers[[1]], path, LAYER_MARK, layers[[1]]
+  )
+  refuse(text, role$name, status = 2L)
+}
+
+features_of_layer <- function(role, path, layer, choose) {
+  force(layer)
+  failed <- function(e) read_failed(role$name, sprintf("cannot open: %s: %s", path, told(e)))
+  ask <- function(query, content = "", what = "attributes") {
+    use <- function(file) vect(file, query = paste("SELECT", query), what = what)
+    tryCatch(suppressWarnings(with_layer(path, layer, content, use)), error = failed)
+  }
+  typed <- ask("* FROM features")
+  field <- choose(names(typed))
+  # Without a field any one is left, so that none is called FID.
+  left <- intersect(c(field, names(typed)), names(typed))
+  content <- if (length(left)) sprintf(FIELD_AS_TEXT, xml_text(left[[1]])) else ""
+  features <- ask("FID AS id, OGR_GEOMETRY AS kind, OGR_GEOM_AREA AS size FROM features", content)
+  if (!nrow(features)) bad_map(role$name, sprintf("the layer %s has no features", layer))
+  is_kept <- nzchar(features$kind) & !is.na(features$kind)
+  values <- NULL
+  if (!is.null(field)) {
+    known <- ask("FID AS id, content FROM features WHERE content IS NOT NULL", content)
+    texts <- utf8_of(as.character(known$content))[match(features$id, known$id)]
+    values <- field_values(typed[[field]], texts)
+    is_kept <- is_kept & !is.na(values$texts)
+  }
+  check_kinds(role, features$id[is_kept], features$kind[is_kept])
+  # terra crashes on empty geometries.
+  if (any(is_kept & features$size == 0)) {
+    flat <- ask("FID AS id, OGR_GEOM_WKT AS shape FROM features WHERE OGR_GEOM_AREA = 0", content)
+    is_kept <- is_kept & !(features$id %in% flat$id[grepl("EMPTY$", flat$shape)])
+  }
+  ids <- features$id[is_kept]
+  content <- paste0(content, sprintf(GEOMETRY_AS, role$type))
+  chosen <- lapply(ranges_of_ids(ids), function(where) {
+    ask(paste("FID AS id FROM features WHERE", where), content, what = "")
+  })
+  shapes <- if (length(chosen) == 1L) chosen[[1]] else do.call(rbind, unname(chosen))
+  list(
+    ids = ids, shapes = if (length(ids)) shapes[match(ids, shapes$id), ],
+    values = picked(values, is_kept), count = nrow(features), crs = crs(shapes),
+    files = files_of_layer(path)
+  )
+}
+
+# Conditions for features by their numbers; of none if there are no numbers.
+ranges_of_ids <- function(ids) {
+  if (!length(ids)) return("FID < -1")
+  ends <- which(c(diff(ids) != 1, TRUE))
+  starts <- c(1L, ends[-length(ends)] + 1L)
+  ranges <- sprintf("(FID >= %.0f AND FID <= %.0f)", ids[starts], ids[ends])
+  chunks <- split(ranges, (seq_along(ranges) - 1L) %/% RANGES_OF_A_QUERY)
+  vapply(chunks, paste, "", collapse = " OR ")
+}
+
+with_layer <- function(path, layer, content, use) {
+  file <- tempfile("rcell-", fileext = ".vrt")
+  on.exit(unlink(file))
+  where <- if (is_address(path)) path else normalizePath(path)
+  lines <- sprintf(VIRTUAL_LAYER, xml_text(where), xml_text(layer), content)
+  writeLines(enc2utf8(lines), file, useBytes = TRUE)
+  with_path(path, use(file))
+}
+
+xml_text <- function(text) {
+  for (pair in list(c("&", "&amp;"), c("<", "&lt;"), c(">", "&gt;"), c("\"", "&quot;"))) {
+    text <- gsub(pair[[1]], pair[[2]], text, fixed = TRUE)
+  }
+  text
+}
+
+check_crs_of_features <- function(role, features, source) {
+  if (!nzchar(features$crs) || !nzchar(source$crs) || same_crs(features$crs, source$crs)) {
+    return(invisible())
+  }
+  map <- list(name = sprintf("`%s`", source$name), crs = source$crs)
+  other_crs(list(name = role$name, crs = features$crs), map, tool = "ogr2ogr")
+}
+
+no_field <- function(role, field, known) {
+  listed <- if (length(known)) paste(known, collapse = ", ") else "none"
+  bad_map(role$name, sprintf("no field %s: there are %s", field, listed), status = 2L)
+}
+
+check_kinds <- function(role, ids, kinds) {
+  wrong <- which(!(kinds %in% role$kinds))
+  if (!length(wrong)) return(invisible())
+  kind <- kinds[[wrong[[1]]]]
+  text <- sprintf("not %s: feature %.0f is a %s", role$are, ids[[wrong[[1]]]], kind)
+  if (kind %in% CURVED_KINDS) {
+    text <- paste0(
+      text, ", and terra reads no curves: write it with ogr2ogr -nlt CONVERT_TO_LINEAR first"
+    )
+  }
+  bad_map(role$name, text)
+}
+
+# A SpatVector has the numbers of its rows, and the values that terra shows.
+features_of_vector <- function(role, vector, field) {
+  kind <- geomtype(vector)
+  is_kept <- has_geometry(vector)
+  if (any(is_kept) && kind != role$are) {
+    bad_map(role$name, sprintf("not %s, but %s", role$are, kind))
+  }
+  values <- NULL
+  if (!is.null(field)) {
+    column <- as.data.frame(vector)[[field]]
+    check_zeros(role, vector, field, column)
+    values <- field_values(column, utf8_of(as.character(column)))
+    is_kept <- is_kept & !is.na(values$texts)
+  }
+  rows <- which(is_kept)
+  files <- sub("::.*$", "", sources(vector))
+  list(
+    ids = rows, shapes = if (length(rows)) vector[rows, ], values = picked(values, is_kept),
+    count = nrow(vector), crs = crs(vector),
+    files = unlist(lapply(files[nzchar(files)], files_of_layer))
+  )
+}
+
+# terra 1.7 reads a missing whole number of a file as 0: the file says whether it has some.
+check_zeros <- function(role, vector, field, column) {
+  if (!is.integer(column) || is.factor(column) || !any(column == 0L, na.rm = TRUE)) {
+    return(invisible())
+  }
+  missing <- count_missing(sources(vector), field)
+  if (identical(missing, 0L)) return(invisible())
+  feature <- which(column == 0L)[[1]]
+  if (is.na(missing)) {
+    text <- paste(
+      "%s: the field %s of feature %d is 0, and terra reads a missing number of a file as 0: pass",
+      "the path of the file; if 0 is meant, make it x$%s <- as.numeric(x$%s)"
+    )
+    warning(sprintf(text, role$name, field, feature, field, field), call. = FALSE)
+    return(invisible())
+  }
+  text <- "the field %s has %d missing numbers, which terra reads as 0: pass the path of the file, %s"
+  path <- shown(sub("::", LAYER_MARK, sources(vector)))
+  bad_map(role$name, sprintf(text, field, missing, path))
+}
+
+# In how many features of a file a field is missing; NA if the file does not say so.
+count_missing <- function(source, field) {
+  if (length(source) != 1L || !nzchar(source)) return(NA_integer_)
+  parts <- strsplit(source, "::", fixed = TRUE)[[1]]
+  layer <- c(parts, layers_of(parts[[1]]))[[2]]
+  content <- sprintf(FIELD_AS_TEXT, xml_text(field))
+  query <- "SELECT FID AS id FROM features WHERE content IS NULL"
+  tryCatch(suppressWarnings(with_layer(parts[[1]], layer, content, function(file) {
+    nrow(vect(file, query = query, what = "attributes"))
+  })), error = function(e) NA_integer_)
+}
+
+has_geometry <- function(vector) {
+  if (!nrow(vector)) return(logical())
+  corners <- geom(vector)
+  seq_len(nrow(vector)) %in% corners[!is.na(corners[, "x"]), "geom"]
+}
+
+# The values of a field: numbers if it has numbers, and texts, which are NA for missing values:
+# null, NaN and the empty text.
+field_values <- function(column, texts) {
+  if (is.double(column) && !inherits(column, c("Date", "POSIXct"))) {
+    column[is.na(texts)] <- NA
+    texts <- number_text(column)
+    texts[is.na(column)] <- NA
+    return(list(numbers = column, texts = texts))
+  }
+  if (is.integer(column) && !is.factor(column)) {
+    return(list(numbers = as.numeric(texts), texts = texts))
+  }
+  if (is.logical(column)) {
+    is_true <- texts %in% c("1", "TRUE")
+    texts[!is.na(texts)] <- ifelse(is_true, "true", "false")[!is.na(texts)]
+  }
+  texts <- sub(DATE_OF_GDAL, "\\1-\\2-\\3", ifelse(nzchar(texts), texts, NA))
+  list(numbers = rep(NA_real_, length(texts)), texts = texts)
+}
+
+picked <- function(values, is_kept) {
+  if (!is.null(values)) lapply(values, function(part) part[is_kept])
+}
+
+# The shortest decimal number that is read as this one; a whole one ends in `.0`.
+number_text <- function(numbers) {
+  texts <- sprintf("%.15g", numbers)
+  for (digits in 16:17) {
+    is_other <- is.finite(numbers) & suppressWarnings(as.numeric(texts)) != numbers
+    texts[is_other] <- sprintf("%.*g", digits, numbers[is_other])
+  }
+  is_plain <- grepl("^-?[0-9]+$", texts)
+  texts[is_plain] <- paste0(texts[is_plain], ".0")
+  texts
+}
+
+# Return the files that belong to a layer's file.
+files_of_layer <- function(path) {
+  if (is_address(path) || !file.exists(path)) return(path)
+  if (dir.exists(path)) return(list.files(path, full.names = TRUE))
+  folder <- dirname(path)
+  name <- tools::file_path_sans_ext(basename(path))
+  beside <- list.files(folder, all.files = TRUE)
+  logs <- paste0(basename(path), c("-wal", "-shm", "-journal"))
+  known <- c(paste0(name, ".", SIDECARS_OF_A_LAYER), logs)
+  c(path, file.path(folder, beside[tolower(beside) %in% tolower(known)]))
+}

@@ -1,0 +1,148 @@
+# SPDX-License-Identifier: Apache-2.0 OR GPL-2.0-or-later
+# A smallest mapping unit: small patches are merged into their neighbours.
+
+SIDES <- c(right = "0,1", below = "1,0")
+CORNERS <- c(falling = "1,1", rising = "1,-1")
+CHANGED <- "r.mapcalc changed = if(isnull(map), null(), isnull(new) ||| map != new)"
+# Digits to which a number of cells is rounded, before a part of a cell counts as one more.
+DIGITS_OF_CELLS <- 9
+
+rcell_sieve <- function(x, min_cells = NULL, min_ha = NULL, connectivity = 4, drop = FALSE,
+                        filename = "", overwrite = FALSE, crs = NULL) {
+  check_selection(connectivity, NULL, NULL)
+  check_flag(drop, "drop")
+  check_filename(filename, overwrite)
+  sources <- sources_of(list(map = x), crs)
+  check_inputs(filename, inputs_of(sources))
+  fewest <- fewest_cells(min_cells, min_ha, sources$map)
+  steps <- c(SIDES, if (connectivity == 8) CORNERS)
+  lines <- touching_lines("map", connectivity, "patch,map", if (!drop) steps)
+  frames <- run_own(c(lines, "r.out.ascii input=patch"), sources)
+  class <- frames[[1]]$codes[[2]]
+  cells <- frames[[1]]$cells
+  if (drop) {
+    new <- replace(class, cells < fewest, NA)
+  } else {
+    corners <- frames[-c(1:3, length(frames))]
+    new <- merged_classes(class, cells, frames[2:3], corners, fewest)
+  }
+  raster <- raster_of(frames[[length(frames)]], sources$map, sources$map$labels, "sieved", new)
+  sources$new <- sources$map
+  sources$new[c("name", "raster", "alpha")] <- list("new", raster, NULL)
+  lines <- touching_lines("new", connectivity, c("patch", "changed"), if (!drop) SIDES)
+  frames <- run_own(c(CHANGED, lines), sources)
+  raster <- written(raster, filename)
+  attr(raster, "sieved") <- account_of(frames, fewest, length(cells))
+  raster
+}
+
+# The smallest number of cells of a patch.
+fewest_cells <- function(min_cells, min_ha, source) {
+  if (is.null(min_cells) == is.null(min_ha)) {
+    met <- if (is.null(min_cells)) "neither" else "both"
+    refuse(sprintf("one of min_cells= and min_ha= must be given; got %s", met), status = 2L)
+  }
+  if (is.null(min_ha)) {
+    if (is_whole(min_cells) && min_cells >= 1) return(min_cells)
+    text <- "min_cells= must be a whole number, at least 1; got %s"
+    refuse(sprintf(text, shown(min_cells)), status = 2L)
+  }
+  if (!is.numeric(min_ha) || length(min_ha) != 1L || !is.finite(min_ha) || min_ha <= 0) {
+    refuse(sprintf("min_ha= must be a number above 0; got %s", shown(min_ha)), status = 2L)
+  }
+  unit_of(list(unit = "ha", is_asked_for = TRUE), source, "min_ha=")
+  if (is_in_degrees(source)) {
+    refuse(paste(
+      "min_ha= is not for maps in degrees, whose cells differ in area: use min_cells="
+    ), status = 2L)
+  }
+  max(1, ceiling(round(min_ha * UNITS[["ha"]] / cell_sizes(source), DIGITS_OF_CELLS)))
+}
+
+# Lines with tables of patches, and of the pairs of patches that are one step from each other.
+touching_lines <- function(name, connectivity, tables, steps) {
+  other <- sprintf("r.mapcalc %1$s = if(patch != patch[%2$s], patch[%2$s], null())", names(steps), steps)
+  pairs <- sprintf("r.stats -cn input=patch,%s", names(steps))
+  c(
+    clump_line(connectivity, name), sprintf("r.stats -cn input=%s", tables),
+    if (length(steps)) rbind(other, pairs)
+  )
+}
+
+# The class of each patch in the end. While a patch below the size shares a side with another class,
+# the smallest one (of several, the first) gets the class of the neighbour with which it shares most
+# sides (of several, the first), and becomes one patch with all of this class that it touches. A
+# patch has the smallest number of its parts, which is in the order of their first cells.
+merged_classes <- function(class, cells, sides, corners, fewest) {
+  fewest <- min(fewest, sum(as.numeric(cells)) + 1)
+  sides <- touching_of(sides, cells < fewest)
+  corners <- touching_of(corners, cells < fewest)
+  into <- seq_along(class)
+  parts <- as.list(into)
+  # Patches by their sizes: a patch that grows is larger than all that were tried.
+  waiting <- vector("list", fewest - 1)
+  small <- which(cells < fewest)
+  by_size <- split(small, cells[small])
+  waiting[as.integer(names(by_size))] <- by_size
+  for (size in seq_along(waiting)) {
+    for (patch in sort(waiting[[size]])) {
+      if (into[[patch]] != patch || cells[[patch]] != size) next
+      own <- parts[[patch]]
+      from <- sequence(sides$counts[own], sides$starts[own])
+      near <- sides$near[from]
+      while (any((up <- into[near]) != near)) near <- up
+      into[sides$near[from]] <- near
+      is_other <- near != patch
+      if (!any(is_other)) next
+      near <- near[is_other]
+      touched <- unique(near)
+      shared <- tabulate(rep.int(match(near, touched), sides$times[from][is_other]))
+      code <- class[[min(touched[shared == max(shared)])]]
+      if (length(corners$near)) {
+        near <- corners$near[sequence(corners$counts[own], corners$starts[own])]
+        while (any((up <- into[near]) != near)) near <- up
+        touched <- unique(c(touched, near))
+      }
+      joined <- unique(c(patch, touched[class[touched] == code]))
+      grown <- min(joined)
+      count <- sum(cells[joined])
+      if (count < fewest) {
+        parts[[grown]] <- unlist(parts[joined])
+        waiting[[count]] <- c(waiting[[count]], grown)
+      }
+      into[joined] <- grown
+      class[[grown]] <- code
+      cells[[grown]] <- count
+    }
+  }
+  while (any((up <- into[into]) != into)) into <- up
+  class[into]
+}
+
+# The patches that each small patch touches, and how often: a patch has as many entries of
+# `near` and `times` as `counts` says, from its entry of `starts`.
+touching_of <- function(frames, is_small) {
+  one <- unlist(lapply(frames, function(frame) frame$codes[[1]]))
+  other <- unlist(lapply(frames, function(frame) frame$codes[[2]]))
+  times <- rep(unlist(lapply(frames, `[[`, "cells")), 2L)
+  from <- as.integer(c(one, other))
+  near <- c(other, one)
+  order <- order(from)
+  order <- order[is_small[from[order]]]
+  counts <- tabulate(from[order], length(is_small))
+  list(near = near[order], times = times[order], counts = counts, starts = cumsum(counts) - counts + 1L)
+}
+
+# The result as the program counts it: a small patch that is left shares no side with another class.
+account_of <- function(frames, fewest, before) {
+  cells <- frames[[1]]$cells
+  small <- frames[[1]]$codes[[1]][cells < fewest]
+  if (any(small %in% unlist(lapply(frames[-(1:2)], `[[`, "codes")))) {
+    stop("a small patch with a neighbour is left: this is an error of rcell")
+  }
+  is_changed <- frames[[2]]$codes[[1]] == 1L
+  data.frame(
+    patches_before = before, patches_after = length(cells),
+    cells_changed = sum(frames[[2]]$cells[is_changed]), patches_below = length(small)
+  )
+}

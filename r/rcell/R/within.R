@@ -1,0 +1,136 @@
+# SPDX-License-Identifier: Apache-2.0 OR GPL-2.0-or-later
+# What is within a distance of some classes: buffers, by map algebra.
+
+# The largest offset of an expression.
+STEPS_LIMIT <- 255
+# So many cells with offsets fit into one expression.
+TERMS_OF_AN_EXPRESSION <- 100L
+# Digits of the size of a cell that edges of a map may have blurred.
+DIGITS_OF_SIZES <- 9
+# Splits a double into halves of 26 bits.
+HALVES <- 2^27 + 1
+
+rcell_within <- function(x, classes, distances, filename = "", overwrite = FALSE, crs = NULL) {
+  check_selection(4, classes, NULL)
+  if (!length(classes)) refuse("classes= must be whole numbers; got none", status = 2L)
+  check_distances(distances)
+  check_filename(filename, overwrite)
+  sources <- sources_of(list(map = x), crs)
+  check_inputs(filename, inputs_of(sources))
+  unit_of(list(unit = "m2", is_asked_for = TRUE), sources$map, "distances=")
+  if (is_in_degrees(sources$map)) {
+    refuse("distances= need a map in metres or feet, and the map is in degrees", status = 2L)
+  }
+  sizes <- exact_sizes(template_of(sources$map)) * metres_of_unit(sources$map)
+  rings <- lapply(distances, reaches, sizes)
+  lines <- within_lines(sort(unique(classes)), rings)
+  frame <- run_own(c(lines, "r.out.ascii input=within"), sources)[[1]]
+  labels <- list(
+    codes = seq_along(c(0, distances)) - 1L,
+    labels = c("inside", sprintf("up to %.10g m", distances))
+  )
+  written(raster_of(frame, sources$map, labels, "within"), filename)
+}
+
+check_distances <- function(distances) {
+  is_right <- is.numeric(distances) && length(distances) && all(is.finite(distances)) &&
+    all(diff(c(0, distances)) > 0)
+  if (is_right) return(invisible())
+  text <- "distances= must be numbers that ascend from above 0, for example c(100, 500); got %s"
+  refuse(sprintf(text, shown(distances)), status = 2L)
+}
+
+# The sizes of cells as the file has them: terra computes them from the edges of the map.
+exact_sizes <- function(template) {
+  size <- res(template)
+  short <- signif(size, DIGITS_OF_SIZES)
+  blur <- 4 * .Machine$double.eps * max(abs(as.vector(ext(template)))) /
+    c(ncol(template), nrow(template))
+  ifelse(abs(size - short) <= blur, short, size)
+}
+
+# For 0, 1, 2, .. columns how many rows away a cell may be.
+reaches <- function(distance, sizes) {
+  if (distance >= min(sizes) * (STEPS_LIMIT + 1)) {
+    text <- "distances= must be at most %d cells; got %.10g m, which is %.1f cells"
+    refuse(sprintf(text, STEPS_LIMIT, distance, distance / min(sizes)), status = 2L)
+  }
+  reach <- integer()
+  repeat {
+    cols <- length(reach)
+    rest <- distance^2 - (cols * sizes[[1]])^2
+    rows <- floor(sqrt(max(rest, 0)) / sizes[[2]])
+    rows <- rows + c(1, 0, -1)
+    is_near <- vapply(rows, function(rows) {
+      rows >= 0 && is_within(distance, cols, rows, sizes)
+    }, NA)
+    if (!any(is_near)) return(reach)
+    reach <- c(reach, rows[is_near][[1]])
+  }
+}
+
+# Whether cells so many columns and rows apart are within a distance, exactly: the sum of the
+# products is computed without rounding.
+is_within <- function(distance, cols, rows, sizes) {
+  squares <- lapply(c(distance, sizes), function(size) product(size, size))
+  terms <- c(
+    squares[[1]], product(-cols^2, squares[[2]][[1]]), product(-cols^2, squares[[2]][[2]]),
+    product(-rows^2, squares[[3]][[1]]), product(-rows^2, squares[[3]][[2]])
+  )
+  exact <- numeric()
+  for (term in terms) {
+    rest <- numeric()
+    for (part in exact) {
+      sum <- term + part
+      other <- sum - term
+      rest <- c(rest, (term - (sum - other)) + (part - other))
+      term <- sum
+    }
+    exact <- c(rest[rest != 0], term)
+  }
+  exact[[length(exact)]] >= 0
+}
+
+# A product as the sum of two doubles.
+product <- function(one, other) {
+  product <- one * other
+  halves <- lapply(c(one, other), function(number) {
+    high <- HALVES * number - (HALVES * number - number)
+    c(high, number - high)
+  })
+  a <- halves[[1]]
+  b <- halves[[2]]
+  c(product, a[[2]] * b[[2]] - (((product - a[[1]] * b[[1]]) - a[[2]] * b[[1]]) - a[[1]] * b[[2]]))
+}
+
+# The map `v_N` is 1 where a cell of the classes is at most N rows up or down. A ring is the largest
+# of some of them, each shifted by columns.
+within_lines <- function(classes, rings) {
+  rules <- sprintf("%.0f = 1", classes)
+  lines <- c(
+    "r.reclass input=map output=listed", rules, "end", "r.mapcalc v_0 = if(isnull(listed), 0, 1)"
+  )
+  last <- 0
+  for (reach in setdiff(sort(unique(unlist(rings))), 0)) {
+    # From windows of `last`, shifted so that no row is left out.
+    step <- 2 * last + 1
+    steps <- unique(c(step * seq_len((reach - last) %/% step), reach - last))
+    shifted <- sprintf("v_%d[%d,0]", last, c(steps, -steps))
+    largest <- paste(c(sprintf("v_%d", last), shifted), collapse = ",")
+    lines <- c(lines, sprintf("r.mapcalc v_%d = nmax(%s)", reach, largest))
+    last <- reach
+  }
+  rest <- "null()"
+  for (number in rev(seq_along(rings))) {
+    ring <- rings[[number]]
+    cols <- seq_along(ring)[-1] - 1L
+    shifted <- sprintf("v_%d[0,%d]", rep(ring[-1], each = 2L), c(rbind(cols, -cols)))
+    first <- sprintf("v_%d", ring[[1]])
+    chunks <- split(c(first, shifted), (seq_along(c(first, shifted)) - 1L) %/% TERMS_OF_AN_EXPRESSION)
+    names <- sprintf("ring_%d_%d", number, seq_along(chunks))
+    largest <- vapply(chunks, function(chunk) paste(c(first, chunk), collapse = ","), "")
+    lines <- c(lines, sprintf("r.mapcalc %s = nmax(%s)", names, largest))
+    rest <- sprintf("if(%s, %d, %s)", paste(names, collapse = " + "), number, rest)
+  }
+  c(lines, sprintf("r.mapcalc within = if(v_0, 0, %s)", rest))
+}

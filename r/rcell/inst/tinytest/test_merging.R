@@ -1,0 +1,81 @@
+source("helpers.R")
+
+# Maps that are made of others: small patches merged, buffers, blocks of cells.
+# As it is defined: the smallest small patch that touches another class gets the class of the neighbour with most common sides.
+sieved <- function(map, fewest, connectivity) repeat {
+  numbers <- flooded(map, connectivity)
+  cells <- as_rows(map)
+  sizes <- tabulate(numbers, max(0, numbers, na.rm = TRUE))
+  sides <- rbind(
+    cbind(as.vector(numbers[-1, ]), as.vector(numbers[-nrow(numbers), ])), cbind(as.vector(numbers[, -1]), as.vector(numbers[, -ncol(numbers)])))
+  sides <- sides[!is.na(rowSums(sides)) & sides[, 1] != sides[, 2], , drop = FALSE]
+  sides <- rbind(sides, sides[, 2:1, drop = FALSE])
+  small <- intersect(which(sizes < fewest), sides[, 1])
+  if (!length(small)) return(cells)
+  # In the order of their first cells along rows, patches have their numbers.
+  patch <- small[order(sizes[small], small)][[1]]
+  shared <- table(sides[sides[, 1] == patch, 2])
+  into <- min(as.integer(names(shared))[shared == max(shared)])
+  cells[which(numbers == patch)] <- cells[which(numbers == into)[1]]
+  values(map) <- as.vector(t(cells))
+}
+
+for (seed in 1:3) for (connectivity in c(4, 8)) {
+  map <- made_map(6, 8, 3, seed == 2, seed = seed)
+  for (fewest in c(2, 4, 30)) {
+    found <- rcell_sieve(map, fewest, connectivity = connectivity)
+    expect_equal(as_rows(found), sieved(map, fewest, connectivity), info = paste(seed, connectivity, fewest))
+  }
+  account <- attr(found, "sieved")
+  expect_identical(account$patches_before, max(flooded(map, connectivity), na.rm = TRUE))
+  expect_identical(account$patches_after, nrow(rcell_patches(found, connectivity)))
+  expect_identical(account$cells_changed, sum(as_rows(found) != as_rows(map), na.rm = TRUE))
+}
+map <- made_map(30, 40, 4, seed = 9)
+levels(map) <- data.frame(value = 1:4, cover = c("wood", "field", "town", "lake"))
+room <- tempfile("merging")
+dir.create(room)
+path <- file.path(room, "sieved.tif")
+found <- rcell_sieve(map, min_ha = 0.3, filename = path)
+expect_equal(as_rows(found), as_rows(rcell_sieve(map, 4)))
+expect_identical(levels(rast(path))[[1]]$sieved, c("wood", "field", "town", "lake"))
+patches <- rcell_patches(map)
+dropped <- rcell_sieve(map, 3, drop = TRUE)
+expect_identical(sum(!is.na(values(dropped))), sum(patches$cells[patches$cells >= 3]))
+expect_equal(as_rows(rcell_sieve(map, 1)), as_rows(map))
+fault <- function(...) refusal(rcell_sieve(...))$text
+expect_identical(fault(map), "one of min_cells= and min_ha= must be given; got neither")
+expect_identical(fault(map, 3, 4), "one of min_cells= and min_ha= must be given; got both")
+expect_identical(fault(map, 0), "min_cells= must be a whole number, at least 1; got 0")
+expect_identical(fault(map, min_ha = "a"), "min_ha= must be a number above 0; got \"a\"")
+expect_true(startsWith(fault(matrix(1:4, 2), min_ha = 1), "min_ha= needs a coordinate reference system"))
+degrees <- rast(matrix(1:4, 2), extent = ext(0, 2, 0, 2), crs = "EPSG:4326")
+expect_true(startsWith(fault(degrees, min_ha = 1), "min_ha= is not for maps in degrees"))
+
+# Buffers, between the centres of cells, also of oblong ones, and far.
+for (cell in list(c(30, 30), c(20, 50))) {
+  map <- made_map(14, 17, 5, seed = 4, cell = cell)
+  distances <- c(30, 75, 100.5)
+  places <- xyFromCell(map, seq_len(ncell(map)))
+  from <- places[values(map, mat = FALSE) %in% c(2, 5), ]
+  apart <- apply(places, 1, function(place) min(sqrt((from[, 1] - place[1])^2 + (from[, 2] - place[2])^2)))
+  wanted <- findInterval(apart, c(0, distances + 1e-9), left.open = TRUE)
+  wanted[wanted > length(distances)] <- NA
+  found <- rcell_within(map, c(5, 2), distances)
+  expect_equal(values(found, mat = FALSE), wanted)
+}
+expect_identical(levels(found)[[1]]$within, c("inside", "up to 30 m", "up to 75 m", "up to 100.5 m"))
+far <- rast(matrix(c(7, rep(1, 299)), 1), extent = ext(0, 3000, 0, 10), crs = "EPSG:32632")
+expect_identical(sum(values(rcell_within(far, 7, 2550)) %in% 1), 255L)
+# Exactly: three and four tenths are less than five tenths apart as decimals, and more as the numbers that a computer has.
+expect_identical(rcell:::reaches(0.5, c(0.1, 0.1)), c(4, 4, 4, 3, 2))
+expect_identical(rcell:::reaches(150, c(30, 30)), c(5, 4, 4, 4, 3, 0))
+fault <- function(...) refusal(rcell_within(...))$text
+expect_identical(fault(far, 7, 2560), "distances= must be at most 255 cells; got 2560 m, which is 256.0 cells")
+expect_identical(fault(far, 7, c(50, 20)), "distances= must be numbers that ascend from above 0, for example c(100, 500); got 50, 20")
+expect_identical(fault(far, NULL, 20), "classes= must be whole numbers; got none")
+expect_identical(fault(degrees, 1, 20), "distances= need a map in metres or feet, and the map is in degrees")
+expect_true(startsWith(fault(matrix(1:4, 2), 1, 20), "distances= needs a coordinate reference system"))
+
+unlink(room, recursive = TRUE)
+expect_identical(leftovers(), character())
