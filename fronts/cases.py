@@ -13,7 +13,7 @@ from dataclasses import dataclass, field, replace
 HERE = pathlib.Path(os.environ.get("RCELL_CASES") or pathlib.Path(__file__).resolve().parent)
 TABLES = (
     *("composition", "cross", "change", "patches", "zonal", "adjacency"),
-    *("dominant", "accuracy"),
+    *("dominant", "accuracy", "metrics", "sample"),
 )
 MAPS = ("majority", "align", "reclass", "clump", "sieve", "within")
 # Maps with an account of how they were made, and its columns.
@@ -23,7 +23,7 @@ FACTS = {
 }
 ANSWERS = (*TABLES, *MAPS)
 # Calls that the package for R does not have yet.
-NOT_IN_R: tuple[str, ...] = ()
+NOT_IN_R: tuple[str, ...] = ("metrics", "sample")
 POLYGONS = re.compile(r"\.(geojson|gpkg|shp|fgb)(\|layername=.*)?$")
 # Options of a call that are files; errors of QGIS and of the shell have no kind but in their text.
 FILES = ("labels", "zone_labels", "rules", "areas")

@@ -27,7 +27,7 @@ OPTIONS: dict[str, Callable[[str], Any]] = {
     "area": lambda text: None if text == "none" else text,
     **dict.fromkeys(("include_null", "fill", "each", "drop"), lambda text: text == "yes"),
     **dict.fromkeys(("labels", "zone_labels", "zone_field", "resample", "crs"), str),
-    **dict.fromkeys(("rules", "other", "areas", "field"), str),
+    **dict.fromkeys(("rules", "other", "areas", "field", "level", "n", "seed", "allocation"), str),
     **dict.fromkeys(("years", "classes"), lambda text: [int(part) for part in text.split(",")]),
     **dict.fromkeys(("connectivity", "min_cells", "core_depth", "size"), int),
     **dict.fromkeys(

@@ -115,8 +115,10 @@ class ProcessTest(unittest.TestCase):
             "cross",
             "dominant",
             "majority",
+            "metrics",
             "patches",
             "reclass",
+            "sample",
             "script",
             "zonal",
         ):

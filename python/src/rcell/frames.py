@@ -17,8 +17,10 @@ from .core import change as _change
 from .core import composition as _composition
 from .core import dominant as _dominant
 from .core import majority as _majority
+from .core import metrics as _metrics
 from .core import patches as _patches
 from .core import reclass as _reclass
+from .core import sample as _sample
 from .core import scripts as _scripts
 from .core import sieve as _sieve
 from .core import within as _within
@@ -44,9 +46,11 @@ __all__ = [
     "frame_of",
     "grid",
     "majority",
+    "metrics",
     "patches",
     "reclass",
     "run",
+    "sample",
     "sieve",
     "table",
     "within",
@@ -200,6 +204,8 @@ zonal = _framed(_zonal.zonal)
 adjacency = _framed(_adjacency.adjacency)
 table = _framed(_scripts.table)
 dominant = _framed(_dominant.dominant)
+metrics = _framed(_metrics.metrics)
+sample = _framed(_sample.sample)
 change = _returning("rcell.Change", _frames_of)(_change.change)
 accuracy = _returning("rcell.Accuracy", _frames_of)(_accuracy.accuracy)
 majority = _rastered(_majority.majority)

@@ -222,6 +222,11 @@ def _accuracy(words: argparse.Namespace) -> None:
     _put(words, table.columns, table.rows)
 
 
+def _sample(words: argparse.Namespace) -> None:
+    words.maps = [words.map]
+    _of_each(words)
+
+
 def _to_map(words: argparse.Namespace) -> None:
     """Write the map that a call returns."""
     words.given = {"map": words.map, **({"to": words.to} if words.command == "align" else {})}
@@ -515,6 +520,20 @@ COMMANDS = {
         "map reference",
         f"areas part field layer labels area {_TABLE}",
         _accuracy,
+    ),
+    "sample": Command(
+        "MAP --n N --seed SEED",
+        "random cells of each class, the same for each run",
+        "map",
+        f"n seed allocation labels {_TABLE}",
+        _sample,
+    ),
+    "metrics": Command(
+        "MAP...",
+        "landscape metrics of classes, of patches or of the full map",
+        "maps",
+        f"level connectivity {_ZONES} each_zone labels area {_TABLE}",
+        _of_each,
     ),
     "patches": Command(
         "MAP...",

@@ -152,6 +152,26 @@ OPTIONS: dict[str, tuple[str, dict[str, Any]]] = {
             "help": "the areas of the classes: map counts them, or a CSV with value and area",
         },
     ),
+    "n": (
+        "--n",
+        {
+            "required": True,
+            "metavar": "N",
+            "help": "cells in all, or of each class, for example 11:50,31:100",
+        },
+    ),
+    "seed": (
+        "--seed",
+        {"required": True, "metavar": "SEED", "help": "a number or a text; it decides the draw"},
+    ),
+    "allocation": (
+        "--allocation",
+        {"choices": ["equal", "proportional"], "help": "how N is divided; equally if not given"},
+    ),
+    "level": (
+        "--level",
+        {"choices": ["class", "landscape", "patch"], "help": "class if not given"},
+    ),
     "field": ("--field", {"metavar": "FIELD", "help": "the field of points with their class"}),
     "part": (
         "--table",

@@ -3,10 +3,10 @@
 
 from __future__ import annotations
 
-from .accuracy import AccuracyAlgorithm
+from .accuracy import AccuracyAlgorithm, SampleAlgorithm
 from .align import AlignAlgorithm
 from .majority import MajorityAlgorithm, WithinAlgorithm
-from .patches import ClumpAlgorithm, PatchesAlgorithm, SieveAlgorithm
+from .patches import ClumpAlgorithm, MetricsAlgorithm, PatchesAlgorithm, SieveAlgorithm
 from .reclass import ReclassAlgorithm
 from .script import ScriptAlgorithm
 from .tables import (
@@ -28,6 +28,8 @@ ALGORITHMS = (
     ZonalAlgorithm,
     DominantAlgorithm,
     AccuracyAlgorithm,
+    SampleAlgorithm,
+    MetricsAlgorithm,
     MajorityAlgorithm,
     SieveAlgorithm,
     WithinAlgorithm,

@@ -1,5 +1,5 @@
 # SPDX-License-Identifier: Apache-2.0 OR GPL-2.0-or-later
-"""rcell:accuracy, a map compared with a reference."""
+"""rcell:accuracy, a map compared with a reference, and rcell:sample, the cells to look at for it."""
 
 from __future__ import annotations
 
@@ -8,6 +8,7 @@ from typing import Any
 from qgis.core import QgsProcessing, QgsProcessingParameterMapLayer
 
 from ..engine.core.accuracy import accuracy, summary_of
+from ..engine.core.sample import ALLOCATIONS, sample
 from ..layers import reference_of
 from ..translation import noop, tr
 from .base import RcellAlgorithm, raise_unreadable
@@ -83,3 +84,44 @@ class AccuracyAlgorithm(RcellAlgorithm):
     def inputs(self) -> list[str]:
         """Return the files that are read."""
         return [*super().inputs(), *getattr(self.reference, "files", ())]
+
+
+class SampleAlgorithm(RcellAlgorithm):
+    """Draws random cells of each class."""
+
+    NAME = "sample"
+    TITLE = noop("Stratified sample of cells")
+    SHORT = noop("Lists random cells of each class, with their rows, columns and coordinates.")
+    TAGS = "sample, random points, stratified, reference, accuracy, validation, AcATaMa"
+    HELP = (
+        noop(
+            "<p>Cells are drawn without replacement; each cell of a class has the same chance. The same raster, numbers and "
+            "seed give the same cells in QGIS, Python, R and the shell.</p>"
+        ),
+        noop(
+            "<p>The number is of all cells, or of each class, for example <code>11:50,31:100</code>. The table has "
+            "coordinates: <i>Create points layer from table</i> makes points of it.</p>"
+        ),
+    )
+
+    def initAlgorithm(self, configuration: Any = None) -> None:
+        """Declare the parameters."""
+        self.add_raster()
+        self.add_text("N", tr("Number of cells, or numbers by class"), "100")
+        self.add_text("SEED", tr("Seed: a number or a text"), "1")
+        self.add_choice("ALLOCATION", tr("Division among the classes"), ALLOCATIONS)
+        self.add_labels()
+        self.add_crs()
+        self.add_table()
+
+    def answer(self) -> dict[str, Any]:
+        """Return the table."""
+        found = sample(
+            self.rasters[0],
+            self.text("N"),
+            self.text("SEED"),
+            self.word("ALLOCATION"),
+            labels=self.labels(),
+            crs=self.crs(),
+        )
+        return {"OUTPUT": self.put_table("OUTPUT", found)}

@@ -11,6 +11,7 @@ from qgis.core import (
 )
 
 from ..engine.core.columns import Table
+from ..engine.core.metrics import metrics
 from ..engine.core.patches import MOST_CORE_DEPTH, clump, patches
 from ..engine.core.sieve import Sieved, sieve
 from ..engine.core.sources import Source
@@ -20,6 +21,7 @@ from .base import RcellAlgorithm
 from .tables import numbers_of
 
 CONNECTIVITIES = ["4", "8"]
+LEVELS = ["class", "landscape", "patch"]
 
 
 class _OfPatches(RcellAlgorithm):
@@ -192,6 +194,55 @@ class SieveAlgorithm(RcellAlgorithm):
         )
         path = self.put_map(made, named_classes(made))
         return {"OUTPUT": path, **{name.upper(): it for name, it in facts._asdict().items()}}
+
+
+class MetricsAlgorithm(RcellAlgorithm):
+    """Computes landscape metrics."""
+
+    NAME = "metrics"
+    TITLE = noop("Landscape metrics")
+    SHORT = noop("Lists landscape metrics of each class, of each patch or of the full raster.")
+    TAGS = "landscape ecology, FRAGSTATS, landscapemetrics, fragmentation, edge density, diversity, Shannon, mesh, r.li"
+    HELP = (
+        noop(
+            "<p>Definitions are as in FRAGSTATS 4, without background. The landscape consists of all cells that have data. "
+            "Edges are between two classes.</p>"
+        ),
+        noop(
+            "<p>Each zone is a landscape of its own: patches end at its border. Without a reference system, and in degrees, "
+            "there are no lengths.</p>"
+        ),
+    )
+
+    def initAlgorithm(self, configuration: Any = None) -> None:
+        """Declare the parameters."""
+        self.add_raster()
+        self.add_choice("LEVEL", tr("Level"), LEVELS)
+        self.add_choice("CONNECTIVITY", tr("Connectivity"), CONNECTIVITIES)
+        self.add_zones()
+        self.add_flag("EACH", tr("Take polygons that overlap one after another"))
+        self.add_area()
+        self.add_labels()
+        self.add_crs()
+        self.add_table()
+
+    def read(self) -> None:
+        """Read the raster and its zones."""
+        self.read_zoned()
+
+    def answer(self) -> dict[str, Any]:
+        """Return the table."""
+        found = metrics(
+            self.rasters[0],
+            self.word("LEVEL"),
+            int(self.word("CONNECTIVITY")),
+            self.area(),
+            self.zones,
+            labels=self.labels(),
+            each=self.flag("EACH"),
+            **self.zoning(),
+        )
+        return {"OUTPUT": self.put_table("OUTPUT", found)}
 
 
 def _legend(found: Table, raster: Source, crs: Any) -> list[tuple[int, str]]:

@@ -8,7 +8,7 @@ import sys
 
 # The order of use; what is public and not named here follows under the last heading.
 GROUPS = {
-    "Answers": "composition cross change patches adjacency zonal dominant accuracy majority reclass clump align",
+    "Answers": "composition cross change patches adjacency zonal dominant accuracy sample metrics majority reclass clump align",
     "Scripts": "run table grid",
     "Maps and results": "Raster MapLike bands Region Accuracy Aligned Change Result",
     "Errors": "RcellError BadArgument Refused BadMap OtherRegion OtherCrs ReadFailed WriteFailed OutOfMemory Killed "

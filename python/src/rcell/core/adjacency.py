@@ -12,7 +12,7 @@ from .columns import Column, Table
 from .counting import Maps, label_column, legend_for
 from .sources import MapLike
 
-__all__ = ["adjacency"]
+__all__ = ["adjacency", "sides_of"]
 
 # Its tables have the pairs of cells side by side, and one above the other.
 _SCRIPT = """r.mapcalc right = map[0,1]
@@ -58,7 +58,7 @@ def adjacency(map: MapLike, *, labels: Any = None, crs: Any = None) -> Table:
     2      2          2      2      20.0
     """
     maps = Maps({"map": map}, crs)
-    pairs, flanks, ends = _sides_of(*maps.tables(_SCRIPT))
+    pairs, flanks, ends = sides_of(*maps.tables(_SCRIPT))
     unit = maps.measure(None).length()
     width, height = maps.first.transform[0], -maps.first.transform[4]
     legend = legend_for(labels, maps.sources["map"].labels, [("map", pairs)])
@@ -71,7 +71,7 @@ def adjacency(map: MapLike, *, labels: Any = None, crs: Any = None) -> Table:
     return Table([*columns, Column("border_m", "measure", (flanks * height + ends * width) * unit)])
 
 
-def _sides_of(
+def sides_of(
     right: NDArray[np.int64], below: NDArray[np.int64]
 ) -> tuple[NDArray[np.int64], NDArray[np.int64], NDArray[np.int64]]:
     """Return each pair of classes once, and how many sides they share from west to east, and from north to south."""

@@ -1,0 +1,208 @@
+# SPDX-License-Identifier: Apache-2.0 OR GPL-2.0-or-later
+"""Random cells of each class, for a reference sample."""
+
+from __future__ import annotations
+
+import hashlib
+import itertools
+import numbers
+import re
+from collections.abc import Mapping, Sequence
+from typing import Any
+
+import numpy as np
+
+from .arguments import MAX_CATEGORY, whole_number_of
+from .arrays import NDArray
+from .columns import Column, Table
+from .counting import Maps, places_of
+from .errors import BadArgument
+from .host import warn
+from .sources import MapLike
+
+__all__ = ["drawn", "sample"]
+
+ALLOCATIONS = ("equal", "proportional")
+# So many that a product with the number of cells of a map is exact in the floats of R, which draws the same cells.
+MOST_POINTS = 1_000_000
+# The most cells that one run lists.
+_MOST_LISTED = 1 << 22
+# Bits of a hash that are used: floats of R are exact for them.
+_BITS = 48
+_SHOWN = 5
+_OF_CLASSES = re.compile(r"-?[0-9]+:[0-9]+(,-?[0-9]+:[0-9]+)*")
+
+Integers = NDArray[np.int64]
+
+
+def sample(
+    map: MapLike,
+    n: int | str | Mapping[int, int],
+    seed: int | str,
+    allocation: str = "equal",
+    *,
+    labels: Any = None,
+    crs: Any = None,
+) -> Table:
+    """Draw cells at random from each class of a map, without replacement; each cell of a class has the same chance.
+
+    The draw depends only on the cells, `n`, `allocation` and `seed`. It is the same in all packages, and stays the same in all versions:
+    the cells of a class are chosen with SHA-256.
+
+    Parameters
+    ----------
+    map : path, array, .. as a map of `run`
+        The strata: one for each class.
+    n : int, or dict of int by class
+        How many cells in all, or of each class; as a text, `500` or `11:50,31:100`.
+    seed : int or str
+    allocation : {"equal", "proportional"}
+        How a number of cells in all is divided; the remainder goes to the first classes, or to the largest fractions.
+    labels : path, dict, Series or DataFrame, optional
+        A legend, as in `composition`.
+    crs : any, optional
+        The reference system of a map that has none.
+
+    Returns
+    -------
+    pandas.DataFrame
+        Columns `point`, `class`, `label`, `row`, `col` (from 1 at the top left), and `x`, `y` of the centre of the cell. A class with too
+        few cells has all of them, with a warning.
+
+    Raises
+    ------
+    Refused
+        As for `run`, and for invalid legends.
+    BadArgument
+        An argument is out of range, or `n` has a class that does not occur.
+
+    Examples
+    --------
+    >>> import numpy as np, rcell
+    >>> rcell.sample(np.array([[1, 1, 2], [3, 2, 2]]), {1: 1, 2: 2}, seed=7)
+       point  class  row  col    x    y
+    0      1      1    1    1  0.5  1.5
+    1      2      2    2    2  1.5  0.5
+    2      3      2    2    3  2.5  0.5
+    """
+    if isinstance(seed, bool) or not isinstance(seed, (numbers.Integral, str)):
+        raise BadArgument("seed", f"must be a whole number or a text; got {seed!r}")
+    asked = _asked(n, allocation)
+    maps = Maps({"map": map}, crs)
+    entries = maps.tables("r.mapcalc row = row()\nr.stats -c -n input=map,row")[0]
+    first = places_of(entries[:, 0])
+    classes = entries[first, 0].tolist()
+    until = np.cumsum(entries[:, 2])
+    before = until - entries[:, 2]
+    sizes = np.diff([*before[first], *until[-1:]]).tolist()
+    wanted = _divided(asked, allocation, classes, sizes)
+    _warn_of_few(classes, sizes, wanted)
+    picked: list[
+        tuple[int, int, int]
+    ] = []  # class, row, and place among the row's cells of the class
+    for code, size, start, count in zip(classes, sizes, before[first].tolist(), wanted):
+        ranks = start + np.array(drawn(f"{seed}:{code}", size, count), np.int64)
+        at = np.searchsorted(until, ranks, "right")
+        picked += zip([code] * ranks.size, entries[at, 1].tolist(), (ranks - before[at]).tolist())
+    codes, rows, _ = np.array(picked, np.int64).reshape(-1, 3).T
+    cols = _columns(maps, picked)
+    width, _, west, _, height, north = maps.first.transform
+    return Table(
+        [
+            Column("point", "class", np.arange(1, len(picked) + 1)),
+            *maps.columns("class", codes, "map", labels, "label"),
+            Column("row", "count", rows),
+            Column("col", "count", cols),
+            Column("x", "measure", west + width * (cols - 0.5)),
+            Column("y", "measure", north + height * (rows - 0.5)),
+        ]
+    )
+
+
+def _columns(maps: Maps, picked: Sequence[tuple[int, int, int]]) -> Integers:
+    """Return the columns of the cells that are picked: the program lists the cells of their rows, some rows at a time."""
+    rows = sorted({row for _, row, _ in picked})
+    step = max(1, _MOST_LISTED // maps.first.region.cols)
+    found: dict[tuple[int, ...], Integers] = {}
+    for start in range(0, len(rows), step):
+        rules = "\n".join(f"{row} = {row}" for row in rows[start : start + step])
+        script = f"r.mapcalc every = row()\nr.reclass input=every output=row\n{rules}\nend"
+        cells = maps.tables(f"{script}\nr.mapcalc col = col()\nr.stats -n input=map,row,col")[0]
+        first = places_of(cells[:, :2])
+        keys = [tuple(key) for key in cells[first, :2].tolist()]
+        found.update(zip(keys, np.split(cells[:, 2], first[1:])))
+    return np.array([found[code, row][place] for code, row, place in picked], np.int64)
+
+
+def drawn(key: str, size: int, count: int) -> list[int]:
+    """Return different numbers from 0 to size - 1, in ascending order: Floyd's algorithm, with numbers of `key`.
+
+    Each number below a limit comes from the first 48 bits of the SHA-256 of `KEY:COUNTER`, where the counter begins at 1 and grows with
+    each hash. Numbers that would make some values more likely are left out.
+
+    Examples
+    --------
+    >>> drawn("7:1", 100, 5), drawn("a", 5, 9)
+    ([0, 6, 12, 67, 95], [0, 1, 2, 3, 4])
+    """
+    counter = itertools.count(1)
+    found: set[int] = set()
+    for last in range(size - min(count, size), size):
+        limit = last + 1
+        most = (1 << _BITS) // limit * limit
+        value = most
+        while value >= most:
+            digest = hashlib.sha256(f"{key}:{next(counter)}".encode()).digest()
+            value = int.from_bytes(digest[: _BITS // 8], "big")
+        found.add(last if value % limit in found else value % limit)
+    return sorted(found)
+
+
+def _asked(n: Any, allocation: Any) -> int | dict[int, int]:
+    """Return how many cells are asked for: in all, or of each class."""
+    if allocation not in ALLOCATIONS:
+        raise BadArgument("allocation", f"must be equal or proportional; got {allocation!r}")
+    if isinstance(n, str) and _OF_CLASSES.fullmatch(n):
+        n = {int(code): int(count) for code, _, count in (it.partition(":") for it in n.split(","))}
+    elif isinstance(n, str) and n.isdecimal():
+        n = int(n)
+    if not isinstance(n, Mapping):
+        return whole_number_of("n", n, 1, MOST_POINTS)
+    if allocation != ALLOCATIONS[0]:
+        told = f"is for a number of cells in all, and n has one for each class; got {allocation!r}"
+        raise BadArgument("allocation", told)
+    found = {}
+    for code, count in n.items():
+        whole_number_of("n", code, -MAX_CATEGORY, MAX_CATEGORY)
+        found[int(code)] = whole_number_of("n", count, 0, MOST_POINTS)
+    return found
+
+
+def _divided(
+    asked: int | dict[int, int], allocation: str, classes: list[int], sizes: list[int]
+) -> list[int]:
+    """Return how many cells are wanted of each class."""
+    if isinstance(asked, dict):
+        lacking = sorted(set(asked) - set(classes))
+        if lacking:
+            raise BadArgument("n", f"must be for classes that occur; got {lacking[0]}")
+        return [asked.get(code, 0) for code in classes]
+    parts = sizes if allocation == "proportional" else [1] * len(classes)
+    whole = max(sum(parts), 1)
+    counts = [asked * part // whole for part in parts]
+    rest = [asked * part % whole for part in parts]
+    order = sorted(range(len(parts)), key=lambda at: (-rest[at], at))
+    for at in order[: asked - sum(counts)]:
+        counts[at] += 1
+    return counts
+
+
+def _warn_of_few(classes: list[int], sizes: list[int], wanted: list[int]) -> None:
+    few = [
+        f"{code} ({size:,} of {count:,})"
+        for code, size, count in zip(classes, sizes, wanted)
+        if size < count
+    ]
+    if few:
+        more = f", and {len(few) - _SHOWN} more" if len(few) > _SHOWN else ""
+        warn(f"fewer cells than wanted of the class {', '.join(few[:_SHOWN])}{more}")
