@@ -25,6 +25,8 @@ from .core import scripts as _scripts
 from .core import sieve as _sieve
 from .core import within as _within
 from .core import zonal as _zonal
+from .core.accuracy import Accuracy
+from .core.change import Change
 from .core.columns import Column, Matrix, Table
 from .core.protocol import NULL
 from .core.sources import ArrayMap
@@ -110,10 +112,12 @@ def _returning(
     return wrap
 
 
-def _frames_of(found: Made) -> Made:
-    """Return a named tuple of a core's call with its tables as DataFrames."""
-    parts = (frame_of(part) if isinstance(part, Table) else part for part in found)
-    return type(found)(*parts)
+def _change_of(found: Change) -> Change:
+    return Change(*map(frame_of, found))
+
+
+def _accuracy_of(found: Accuracy) -> Accuracy:
+    return found._replace(matrix=frame_of(found.matrix), classes=frame_of(found.classes))
 
 
 def _raster_of(found: Any) -> Raster:
@@ -206,8 +210,8 @@ table = _framed(_scripts.table)
 dominant = _framed(_dominant.dominant)
 metrics = _framed(_metrics.metrics)
 sample = _framed(_sample.sample)
-change = _returning("rcell.Change", _frames_of)(_change.change)
-accuracy = _returning("rcell.Accuracy", _frames_of)(_accuracy.accuracy)
+change = _returning("rcell.Change", _change_of)(_change.change)
+accuracy = _returning("rcell.Accuracy", _accuracy_of)(_accuracy.accuracy)
 majority = _rastered(_majority.majority)
 align = _rastered(_align.align)
 reclass = _rastered(_reclass.reclass)

@@ -4,7 +4,7 @@
 from __future__ import annotations
 
 from dataclasses import dataclass
-from typing import Any
+from typing import Any, NamedTuple
 
 import numpy as np
 
@@ -17,6 +17,15 @@ __all__ = ["Landscapes", "landscapes_of", "summed"]
 
 Integers = NDArray[np.int64]
 Floats = NDArray[np.float64]
+
+
+class Sides(NamedTuple):
+    """Pairs of members that share sides, by their indices, and how many of these sides are ends and flanks."""
+
+    one: Integers
+    other: Integers
+    ends: Integers
+    flanks: Integers
 
 
 @dataclass(frozen=True)
@@ -34,8 +43,8 @@ class Landscapes:
         areas), and the sides of cells on its border that are ends (north, south) or flanks (west, east).
     like : array
         Of each member the sides between its own cells.
-    one, other, border_ends, border_flanks : array
-        Each pair of members of a landscape that share sides, by their indices, and these sides.
+    sides : Sides
+        Between two members of a landscape.
     end, flank : float
         The lengths of sides in metres; NaN if they are not known.
     """
@@ -49,10 +58,7 @@ class Landscapes:
     ends: Integers
     flanks: Integers
     like: Integers
-    one: Integers
-    other: Integers
-    border_ends: Integers
-    border_flanks: Integers
+    sides: Sides
     end: float
     flank: float
 
@@ -64,7 +70,7 @@ class Landscapes:
     @property
     def borders(self) -> Floats:
         """The length of the border of each pair of members in metres."""
-        return self.border_ends * self.end + self.border_flanks * self.flank
+        return self.sides.ends * self.end + self.sides.flanks * self.flank
 
     def by_member(self, values: NDArray[Any]) -> NDArray[Any]:
         """Return the sums over the patches of each member."""
@@ -96,9 +102,8 @@ def landscapes_of(maps: Maps, connectivity: int, measure: Measure, has_zones: bo
     # Polygons that overlap are in several runs, each with its own numbers of patches; a member is in one of them.
     first = places_of(tables[0][:, :2])
     codes, kinds = tables[0][first, 1], tables[0][:, 2]
-    cells, beside, under = (
-        _sums(tables[0][:, 3] * part, first) for part in (1, kinds % 2, kinds // 2)
-    )
+    cells = _sums(tables[0][:, 3], first)
+    beside, under = (_sums(tables[0][:, 3] * part, first) for part in (kinds % 2, kinds // 2))
     sizes = cells.astype(np.float64)
     if measure.by_row is not None:
         areas = tables[3][:, 3] * measure.by_row[tables[3][:, 2] - 1]
@@ -117,9 +122,12 @@ def landscapes_of(maps: Maps, connectivity: int, measure: Measure, has_zones: bo
         members if classes is None else classes[members % steps],
         zone_at,
         member_at[order],
-        *(part[order] for part in (cells, sizes, 2 * (cells - under), 2 * (cells - beside))),
+        cells[order],
+        sizes[order],
+        2 * (cells - under)[order],
+        2 * (cells - beside)[order],
         like,
-        *_borders(members, zone_at, *tables[1:3]),
+        _borders(members, zone_at, *tables[1:3]),
         transform[0] * unit,
         -transform[4] * unit,
     )
@@ -148,12 +156,10 @@ def _script(name: str, connectivity: int, measure: Measure) -> list[str]:
     return lines
 
 
-def _borders(
-    members: Integers, zone_at: Integers, right: Integers, below: Integers
-) -> tuple[Integers, Integers, Integers, Integers]:
-    """Return the pairs of members of a landscape that share sides, and how many ends and flanks these are."""
+def _borders(members: Integers, zone_at: Integers, right: Integers, below: Integers) -> Sides:
+    """Return the pairs of members of a landscape that share sides."""
     pairs, flanks, ends = sides_of(right, below)
     one, other = np.searchsorted(members, pairs.T)
     kept = one != other
     kept[kept] = zone_at[one[kept]] == zone_at[other[kept]]
-    return one[kept], other[kept], ends[kept], flanks[kept]
+    return Sides(one[kept], other[kept], ends[kept], flanks[kept])

@@ -146,7 +146,7 @@ def _of_classes(of: Landscapes, measure: Measure) -> list[Column]:
     cells, sizes = of.by_member(of.cells), of.by_member(of.sizes)
     whole = of.by_zone(sizes)[of.zone_at]
     # Both sides of a border belong to it.
-    at, borders = np.concatenate([of.one, of.other]), np.tile(of.borders, 2)
+    at, borders = np.concatenate([of.sides.one, of.sides.other]), np.tile(of.borders, 2)
     edges = summed(at, borders, cells.size)
     others = np.bincount(of.zone_at, minlength=of.zones.size)[of.zone_at] - 1
     values = {
@@ -164,7 +164,7 @@ def _of_landscapes(of: Landscapes, measure: Measure) -> list[Column]:
     members = of.by_member(of.sizes)
     cells, whole = of.by_zone(of.by_member(of.cells)), of.by_zone(members)
     classes, shares = np.bincount(of.zone_at, minlength=size), members / whole[of.zone_at]
-    across, borders = of.zone_at[of.one], of.borders
+    across, borders = of.zone_at[of.sides.one], of.borders
     edges = summed(across, borders, size)
     # The logarithm of one class is 0: what it would divide is not defined.
     most = np.where(classes >= 2, np.log(np.maximum(classes, 2)), np.nan)
@@ -231,7 +231,7 @@ def _interspersion(
     """Return the interspersion index: the entropy of borders, by the most that so many kinds have; NaN below three classes or without an edge."""
     known = (others >= 2) & (edges > 0)
     most = np.where(known, np.log(np.maximum(kinds, 2)), np.nan)
-    return 100 * _entropy(at, borders, edges.size) / most
+    return np.asarray(100 * _entropy(at, borders, edges.size) / most)
 
 
 def _entropy(at: Integers, parts: Floats, size: int) -> Floats:
@@ -243,8 +243,8 @@ def _entropy(at: Integers, parts: Floats, size: int) -> Floats:
 
 def _entropy_of_sides(of: Landscapes, shares: Floats) -> Floats:
     """Return the entropy of each landscape's sides by their two classes, each counted from both sides (Riitters et al. 1996)."""
-    at = np.concatenate([of.one, of.other, np.arange(of.classes.size)])
-    unlike = of.border_ends + of.border_flanks
+    at = np.concatenate([of.sides.one, of.sides.other, np.arange(of.classes.size)])
+    unlike = of.sides.ends + of.sides.flanks
     counts = np.concatenate([unlike, unlike, 2 * of.like]).astype(np.float64)
     total = summed(at, counts, of.classes.size)[at]
     parts = np.where(counts > 0, shares[at] * counts / np.maximum(total, 1), 0)
