@@ -1,6 +1,10 @@
--- What is still to come of a source that is read in blocks.
+-- What is still to come of a source that is read in blocks, and how far it was asked.
 use Rattle.std.specs.Prelude.{ℕ, ◌≡◌, ⊤, Bool, true, false, List, [], ◌++◌, Result, Ok, Err}
 use Rattle.cell_core_devices.specs.Device.{Coming}
+use Rattle.cell_core_devices.specs.declared.source.Asked.{Asked}
+use Rattle.cell_core_devices.specs.declared.source.Asked.TheVariants.{Going, Ended, Failed}
+use Rattle.rcell_pipe_request.specs.declared.error.ErrorKind.{ErrorKind}
+use Rattle.rcell_pipe_request.specs.declared.error.ErrorKind.TheVariants as kinds
 use Rattle.rcell_pipe_request.specs.declared.error.FieldStop.{FieldStop}
 use Rattle.rcell_pipe_request.specs.declared.error.FieldStop.TheVariants as field_stops
 use Rattle.rcell_pipe_request.specs.declared.error.RequestStop.{RequestStop}
@@ -12,11 +16,13 @@ use Rattle.rcell_pipe_request.specs.declared.error.RequestError.{RequestError}
 abbrev pub nothing : Coming
 nothing = record { bytes = []; fails = false }
 
--- the bytes of a block that are not yet read, whether it is known what the source still gives, and this
+-- the bytes of a block that are not yet read, whether it is known what the source still gives, this, and how far the
+-- source was asked
 pub record FeedValue : Type 0 where
   pub unread : List ℕ
   pub known : Bool
   pub rest : Coming
+  pub asked : Asked
 
 -- what is to come after bytes
 abbrev pub after : List ℕ → Coming → Coming
@@ -26,21 +32,66 @@ after bytes c = record { bytes = bytes ++ c.bytes; fails = c.fails }
 abbrev pub left : FeedValue → Coming
 left f = after f.unread f.rest
 
+-- how far a source was asked that is reported to have ended or failed, or else still gives bytes
+abbrev pub asked_at : ErrorKind → Asked
+asked_at kinds.Short = Ended
+asked_at kinds.ReadFailed = Failed
+asked_at kind = Going
+
+abbrev pub asked_at_field : FieldStop → Asked
+asked_at_field field_stops.Memory = Going
+asked_at_field (field_stops.Error kind) = asked_at kind
+
+abbrev pub asked_at_request : RequestStop → Asked
+asked_at_request request_stops.Memory = Going
+asked_at_request (request_stops.Error error) = asked_at error.kind
+
+-- a source that was going on was asked so far
+abbrev pub AsksTo : Asked → FeedValue → FeedValue → Type 0
+AsksTo asked old new = old.asked ≡ Going → new.asked ≡ asked
+
+-- by a call for the next block
+abbrev pub AsksOnce : Result Unit ErrorKind → FeedValue → FeedValue → Type 0
+AsksOnce (Ok done) old new = AsksTo Going old new
+AsksOnce (Err kind) old new = AsksTo (asked_at kind) old new
+
 -- an error is the reading's, if it is known what was to come; memory may run out at any time
 abbrev pub FieldFails : {Y : Type 0} → FieldStop → Bool → FieldReading Y → Type 0
 FieldFails field_stops.Memory known reading = ⊤
 FieldFails (field_stops.Error kind) known reading = known ≡ true → reading ≡ Err kind
 
--- what is returned, seen by `view`, is what the reading gives of what was to come, and what is to come is what it leaves
+-- what is returned, seen by `view`, is what the reading gives of what was to come, and what is to come is what it
+-- leaves; the source was asked so far, or up to its end or its `Err` if this is the error
+abbrev pub ReadsAsFar : Asked → {X Y : Type 0} → (X → Y) → FeedValue → Result X FieldStop → FeedValue →
+    (Coming → FieldReading Y) → Type 0
+ReadsAsFar asked view old (Ok x) new reading =
+    (new.known ≡ old.known) × (old.known ≡ true → reading (left old) ≡ Ok (view x, left new)) × AsksTo asked old new
+ReadsAsFar asked view old (Err stop) new reading = FieldFails stop old.known (reading (left old)) × AsksTo
+    (asked_at_field stop) old new
+
+-- a field, after which the source continues; or what ends at the end of the source
 abbrev pub ReadsField : {X Y : Type 0} → (X → Y) → FeedValue → Result X FieldStop → FeedValue → (Coming → FieldReading Y) → Type 0
-ReadsField view old (Ok x) new reading = (new.known ≡ old.known) × (old.known ≡ true → reading (left old) ≡ Ok (view x, left new))
-ReadsField view old (Err stop) new reading = FieldFails stop old.known (reading (left old))
+ReadsField view old result new reading = ReadsAsFar Going view old result new reading
+
+abbrev pub ReadsToEnd : {X Y : Type 0} → (X → Y) → FeedValue → Result X FieldStop → FeedValue →
+    (Coming → FieldReading Y) → Type 0
+ReadsToEnd view old result new reading = ReadsAsFar Ended view old result new reading
 
 -- the same for errors with their places
 abbrev pub PlacedFails : {Y : Type 0} → RequestStop → Bool → Result Y RequestError → Type 0
 PlacedFails request_stops.Memory known reading = ⊤
 PlacedFails (request_stops.Error error) known reading = known ≡ true → reading ≡ Err error
 
+abbrev pub ReadsPlacedAsFar : Asked → {X Y : Type 0} → (X → Y) → FeedValue → Result X RequestStop → FeedValue →
+    (Coming → Result (Y × Coming) RequestError) → Type 0
+ReadsPlacedAsFar asked view old (Ok x) new reading =
+    (new.known ≡ old.known) × (old.known ≡ true → reading (left old) ≡ Ok (view x, left new)) × AsksTo asked old new
+ReadsPlacedAsFar asked view old (Err stop) new reading = PlacedFails stop old.known (reading (left old)) × AsksTo
+    (asked_at_request stop) old new
+
 abbrev pub ReadsPlaced : {X Y : Type 0} → (X → Y) → FeedValue → Result X RequestStop → FeedValue → (Coming → Result (Y × Coming) RequestError) → Type 0
-ReadsPlaced view old (Ok x) new reading = (new.known ≡ old.known) × (old.known ≡ true → reading (left old) ≡ Ok (view x, left new))
-ReadsPlaced view old (Err stop) new reading = PlacedFails stop old.known (reading (left old))
+ReadsPlaced view old result new reading = ReadsPlacedAsFar Going view old result new reading
+
+abbrev pub ReadsPlacedToEnd : {X Y : Type 0} → (X → Y) → FeedValue → Result X RequestStop → FeedValue →
+    (Coming → Result (Y × Coming) RequestError) → Type 0
+ReadsPlacedToEnd view old result new reading = ReadsPlacedAsFar Ended view old result new reading

@@ -6,7 +6,7 @@ ghost use Rattle.std.specs.Int.{w8, w16, w32, w64};
 ghost use Rattle.cell_core_devices.specs.Device.{Coming};
 ghost use Rattle.rcell_pipe_request.specs.RequestFields.{ending, bytes_at, number_at, signed_at, text_at};
 ghost use Rattle.rcell_pipe_request.specs.Requests.{end_at};
-ghost use Rattle.rcell_pipe_request.specs.Feeds.{FeedValue, nothing, left, ReadsField};
+ghost use Rattle.rcell_pipe_request.specs.Feeds.{FeedValue, nothing, left, AsksOnce, ReadsField, ReadsToEnd};
 
 use crate::error::{ErrorKind, FieldStop};
 use cell_core::source::Source;
@@ -37,6 +37,7 @@ impl<R: Source> Model for Feed<R> {
       unread = drop f.at (take f.end f.block.items);
       known = is_some (R.coming f.source);
       rest = unwrap_or (R.coming f.source) nothing;
+      asked = R.asked f.source;
     } };
 
     ghost invariant = { λ f. (f.at ≤ f.end) × (f.end ≤ length f.block.items) × (0 < length f.block.items) };
@@ -51,6 +52,7 @@ impl<R: Source> Feed<R> {
           unread = [];
           known = is_some (R.coming source);
           rest = unwrap_or (R.coming source) nothing;
+          asked = R.asked source;
         }) }
     {
         let block = vec![in alloc; 0u8; BLOCK]?;
@@ -69,6 +71,8 @@ impl<R: Source> Feed<R> {
         ensures some { OnOk result (0 < length self.new.unread) }
         ensures end { IfErr result (λ kind. self.old.known ≡ true
             → ((left self.old).bytes ≡ []) × (kind ≡ ending (left self.old).fails)) }
+        // Its end and an `Err` are reported as such, and no reader asks again after them.
+        ensures asked { AsksOnce result self.old self.new }
     {
         if self.at < self.end {
             return Ok(());
@@ -222,7 +226,7 @@ pub fn read_text<R: Source>(alloc: Global, feed: &mut Feed<R>) -> Result<Vec<u8>
 /// Nothing comes after what was read.
 #[tactic(auto, unfolding(crate::specs::Requests::end_at))]
 pub fn read_end<R: Source>(feed: &mut Feed<R>) -> Result<(), FieldStop>
-    ensures { ReadsField (λ done. done) feed.old result feed.new end_at }
+    ensures { ReadsToEnd (λ done. done) feed.old result feed.new end_at }
 {
     match feed.refill() {
         Ok(()) => Err(FieldStop::Error(ErrorKind::Trailing)),

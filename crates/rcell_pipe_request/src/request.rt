@@ -2,7 +2,7 @@
 
 ghost use Rattle.std.specs.Prelude.{◌≡◌, ◌+◌, ◌<◌, ◌≤◌, length, OnOk, IfOk, IfErr};
 ghost use Rattle.rcell_pipe_request.specs.RequestFields.{steps};
-ghost use Rattle.rcell_pipe_request.specs.Feeds.{ReadsField, ReadsPlaced};
+ghost use Rattle.rcell_pipe_request.specs.Feeds.{ReadsField, ReadsToEnd, ReadsPlaced, ReadsPlacedToEnd};
 ghost use Rattle.rcell_pipe_request.specs.Requests.{first_shelf, shelf_with, count_at, script_at, last_script_at, first_map_at, one_more_map, run_at, named_value, run_request_value};
 
 use crate::error::{ErrorKind, FieldStop, RequestStop};
@@ -47,7 +47,7 @@ fn read_script<R: Source>(alloc: Global, feed: &mut Feed<R>) -> Result<Vec<u8>, 
 /// The bytes of the script, which end the request.
 #[tactic(auto, unfolding(crate::specs::Requests::last_script_at))]
 pub fn read_last_script<R: Source>(alloc: Global, feed: &mut Feed<R>) -> Result<Vec<u8>, FieldStop>
-    ensures { ReadsField (λ text. text.items) feed.old result feed.new last_script_at }
+    ensures { ReadsToEnd (λ text. text.items) feed.old result feed.new last_script_at }
 {
     let script = read_script(alloc, feed)?;
     read_end(feed)?;
@@ -154,7 +154,7 @@ fn read_first_map<R: Source>(alloc: Global, feed: &mut Feed<R>) -> Result<FirstM
 /// The first error of the bytes, or [`RequestStop::Memory`] if memory ran out.
 #[tactic(auto, unfolding(crate::specs::Requests::run_at))]
 pub fn read_run<R: Source>(alloc: Global, feed: &mut Feed<R>) -> Result<Request, RequestStop>
-    ensures { ReadsPlaced run_request_value feed.old result feed.new run_at }
+    ensures { ReadsPlacedToEnd run_request_value feed.old result feed.new run_at }
 {
     let first = match read_first_map(alloc, feed) {
         Ok(first) => first,

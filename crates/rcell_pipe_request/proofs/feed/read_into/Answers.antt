@@ -5,10 +5,15 @@ use Rattle.rcell_pipe_request.proofs.FeedLemmas.{read_more, bytes_at-all, bytes_
 use Rattle.rcell_pipe_request.proofs.feed.read_into.Goals as goal
 
 pub returns-in-Err-clause-bytes : goal.returns-in-Err-clause-bytes
-returns-in-Err-clause-bytes g c = λ known.
-    let before = c.loop-done.invariant.2 known in
-    let end = c.in-Err.ensures.end (c.loop-done.invariant.1 ∙ known) in
-    bytes_at-short (length c.args.out.now) (take c.loop-done.done c.loop-done.out) (left c.args.feed.now) (left c.loop-done.feed) before end.0 (omega (arith, length-take c.loop-done.done c.loop-done.out)) ∙ ap (λ k. Err k) (sym end.1)
+returns-in-Err-clause-bytes g c = (
+  λ known.
+      let before = c.loop-done.invariant.2 known in
+      let end = c.in-Err.ensures.end (c.loop-done.invariant.1 ∙ known) in
+      bytes_at-short (length c.args.out.now) (take c.loop-done.done c.loop-done.out) (left c.args.feed.now)
+      (left c.loop-done.feed) before end.0 (omega (arith, length-take c.loop-done.done c.loop-done.out)) ∙ ap
+      (λ k. Err k) (sym end.1),
+  λ going. c.in-Err.ensures.asked (c.loop-done.invariant.3 going),
+)
 
 pub loop-done-preserved : goal.loop-done-preserved
 loop-done-preserved g c =
@@ -21,6 +26,7 @@ loop-done-preserved g c =
       omega arith,
       ap (λ (f : FeedValue). f.known) c.pass.ensures ∙ c.refill.ensures.known ∙ c.loop-done.invariant.1,
       λ known. read_more c.args.feed.now c.loop-done.feed c.refill.new.self c.pass.new.self (take c.loop-done.done c.loop-done.out) (take (c.loop-done.done + n) out) n (c.loop-done.invariant.2 known) (c.refill.ensures.same (c.loop-done.invariant.1 ∙ known)) c.pass.ensures grown,
+      λ going. ap (λ (f : FeedValue). f.asked) c.pass.ensures ∙ c.in-Ok.ensures.asked (c.loop-done.invariant.3 going),
     )
 
 pub returns-clause-bytes : goal.returns-clause-bytes
@@ -29,4 +35,5 @@ returns-clause-bytes g c = (
   λ known.
       bytes_at-all (length c.args.out.now) c.loop-done.out (left c.args.feed.now) (left c.loop-done.feed)
       (c.loop-done.invariant.2 known ∙ ap (λ (xs : List ℕ). after xs (left c.loop-done.feed)) (take_all c.loop-done.done c.loop-done.out (omega arith))) c.loop-done.auto.out,
+  c.loop-done.invariant.3,
 )

@@ -18,4 +18,5 @@ returns-in-Ok g c =
     let k2 = c.in_ok-rows.ensures.0 ∙ k1 in (
       c.in_ok-cols.ensures.0 ∙ k2,
       λ known. region_of_parts _ _ _ _ _ _ _ _ (c.in_ok-edges.ensures.1 known) (c.in_ok-rows.ensures.1 (k1 ∙ known)) (c.in_ok-cols.ensures.1 (k2 ∙ known)) (sym c.region_of.ensures ∙ c.in-Ok.is),
+      λ going. c.in_ok-cols.ensures.2 (c.in_ok-rows.ensures.2 (c.in_ok-edges.ensures.2 going)),
     )

@@ -1,6 +1,7 @@
 use Rattle.std.proofs.Common.{◌≡◌, ◌-◌, [], true, All}
+use Rattle.cell_core_devices.specs.declared.source.Asked.TheVariants.{Going}
 use Rattle.rcell_pipe_request.specs.RequestFields.{steps}
-use Rattle.rcell_pipe_request.specs.Feeds.{left}
+use Rattle.rcell_pipe_request.specs.Feeds.{left, AsksTo}
 use Rattle.rcell_pipe_request.specs.Heads.{IsGoodLabel, label_values, one_more_label}
 use Rattle.rcell_pipe_request.proofs.head.read_so_many_labels.Given as goal
 
@@ -8,4 +9,4 @@ abbrev pub invariant-loop-i : goal.invariant-loop-i
 invariant-loop-i g l =
     (l.feed.known ≡ l.fn.feed.known)
     × (l.fn.feed.known ≡ true → steps one_more_label (label_values l.labels.items) (l.count - l.i) (left l.feed) ≡ steps one_more_label [] l.count (left l.fn.feed))
-    × All IsGoodLabel l.labels.items
+    × All IsGoodLabel l.labels.items × AsksTo Going l.fn.feed l.feed

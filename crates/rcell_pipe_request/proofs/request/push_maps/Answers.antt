@@ -6,20 +6,27 @@ use Rattle.rcell_pipe_request.proofs.StepLemmas.{steps-on, steps-end, steps-done
 use Rattle.rcell_pipe_request.proofs.request.push_maps.Goals as goal
 
 pub returns-in-Err : goal.returns-in-Err
-returns-in-Err g c =
-    PlacedFails-of c.in-Err.stop c.loop-i.feed.known c.args.feed.now.known (one_more_map c.loop-i.shelf (left c.loop-i.feed)) (steps one_more_map c.args.shelf.now c.args.count (left c.args.feed.now)) c.loop-i.invariant.0
-    (λ known error one. steps-end one_more_map c.loop-i.shelf c.args.count c.loop-i.i (left c.loop-i.feed) error _ (omega arith) one (c.loop-i.invariant.1 known))
-    c.in-Err.ensures.reads
+returns-in-Err g c = (
+  PlacedFails-of c.in-Err.stop c.loop-i.feed.known c.args.feed.now.known
+      (one_more_map c.loop-i.shelf (left c.loop-i.feed))
+      (steps one_more_map c.args.shelf.now c.args.count (left c.args.feed.now)) c.loop-i.invariant.0
+      (λ known error one. steps-end one_more_map c.loop-i.shelf c.args.count c.loop-i.i (left c.loop-i.feed) error _
+      (omega arith) one (c.loop-i.invariant.1 known))
+      c.in-Err.ensures.reads.0,
+  λ going. c.in-Err.ensures.reads.1 (c.loop-i.invariant.3 going),
+)
 
 pub loop-i-preserved : goal.loop-i-preserved
 loop-i-preserved g c = (
   c.in-Ok.ensures.reads.0 ∙ c.loop-i.invariant.0,
   λ known. steps-on one_more_map c.loop-i.shelf c.push_map.new.shelf c.args.count c.loop-i.i (left c.loop-i.feed) (left c.push_map.new.feed) _ (omega arith) (c.in-Ok.ensures.reads.1 (c.loop-i.invariant.0 ∙ known)) (c.loop-i.invariant.1 known),
   omega (arith, c.in-Ok.ensures.count, c.loop-i.invariant.2),
+  λ going. c.in-Ok.ensures.reads.2 (c.loop-i.invariant.3 going),
 )
 
 pub returns : goal.returns
 returns g c = (
   c.loop-i.invariant.0,
   λ known. steps-done one_more_map c.loop-i.shelf c.args.count c.loop-i.i (left c.loop-i.feed) _ (omega arith) (c.loop-i.invariant.1 known),
+  c.loop-i.invariant.3,
 )
