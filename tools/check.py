@@ -116,7 +116,7 @@ LATE = [
     Part(
         "edits",
         "wrong bodies and turned definitions that the proofs must refuse",
-        [tool("build/edits.py", *EDITED)],
+        [tool("build/edits.py", "--evidence", *EDITED)],
         needs_programs=False,
         needs_proofs=True,
     ),

@@ -1,7 +1,8 @@
 -- The ends of a run.
-use Rattle.std.proofs.Common.{◌≡◌, ◌≢◌, ◌∙◌, ℕ, Bool, true, false, not, List, [], ◌++◌, Option, Some, None, Result, Ok, ◌∷◌, refl, sym, ap, subst, append_assoc, append-nil, ◌||◌}
+use Rattle.std.proofs.Common.{◌≡◌, ◌≢◌, ◌∙◌, ℕ, Bool, true, false, not, List, [], ◌++◌, length, Option, Some, None}
+use Rattle.std.proofs.Common.{Result, Ok, ◌∷◌, refl, sym, ap, subst, append_assoc, append-nil, ◌||◌}
 use Rattle.cell_core_devices.specs.Device.{Faults, append_known, after_put, after_flush, has_failed}
-use Rattle.cell_core_devices.specs.Blocks.{BlockValue, Appended, Appends}
+use Rattle.cell_core_devices.specs.Blocks.{capped_count, BlockValue, Appended, Appends}
 use Rattle.cell_core.specs.Shelf.{ShelfValue}
 use Rattle.rcell_script.specs.ReadScripts.{IsScriptFault}
 use Rattle.rcell_script_commands.specs.declared.script_fault.ScriptFault.{ScriptFault}
@@ -21,45 +22,53 @@ use Rattle.rcell_pipe_response.specs.declared.frame_run.RunForm.{RunForm}
 use Rattle.rcell_pipe_response.specs.declared.frame_run.RunForm.TheVariants.{Frames, Text}
 use Rattle.rcell_pipe_response.specs.Frames.{OutputFrame, GivesFrames}
 use Rattle.rcell_pipe_response.specs.FrameBytes.{EndValue, frames_bytes, end_bytes, response_magic, response_bytes}
-use Rattle.rcell_pipe_response.specs.RunEnds.{end_status_after, done_end, memory_end, script_end, IsPipeAccepted, GivesResponse, IsResponse, IsCut, WasCut, WasWritten, HasResponded}
-use Rattle.rcell_pipe_response.specs.FrameEndings.{error_after, Finished, IsRejection, EndsAs}
-use Rattle.rcell_pipe_response.specs.parts.LastFrames.{EndsResponse}
+use Rattle.rcell_pipe_response.specs.declared.frame_run.Sending.{Sending}
+use Rattle.rcell_pipe_response.specs.declared.frame_run.Sending.TheVariants.{Flushed, Unflushed, Refused}
+use Rattle.rcell_pipe_response.specs.RunEnds.{end_status_after, script_end, IsPipeAccepted, GivesFirst, IsResponse}
+use Rattle.rcell_pipe_response.specs.RunEnds.{IsCut, IsTaken, HasResponded, HasUsed, IsOnlyEnd}
+use Rattle.rcell_pipe_response.specs.FrameEndings.{error_after, IsSent, Finished, IsRejection, EndsAs}
+use Rattle.rcell_pipe_response.specs.parts.Flushed.{IsFlushed}
 
 or-true : (b : Bool) → (b || true) ≡ true
 or-true true = refl
 or-true false = refl
 
 -- what was appended is cut if the sink stopped
-cut : {before now : Option (List ℕ)} {start faults : Faults} {text : List ℕ} {block : BlockValue} → Appended before start text now faults block → IsCut before now text
-cut a = record { front = a.front; rest = a.rest; whole = a.whole; taken = a.taken }
+pub cut : {before now : Option (List ℕ)} {start faults : Faults} {text : List ℕ} {block : BlockValue}
+    → Appended before start text now faults block → IsCut before now text block.written
+cut a = record { front = a.front; rest = a.rest; whole = a.whole; taken = a.taken; count = a.count }
 
-module _ {S : Type 0} {taken : S → Option (List ℕ)} {faults : S → Faults} (old mid now flushed : S) (block middle new : BlockValue) (end : EndValue)
-    (put : Appends taken faults old block (end_bytes end) mid middle) (emptied : Appends taken faults mid middle [] now new) where
-  all : (before : Option (List ℕ)) (start : Faults) (text : List ℕ) → Appended before start text (taken old) (faults old) block → Appended before start (text ++ end_bytes end) (taken now) (faults now) new
-  all before start text p = subst (λ (t : List ℕ). Appended before start t (taken now) (faults now) new) (append-nil (text ++ end_bytes end)) (emptied.adds before start (text ++ end_bytes end) (put.adds before start text p))
+-- the sink took a text, and was flushed after it
+pub sent_flushed : (sending : Sending) (before : Option (List ℕ)) (after : Faults) (text : List ℕ)
+    {taken now : Option (List ℕ)}
+    {start middle : Faults} {written : ℕ} → taken ≡ append_known before text → middle ≡ start → written ≡ capped_count
+    (length text) → now ≡ taken
+    → IsFlushed sending middle after → IsSent sending before start now after text written
+sent_flushed Flushed before after text all first count same flushed =
+    (same ∙ all, flushed ∙ ap (λ (f : Faults). after_flush f false) first, count)
+sent_flushed Unflushed before after text all first count same flushed =
+    (same ∙ all, flushed ∙ ap (λ (f : Faults). after_flush f true) first, count)
+sent_flushed Refused before after text all first count same flushed = absurd flushed
 
-  -- a put failed
-  pub ends_cut : new.failed ≡ true → EndsResponse taken faults old block end now false
-  ends_cut failed = record {
-    whole = λ wrote. absurd cc;
-    fails = λ wrote before start text p. (ap has_failed (rw failed at (all before start text p).fails), cut (all before start text p));
-  }
+-- the last frame was put, and what the block held
+module _ {S : Type 0} {taken : S → Option (List ℕ)} {faults : S → Faults} {old mid now : S}
+    {block middle new : BlockValue} {end : List ℕ}
+    (put : Appends taken faults old block end mid middle) (emptied : Appends taken faults mid middle [] now new)
+    {before : Option (List ℕ)} {start : Faults} {text : List ℕ}
+    (p : Appended before start text (taken old) (faults old) block) where
+  all_put : Appended before start (text ++ end) (taken now) (faults now) new
+  all_put = subst (λ (t : List ℕ). Appended before start t (taken now) (faults now) new) (append-nil (text ++ end))
+      (emptied.adds before start (text ++ end) (put.adds before start text p))
 
-  -- the flush failed
-  pub ends_unflushed : taken flushed ≡ taken now → faults flushed ≡ after_flush (faults now) true → EndsResponse taken faults old block end flushed false
-  ends_unflushed same after = record {
-    whole = λ wrote. absurd cc;
-    fails = λ wrote before start text p. (ap has_failed after ∙ or-true (faults now).refused, subst (λ (t : Option (List ℕ)). IsCut before t (text ++ end_bytes end)) (sym same) (cut (all before start text p)));
-  }
+  pub end_refused : new.failed ≡ true → IsSent Refused before start (taken now) (faults now) (text ++ end) new.written
+  end_refused failed = (rw failed at all_put.fails, cut all_put)
 
-  -- all went well
-  pub ends_well : new.failed ≡ false → new.held ≡ [] → taken flushed ≡ taken now → faults flushed ≡ after_flush (faults now) false → EndsResponse taken faults old block end flushed true
-  ends_well good none same after = record {
-    whole = λ wrote before start text p.
-        let done = appended_put (all before start text p) good none in
-        (same ∙ done.0, after ∙ ap (λ (f : Faults). after_flush f false) done.1.1);
-    fails = λ wrote. absurd cc;
-  }
+  pub end_flushed : (sending : Sending) (flushed : Faults) {after : Option (List ℕ)} → new.failed ≡ false
+      → new.held ≡ [] → after ≡ taken now
+      → IsFlushed sending (faults now) flushed → IsSent sending before start after flushed (text ++ end) new.written
+  end_flushed sending flushed good none same flush =
+      let done = appended_put all_put good none in
+      sent_flushed sending before flushed (text ++ end) done.0 done.1.1 done.1.0 same flush
 
 -- the end after frames
 pub finished_frames : {before now : Option (List ℕ)} {start after : Faults} {error : Option PipeError} {outcome : PipeOutcome} (frames : List OutputFrame) (one end : EndValue) → one ≡ end
@@ -68,109 +77,41 @@ finished_frames {before} {now} {start} {after} {error} {outcome} frames one end 
     subst (λ (t : List ℕ). Finished before start now after error t outcome)
     (ap (λ (e : EndValue). (response_magic ++ frames_bytes frames) ++ end_bytes e) same ∙ append_assoc response_magic (frames_bytes frames) (end_bytes end)) finished
 
--- a whole response was taken
-module _ (says : List ℕ → Option PipeError → Type 0) (before now : Option (List ℕ)) where
-  written_whole : (error : Option PipeError) → (error ≡ Some errors.Write → ⊥) → WasWritten says before now error
-      → HasResponded says before now error
-  written_whole None fine w = w
-  written_whole (Some (errors.Request error)) fine w = w
-  written_whole (Some (errors.Script error)) fine w = w
-  written_whole (Some errors.Memory) fine w = w
-  written_whole (Some (errors.MemoryAt line)) fine w = w
-  written_whole (Some errors.Write) fine w = absurd (fine refl)
-
 -- what was finished is how the response ended
 pub ends_as : (says : List ℕ → Option PipeError → Type 0) {before now : Option (List ℕ)} {start after : Faults}
-    (error : Option PipeError) {text : List ℕ} {outcome : PipeOutcome} → says text error
-    → (error ≡ Some errors.Write → ⊥) → Finished before start now after error text outcome
+    (reported : Option PipeError) {text : List ℕ} {outcome : PipeOutcome} → says text reported
+    → (reported ≡ Some errors.Write → ⊥) → Finished before start now after reported text outcome
     → EndsAs says before start now after outcome
-ends_as says {before} {now} {start} {after} error {text} {outcome} is fine finished = by finished.wrote refl
-  where
-    by : (wrote : Bool) → finished.wrote ≡ wrote → EndsAs says before start now after outcome
-    by true e =
-        let same : outcome.error ≡ error = finished.error_is ∙ ap (error_after error) e in
-        let whole = finished.whole e in
-        record {
-          end = subst (HasResponded says before now) (sym same)
-              (written_whole says before now error fine (record { response = text; is = is; taken = whole.0 }));
-          status = finished.status;
-          write = λ write. absurd (fine (sym same ∙ write));
-          flushed = λ _. whole.1;
-        }
-    by false e =
-        let same : outcome.error ≡ Some errors.Write = finished.error_is ∙ ap (error_after error) e in
-        let fails = finished.fails e in
-        record {
-          end = subst (HasResponded says before now) (sym same)
-              (record { error = error; response = text; would = is; cut = fails.1 });
-          status = finished.status;
-          write = λ write. fails.0;
-          flushed = λ none. absurd (none same);
-        }
-
--- the sink failed among the frames of the first statements
-cut_of : {before now : Option (List ℕ)} {start after : Faults} {block : BlockValue} (frames : List OutputFrame) (end : EndValue) → Appended before start (response_magic ++ frames_bytes frames) now after block → IsCut before now (response_bytes frames end)
-cut_of frames end a = record {
-  front = a.front;
-  rest = a.rest ++ end_bytes end;
-  whole = sym (append_assoc a.front a.rest (end_bytes end)) ∙ ap (λ (t : List ℕ). t ++ end_bytes end) a.whole ∙ append_assoc response_magic (frames_bytes frames) (end_bytes end);
-  taken = a.taken;
-}
-
--- the sink took the first bytes of the response that the first statements give, whatever the end
-abbrev pub IsCutResponse : RunForm → ShelfValue → List Statement → Option (List ℕ) → Option (List ℕ) → Type 0
-IsCutResponse form shelf first before now =
-    (end : EndValue) → (response : List ℕ) × (GivesResponse form shelf first end response × IsCut before now response)
-
-pub cut_frames : {before now : Option (List ℕ)} {start after : Faults} {block : BlockValue} (shelf next : ShelfValue)
-    (first : List Statement) (frames : List OutputFrame) → GivesFrames shelf first frames next
-    → Appended before start (response_magic ++ frames_bytes frames) now after block
-    → IsCutResponse Frames shelf first before now
-cut_frames shelf next first frames given appended =
-    λ end. (response_bytes frames end, ((frames, (next, (given, refl))), cut_of frames end appended))
-
-within : (form : RunForm) (read : Result RunRequestValue RequestError) (before now : Option (List ℕ))
-    (shelf : ShelfValue) (first others : List Statement) → IsPipeAccepted read shelf (first ++ others)
-    → IsCutResponse form shelf first before now → WasCut (IsResponse form read) before now
-within form read before now shelf first [] accepted cuts =
-    let whole = subst (λ (s : List Statement). IsPipeAccepted read shelf s) (append-nil first) accepted in
+ends_as says {before} {now} {start} {after} reported {text} {outcome} is fine finished =
+    let same = finished.reported_is in
     record {
-      error = None;
-      response = (cuts done_end).0;
-      would = record { shelf = shelf; statements = first; accepted = whole; gives = (cuts done_end).1.0 };
-      cut = (cuts done_end).1.1;
-    }
-within form read before now shelf first (statement ∷ others) accepted cuts =
-    let here = cuts (memory_end statement.line) in
-    record {
-      error = Some (errors.MemoryAt statement.line);
-      response = here.0;
-      would = record {
-        shelf = shelf;
-        first = first;
-        statement = statement;
-        others = others;
-        accepted = accepted;
-        line_is = refl;
-        gives = here.1.0;
+      text = text;
+      is = subst (says text) (sym same) is;
+      finished = record {
+        sending = finished.sending;
+        reported_is = refl;
+        error_is = finished.error_is ∙ ap (λ (e : Option PipeError). error_after e finished.sending) (sym same);
+        status = finished.status;
+        sent = finished.sent;
       };
-      cut = here.1.1;
+      settled = λ write. absurd (fine (sym same ∙ write));
     }
 
--- a run whose sink failed in an execution
-pub end_failed : (form : RunForm) (read : Result RunRequestValue RequestError) {before now : Option (List ℕ)}
-    {start after : Faults} {outcome : PipeOutcome} (shelf : ShelfValue) (first others : List Statement)
-    → outcome.error ≡ Some errors.Write → outcome.status ≡ end_status_after outcome.error
-    → IsPipeAccepted read shelf (first ++ others) → IsCutResponse form shelf first before now
-    → has_failed after ≡ true → EndsAs (IsResponse form read) before start now after outcome
-end_failed form read {before} {now} {start} {after} {outcome} shelf first others is status accepted cuts failed =
-    record {
-      end = subst (HasResponded (IsResponse form read) before now) (sym is)
-          (within form read before now shelf first others accepted cuts);
-      status = status;
-      write = λ write. failed;
-      flushed = λ other. absurd (other is);
-    }
+-- a run whose sink failed in a statement
+pub end_broken : (form : RunForm) (read : Result RunRequestValue RequestError) {before now : Option (List ℕ)}
+    {start after : Faults} {outcome : PipeOutcome} (shelf : ShelfValue) (first others : List Statement) (text : List ℕ)
+    → outcome.reported ≡ Some errors.Write → outcome.error ≡ Some errors.Write
+    → outcome.status ≡ end_status_after outcome.error
+    → IsPipeAccepted read shelf (first ++ others) → GivesFirst form shelf first text
+    → after ≡ after_put start true → IsCut before now text outcome.written
+    → EndsAs (IsResponse form read) before start now after outcome
+end_broken form read shelf first others text reported error status accepted gives failed cut = record {
+  text = text;
+  is = subst (IsResponse form read text) (sym reported)
+      (record { shelf = shelf; first = first; others = others; accepted = accepted; gives = gives });
+  finished = record { sending = Refused; reported_is = refl; error_is = error; status = status; sent = (failed, cut) };
+  settled = λ write. refl;
+}
 
 -- a run that writes text: done, out of memory at a statement, or cut by the sink
 module _ (read : Result RunRequestValue RequestError) (shelf : ShelfValue) (statements : List Statement)
@@ -207,31 +148,12 @@ module _ (read : Result RunRequestValue RequestError) (shelf : ShelfValue) (stat
 
   pub text_failed : {before now : Option (List ℕ)} {start after : Faults} {outcome : PipeOutcome}
       (w : IsWithin shelf statements before now written) → after ≡ after_put start true
-      → outcome.error ≡ Some errors.Write → outcome.status ≡ end_status_after outcome.error
-      → EndsAs (IsResponse Text read) before start now after outcome
-  text_failed w failed is status = end_failed Text read shelf w.first w.others is status
-      (accepted_parts (w.first ++ w.others) w.whole)
-      (λ end. (
-        w.prefix ++ w.rest,
-        ((w.after, w.executed), record { front = w.prefix; rest = w.rest; whole = refl; taken = w.taken }),
-      ))
-      (ap has_failed failed)
-
--- the sink was flushed after a text, or the flush failed
-pub text_finished : {before taken now : Option (List ℕ)} {start after : Faults} {error : Option PipeError}
-    {outcome : PipeOutcome} (wrote : Bool) (text : List ℕ) → outcome.error ≡ error_after error wrote
-    → outcome.status ≡ end_status_after outcome.error → taken ≡ append_known before text → now ≡ taken
-    → after ≡ after_flush start (not wrote) → Finished before start now after error text outcome
-text_finished {start} wrote text is status all same flushed = record {
-  wrote = wrote;
-  error_is = is;
-  status = status;
-  whole = λ good. (same ∙ all, flushed ∙ ap (λ (b : Bool). after_flush start (not b)) good);
-  fails = λ bad. (
-    ap has_failed (flushed ∙ ap (λ (b : Bool). after_flush start (not b)) bad) ∙ or-true start.refused,
-    record { front = text; rest = []; whole = append-nil text; taken = same ∙ all },
-  );
-}
+      → outcome.reported ≡ Some errors.Write → outcome.error ≡ Some errors.Write
+      → outcome.status ≡ end_status_after outcome.error
+      → outcome.written ≡ written → EndsAs (IsResponse Text read) before start now after outcome
+  text_failed w failed reported error status count = end_broken Text read shelf w.first w.others (w.prefix ++ w.rest)
+      reported error status (accepted_parts (w.first ++ w.others) w.whole) (w.after, w.executed) failed
+      (record { front = w.prefix; rest = w.rest; whole = refl; taken = w.taken; count = count ∙ w.count })
 
 -- what is no want of memory
 pub not_memory : (kind : ScriptKind) → is_memory kind ≡ false → kind ≢ script_kinds.Memory
@@ -263,3 +185,124 @@ not_write fault errors.Memory end is same = cc
 not_write fault (errors.Request error) end is same = is
 not_write fault (errors.MemoryAt line) end is same = is
 not_write fault errors.Write end is same = is
+
+-- ---- what became of a response, from how it ended
+
+-- all of a text was taken
+taken_whole : (error : Option PipeError) (before : Option (List ℕ)) (text : List ℕ) {now : Option (List ℕ)}
+    {written : ℕ}
+    → (error ≡ Some errors.Write → ⊥) → now ≡ append_known before text → written ≡ capped_count (length text)
+    → IsTaken text before now error written
+taken_whole None before text fine all count = (all, count)
+taken_whole (Some (errors.Request error)) before text fine all count = (all, count)
+taken_whole (Some (errors.Script error)) before text fine all count = (all, count)
+taken_whole (Some errors.Memory) before text fine all count = (all, count)
+taken_whole (Some (errors.MemoryAt line)) before text fine all count = (all, count)
+taken_whole (Some errors.Write) before text fine all count = absurd (fine refl)
+
+used_well : (error : Option PipeError) (start : Faults) {after : Faults} → (error ≡ Some errors.Write → ⊥)
+    → after ≡ after_flush start false
+    → HasUsed error start after
+used_well None start fine flushed = flushed
+used_well (Some (errors.Request error)) start fine flushed = flushed
+used_well (Some (errors.Script error)) start fine flushed = flushed
+used_well (Some errors.Memory) start fine flushed = flushed
+used_well (Some (errors.MemoryAt line)) start fine flushed = flushed
+used_well (Some errors.Write) start fine flushed = absurd (fine refl)
+
+module _ (says : List ℕ → Option PipeError → Type 0) {before now : Option (List ℕ)} {start after : Faults}
+    {outcome : PipeOutcome}
+    (h : EndsAs says before start now after outcome) where
+  sent_as : (sending : Sending) → h.finished.sending ≡ sending
+      → IsSent sending before start now after h.text outcome.written
+  sent_as sending e = subst (λ (s : Sending). IsSent s before start now after h.text outcome.written) e h.finished.sent
+
+  error_as : (sending : Sending) → h.finished.sending ≡ sending → outcome.error ≡ error_after outcome.reported sending
+  error_as sending e = h.finished.error_is ∙ ap (error_after outcome.reported) e
+
+  -- what was sent whole reports no failed write
+  reports : (sending : Sending) → h.finished.sending ≡ sending → (sending ≡ Refused → ⊥)
+      → outcome.reported ≡ Some errors.Write → ⊥
+  reports sending e whole write = whole (sym e ∙ h.settled write)
+
+  pub ended_taken : IsTaken h.text before now outcome.error outcome.written
+  ended_taken = by h.finished.sending refl
+    where
+      by : (sending : Sending) → h.finished.sending ≡ sending → IsTaken h.text before now outcome.error outcome.written
+      by Flushed e =
+          let sent = sent_as Flushed e in
+          subst (λ (r : Option PipeError). IsTaken h.text before now r outcome.written) (sym (error_as Flushed e))
+          (taken_whole outcome.reported before h.text (reports Flushed e (λ r. cc)) sent.0 sent.2)
+      by Unflushed e =
+          let sent = sent_as Unflushed e in
+          subst (λ (r : Option PipeError). IsTaken h.text before now r outcome.written) (sym (error_as Unflushed e))
+          (record { front = h.text; rest = []; whole = append-nil h.text; taken = sent.0; count = sent.2 })
+      by Refused e =
+          subst (λ (r : Option PipeError). IsTaken h.text before now r outcome.written) (sym (error_as Refused e))
+          (sent_as Refused e).1
+
+  pub responded : HasResponded says before now outcome.reported outcome.error outcome.written
+  responded = record { response = h.text; is = h.is; taken = ended_taken }
+
+  pub ended_used : HasUsed outcome.error start after
+  ended_used = by h.finished.sending refl
+    where
+      by : (sending : Sending) → h.finished.sending ≡ sending → HasUsed outcome.error start after
+      by Flushed e =
+          subst (λ (r : Option PipeError). HasUsed r start after) (sym (error_as Flushed e))
+          (used_well outcome.reported start (reports Flushed e (λ r. cc)) (sent_as Flushed e).1)
+      by Unflushed e =
+          subst (λ (r : Option PipeError). HasUsed r start after) (sym (error_as Unflushed e))
+          (false, (sent_as Unflushed e).1)
+      by Refused e =
+          subst (λ (r : Option PipeError). HasUsed r start after) (sym (error_as Refused e))
+          (true, (sent_as Refused e).0)
+
+  -- if no put failed, all of the response was taken
+  pub ended_whole : outcome.error ≡ Some errors.Write → after.refused ≡ false
+      → (outcome.reported ≢ Some errors.Write) × HasResponded says before now outcome.reported None outcome.written
+  ended_whole write good = by h.finished.sending refl
+    where
+      by : (sending : Sending) → h.finished.sending ≡ sending
+          → (outcome.reported ≢ Some errors.Write) × HasResponded says before now outcome.reported None outcome.written
+      by Flushed e = absurd (reports Flushed e (λ r. cc) (sym (error_as Flushed e) ∙ write))
+      by Unflushed e =
+          let sent = sent_as Unflushed e in
+          (reports Unflushed e (λ r. cc), record { response = h.text; is = h.is; taken = (sent.0, sent.2) })
+      by Refused e = absurd (cc (ap (λ (f : Faults). f.refused) (sent_as Refused e).0, good))
+
+  -- with a failed write the sink has failed; otherwise it was flushed once
+  pub ended_failed : outcome.error ≡ Some errors.Write → has_failed after ≡ true
+  ended_failed write = by h.finished.sending refl
+    where
+      by : (sending : Sending) → h.finished.sending ≡ sending → has_failed after ≡ true
+      by Flushed e = absurd (reports Flushed e (λ r. cc) (sym (error_as Flushed e) ∙ write))
+      by Unflushed e = ap has_failed (sent_as Unflushed e).1 ∙ or-true start.refused
+      by Refused e = ap has_failed (sent_as Refused e).0
+
+  pub ended_flushed : outcome.error ≢ Some errors.Write → after ≡ after_flush start false
+  ended_flushed fine = by h.finished.sending refl
+    where
+      by : (sending : Sending) → h.finished.sending ≡ sending → after ≡ after_flush start false
+      by Flushed e = (sent_as Flushed e).1
+      by Unflushed e = absurd (fine (error_as Unflushed e))
+      by Refused e = absurd (fine (error_as Refused e))
+
+  pub ended_reported : outcome.error ≢ Some errors.Write → outcome.error ≡ outcome.reported
+  ended_reported fine = by h.finished.sending refl
+    where
+      by : (sending : Sending) → h.finished.sending ≡ sending → outcome.error ≡ outcome.reported
+      by Flushed e = error_as Flushed e
+      by Unflushed e = absurd (fine (error_as Unflushed e))
+      by Refused e = absurd (fine (error_as Refused e))
+
+-- the response of a run that was rejected is its last frame
+pub only_end_of_run : (form : RunForm) (read : Result RunRequestValue RequestError) (response : List ℕ)
+    (error : Option PipeError)
+    → IsResponse form read response error → IsOnlyEnd response error
+only_end_of_run form read response None is = tt
+only_end_of_run form read response (Some (errors.Request error)) is = is.1
+only_end_of_run form read response (Some (errors.Script error)) is = (is.text, is.bytes)
+only_end_of_run form read response (Some errors.Memory) is = is
+only_end_of_run form read response (Some (errors.MemoryAt line)) is = tt
+only_end_of_run form read response (Some errors.Write) is = tt

@@ -1,25 +1,40 @@
--- How a response ends: the last frame, and what became of the sink.
-use Rattle.std.specs.Prelude.{ℕ, ◌≡◌, ◌≢◌, Bool, true, false, List, [], Option, Some}
-use Rattle.cell_core_devices.specs.Device.{Faults, append_known, after_flush, has_failed}
+-- How a response ends: the last frame, the flush, and what became of the sink.
+use Rattle.std.specs.Prelude.{ℕ, ◌≡◌, true, false, List, [], length, Option, Some, None}
+use Rattle.cell_core_devices.specs.Device.{Faults, append_known, after_put, after_flush}
+use Rattle.cell_core_devices.specs.Blocks.{capped_count}
 use Rattle.rcell_script_commands.specs.declared.script_fault.ScriptFault.{ScriptFault}
 use Rattle.rcell_pipe_response.specs.declared.end.PipeError.{PipeError}
 use Rattle.rcell_pipe_response.specs.declared.end.PipeError.TheVariants as errors
 use Rattle.rcell_pipe_response.specs.declared.frame_run.PipeOutcome.{PipeOutcome}
+use Rattle.rcell_pipe_response.specs.declared.frame_run.Sending.{Sending}
+use Rattle.rcell_pipe_response.specs.declared.frame_run.Sending.TheVariants.{Flushed, Unflushed, Refused}
 use Rattle.rcell_pipe_response.specs.FrameBytes.{EndValue, response_bytes}
-use Rattle.rcell_pipe_response.specs.RunEnds.{end_status_after, script_end, memory_end, IsCut, HasResponded}
+use Rattle.rcell_pipe_response.specs.RunEnds.{end_status_after, script_end, memory_end, IsCut}
 
--- the error of a run whose last frame was written or not
-abbrev pub error_after : Option PipeError → Bool → Option PipeError
-error_after error true = error
-error_after error false = Some errors.Write
+-- the error of a run, by what it reports and by what became of its response
+abbrev pub error_after : Option PipeError → Sending → Option PipeError
+error_after reported Flushed = reported
+error_after reported Unflushed = Some errors.Write
+error_after reported Refused = Some errors.Write
 
--- since it had taken `before`, the sink took the text and was flushed once, and the run has the error; or the sink failed
-pub record Finished (before : Option (List ℕ)) (start : Faults) (now : Option (List ℕ)) (after : Faults) (error : Option PipeError) (text : List ℕ) (outcome : PipeOutcome) : Type 0 where
-  pub wrote : Bool
-  pub error_is : outcome.error ≡ error_after error wrote
+-- since it had taken `before`, the sink took the text, and was flushed once after its last byte; or a put failed, of
+-- the text the sink took the first bytes, and it was not flushed
+abbrev pub IsSent : Sending → (before : Option (List ℕ)) → (start : Faults) → (now : Option (List ℕ)) → (after : Faults)
+    → (text : List ℕ) → (written : ℕ) → Type 0
+IsSent Flushed before start now after text written =
+    (now ≡ append_known before text) × (after ≡ after_flush start false) × (written ≡ capped_count (length text))
+IsSent Unflushed before start now after text written =
+    (now ≡ append_known before text) × (after ≡ after_flush start true) × (written ≡ capped_count (length text))
+IsSent Refused before start now after text written = (after ≡ after_put start true) × IsCut before now text written
+
+-- a text was sent, and the outcome says so
+pub record Finished (before : Option (List ℕ)) (start : Faults) (now : Option (List ℕ)) (after : Faults)
+    (reported : Option PipeError) (text : List ℕ) (outcome : PipeOutcome) : Type 0 where
+  pub sending : Sending
+  pub reported_is : outcome.reported ≡ reported
+  pub error_is : outcome.error ≡ error_after reported sending
   pub status : outcome.status ≡ end_status_after outcome.error
-  pub whole : wrote ≡ true → (now ≡ append_known before text) × (after ≡ after_flush start false)
-  pub fails : wrote ≡ false → (has_failed after ≡ true) × IsCut before now text
+  pub sent : IsSent sending before start now after text outcome.written
 
 -- how a script is rejected: with some text of its error, or for want of memory
 abbrev pub IsRejection : ScriptFault → PipeError → EndValue → Type 0
@@ -34,10 +49,10 @@ pub record Rejected (before : Option (List ℕ)) (start : Faults) (now : Option 
   pub rejects : IsRejection fault error end
   pub finished : Finished before start now after (Some error) (response_bytes [] end) outcome
 
--- how a response ended; a write failed only if the sink did, and otherwise it was flushed once
+-- how a response ended: of the text that the error reported says, all was sent, or the first bytes
 pub record EndsAs (says : List ℕ → Option PipeError → Type 0) (before : Option (List ℕ)) (start : Faults)
     (now : Option (List ℕ)) (after : Faults) (outcome : PipeOutcome) : Type 0 where
-  pub end : HasResponded says before now outcome.error
-  pub status : outcome.status ≡ end_status_after outcome.error
-  pub write : outcome.error ≡ Some errors.Write → has_failed after ≡ true
-  pub flushed : outcome.error ≢ Some errors.Write → after ≡ after_flush start false
+  pub text : List ℕ
+  pub is : says text outcome.reported
+  pub finished : Finished before start now after outcome.reported text outcome
+  pub settled : outcome.reported ≡ Some errors.Write → finished.sending ≡ Refused

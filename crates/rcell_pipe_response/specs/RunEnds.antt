@@ -1,6 +1,8 @@
 -- What a run of `rcell-pipe` has written when it ends (profile).
-use Rattle.std.specs.Prelude.{ℕ, ◌≡◌, ◌++◌, List, [], ◌∷◌, codes, Option, Some, None, Result, Ok, Err}
-use Rattle.cell_core_devices.specs.Device.{append_known}
+use Rattle.std.specs.Prelude.{ℕ, ◌≡◌, ◌++◌, ⊤, Bool, true, false, List, [], ◌∷◌, length, codes, Option, Some, None}
+use Rattle.std.specs.Prelude.{Result, Ok, Err, if◌then◌else◌}
+use Rattle.cell_core_devices.specs.Device.{Faults, append_known, after_put, after_flush}
+use Rattle.cell_core_devices.specs.Blocks.{capped_count}
 use Rattle.cell_core.specs.Shelf.{ShelfValue}
 use Rattle.rcell_script.specs.Scripts.{IsScript}
 use Rattle.rcell_script.specs.ReadScripts.{IsScriptFault}
@@ -19,7 +21,7 @@ use Rattle.rcell_pipe_response.specs.declared.end.PipeError.TheVariants as error
 use Rattle.rcell_pipe_response.specs.declared.frame_run.RunForm.{RunForm}
 use Rattle.rcell_pipe_response.specs.declared.frame_run.RunForm.TheVariants.{Frames, Text}
 use Rattle.rcell_pipe_response.specs.Frames.{OutputFrame, GivesFrames}
-use Rattle.rcell_pipe_response.specs.FrameBytes.{EndValue, response_bytes}
+use Rattle.rcell_pipe_response.specs.FrameBytes.{EndValue, response_magic, frames_bytes, response_bytes}
 
 -- an end without the place of its text in memory
 abbrev pub end_value : End → EndValue
@@ -121,38 +123,68 @@ pub record IsPipeStopped (form : RunForm) (read : Result RunRequestValue Request
   pub line_is : line ≡ statement.line
   pub gives : GivesResponse form shelf first (memory_end line) response
 
--- the whole response of a run, by its error; a run whose write failed has none
+-- what the first statements give before the end: their frames, or their text
+abbrev pub GivesFirst : RunForm → ShelfValue → List Statement → List ℕ → Type 0
+GivesFirst Frames shelf first text =
+    (frames : List OutputFrame) × ((after : ShelfValue) ×
+    (GivesFrames shelf first frames after × (text ≡ response_magic ++ frames_bytes frames)))
+GivesFirst Text shelf first text = IsOutput shelf first text
+
+-- a write failed in a statement: what the statements up to it give
+pub record IsPipeBroken (form : RunForm) (read : Result RunRequestValue RequestError) (text : List ℕ) : Type 0 where
+  pub shelf : ShelfValue
+  pub first : List Statement
+  pub others : List Statement
+  pub accepted : IsPipeAccepted read shelf (first ++ others)
+  pub gives : GivesFirst form shelf first text
+
+-- the whole response of a run, by the error that it reports; or, if a write failed in a statement, the response up to
+-- it
 abbrev pub IsResponse : RunForm → Result RunRequestValue RequestError → List ℕ → Option PipeError → Type 0
 IsResponse form read response None = IsPipeDone form read response
 IsResponse form read response (Some (errors.Request error)) = (read ≡ Err error) × (response ≡ response_bytes [] (request_end error))
 IsResponse form read response (Some (errors.Script error)) = IsScriptRejected read response error
 IsResponse form read response (Some errors.Memory) = response ≡ response_bytes [] (memory_end 0)
 IsResponse form read response (Some (errors.MemoryAt line)) = IsPipeStopped form read response line
-IsResponse form read response (Some errors.Write) = ⊥
+IsResponse form read response (Some errors.Write) = IsPipeBroken form read response
 
--- the sink took the first bytes of a text
-pub record IsCut (before now : Option (List ℕ)) (text : List ℕ) : Type 0 where
+-- the sink took the first bytes of a text, and their number is reported
+pub record IsCut (before now : Option (List ℕ)) (text : List ℕ) (written : ℕ) : Type 0 where
   pub front : List ℕ
   pub rest : List ℕ
   pub whole : front ++ rest ≡ text
   pub taken : now ≡ append_known before front
+  pub count : written ≡ capped_count (length front)
 
--- the sink took the first bytes of a response
-pub record WasCut (says : List ℕ → Option PipeError → Type 0) (before now : Option (List ℕ)) : Type 0 where
-  pub error : Option PipeError
+-- what the sink took of a text, by the error: all of it, or the first bytes if a write failed; and their number is
+-- reported
+abbrev pub IsTaken : List ℕ → (before now : Option (List ℕ)) → Option PipeError → (written : ℕ) → Type 0
+IsTaken text before now (Some errors.Write) written = IsCut before now text written
+IsTaken text before now error written = (now ≡ append_known before text) × (written ≡ capped_count (length text))
+
+-- what has been written of a response that reports an error or none, by the error of the run
+pub record HasResponded (says : List ℕ → Option PipeError → Type 0) (before now : Option (List ℕ))
+    (reported error : Option PipeError) (written : ℕ) : Type 0 where
   pub response : List ℕ
-  pub would : says response error
-  pub cut : IsCut before now response
+  pub is : says response reported
+  pub taken : IsTaken response before now error written
 
--- the sink took a whole response
-pub record WasWritten (says : List ℕ → Option PipeError → Type 0) (before now : Option (List ℕ))
-    (error : Option PipeError) : Type 0 where
-  pub response : List ℕ
-  pub is : says response error
-  pub taken : now ≡ append_known before response
+-- what became of the sink, by the error of the run:
+-- Write: a put failed, and it was not flushed; or no put failed, and its only flush did
+-- any other, or none: no call failed, and it was flushed once
+abbrev pub HasUsed : Option PipeError → Faults → Faults → Type 0
+HasUsed (Some errors.Write) old new = (put : Bool) × (new ≡ (if put then after_put old true else after_flush old true))
+HasUsed error old new = new ≡ after_flush old false
 
--- what has been written, by the error: a whole response, or the first bytes of one if a write failed
-abbrev pub HasResponded : (List ℕ → Option PipeError → Type 0) → Option (List ℕ) → Option (List ℕ)
-    → Option PipeError → Type 0
-HasResponded says before now (Some errors.Write) = WasCut says before now
-HasResponded says before now error = WasWritten says before now error
+-- the only frame of a response that reports an error of the request or of its script, or want of memory before the
+-- first statement
+abbrev pub only_end : PipeError → List ℕ → Type 0
+only_end (errors.Request error) response = response ≡ response_bytes [] (request_end error)
+only_end (errors.Script error) response = (text : List ℕ) × (response ≡ response_bytes [] (script_end error text))
+only_end errors.Memory response = response ≡ response_bytes [] (memory_end 0)
+only_end (errors.MemoryAt line) response = ⊤
+only_end errors.Write response = ⊤
+
+abbrev pub IsOnlyEnd : List ℕ → Option PipeError → Type 0
+IsOnlyEnd response None = ⊤
+IsOnlyEnd response (Some error) = only_end error response

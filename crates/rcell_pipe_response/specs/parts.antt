@@ -2,6 +2,6 @@
 pub mod CellEntries
 pub mod CellLabels
 pub mod Coordinates
-pub mod LastFrames
 pub mod ScriptKinds
 pub mod FrameExecution
+pub mod Flushed

@@ -1,8 +1,8 @@
 //! A run, from a request to bytes.
 
-ghost use Rattle.std.specs.Prelude.{ℕ, ◌≡◌, List, [], ◌++◌, Option, Some, Result, Ok};
+ghost use Rattle.std.specs.Prelude.{ℕ, ◌≡◌, List, [], ◌++◌, length, false, Option, Some, Result, Ok};
 ghost use Rattle.cell_core_devices.specs.Device.{Faults, append_known};
-ghost use Rattle.cell_core_devices.specs.Blocks.{Appended};
+ghost use Rattle.cell_core_devices.specs.Blocks.{capped_count, Appended};
 ghost use Rattle.rcell_script.specs.FittingScripts.{Fits};
 ghost use Rattle.rcell_pipe_request.specs.declared.error.RequestError.{RequestError};
 ghost use Rattle.rcell_pipe_request.specs.Requests.{RunRequestValue, run_request_value};
@@ -10,7 +10,7 @@ ghost use Rattle.rcell_pipe_response.specs.declared.frame_run.RunForm.TheVariant
 ghost use Rattle.rcell_pipe_response.specs.FrameBytes.{response_magic, response_bytes, end_bytes};
 ghost use Rattle.rcell_pipe_response.specs.RunEnds.{end_status_after, IsPipeAccepted, IsResponse, end_value};
 ghost use Rattle.rcell_pipe_response.specs.FrameEndings.{error_after, Finished, Rejected, EndsAs};
-ghost use Rattle.rcell_pipe_response.specs.parts.LastFrames.{EndsResponse};
+ghost use Rattle.rcell_pipe_response.specs.parts.Flushed.{IsFlushed};
 
 use crate::end::{End, PipeError, done_end, end_status_after, is_memory, memory_end, script_end};
 use crate::frame_execution::{PipeStop, execute};
@@ -42,49 +42,82 @@ pub struct PipeOutcome {
     pub status: u8,
     /// Why it is not done.
     pub error: Option<PipeError>,
+    /// What the last frame reports, also if that frame or the flush failed; `Write` if a write failed in a statement.
+    pub reported: Option<PipeError>,
+    /// How many bytes of the response went out, or the largest `u64` if more did.
+    pub written: u64,
 }
 
-// Puts the last frame, and flushes the sink. Returns whether all of that went well.
-fn finish<W: Sink>(out: &mut W, mut block: OutputBlock, end: &End<'_>) -> bool
-    ensures { EndsResponse W.taken W.faults out.old block (end_value end.now) out.new result }
+/// What became of a response.
+#[derive(Clone, Copy, Debug, PartialEq, Eq)]
+pub enum Sending {
+    /// The sink took it, and was flushed.
+    Flushed,
+    /// The sink took it, and failed to flush.
+    Unflushed,
+    /// A write failed.
+    Refused,
+}
+
+// Flushes the sink.
+fn flush_sink<W: Sink>(out: &mut W) -> Sending
+    ensures taken { W.taken out.new ≡ W.taken out.old }
+    ensures faults { IsFlushed result (W.faults out.old) (W.faults out.new) }
 {
-    push_end(out, &mut block, end);
-    block.empty(out);
-    if block.has_failed() {
-        return false;
-    }
     match out.flush() {
-        Ok(()) => true,
-        Err(_) => false,
+        Ok(()) => Sending::Flushed,
+        Err(_) => Sending::Unflushed,
     }
 }
 
-// The outcome of a run with this error, if its last frame was written.
-fn outcome_of(error: Option<PipeError>, wrote: bool) -> PipeOutcome
-    ensures error { result.error ≡ error_after error wrote }
-    ensures status { result.status ≡ end_status_after result.error }
+// Flushes the sink, once all that a block held was put.
+fn flush_after<W: Sink>(out: &mut W, block: &OutputBlock) -> Sending
+    requires good { block.now.failed ≡ false }
+    requires held { block.now.held ≡ [] }
+    ensures taken { W.taken out.new ≡ W.taken out.old }
+    ensures faults { IsFlushed result (W.faults out.old) (W.faults out.new) }
 {
-    let error = if wrote { error } else { Some(PipeError::Write) };
+    flush_sink(out)
+}
+
+// The outcome of a response that reports an error or none.
+fn outcome_of(reported: Option<PipeError>, sending: Sending, written: u64) -> PipeOutcome
+    ensures reported { result.reported ≡ reported }
+    ensures error { result.error ≡ error_after reported sending }
+    ensures status { result.status ≡ end_status_after result.error }
+    ensures written { result.written ≡ written }
+{
+    let error = match sending {
+        Sending::Flushed => reported,
+        Sending::Unflushed => Some(PipeError::Write),
+        Sending::Refused => Some(PipeError::Write),
+    };
     PipeOutcome {
         status: end_status_after(error),
         error,
+        reported,
+        written,
     }
 }
 
-/// Puts the last frame, and returns the error, or a failed write.
+/// Puts the last frame, and flushes the sink unless a put failed.
 pub fn end_response<W: Sink>(
     out: &mut W,
-    block: OutputBlock,
-    error: Option<PipeError>,
+    mut block: OutputBlock,
+    reported: Option<PipeError>,
     end: &End<'_>,
 ) -> PipeOutcome
     ensures { (before : Option (List ℕ)) (start : Faults) (text : List ℕ)
         → Appended before start text (W.taken out.old) (W.faults out.old) block
-        → Finished before start (W.taken out.new) (W.faults out.new) error
+        → Finished before start (W.taken out.new) (W.faults out.new) reported
         (text ++ end_bytes (end_value end.now)) result }
 {
-    let wrote = finish(out, block, end);
-    outcome_of(error, wrote)
+    push_end(out, &mut block, end);
+    block.empty(out);
+    if block.has_failed() {
+        return outcome_of(reported, Sending::Refused, block.written());
+    }
+    outcome_of(reported, flush_after(out, &block), block.written())
 }
 
 /// The first eight bytes of a response, in a block.
@@ -144,21 +177,21 @@ fn run_statements<W: Sink>(
                 Some(PipeError::MemoryAt { line }),
                 &memory_end(line),
             ),
-            PipeStop::Write => outcome_of(None, false),
+            PipeStop::Write => {
+                outcome_of(Some(PipeError::Write), Sending::Refused, block.written())
+            }
         },
     }
 }
 
-// Flushes the sink after a text, and returns the error, or a failed write.
-fn end_text<W: Sink>(out: &mut W, error: Option<PipeError>) -> PipeOutcome
+// Flushes the sink after a text of so many bytes.
+fn end_text<W: Sink>(out: &mut W, reported: Option<PipeError>, written: u64) -> PipeOutcome
     ensures { (before : Option (List ℕ)) (text : List ℕ)
-        → W.taken out.old ≡ append_known before text
-        → Finished before (W.faults out.old) (W.taken out.new) (W.faults out.new) error text result }
+        → W.taken out.old ≡ append_known before text → written ≡ capped_count (length text)
+        → Finished before (W.faults out.old) (W.taken out.new) (W.faults out.new) reported text
+        result }
 {
-    match out.flush() {
-        Ok(()) => outcome_of(error, true),
-        Err(_) => outcome_of(error, false),
-    }
+    outcome_of(reported, flush_sink(out), written)
 }
 
 // Writes the text of statements over the maps on a shelf, and nothing else.
@@ -174,10 +207,14 @@ fn print_statements<W: Sink>(
         (W.faults out.new) result }
 {
     match execute_as_text(alloc, &mut shelf, script.statements(), out) {
-        Ok(_) => end_text(out, None),
+        Ok(written) => end_text(out, None, written),
         Err(stopped) => match stopped.stop {
-            RunStop::Memory { line } => end_text(out, Some(PipeError::MemoryAt { line })),
-            RunStop::Write => outcome_of(None, false),
+            RunStop::Memory { line } => {
+                end_text(out, Some(PipeError::MemoryAt { line }), stopped.written)
+            }
+            RunStop::Write => {
+                outcome_of(Some(PipeError::Write), Sending::Refused, stopped.written)
+            }
         },
     }
 }

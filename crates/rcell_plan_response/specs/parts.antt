@@ -1,3 +1,4 @@
 -- What only private functions and proofs cite.
 pub mod DetailValues
 pub mod RequestStops
+pub mod Answered

@@ -3,7 +3,7 @@
 ghost use Rattle.std.specs.Prelude.{◌≡◌, ◌+◌, ◌<◌, ◌≤◌, [], length, None, OnOk, IfOk};
 ghost use Rattle.cell_core_values.specs.Name.{place_of};
 ghost use Rattle.rcell_pipe_request.specs.RequestFields.{steps};
-ghost use Rattle.rcell_pipe_request.specs.Feeds.{ReadsField, ReadsPlaced};
+ghost use Rattle.rcell_pipe_request.specs.Feeds.{ReadsField, ReadsPlaced, ReadsPlacedToEnd};
 ghost use Rattle.rcell_plan_response.specs.PlanRequests.{name_count_at, unused_name_at, one_more_name, plan_at, plan_request_value};
 
 use cell_core::name::{Name, Names};
@@ -101,7 +101,7 @@ fn push_names<R: Source>(
 /// The first error of the bytes, or [`RequestStop::Memory`] if memory ran out.
 #[tactic(auto, unfolding(crate::specs::PlanRequests::plan_at))]
 pub fn read_plan<R: Source>(alloc: Global, feed: &mut Feed<R>) -> Result<PlanRequest, RequestStop>
-    ensures { ReadsPlaced plan_request_value feed.old result feed.new plan_at }
+    ensures { ReadsPlacedToEnd plan_request_value feed.old result feed.new plan_at }
 {
     let count = match read_name_count(feed) {
         Ok(count) => count,

@@ -1,26 +1,29 @@
 //! Responses to requests, from bytes to bytes.
 
-ghost use Rattle.std.specs.Prelude.{◌≡◌, ◌≢◌, [], true, false, Some, Ok, IfSome, bytes_eq, codes};
+ghost use Rattle.std.specs.Prelude.{◌≡◌, ◌≢◌, List, [], true, false, Some, None, Ok, IfSome, bytes_eq, codes};
 ghost use Rattle.std.specs.Option.{IsNone};
 ghost use Rattle.cell_core_devices.specs.Device.{has_failed, after_flush};
+ghost use Rattle.cell_core.specs.Shelf.{ShelfValue};
+ghost use Rattle.rcell_script.specs.declared.statement.Statement.{Statement};
 ghost use Rattle.rcell_pipe_request.specs.Feeds.{left, ReadsField};
 ghost use Rattle.rcell_pipe_response.specs.FrameBytes.{response_bytes};
-ghost use Rattle.rcell_pipe_response.specs.RunEnds.{end_status_after, IsResponse, HasResponded};
+ghost use Rattle.rcell_pipe_response.specs.RunEnds.{end_status_after, IsResponse, HasResponded, HasUsed, IsOnlyEnd};
 ghost use Rattle.rcell_pipe_response.specs.FrameEndings.{Finished, EndsAs};
 ghost use Rattle.rcell_plan_response.specs.PlanEnds.{IsPlanResponse};
-ghost use Rattle.rcell_plan_response.specs.Responses.{form_of, form_at, run_request_of, plan_request_of, IsResponseTo, IsRequestAccepted};
+ghost use Rattle.rcell_plan_response.specs.Responses.{form_of, form_at, run_request_of, plan_request_of, IsResponseTo, IsRequestAccepted, AsksForFrames, WritesFrames};
 ghost use Rattle.rcell_plan_response.specs.parts.RequestStops.{error_of_stop, end_of_stop};
+ghost use Rattle.rcell_plan_response.specs.parts.Answered.{IsAskedBy, IsOfFeed, IsOfSource};
 
 use crate::plan_request::read_plan;
 use crate::plan_response::plan_request;
 use cell_core::sink::Sink;
-use cell_core::source::Source;
+use cell_core::source::{Asked, Source};
 use rcell_pipe_request::error::{ErrorKind, FieldStop, RequestStop};
 use rcell_pipe_request::feed::{Feed, read_into};
 use rcell_pipe_request::request::read_run;
 use rcell_pipe_response::end::{PipeError, memory_end, request_end};
 use rcell_pipe_response::frame_run::{PipeOutcome, RunForm, reject, run_request};
-use rcell_script::law::no_fault_of_a_script;
+use rcell_script::law::{no_fault_of_a_script, one_script};
 use std::alloc::Global;
 
 /// What a request asks for.
@@ -96,10 +99,10 @@ fn respond_to_run<R: Source, W: Sink>(
     form: RunForm,
     out: &mut W,
 ) -> PipeOutcome
-    ensures { EndsAs
-        (λ response error. feed.old.known ≡ true
-        → IsResponse form (run_request_of (left feed.old)) response error)
+    ensures end { EndsAs
+        (IsOfFeed feed.old (IsResponse form (run_request_of (left feed.old))))
         (W.taken out.old) (W.faults out.old) (W.taken out.new) (W.faults out.new) result }
+    ensures asked { feed.old.asked ≡ Asked.Going → IsAskedBy result.reported feed.new.asked }
 {
     match read_run(alloc, feed) {
         Ok(request) => run_request(alloc, request, form, out),
@@ -113,10 +116,10 @@ fn respond_to_plan<R: Source, W: Sink>(
     feed: &mut Feed<R>,
     out: &mut W,
 ) -> PipeOutcome
-    ensures { EndsAs
-        (λ response error. feed.old.known ≡ true
-        → IsPlanResponse (plan_request_of (left feed.old)) response error)
+    ensures end { EndsAs
+        (IsOfFeed feed.old (IsPlanResponse (plan_request_of (left feed.old))))
         (W.taken out.old) (W.faults out.old) (W.taken out.new) (W.faults out.new) result }
+    ensures asked { feed.old.asked ≡ Asked.Going → IsAskedBy result.reported feed.new.asked }
 {
     match read_plan(alloc, feed) {
         Ok(request) => plan_request(alloc, request, out),
@@ -126,10 +129,12 @@ fn respond_to_plan<R: Source, W: Sink>(
 
 // Reads a request of any form, and responds to it.
 fn respond_to<R: Source, W: Sink>(alloc: Global, feed: &mut Feed<R>, out: &mut W) -> PipeOutcome
-    ensures { EndsAs
-        (λ response error. feed.old.known ≡ true
-        → IsResponseTo (form_at (left feed.old)) response error)
+    ensures end { EndsAs
+        (IsOfFeed feed.old (IsResponseTo (form_at (left feed.old))))
         (W.taken out.old) (W.faults out.old) (W.taken out.new) (W.faults out.new) result }
+    // The source is not asked again after its end or an `Err`. Unless the response is one last frame, the source has
+    // reported its end, so the request is complete.
+    ensures asked { feed.old.asked ≡ Asked.Going → IsAskedBy result.reported feed.new.asked }
 {
     match read_form(feed) {
         Ok(form) => match form {
@@ -140,29 +145,54 @@ fn respond_to<R: Source, W: Sink>(alloc: Global, feed: &mut Feed<R>, out: &mut W
     }
 }
 
+// Reads a request of any form from its source, and responds to it.
+fn respond_whole<R: Source + Drop, W: Sink>(alloc: Global, source: R, out: &mut W) -> PipeOutcome
+    ensures { EndsAs (IsOfSource (R.coming source)) (W.taken out.old) (W.faults out.old)
+        (W.taken out.new) (W.faults out.new) result }
+{
+    match Feed::new(alloc, source) {
+        Ok(mut feed) => respond_to(alloc, &mut feed, out),
+        Err(_) => reject(out, PipeError::Memory, &memory_end(0)),
+    }
+}
+
 /// Reads a request, runs or plans its script, and writes the response.
 ///
 /// The request is read whole before the first statement is executed. Each statement of a run has all that it needs of memory
 /// before its first byte is written, and a plan before the first byte of its response.
 pub fn respond<R: Source + Drop, W: Sink>(alloc: Global, source: R, out: &mut W) -> PipeOutcome
-    // The error says what has been written. Without one: the frames of the statements, or their plans, and the end; or the
-    // text that `rcell` writes. Otherwise: the end with the first error of the request or of its script, or the frames, or
-    // the text, of the statements before memory ran out. If a write failed: the first bytes of such a response.
+    // What was written, by the error that the response reports: the frames of the statements, or their plans, and the
+    // end; or the text that `rcell` writes. With an error: the end with the first error of the request or of its script,
+    // or the frames, or the text, of the statements before memory ran out. If a write failed: the first bytes of this.
     ensures end { IfSome (R.coming source) (λ c. HasResponded (IsResponseTo (form_at c))
-        (W.taken out.old) (W.taken out.new) result.error) }
+        (W.taken out.old) (W.taken out.new) result.reported result.error result.written) }
+    // Whatever the source gives: a response that reports an error of the request or of its script is its last frame.
+    ensures rejected { HasResponded IsOnlyEnd (W.taken out.old) (W.taken out.new) result.reported
+        result.error result.written }
     ensures status { result.status ≡ end_status_after result.error }
-    // Write comes only if the sink failed; otherwise it did not fail and was flushed once.
+    // The sink is flushed once, after the last byte, unless a put failed. Write comes only if a put or the flush
+    // failed.
+    ensures first { HasUsed result.error (W.faults out.old) (W.faults out.new) }
     ensures write { result.error ≡ Some PipeError.Write → has_failed (W.faults out.new) ≡ true }
     ensures flushed { result.error ≢ Some PipeError.Write
         → W.faults out.new ≡ after_flush (W.faults out.old) false }
-    // If the script of a request is accepted, memory lasts and the sink takes everything, all is done.
+    // If Write is reported and no put failed, only the flush did: the sink took the whole response.
+    ensures whole { IfSome (R.coming source)
+        (λ c. result.error ≡ Some PipeError.Write → (W.faults out.new).refused ≡ false
+        → (result.reported ≢ Some PipeError.Write) × HasResponded (IsResponseTo (form_at c))
+        (W.taken out.old) (W.taken out.new) result.reported None result.written) }
+    // For every request for the frames of a script that is accepted, if memory lasts and the sink takes everything,
+    // exactly these frames and the end are written.
+    ensures headline { IfSome (R.coming source)
+        (λ c. (shelf : ShelfValue) (statements : List Statement) → AsksForFrames c shelf statements
+        → WritesFrames shelf statements (W.taken out.old) (W.taken out.new)
+        (has_failed (W.faults out.new)) result) }
+    // If the script of a request of any form is accepted, memory lasts and the sink takes everything, all is done.
     ensures complete { IfSome (R.coming source)
         (λ c. IsRequestAccepted (form_at c) → result.status ≢ 3
         → has_failed (W.faults out.new) ≡ false → IsNone result.error) }
 {
     no_fault_of_a_script();
-    match Feed::new(alloc, source) {
-        Ok(mut feed) => respond_to(alloc, &mut feed, out),
-        Err(_) => reject(out, PipeError::Memory, &memory_end(0)),
-    }
+    one_script();
+    respond_whole(alloc, source, out)
 }

@@ -1,10 +1,28 @@
+use Rattle.std.proofs.Common.{◌∙◌, sym}
+use Rattle.rcell_pipe_response.specs.declared.frame_run.Sending.TheVariants.{Refused}
+use Rattle.rcell_pipe_response.proofs.EndLemmas.{end_refused, end_flushed}
 use Rattle.rcell_pipe_response.proofs.frame_run.end_response.Goals as goal
 
-pub returns : goal.returns
-returns g c = λ before start text appended. record {
-  wrote = c.finish-wrote.result;
+pub returns-then-has_failed : goal.returns-then-has_failed
+returns-then-has_failed g c = λ before start text appended. record {
+  sending = Refused;
+  reported_is = c.outcome_of.ensures.reported;
   error_is = c.outcome_of.ensures.error;
   status = c.outcome_of.ensures.status;
-  whole = λ wrote. c.finish-wrote.ensures.whole wrote before start text appended;
-  fails = λ failed. c.finish-wrote.ensures.fails failed before start text appended;
+  sent = rw (c.outcome_of.ensures.written, c.written.ensures)
+      (end_refused c.push_end.ensures c.empty.ensures.appends appended
+      (sym c.has_failed.ensures ∙ c.if-has_failed.true));
 }
+
+pub returns : goal.returns
+returns g c = λ before start text appended.
+    let good = sym c.has_failed.ensures ∙ c.if-has_failed.false in
+    record {
+      sending = c.flush_after.result;
+      reported_is = c.outcome_of-2.ensures.reported;
+      error_is = c.outcome_of-2.ensures.error;
+      status = c.outcome_of-2.ensures.status;
+      sent = rw (c.outcome_of-2.ensures.written, c.written-2.ensures)
+          (end_flushed c.push_end.ensures c.empty.ensures.appends appended c.flush_after.result _ good
+          (c.empty.ensures.held good) c.flush_after.ensures.taken c.flush_after.ensures.faults);
+    }

@@ -1,10 +1,9 @@
-use Rattle.std.proofs.Common.{◌++◌, ◌∷◌, None, Some, refl, ap}
-use Rattle.cell_core_devices.specs.Device.{has_failed}
+use Rattle.std.proofs.Common.{◌++◌, ◌∷◌, None, Some, refl}
 use Rattle.rcell_pipe_response.specs.declared.end.PipeError.TheVariants as errors
 use Rattle.rcell_pipe_response.specs.FrameBytes.{response_magic, frames_bytes}
 use Rattle.rcell_pipe_response.specs.RunEnds.{done_end, memory_end, IsPipeAccepted, IsResponse, end_value}
 use Rattle.rcell_pipe_response.specs.declared.frame_run.RunForm.TheVariants.{Frames}
-use Rattle.rcell_pipe_response.proofs.EndLemmas.{finished_frames, ends_as, cut_frames, end_failed}
+use Rattle.rcell_pipe_response.proofs.EndLemmas.{finished_frames, ends_as, cut, end_broken}
 use Rattle.rcell_pipe_response.proofs.frame_run.run_statements.Goals as goal
 
 pub returns-in-Ok : goal.returns-in-Ok
@@ -42,7 +41,7 @@ returns g c = λ read accepted.
     let given = stopped.given in
     let whole : IsPipeAccepted read c.args.shelf (stopped.first ++ stopped.others) = rw (stopped.whole, c.statements.ensures) accepted in
     let appended = given.appends.adds _ _ response_magic c.begin_response-block.ensures in
-    end_failed Frames read c.args.shelf stopped.first stopped.others c.outcome_of.ensures.error
-    c.outcome_of.ensures.status whole
-    (cut_frames c.args.shelf stopped.after stopped.first given.frames given.given appended)
-    (ap has_failed (rw stopped.failed at appended.fails))
+    end_broken Frames read c.args.shelf stopped.first stopped.others (response_magic ++ frames_bytes given.frames)
+    c.outcome_of.ensures.reported c.outcome_of.ensures.error c.outcome_of.ensures.status whole
+    (given.frames, (stopped.after, (given.given, refl))) (rw stopped.failed at appended.fails)
+    (rw (c.outcome_of.ensures.written, c.written.ensures) (cut appended))

@@ -1,36 +1,39 @@
-use Rattle.std.proofs.Common.{Some, []}
-use Rattle.rcell_pipe_request.specs.Feeds.{left}
-use Rattle.rcell_pipe_response.specs.declared.end.PipeError.TheVariants as errors
-use Rattle.rcell_pipe_response.specs.RunEnds.{memory_end, end_value, HasResponded}
-use Rattle.rcell_pipe_response.proofs.EndLemmas.{ends_as, finished_frames}
+use Rattle.rcell_pipe_response.specs.RunEnds.{IsOnlyEnd}
+use Rattle.rcell_pipe_response.proofs.EndLemmas.{responded, ended_used, ended_whole, ended_failed, ended_flushed}
 use Rattle.rcell_plan_response.specs.Responses.{form_at, IsResponseTo}
-use Rattle.rcell_plan_response.proofs.PlanEndLemmas.{says_more, memory_form, of_source, if_any, all_is_done}
+use Rattle.rcell_plan_response.specs.parts.Answered.{IsOfSource}
+use Rattle.rcell_plan_response.proofs.PlanEndLemmas.{ends_more, if_known, all_is_done, headline_of}
 use Rattle.rcell_plan_response.proofs.responding.respond.Goals as goal
 
-pub returns-in-Ok-clause-end : goal.returns-in-Ok-clause-end
-returns-in-Ok-clause-end g c =
-    of_source (g.R.Source.coming c.args.source) c.in-Ok.feed
-    (λ x. HasResponded (IsResponseTo (form_at x)) _ _ _) c.in-Ok.ensures
-    (λ known. says_more _ (IsResponseTo (form_at (left c.in-Ok.feed)))
-    (λ response error is. is known) _ _ _ c.respond_to.ensures.end)
+pub returns-clause-end : goal.returns-clause-end
+returns-clause-end g c = if_known _ _ c.respond_whole.ensures (λ x ended. responded (IsResponseTo (form_at x)) ended)
 
-pub returns-in-Ok-clause-complete : goal.returns-in-Ok-clause-complete
-returns-in-Ok-clause-complete g c =
-    of_source (g.R.Source.coming c.args.source) c.in-Ok.feed _ c.in-Ok.ensures
-    (λ known. all_is_done c.no_fault_of_a_script.ensures (form_at (left c.in-Ok.feed)) _ _ _ _ _
-    (says_more _ (IsResponseTo (form_at (left c.in-Ok.feed)))
-    (λ response error is. is known) _ _ _ c.respond_to.ensures.end) c.respond_to.ensures.status
-    c.respond_to.ensures.write)
+pub returns-clause-rejected : goal.returns-clause-rejected
+returns-clause-rejected g c =
+    responded IsOnlyEnd (ends_more (IsOfSource (g.R.Source.coming c.args.source)) IsOnlyEnd
+    (λ response error is. is.0) c.respond_whole.ensures)
 
-pub returns-in-Err-clause-end : goal.returns-in-Err-clause-end
-returns-in-Err-clause-end g c =
-    if_any (λ x. HasResponded (IsResponseTo (form_at x)) _ _ _) (g.R.Source.coming c.args.source)
-    (λ x. (ends_as (IsResponseTo (form_at x)) (Some errors.Memory) (memory_form (form_at x)) (λ write. cc)
-    (finished_frames [] (end_value c.memory_end.result) (memory_end 0) c.memory_end.ensures c.reject.ensures)).end)
+pub returns-clause-status : goal.returns-clause-status
+returns-clause-status g c = c.respond_whole.ensures.finished.status
 
-pub returns-in-Err-clause-complete : goal.returns-in-Err-clause-complete
-returns-in-Err-clause-complete g c =
-    if_any _ (g.R.Source.coming c.args.source) (λ x.
-    let end = ends_as (IsResponseTo (form_at x)) (Some errors.Memory) (memory_form (form_at x)) (λ write. cc)
-    (finished_frames [] (end_value c.memory_end.result) (memory_end 0) c.memory_end.ensures c.reject.ensures) in
-    all_is_done c.no_fault_of_a_script.ensures (form_at x) _ _ _ _ _ end.end end.status end.write)
+pub returns-clause-first : goal.returns-clause-first
+returns-clause-first g c = ended_used _ c.respond_whole.ensures
+
+pub returns-clause-write : goal.returns-clause-write
+returns-clause-write g c = ended_failed _ c.respond_whole.ensures
+
+pub returns-clause-flushed : goal.returns-clause-flushed
+returns-clause-flushed g c = ended_flushed _ c.respond_whole.ensures
+
+pub returns-clause-whole : goal.returns-clause-whole
+returns-clause-whole g c = if_known _ _ c.respond_whole.ensures
+    (λ x ended. ended_whole (IsResponseTo (form_at x)) ended)
+
+pub returns-clause-headline : goal.returns-clause-headline
+returns-clause-headline g c =
+    if_known _ _ c.respond_whole.ensures
+    (λ x ended. headline_of c.no_fault_of_a_script.ensures c.one_script.ensures x ended)
+
+pub returns-clause-complete : goal.returns-clause-complete
+returns-clause-complete g c =
+    if_known _ _ c.respond_whole.ensures (λ x ended. all_is_done c.no_fault_of_a_script.ensures (form_at x) ended)

@@ -6,20 +6,33 @@ use Rattle.rcell_plan_response.specs.PlanRequests.{plan_at, plan_request_value}
 use Rattle.rcell_plan_response.specs.PlanEnds.{IsPlanResponse}
 use Rattle.rcell_plan_response.specs.Responses.{plan_request_of}
 use Rattle.rcell_plan_response.specs.parts.RequestStops.{error_of_stop}
-use Rattle.rcell_plan_response.proofs.PlanEndLemmas.{ends_more, stop_fine, stopped_plan}
+use Rattle.rcell_plan_response.specs.parts.Answered.{IsOfFeed}
+use Rattle.rcell_plan_response.proofs.PlanEndLemmas.{ends_more, stop_fine, stopped_plan, only_stop, only_end_of_plan}
+use Rattle.rcell_plan_response.proofs.PlanEndLemmas.{asked_of_plan, asked_of_stop}
 use Rattle.rcell_plan_response.proofs.responding.respond_to_plan.Goals as goal
 
-pub returns-in-Ok : goal.returns-in-Ok
-returns-in-Ok g c =
-    ends_more (IsPlanResponse (Ok (plan_request_value c.in-Ok.request)))
-    (λ response error. c.args.feed.now.known ≡ true → IsPlanResponse
-    (plan_request_of (left c.args.feed.now)) response error)
-    (λ response error is known. rw (c.in-Ok.ensures.1 known) is) _ _ _ _ _ c.plan_request.ensures
+pub returns-in-Ok-clause-end : goal.returns-in-Ok-clause-end
+returns-in-Ok-clause-end g c =
+    let read = Ok (plan_request_value c.in-Ok.request) in
+    ends_more (IsPlanResponse read) (IsOfFeed c.args.feed.now (IsPlanResponse (plan_request_of (left c.args.feed.now))))
+    (λ response error is. (only_end_of_plan read response error is, λ known. rw (c.in-Ok.ensures.1 known) is))
+    c.plan_request.ensures
 
-pub returns-in-Err : goal.returns-in-Err
-returns-in-Err g c =
-    ends_as (λ response error. c.args.feed.now.known ≡ true
-    → IsPlanResponse (plan_request_of (left c.args.feed.now)) response error) (Some (error_of_stop c.in-Err.stop))
-    (λ known. stopped_plan (plan_at (left c.args.feed.now)) c.in-Err.stop c.args.feed.now.known c.in-Err.ensures
-    known (plan_request_of (left c.args.feed.now)) (λ error is. ap (λ r. r >>= λ plan. Ok plan.0) is))
+pub returns-in-Ok-clause-asked : goal.returns-in-Ok-clause-asked
+returns-in-Ok-clause-asked g c = λ going.
+    asked_of_plan (plan_request_value c.in-Ok.request) _ _ c.plan_request.ensures.is (c.in-Ok.ensures.2 going)
+
+pub returns-in-Err-clause-end : goal.returns-in-Err-clause-end
+returns-in-Err-clause-end g c =
+    ends_as (IsOfFeed c.args.feed.now (IsPlanResponse (plan_request_of (left c.args.feed.now))))
+    (Some (error_of_stop c.in-Err.stop)) (
+      only_stop c.in-Err.stop,
+      λ known. stopped_plan (plan_at (left c.args.feed.now)) c.in-Err.stop c.args.feed.now.known
+          c.in-Err.ensures.0 known (plan_request_of (left c.args.feed.now))
+          (λ error is. ap (λ r. r >>= λ plan. Ok plan.0) is),
+    )
     (stop_fine c.in-Err.stop) c.reject_stop.ensures
+
+pub returns-in-Err-clause-asked : goal.returns-in-Err-clause-asked
+returns-in-Err-clause-asked g c = λ going.
+    asked_of_stop c.in-Err.stop _ c.reject_stop.ensures.reported_is (c.in-Err.ensures.1 going)
