@@ -29,7 +29,7 @@ OPTIONS: dict[str, Callable[[str], Any]] = {
     **dict.fromkeys(("labels", "zone_labels", "zone_field", "resample", "crs"), str),
     **dict.fromkeys(("rules", "other", "areas", "field", "level", "n", "seed", "allocation"), str),
     **dict.fromkeys(("years", "classes"), lambda text: [int(part) for part in text.split(",")]),
-    **dict.fromkeys(("connectivity", "min_cells", "core_depth", "size"), int),
+    **dict.fromkeys(("connectivity", "min_cells", "core_depth", "size", "scale"), int),
     **dict.fromkeys(
         ("quantiles", "distances"), lambda text: [float(part) for part in text.split(",")]
     ),

@@ -539,14 +539,14 @@ COMMANDS = {
         "MAP...",
         "the patches of a map: connected cells of one class",
         "maps",
-        f"connectivity classes min_cells core_depth {_ZONES} labels area {_TABLE}",
+        f"connectivity classes min_cells core_depth {_ZONES} each_zone labels area {_TABLE}",
         _of_each,
     ),
     "zonal": Command(
         "VALUES... ZONES",
         "sums, means and quantiles by zone",
         "maps zone_map",
-        f"quantiles zone_field zone_labels layer each_zone {_TABLE}",
+        f"quantiles scale zone_field zone_labels layer each_zone {_TABLE}",
         _of_each,
     ),
     "adjacency": Command(

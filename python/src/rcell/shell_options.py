@@ -185,6 +185,10 @@ OPTIONS: dict[str, tuple[str, dict[str, Any]]] = {
         "--quantiles",
         {"type": _shares, "metavar": "Q,..", "help": "from 0 to 1; the median if not given"},
     ),
+    "scale": (
+        "--scale",
+        {"type": int, "metavar": "N", "help": "rounds decimals to 1/N, for example 100"},
+    ),
     "size": (
         "--size",
         {"type": int, "metavar": "N", "help": "rows and columns of the square: odd, 3 to 15"},

@@ -136,7 +136,7 @@ class RcellAlgorithm(QgsProcessingAlgorithm):
                 with serving(Host(words="qgis")):
                     self.check_words()
                     self.read()
-                    _glance([*self.rasters, self.zones])
+                    _glance(self.glanced())
         except RcellError as error:
             return False, str(error)
         answer: tuple[bool, str] = super().checkParameterValues(parameters, context)
@@ -183,6 +183,10 @@ class RcellAlgorithm(QgsProcessingAlgorithm):
     def read(self) -> None:
         """Read the layers, and check that they fit each other."""
         self.rasters = [self.raster()]
+
+    def glanced(self) -> list[Any]:
+        """Return the rasters whose first rows are read before the run."""
+        return [*self.rasters, self.zones]
 
     # Methods that algorithms call
 

@@ -103,6 +103,7 @@ class PatchesAlgorithm(_OfPatches):
         self.add_area()
         self.add_count("CORE_DEPTH", tr("Depth of the core in cells"), MOST_CORE_DEPTH)
         self.add_zones()
+        self.add_flag("EACH", tr("Take polygons that overlap one after another"))
         self.add_labels()
         self.add_crs()
         self.add_table()
@@ -129,6 +130,7 @@ class PatchesAlgorithm(_OfPatches):
             min_cells,
             self.number("CORE_DEPTH"),
             labels=self.labels(),
+            each=self.flag("EACH"),
             **zoning,
         )
         self.colours = {}

@@ -5,9 +5,7 @@ from __future__ import annotations
 
 from typing import Any
 
-from qgis.core import (
-    QgsProcessingParameterRasterLayer,
-)
+from qgis.core import QgsProcessingParameterNumber, QgsProcessingParameterRasterLayer
 
 from ..engine.core.adjacency import adjacency
 from ..engine.core.change import change
@@ -188,7 +186,7 @@ class ZonalAlgorithm(RcellAlgorithm):
     NAME = "zonal"
     TITLE = noop("Statistics by zone")
     SHORT = noop(
-        "Lists sum, mean, minimum, maximum, variance and quantiles of a raster of whole numbers for each zone."
+        "Lists sum, mean, minimum, maximum, variance and quantiles of a raster for each zone."
     )
     TAGS = "zonal statistics, mean, median, quantile, sum, r.stats.zonal, raster layer zonal statistics"
     HELP = (
@@ -206,6 +204,9 @@ class ZonalAlgorithm(RcellAlgorithm):
         self.add_zones(False)
         self.add_flag("EACH", tr("Take polygons that overlap one after another"))
         self.add_text("QUANTILES", tr("Quantiles from 0 to 1, separated by commas"), "0.5")
+        title = tr("Scale of decimals: 100 rounds to 1/100 (empty: whole numbers only)")
+        kind = QgsProcessingParameterNumber.Integer
+        self.addParameter(QgsProcessingParameterNumber("SCALE", title, kind, None, True, 1))
         self.add_crs()
         self.add_table()
 
@@ -217,9 +218,22 @@ class ZonalAlgorithm(RcellAlgorithm):
         """Return the table."""
         quantiles = numbers_of(self.text("QUANTILES"), "quantiles")
         found = zonal(
-            self.rasters[0], self.zones, quantiles, each=self.flag("EACH"), **self.zoning()
+            self.rasters[0],
+            self.zones,
+            quantiles,
+            self.number("SCALE") if self.has_scale() else None,
+            each=self.flag("EACH"),
+            **self.zoning(),
         )
         return {"OUTPUT": self.put_table("OUTPUT", found)}
+
+    def has_scale(self) -> bool:
+        """Return whether decimals are rounded."""
+        return self.given.get("SCALE") not in (None, "")
+
+    def glanced(self) -> list[Any]:
+        """Return the rasters whose first rows are read before the run: not the values, if they may be decimals."""
+        return [self.zones] if self.has_scale() else super().glanced()
 
 
 class DominantAlgorithm(RcellAlgorithm):

@@ -21,13 +21,14 @@ _USUAL = (255, -9999, -32768)
 def watched(name: str, source: Source) -> Iterator[Block]:
     """Yield the blocks of a map; after the last one, warn if a usual nodata value fills more than half of its border."""
     rows, cols = source.region.shape
-    values = [value for value in _USUAL if _may_be_undeclared(source, value)]
+    scale = getattr(source, "scale", 1)
+    values = [value for value in _USUAL if _may_be_undeclared(source, value * scale)]
     counts = np.zeros(len(values), np.int64)
     row = 0
     for block in source.blocks():
         if values:
             cells, null = _border(block, row, rows)
-            counts += [np.count_nonzero((cells == value) & ~null) for value in values]
+            counts += [np.count_nonzero((cells == value * scale) & ~null) for value in values]
         row += len(block.cells)
         yield block
     border = rows * cols - max(rows - 2, 0) * max(cols - 2, 0)

@@ -128,15 +128,23 @@ class Maps:
         """Return what their cells measure."""
         return measure_of(area, self.first, self.crs)
 
-    def tables(self, script: str) -> list[Integers]:
-        """Return the tables of a script as they are; with polygons one after another, the rows of all parts in order."""
+    def tables(self, script: str, once: int = 0) -> list[Integers]:
+        """Return the tables of a script as they are; with polygons one after another, the rows of all parts in order.
+
+        Parameters
+        ----------
+        script : str
+        once : int
+            How many of the first tables do not depend on zones.
+        """
         if self._zones is None or len(self._zones.maps) == 1:
             return [output.values for output in execute(script, self.sources)]
         runs = [
             [output.values for output in execute(script, {**self.sources, "zones": zones})]
             for zones in self._zones.maps
         ]
-        return [_in_order(np.concatenate(parts)) for parts in zip(*runs)]
+        merged = [_in_order(np.concatenate(parts)) for parts in list(zip(*runs))[once:]]
+        return runs[0][:once] + merged
 
     def counts(
         self, tables: Sequence[Sequence[str]], measure: Measure, include_null: bool = False

@@ -40,6 +40,7 @@ def patches(
     zone_labels: Any = None,
     zone_field: str | None = None,
     layer: str | None = None,
+    each: bool = False,
     crs: Any = None,
 ) -> Table:
     """List the patches of a map: connected cells of one class, with the numbers of r.clump.
@@ -63,6 +64,8 @@ def patches(
         Legends, as in `composition`.
     zone_field, layer : str, optional
         As in `composition`.
+    each : bool
+        Whether polygons that overlap are taken one after another, as in `composition`.
     crs : any, optional
         The reference system of maps that have none.
 
@@ -94,11 +97,11 @@ def patches(
     depth = whole_number_of("core_depth", core_depth, 1, MOST_CORE_DEPTH)
     fewest = 1 if min_cells is None else whole_number_of("min_cells", min_cells, 1)
     listed = classes_of(classes)
-    maps = Maps({"map": map}, crs, zones, zone_field, layer)
+    maps = Maps({"map": map}, crs, zones, zone_field, layer, each)
     measure = maps.measure(area)
     by_row = measure.by_row is not None
-    tables = maps.tables(_script(connectivity, listed, depth, zones is not None, by_row))
-    sides, core, by_rows, by_cols = tables[:4]
+    script = _script(connectivity, listed, depth, zones is not None, by_row)
+    sides, core, by_rows, by_cols, *in_zones = maps.tables(script, once=4)
     found = _Patches(sides, fewest)
     columns = [
         Column("patch", "class", found.numbers),
@@ -111,7 +114,7 @@ def patches(
     columns += [*areas[:-1], perimeter, areas[-1]]
     columns += found.extents(by_rows, by_cols, maps.first.transform)
     if zones is not None:
-        columns += maps.columns("zone", found.zones(tables[4]), "zones", zone_labels)
+        columns += maps.columns("zone", found.zones(in_zones[0]), "zones", zone_labels)
     return Table(columns)
 
 

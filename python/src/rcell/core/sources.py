@@ -3,6 +3,7 @@
 
 from __future__ import annotations
 
+import contextvars
 import json
 import math
 import numbers
@@ -18,7 +19,7 @@ from .protocol import NULL
 
 from .arrays import ArrayLike, NDArray
 from .crs import common_crs
-from .host import host, warn
+from .host import host, option, warn
 from .errors import BadArgument, BadMap, OtherRegion
 from .labels import checked_labels
 from .region import Region, Shift, Transform, six_numbers
@@ -30,6 +31,7 @@ __all__ = [
     "Cells",
     "MapLike",
     "Mask",
+    "Scaled",
     "Source",
     "array_map",
     "as_bools",
@@ -49,6 +51,9 @@ MAX_CATEGORY = 2_147_483_647
 BLOCK_CELLS = 1 << 20
 # Beyond it a float of 32 bits does not have every whole number.
 _EXACT_FLOAT32 = 1 << 24
+
+# By what the decimals of the map that is read are multiplied, before they are rounded; None for other maps.
+_scale: contextvars.ContextVar[int | None] = contextvars.ContextVar("rcell.scale", default=None)
 
 # How to round a map, outside of Python and in it.
 _ROUNDED = (
@@ -241,20 +246,23 @@ def checked(
         cells.dtype.newbyteorder("="),
     )
     null = None if null is None else np.ascontiguousarray(null)
-    is_kept = not is_converted(cells.dtype)
+    scale = _scale.get()
+    is_kept = not is_converted(cells.dtype) and scale is None
     if is_kept and (
         cells.itemsize <= 2 or (cells.min() >= -MAX_CATEGORY and cells.max() <= MAX_CATEGORY)
     ):
         return Block(cells, null)
     is_null = null_cells(cells, null, nodata)
-    bad = ~(_good(cells) | is_null)
+    exact = cells if scale is None else np.rint(cells.astype(np.float64) * scale)
+    bad = ~(_good(exact) | is_null)
     if bad.any():
         row, col = (int(place) for place in np.unravel_index(int(bad.argmax()), bad.shape))
-        raise _bad_cell(name, first_row + row + 1, first_col + col + 1, cells[row, col].item())
+        place = (first_row + row + 1, first_col + col + 1)
+        raise _bad_cell(name, *place, cells[row, col].item(), scale)
     if is_kept:
         return Block(cells, null)
-    kept = np.where(is_null, cells.dtype.type(0), cells)
-    if cells.dtype == np.float32 and np.abs(kept).max() > _EXACT_FLOAT32:
+    kept = np.where(is_null, exact.dtype.type(0), exact)
+    if scale is None and cells.dtype == np.float32 and np.abs(kept).max() > _EXACT_FLOAT32:
         warn(
             f"{name}: floats of 32 bits are not exact beyond {_EXACT_FLOAT32}, and the map has larger values"
         )
@@ -294,8 +302,13 @@ def _good(cells: Cells) -> Mask:
     return good & (cells >= -MAX_CATEGORY) if cells.dtype.kind == "i" else good
 
 
-def _bad_cell(name: str, row: int, col: int, value: float) -> BadMap:
+def _bad_cell(name: str, row: int, col: int, value: float, scale: int | None) -> BadMap:
     number = f"{value:.15g}" if isinstance(value, float) else str(value)
+    if scale is not None:
+        told = f"{option('scale', scale)} does not fit: the cell at row {row}, column {col} is {number}"
+        return BadMap(
+            name, f"{told}, and {scale} times that is beyond {MAX_CATEGORY}", row, col, value
+        )
     beyond = (
         ", beyond 2147483647 either way" if value == value and abs(value) > MAX_CATEGORY else ""
     )
@@ -304,6 +317,39 @@ def _bad_cell(name: str, row: int, col: int, value: float) -> BadMap:
     if not beyond and value == value:
         fault.advice = _ROUNDED[host().words == "python"].format(name)
     return fault
+
+
+class Scaled:
+    """A map whose values are multiplied and rounded when it is read, so that decimals become whole numbers.
+
+    Parameters
+    ----------
+    source : Source
+    scale : int
+    """
+
+    dtype = np.dtype(np.int32)
+    nodata = NULL
+    is_masked = False
+
+    def __init__(self, source: Source, scale: int) -> None:
+        self.source, self.scale = source, scale
+
+    def __getattr__(self, name: str) -> Any:
+        return getattr(self.source, name)
+
+    def blocks(self) -> Iterator[Block]:
+        """Yield the rows from north to south."""
+        left = self.source.blocks()
+        while True:
+            token = _scale.set(self.scale)
+            try:
+                block = next(left, None)
+            finally:
+                _scale.reset(token)
+            if block is None:
+                return
+            yield block
 
 
 # Maps in memory

@@ -8,10 +8,12 @@ from typing import Any, Iterable
 
 import numpy as np
 
+from .arguments import MAX_CATEGORY, whole_number_of
 from .arrays import NDArray
 from .counting import Maps, places_of
-from .errors import BadArgument
-from .sources import MapLike
+from .errors import BadArgument, BadMap
+from .host import option, warn
+from .sources import MapLike, Scaled, Source, source_of
 from .columns import Column, Table
 
 __all__ = ["zonal"]
@@ -24,6 +26,7 @@ def zonal(
     values: MapLike,
     zones: Any,
     quantiles: Iterable[float] = (0.5,),
+    scale: int | None = None,
     *,
     zone_field: str | None = None,
     layer: str | None = None,
@@ -31,7 +34,7 @@ def zonal(
     zone_labels: Any = None,
     crs: Any = None,
 ) -> Table:
-    """Compute statistics of a map of whole numbers by zone.
+    """Compute statistics of a map of whole numbers, or of scaled decimals, by zone.
 
     Parameters
     ----------
@@ -40,6 +43,8 @@ def zonal(
         As in `composition`.
     quantiles : iterable of float
         From 0 to 1; each is a column: 0.5 is `q50`, 0.025 is `q2_5`. They are interpolated linearly, as numpy does by default.
+    scale : int, optional
+        For a map of decimals: its values are rounded to 1 / `scale`, with a warning that says so. `scale=100` keeps two decimals.
     zone_field, layer : str, optional
         As in `composition`.
     each : bool
@@ -53,12 +58,12 @@ def zonal(
     -------
     pandas.DataFrame
         Columns `zone`, `zone_label`, `cells`, `sum`, `mean`, `minimum`, `maximum`, `variance` (of the population), and the quantiles.
-        Zones without a value have no row.
+        Zones without a value have no row. All are computed with whole numbers, and divided by `scale` at the end.
 
     Raises
     ------
     Refused
-        As for `run`.
+        As for `run`; a value is too large for `scale`.
     BadArgument
         A quantile is not from 0 to 1.
 
@@ -75,14 +80,24 @@ def zonal(
         told = f"must be a list of numbers from 0 to 1, for example [0.5]; got {quantiles!r}"
         raise BadArgument("quantiles", told)
     asked = [(_title(quantile), float(quantile)) for quantile in quantiles]
-    maps = Maps({"values": values}, crs, zones, zone_field, layer, each)
-    entries = maps.tables("r.stats -c -n input=zones,values")[0]
+    source: Source = source_of("values", values)
+    if scale is not None:
+        source = Scaled(source, whole_number_of("scale", scale, 1, MAX_CATEGORY))
+    maps = Maps({"values": source}, crs, zones, zone_field, layer, each)
+    try:
+        entries = maps.tables("r.stats -c -n input=zones,values")[0]
+    except BadMap as error:
+        if scale is None and error.source == source.name and error.advice:
+            error.advice = f"{option('scale', 100)}, which rounds to 1/100"
+        raise
+    if scale is not None:
+        warn(f"{source.name}: rounded to 1/{scale}")
     first = places_of(entries[:, 0])
     columns = maps.columns("zone", entries[first, 0], "zones", zone_labels)
     return Table(
         columns
-        + _moments(entries[:, 1], entries[:, 2], first)
-        + _quantiles(entries[:, 1], entries[:, 2], first, asked)
+        + _moments(entries[:, 1], entries[:, 2], first, scale)
+        + _quantiles(entries[:, 1], entries[:, 2], first, asked, scale)
     )
 
 
@@ -99,7 +114,9 @@ def _title(quantile: Any) -> str:
     return "q" + (text.rstrip("0").rstrip(".") if "." in text else text).replace(".", "_")
 
 
-def _moments(values: Integers, cells: Integers, first: NDArray[np.intp]) -> list[Column]:
+def _moments(
+    values: Integers, cells: Integers, first: NDArray[np.intp], scale: int | None
+) -> list[Column]:
     """Return sums, means, extremes and variances, with integers until the final division."""
     if not first.size:
         sums = squares = count = least = most = np.empty(0, np.int64)
@@ -112,25 +129,26 @@ def _moments(values: Integers, cells: Integers, first: NDArray[np.intp]) -> list
         exact = values if largest**2 * int(count.max()) < 2**63 else values.astype(object)
         squares = np.add.reduceat(exact * exact * cells, first)
     whole = list(zip(count.tolist(), sums.tolist(), squares.tolist()))
-    mean = np.array([total / n for n, total, _ in whole], np.float64)
-    variance = np.array(
-        [(n * squared - total * total) / (n * n) for n, total, squared in whole], np.float64
-    )
-    kept: list[tuple[str, Any, Any]] = [
-        ("cells", "count", count),
-        ("sum", "count", sums),
-        ("mean", "measure", mean),
+    unit, kind = (1, "count") if scale is None else (scale, "measure")
+    mean = np.array([added / (n * unit) for n, added, _ in whole], np.float64)
+    spread = [(n * squared - added * added) / (n * n * unit * unit) for n, added, squared in whole]
+    total, low, high = (part if scale is None else part / scale for part in (sums, least, most))
+    return [
+        Column("cells", "count", count),
+        Column("sum", kind, total),
+        Column("mean", "measure", mean),
+        Column("minimum", kind, low),
+        Column("maximum", kind, high),
+        Column("variance", "measure", np.array(spread, np.float64)),
     ]
-    kept += [
-        ("minimum", "count", least),
-        ("maximum", "count", most),
-        ("variance", "measure", variance),
-    ]
-    return [Column(*column) for column in kept]
 
 
 def _quantiles(
-    values: Integers, cells: Integers, first: NDArray[np.intp], asked: list[tuple[str, float]]
+    values: Integers,
+    cells: Integers,
+    first: NDArray[np.intp],
+    asked: list[tuple[str, float]],
+    scale: int | None,
 ) -> list[Column]:
     """Return quantiles, interpolated between neighbouring cells of a zone like numpy's method `linear`."""
     if not first.size:
@@ -148,9 +166,6 @@ def _quantiles(
             for at in (lower, np.minimum(lower + 1, count - 1))
         )
         step = (high - low).astype(np.float64)
-        columns.append(
-            Column(
-                title, "measure", np.where(part < 0.5, low + step * part, high - step * (1 - part))
-            )
-        )
+        found = np.where(part < 0.5, low + step * part, high - step * (1 - part))
+        columns.append(Column(title, "measure", found / (1 if scale is None else scale)))
     return columns
