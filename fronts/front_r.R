@@ -58,14 +58,29 @@ of_grid <- function(grid) {
   apply(cells, 1, paste, collapse = " ")
 }
 
+# The name of each layer, and below it its cells.
+of_shares <- function(layers) {
+  unlist(lapply(seq_len(terra::nlyr(layers)), function(number) {
+    cells <- matrix(plain(terra::values(layers[[number]], mat = FALSE)), terra::nrow(layers), byrow = TRUE)
+    c(names(layers)[[number]], apply(cells, 1, paste, collapse = " "))
+  }))
+}
+
 # Calls that return maps, and the attribute with an account of how each was made.
-map_calls <- c("majority", "align", "reclass", "clump", "sieve", "within")
+map_calls <- c("majority", "align", "reclass", "clump", "sieve", "within", "aggregate")
 accounts <- c(align = "aligned", sieve = "sieved")
 # Calls that return several tables, and the table that is shown if the case names none.
-parts <- c(change = "table", accuracy = "classes")
+parts <- c(change = "table", accuracy = "classes", trajectories = "table")
 flags <- c("include_null", "fill", "each", "drop")
-texts <- c("zone_field", "field", "layer", "resample", "crs", "other", "level", "allocation")
+texts <- c("zone_field", "field", "layer", "resample", "crs", "other", "level", "allocation", "seed")
 files <- c("labels", "zone_labels", "rules", "areas")
+
+# Numbers by classes, as `1:50`.
+by_class <- function(words) {
+  numbers <- as.numeric(sub(".*:", "", words))
+  names(numbers) <- sub(":.*", "", words)
+  numbers
+}
 
 # The parameters of a call, by their names in the package.
 options_of <- function(words, maps) {
@@ -76,6 +91,7 @@ options_of <- function(words, maps) {
     if (key %in% files) return(if (value == "map") value else path_of(value))
     if (key %in% flags) return(value == "yes")
     if (key %in% texts) return(value)
+    if (grepl(":", value)) return(by_class(strsplit(value, ",")[[1]]))
     as.numeric(strsplit(value, ",")[[1]])
   }, sub("=.*", "", words), values)
   options
@@ -84,22 +100,27 @@ options_of <- function(words, maps) {
 # The ready calls; a case has the names of their parameters.
 answered <- function(kind, words, maps, out) {
   is_option <- grepl("=", words)
-  is_part <- startsWith(words, "table=")
+  is_part <- grepl("^(table|map)=", words)
+  part <- sub("^[^=]*=", "", words[is_part])
+  is_map <- any(startsWith(words, "map="))
   given <- maps[words[!is_option]]
   options <- options_of(words[is_option & !is_part], maps)
   if (!is.null(options$band)) given[[1]] <- terra::rast(given[[1]], lyrs = options$band)
   options["band"] <- NULL
   if (!is.null(out)) options <- c(options, list(filename = path_of(out), overwrite = TRUE))
-  is_series <- kind == "change" && length(given) > 2L
+  is_series <- kind == "trajectories" || (kind == "change" && length(given) > 2L)
+  if (kind == "trajectories") options$include_maps <- is_map
   if (kind != "cross") given <- if (is_series) list(unname(given)) else unname(given)
   found <- do.call(paste0("rcell_", kind), c(given, options))
   if (!is.null(out)) return(paste("written:", path_of(out)))
+  if (kind == "aggregate") return(if (is_map) of_shares(found[[-(1:2)]]) else of_grid(found[[1]]))
+  if (kind == "trajectories" && is_map) return(of_grid(found$maps[[part]]))
   if (kind %in% map_calls) {
     account <- if (kind %in% names(accounts)) of_table(attr(found, accounts[[kind]]))
     return(c(account, of_grid(found)))
   }
   if (kind %in% names(parts)) {
-    part <- c(sub("table=", "", words[is_part]), parts[[kind]])[[1]]
+    part <- c(part, parts[[kind]])[[1]]
     found <- if (part == "summary" && kind == "accuracy") as.data.frame(found[-(1:2)]) else found[[part]]
   }
   of_table(found)

@@ -112,9 +112,9 @@ output_of <- function(output, answer) {
   raster_of(frame, answer$source, answer$labels[[frame$maps]])
 }
 
-# The raster of a frame with the geometry of a source, a name and labels, perhaps with other values
-# for the numbers 1, 2, .. in its cells. All else is set in place: terra copies the cells of a raster
-# that is assigned to.
+# The raster of a frame with the geometry of a source, a name and labels, perhaps with new values
+# for the numbers 1, 2, .. of its cells. All else is set in place: terra copies the cells of a
+# raster that is assigned to.
 raster_of <- function(frame, source, labels, name = frame$maps, new = NULL) {
   raster <- frame$raster
   if (!is.null(new)) values(raster) <- new[values(raster, mat = FALSE)]

@@ -99,6 +99,12 @@ check_flag <- function(flag, name) {
   refuse(sprintf("%s= is TRUE or FALSE, and not %s", name, shown(flag)), status = 2L)
 }
 
+check_one_of <- function(choice, name, known) {
+  if (is.character(choice) && length(choice) == 1L && choice %in% known) return(invisible())
+  text <- "%s= is one of %s, and not %s"
+  refuse(sprintf(text, name, paste(known, collapse = ", "), shown(choice)), status = 2L)
+}
+
 check_text <- function(text, name) {
   if (is.null(text) || (is.character(text) && length(text) == 1L && isTRUE(nzchar(text)))) {
     return(invisible())

@@ -222,7 +222,10 @@ check_zeros <- function(role, vector, field, column) {
     warning(sprintf(text, role$name, field, feature, field, field), call. = FALSE)
     return(invisible())
   }
-  text <- "the field %s has %d missing numbers, which terra reads as 0: pass the path of the file, %s"
+  text <- paste(
+    "the field %s has %d missing numbers, which terra reads as 0:",
+    "pass the path of its file, %s"
+  )
   path <- shown(sub("::", LAYER_MARK, sources(vector)))
   bad_map(role$name, sprintf(text, field, missing, path))
 }

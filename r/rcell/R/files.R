@@ -114,7 +114,7 @@ with_path <- function(path, call) {
 }
 
 # Write a raster and return it as read from the file.
-written <- function(raster, filename) {
+written <- function(raster, filename, type = "INT4S") {
   force(raster)
   if (!nzchar(filename)) return(raster)
   filename <- native_path(filename)
@@ -125,7 +125,7 @@ written <- function(raster, filename) {
   # A device has no ending that would give terra the format.
   path <- file.path(room$path, if (is_stream) "map.tif" else basename(target))
   failed <- function(e) write_failed(filename, told(e))
-  write <- function() with_path(path, writeRaster(raster, path, datatype = "INT4S"))
+  write <- function() with_path(path, writeRaster(raster, path, datatype = type))
   tryCatch(
     withCallingHandlers(write(), warning = without_colours), error = failed, warning = failed
   )
@@ -204,7 +204,9 @@ check_whole <- function(raster, path, filename) {
     readStop(raster)
     readStop(again)
   })
-  if (is.factor(raster) && !is.factor(again)) write_failed(filename, "its labels are not there")
+  if (any(is.factor(raster)) && !any(is.factor(again))) {
+    write_failed(filename, "its labels are not there")
+  }
   count <- max(1L, BLOCK_CELLS %/% as.integer(ncol(raster)))
   for (row in seq(1L, as.integer(nrow(raster)), by = count)) {
     rows <- min(count, as.integer(nrow(raster)) - row + 1L)

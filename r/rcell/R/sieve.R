@@ -61,11 +61,11 @@ fewest_cells <- function(min_cells, min_ha, source) {
 
 # Lines with tables of patches, and of the pairs of patches that are one step from each other.
 touching_lines <- function(name, connectivity, tables, steps) {
-  other <- sprintf("r.mapcalc %1$s = if(patch != patch[%2$s], patch[%2$s], null())", names(steps), steps)
+  other <- "r.mapcalc %1$s = if(patch != patch[%2$s], patch[%2$s], null())"
   pairs <- sprintf("r.stats -cn input=patch,%s", names(steps))
   c(
     clump_line(connectivity, name), sprintf("r.stats -cn input=%s", tables),
-    if (length(steps)) rbind(other, pairs)
+    if (length(steps)) rbind(sprintf(other, names(steps), steps), pairs)
   )
 }
 
@@ -130,7 +130,8 @@ touching_of <- function(frames, is_small) {
   order <- order(from)
   order <- order[is_small[from[order]]]
   counts <- tabulate(from[order], length(is_small))
-  list(near = near[order], times = times[order], counts = counts, starts = cumsum(counts) - counts + 1L)
+  starts <- cumsum(counts) - counts + 1L
+  list(near = near[order], times = times[order], counts = counts, starts = starts)
 }
 
 # The result as the program counts it: a small patch that is left shares no side with another class.

@@ -126,7 +126,8 @@ within_lines <- function(classes, rings) {
     cols <- seq_along(ring)[-1] - 1L
     shifted <- sprintf("v_%d[0,%d]", rep(ring[-1], each = 2L), c(rbind(cols, -cols)))
     first <- sprintf("v_%d", ring[[1]])
-    chunks <- split(c(first, shifted), (seq_along(c(first, shifted)) - 1L) %/% TERMS_OF_AN_EXPRESSION)
+    terms <- c(first, shifted)
+    chunks <- split(terms, (seq_along(terms) - 1L) %/% TERMS_OF_AN_EXPRESSION)
     names <- sprintf("ring_%d_%d", number, seq_along(chunks))
     largest <- vapply(chunks, function(chunk) paste(c(first, chunk), collapse = ","), "")
     lines <- c(lines, sprintf("r.mapcalc %s = nmax(%s)", names, largest))

@@ -4,7 +4,8 @@
 \description{Compute metrics of the patches of a map, for each class, for the whole landscape, or for each patch.}
 \usage{
 rcell_metrics(x, level = "class", connectivity = 4, area, zones = NULL, labels = NULL,
-              zone_labels = NULL, zone_field = NULL, layer = NULL, crs = NULL)
+              zone_labels = NULL, zone_field = NULL, layer = NULL, each = FALSE,
+              crs = NULL)
 }
 \arguments{
 \item{x}{a map: a \code{SpatRaster}, a path or a matrix; see \code{\link{rcell-package}}.}
@@ -12,7 +13,7 @@ rcell_metrics(x, level = "class", connectivity = 4, area, zones = NULL, labels =
 \item{connectivity}{as in \code{\link{rcell_patches}}.}
 \item{zones}{as in \code{\link{rcell_composition}}. Each zone is a landscape of its own: patches end at its border, and sides across it are no
 edges.}
-\item{area, labels, zone_labels, zone_field, layer}{as in \code{\link{rcell_composition}}.}
+\item{area, labels, zone_labels, zone_field, layer, each}{as in \code{\link{rcell_composition}}.}
 \item{crs}{as in \code{\link{rcell_run}}.}
 }
 \details{
@@ -21,9 +22,12 @@ exact and everything that needs a length is missing, with a warning. What is not
 }
 \value{
 A data frame with \code{zone}, \code{zone_label}, \code{patch}, \code{class} and \code{label}, as far as the level and the maps have them. For patches:
-\code{cells}, \code{area_ha}, \code{perimeter_m}, \code{shape_index}, \code{fractal_dimension}. For classes and landscapes:
-\item{classes}{the number of classes (landscape alone)}
-\item{patches, area_ha, percent}{the number and the area of patches, and its percentage of the landscape (\code{percent} for classes alone)}
+\code{cells}, \code{area_ha}, \code{perimeter_m}, \code{shape_index}, \code{fractal_dimension}; their numbers begin with 1 in each zone. For classes and
+landscapes:
+\item{cells, area_ha}{their size; without areas there are cells in place of them}
+\item{percent}{the percentage of the landscape (of classes alone)}
+\item{classes}{the number of classes (of landscapes alone)}
+\item{patches}{the number of patches}
 \item{patches_km2}{patches for each square kilometre of the landscape}
 \item{largest_patch_percent}{the largest patch in percent of the landscape}
 \item{mean_patch_ha, area_weighted_mean_patch_ha}{the mean area, and the mean weighed by area}

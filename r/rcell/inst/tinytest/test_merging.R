@@ -77,5 +77,26 @@ expect_identical(fault(far, NULL, 20), "classes= must be whole numbers; got none
 expect_identical(fault(degrees, 1, 20), "distances= need a map in metres or feet, and the map is in degrees")
 expect_true(startsWith(fault(matrix(1:4, 2), 1, 20), "distances= needs a coordinate reference system"))
 
+# Blocks of cells: the most frequent class, the cells with data, and the shares of classes.
+map <- made_map(11, 14, 3, seed = 6)
+levels(map) <- data.frame(value = 1:3, cover = c("wood", "field", "wood"))
+blocks <- rcell_aggregate(map, 4)
+expect_identical(names(blocks), c("majority", "cells", "wood (1)", "field", "wood (3)"))
+expect_equal(as.vector(ext(blocks)), c(500000, 500480, 5399970, 5400330), check.attributes = FALSE)
+modal <- aggregate(as.numeric(map), 4, function(cells, ...) {
+  counts <- table(cells)
+  as.integer(names(counts)[which.max(counts)])
+})
+expect_equal(as_rows(blocks$majority), as_rows(modal))
+expect_equal(as_rows(blocks$cells), as_rows(aggregate(setValues(map, !is.na(values(map))), 4, sum, na.rm = TRUE)))
+expect_equal(as_rows(blocks[["field"]]), 100 * as_rows(aggregate(setValues(map, values(map) %in% 2), 4, sum, na.rm = TRUE)) / as_rows(blocks$cells))
+expect_true(is.na(as_rows(rcell_aggregate(map, 4, min_percent = 60)$majority)[3, 4]))
+path <- file.path(room, "blocks.tif")
+expect_equal(values(rcell_aggregate(map, 4, filename = path)), values(blocks))
+expect_identical(levels(rast(path))[[1]]$majority, c("wood", "field", "wood"))
+fault <- function(...) refusal(rcell_aggregate(...))$text
+expect_identical(fault(map, 0), "factor= must be a whole number, at least 1; got 0")
+expect_identical(fault(map, 2, min_percent = 101), "min_percent= must be a number from 0 to 100; got 101")
+
 unlink(room, recursive = TRUE)
 expect_identical(leftovers(), character())

@@ -51,8 +51,9 @@ plain <- function(map, connectivity) {
   like <- vapply(classes, function(k) sum(sides$from == k & sides$to %in% k) / 2, 0)
   areas <- vapply(classes, function(k) sum(patch$area[patch$class == k]), 0)
   index <- ifelse(areas > prod(res(map)), 100 * like / vapply(areas / prod(res(map)), most_like, 0), NaN)
+  sizes <- function(own) list(cells = sum(own$cells), area_ha = sum(own$area) / 1e4)
   measures <- function(own, edge) list(
-    patches = nrow(own), area_ha = sum(own$area) / 1e4, percent = 100 * sum(own$area) / whole, patches_km2 = nrow(own) / whole * 1e6,
+    patches = nrow(own), patches_km2 = nrow(own) / whole * 1e6,
     largest_patch_percent = 100 * max(own$area) / whole, mean_patch_ha = mean(own$area) / 1e4,
     area_weighted_mean_patch_ha = sum(own$area^2) / sum(own$area) / 1e4, effective_mesh_ha = sum(own$area^2) / whole / 1e4,
     edge_m = sum(edge), edge_density_m_ha = sum(edge) / whole * 1e4, mean_shape_index = mean(own$shape))
@@ -61,7 +62,7 @@ plain <- function(map, connectivity) {
     own <- patch[patch$class == k, ]
     mine <- edges[edges$from == k, ]
     mixed <- if (length(classes) > 2 && nrow(mine)) 100 * entropy(tapply(mine$length, mine$to, sum)) / log(length(classes) - 1) else NaN
-    data.frame(class = k, measures(own, mine$length), aggregation_index = index[[place]],
+    data.frame(class = k, sizes(own), percent = 100 * sum(own$area) / whole, measures(own, mine$length), aggregation_index = index[[place]],
       cohesion = cohesion(own$sides, own$cells, all), interspersion_index = mixed)
   }))
   pairs <- paste(pmin(edges$from, edges$to), pmax(edges$from, edges$to))
@@ -73,10 +74,9 @@ plain <- function(map, connectivity) {
     areas[[place]] / whole * counts / sum(counts)
   }))
   contagion <- if (m > 1) 100 * (1 + sum(q * log(q)) / (2 * log(m))) else NaN
-  in_all <- data.frame(classes = m, measures(patch, edges$length / 2), aggregation_index = sum(ifelse(is.nan(index), 0, index) * areas / whole),
+  in_all <- data.frame(sizes(patch), classes = m, measures(patch, edges$length / 2), aggregation_index = sum(ifelse(is.nan(index), 0, index) * areas / whole),
     cohesion = cohesion(patch$sides, patch$cells, all), interspersion_index = mixed, contagion = contagion, shannon_diversity = entropy(areas),
     shannon_evenness = if (m > 1) entropy(areas) / log(m) else NaN, simpson_diversity = 1 - sum((areas / whole)^2))
-  in_all$percent <- NULL
   by_patch <- data.frame(patch = seq_len(count), class = patch$class, cells = patch$cells, area_ha = patch$area / 1e4, perimeter_m = patch$perimeter,
     shape_index = patch$shape, fractal_dimension = 2 * log(0.25 * patch$perimeter) / log(patch$area))
   list(class = by_class, landscape = in_all, patch = by_patch)
@@ -104,6 +104,8 @@ expect_true(is.na(found$edge_m) && is.na(found$mean_shape_index) && !is.na(found
 expect_equal(found$area_ha, sum(rcell_composition(degrees)$area_ha))
 empty <- setValues(maps$noise, NA)
 for (level in c("class", "landscape", "patch")) expect_identical(nrow(rcell_metrics(empty, level)), 0L)
+plain_cells <- rcell_metrics(as_rows(maps$noise))
+expect_true("mean_patch_cells" %in% names(plain_cells) && !any(c("patches_km2", "area_ha") %in% names(plain_cells)) && all(is.na(plain_cells$edge_m)))
 expect_identical(refusal(rcell_metrics(maps$noise, "map"))$text, "level= is one of class, landscape, patch, and not \"map\"")
 
 # The majority and the minority of zones; of equally frequent classes the smallest.

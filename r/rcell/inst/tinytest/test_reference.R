@@ -64,5 +64,33 @@ expect_identical(fault(land, land, field = "x"), "field= is for points, and refe
 points$reference <- 1
 expect_identical(fault(land, points), "has the fields class and reference: name one, for example field = \"reference\"")
 
+# Hashes are those that sha256sum prints, of texts of one block and of several.
+for (text in c("", "abc", strrep("a", 55), strrep("a", 56), strrep("\u00fc", 100))) {
+  known <- c("e3b0c44298fc", "ba7816bf8f01", "9f4390f8d30c", "b35439a4ac6f", "83af2e24c464")
+  expect_true(sprintf("%06x%06x", rcell:::numbers_of(text) %/% 2^24, rcell:::numbers_of(text) %% 2^24) %in% known, info = text)
+}
+expect_identical(rcell:::drawn("7:1", 100, 5), c(60, 63, 64, 67, 73))
+expect_identical(rcell:::drawn("a", 5, 9), c(0, 1, 2, 3, 4))
+
+# A sample has cells of its classes, none twice, and is the same again; each cell has the same chance.
+noise <- made_map(30, 40, 3, seed = 12)
+found <- rcell_sample(noise, 50, seed = "autumn")
+expect_identical(found, rcell_sample(noise, 50, seed = "autumn"))
+expect_identical(as.integer(table(found$class)), c(17L, 17L, 16L))
+expect_identical(found$class, as.integer(as_rows(noise)[cbind(found$row, found$col)]))
+expect_identical(anyDuplicated(found[c("row", "col")]), 0L)
+expect_equal(extract(noise, as.matrix(found[c("x", "y")]))[[1]], as.numeric(found$class))
+shares <- rcell_sample(noise, 100, 7, allocation = "proportional")
+expect_true(all(abs(as.integer(table(shares$class)) - 100 * rcell_composition(noise)$cells / sum(rcell_composition(noise)$cells)) < 1))
+expect_warning(few <- rcell_sample(matrix(c(1, 1, 2), 1), c("1" = 1, "2" = 5), 1), "fewer cells than wanted of the class 2 [(]1 of 5[)]")
+expect_identical(few$class, 1:2)
+draws <- vapply(1:60, function(seed) rcell:::drawn(sprintf("%d:1", seed), 6, 2), numeric(2))
+expect_true(all(table(draws) > 8))
+fault <- function(...) refusal(rcell_sample(...))$text
+expect_true(startsWith(fault(noise, 0, 1), "n= must be a whole number up to 1000000, or one for each class"))
+expect_identical(fault(noise, c("9" = 1), 1), "n= must be for classes that occur; got 9")
+expect_identical(fault(noise, 5, 1.5), "seed= must be a whole number or a text; got 1.5")
+expect_identical(fault(noise, 5, 1, "half"), "allocation= is one of equal, proportional, and not \"half\"")
+
 unlink(room, recursive = TRUE)
 expect_identical(leftovers(), character())

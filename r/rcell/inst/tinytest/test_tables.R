@@ -57,6 +57,36 @@ degrees <- rast(nrows = 2, ncols = 2, vals = 1)
 expect_true(grepl("in degrees", refusal(rcell_table("r.stats -c input=x", x = degrees, area = "ha"))$text))
 feet <- rast(nrows = 1, ncols = 1, xmin = 0, xmax = 100, ymin = 0, ymax = 100, crs = "EPSG:2263", vals = 1)
 expect_equal(rcell_table("r.stats -c input=x", x = feet, area = "m2")$area_m2, (100 * 1200 / 3937)^2, tolerance = 1e-9)
+# Sequences of classes over any number of years, more than a table has columns, next to a count in plain R.
+for (count in c(2, 3, 20)) {
+  series <- lapply(seq_len(count), function(year) made_map(5, 6, 2, seed = 30 + year))
+  if (count == 20) series <- lapply(series, function(map) ifel(is.na(map), 1, map))
+  years <- 2000 + 2 * seq_len(count)
+  cells <- na.omit(do.call(cbind, lapply(series, values)))
+  found <- rcell_trajectories(series, years, include_maps = count < 20)
+  keys <- do.call(paste, as.data.frame(cells))
+  codes <- as.matrix(found$table[sprintf("class_%d", years)])
+  expect_identical(found$table$cells, as.integer(table(keys)[do.call(paste, as.data.frame(codes))]))
+  expect_identical(sum(found$table$cells), nrow(cells))
+  moved <- codes[, -1, drop = FALSE] != codes[, -count, drop = FALSE]
+  expect_equal(found$table$changes, unname(rowSums(moved)))
+  expect_identical(found$table$classes, unname(apply(codes, 1, function(row) length(unique(row)))))
+  first <- apply(moved, 1, function(row) if (any(row)) years[[which(row)[[1]] + 1]] else NA)
+  expect_equal(found$table$first_change, unname(first))
+  expect_equal(sum(found$changes$percent), 100)
+  changed <- colMeans(cells[, -1, drop = FALSE] != cells[, -count, drop = FALSE])
+  expect_equal(found$intervals$percent, unname(100 * changed))
+  expect_equal(found$intervals$percent_year, unname(100 * changed / 2))
+  if (count == 20) next
+  expect_identical(names(found$maps), c("changes", "first_change", "last_change"))
+  expect_identical(as.integer(table(values(found$maps$changes))), found$changes$cells)
+}
+years <- function(...) refusal(rcell_trajectories(series, ...))$text
+expect_identical(years(20:1), "years= must ascend, one for each map; got 20, 19, 18, 17, 16 and 15 more")
+expect_identical(refusal(rcell_trajectories(series[1], 2000))$text, "maps= must be a list of two or more maps; got a list")
+many <- rep(list(matrix(1:30, 5)), 100)
+expect_identical(refusal(rcell_trajectories(many, 1:100))$text, "maps= must be at most 96 with 30 classes; got 100")
+
 expect_identical(leftovers(), character())
 
 # Rules give labels to all categories, whether a map has them or not.
