@@ -23,7 +23,7 @@ FACTS = {
 }
 ANSWERS = (*TABLES, *MAPS)
 # Calls that the package for R does not have yet.
-NOT_IN_R: tuple[str, ...] = ("metrics", "sample")
+NOT_IN_R: tuple[str, ...] = ()
 POLYGONS = re.compile(r"\.(geojson|gpkg|shp|fgb)(\|layername=.*)?$")
 # Options of a call that are files; errors of QGIS and of the shell have no kind but in their text.
 FILES = ("labels", "zone_labels", "rules", "areas")
