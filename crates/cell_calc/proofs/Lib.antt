@@ -1,6 +1,4 @@
 -- What several proofs share.
-pub mod Columns
-pub mod Frequent
 pub mod Strips
 pub mod Places
 pub mod Ready

@@ -1,6 +1,5 @@
 -- What only bodies and proofs speak of.
 -- What only private functions and proofs cite.
-pub mod Modes
 pub mod Columns
 pub mod InReach
 pub mod WindowRows

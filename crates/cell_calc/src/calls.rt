@@ -5,9 +5,10 @@ ghost use Rattle.cell_calc_binding.specs.CellOperators.{if_of, least, greatest_c
 ghost use Rattle.cell_calc_binding.specs.Applied.{grid_position, size_of, call_result};
 ghost use Rattle.cell_calc.specs.RowValues.{Becomes, AreWide, arguments_at};
 
-use crate::{modes, rows};
+use crate::rows;
 use cell_calc_binding::cell_operators;
 use cell_calc_grammar::function::Function;
+use cell_calc_modes::modes;
 use cell_core::cell::Cell;
 use cell_core::memory::Memory;
 use cell_core::region::Region;

@@ -5,7 +5,7 @@
 //! - `rows_of_values`: `eval_row`, the values along a row, from one window for each map
 //! - `window`: `RowWindow`, the rows of a map around a centre row, which moves down; outside the
 //!   map its cells are null (profile); private `window_rows` keeps them
-//! - `rows`, `calls`: operators and functions on rows of cells; private `modes` for `mode`
+//! - `rows`, `calls`: operators and functions on rows of cells
 //! - `common_stretches`: spans of columns in which no map changes; one value each is enough
 //! - `by_category`: expressions whose value depends on the category of one cell alone
 //! - private: `along`, the steps of an expression one after another, in strips of 1,024 columns,
@@ -27,7 +27,6 @@ pub mod by_category;
 pub mod calls;
 pub mod common_stretches;
 mod in_place;
-mod modes;
 mod operand;
 pub mod rows;
 pub mod rows_of_values;

@@ -1,6 +1,6 @@
 use Rattle.std.proofs.Common.{◌-◌, sym, ap, ◌∙◌, length}
 use Rattle.cell_calc.specs.RowValues.{at}
-use Rattle.cell_calc.proofs.Columns.{item_width, last_before, last_item}
+use Rattle.cell_calc_modes.proofs.Columns.{item_width, last_before, last_item}
 use Rattle.cell_calc.proofs.calls.last.Goals as goal
 
 pub copy_from_slice-requires : goal.copy_from_slice-requires

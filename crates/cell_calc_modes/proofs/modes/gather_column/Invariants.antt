@@ -1,0 +1,11 @@
+use Rattle.std.proofs.Common.{◌≡◌, ◌≤◌, map, take}
+use Rattle.cell_calc_binding.specs.CellOperators.{known_cells}
+use Rattle.cell_calc_modes.specs.ColumnCells.{column}
+use Rattle.cell_calc_modes.proofs.modes.gather_column.Given as goal
+
+abbrev pub invariant-loop-other : goal.invariant-loop-other
+invariant-loop-other l =
+    record {
+      count : l.count ≤ l.other-index;
+      known : take l.count l.cells ≡ known_cells (take l.other-index (column l.c (map (λ row. row.items) l.arguments)));
+    }

@@ -1,0 +1,11 @@
+use Rattle.std.proofs.Common.{◌≡◌, false, map}
+use Rattle.std.proofs.lemmas.List.Elements.{All-same}
+use Rattle.cell_calc_binding.specs.CellOperators.{is_null, known_cells}
+use Rattle.cell_calc_modes.specs.ColumnCells.{column}
+use Rattle.cell_calc_modes.proofs.Frequent.{all_known}
+use Rattle.cell_calc_modes.proofs.modes.known_mode_at.Goals as goal
+
+pub most_frequent-requires : goal.most_frequent-requires
+most_frequent-requires c =
+    let cells = column c.args.c (map (λ row. row.items) c.args.arguments.now) in
+    All-same (λ cell. is_null cell ≡ false) _ (known_cells cells) c.gather_column-count.ensures.known (all_known cells)

@@ -1,0 +1,11 @@
+use Rattle.std.proofs.Common.{◌≡◌, false}
+use Rattle.std.proofs.lemmas.List.Sorted.{All-permutation}
+use Rattle.cell_calc_binding.specs.CellOperators.{is_null}
+use Rattle.cell_calc_modes.proofs.modes.most_frequent.Goals as goal
+
+pub longest_run-requires-clause-known : goal.longest_run-requires-clause-known
+longest_run-requires-clause-known c = All-permutation (λ cell. is_null cell
+    ≡ false) _ _ c.sort_unstable.ensures.permutation c.requires
+
+pub returns : goal.returns
+returns c = c.longest_run.ensures _ c.sort_unstable.ensures.permutation

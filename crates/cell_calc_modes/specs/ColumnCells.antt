@@ -1,0 +1,24 @@
+-- Rows of cells, column by column.
+use Rattle.std.specs.Prelude.{ℕ, ◌≡◌, ◌<◌, All, List, Vec, None, length, slice_index_or, map}
+use Rattle.std.specs.Global.{Global}
+use Rattle.cell_core.specs.Grid.{CellValue}
+
+-- the cell of a row at a column, null outside
+abbrev pub at : List CellValue → ℕ → CellValue
+at cells c = slice_index_or cells c None
+
+-- the cells of rows at a column
+abbrev pub column : ℕ → List (List CellValue) → List CellValue
+column c rows = map (λ row. slice_index_or row c None) rows
+
+-- the arguments at a column
+abbrev pub arguments_at : ℕ → List (Vec CellValue Global) → List CellValue
+arguments_at c rows = column c (map (λ cells. cells.items) rows)
+
+-- all are so wide
+abbrev pub AreWide : ℕ → List (Vec CellValue Global) → Type 0
+AreWide width rows = All (λ cells. length cells.items ≡ width) rows
+
+-- at each column a row has become this cell
+abbrev pub Becomes : List CellValue → List CellValue → (ℕ → CellValue) → Type 0
+Becomes old new cell = (c : ℕ) → c < length old → at new c ≡ cell c

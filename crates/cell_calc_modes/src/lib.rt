@@ -1,0 +1,9 @@
+//! The most frequent cells of the columns of rows (GRASS manual: r.mapcalc, `mode`; profile: `nmode`).
+//!
+//! - specs/ColumnCells.antt: the cells of rows at a column
+//! - `modes`: `mode` and `known_mode`, from the rows of arguments; many arguments are sorted
+//! - private: `mode_lanes`, few arguments by vectors, 16 columns at a time
+#![tactic(auto)]
+
+mod mode_lanes;
+pub mod modes;
