@@ -85,8 +85,9 @@ answer_of <- function(request, sources, outputs = list(), wanted = character()) 
 }
 
 # Run a script of this package and return its frames. If polygons are taken one after another, the
-# script runs for each part of them, and the rows of its tables are put in order.
-run_own <- function(script, sources) {
+# script runs for each part of them, and the rows of its tables are put in order, but for the first
+# few, in which there are no zones.
+run_own <- function(script, sources, without_zones = 0L) {
   path <- program_path()
   parts <- sources$zones$parts
   if (is.null(parts)) return(run_pipe(path, sources, script))
@@ -94,7 +95,10 @@ run_own <- function(script, sources) {
     sources$zones$cells <- cells
     run_pipe(path, sources, script)
   })
-  do.call(Map, c(list(joined_frames), runs))
+  frames <- do.call(Map, c(list(joined_frames), runs))
+  is_one <- seq_along(frames) <= without_zones
+  frames[is_one] <- runs[[1]][is_one]
+  frames
 }
 
 joined_frames <- function(...) {

@@ -109,7 +109,8 @@ areas_of <- function(cells, source, unit) cells * cell_sizes(source) / UNITS[[un
 # The tables of a script of r.stats -cn, each of some maps, as `measured` has them. In a map in
 # degrees cells are counted by rows as well, in the tables for which `by_row` says so.
 count_cells <- function(sources, combinations, area = NULL, before = character(),
-                        by_row = rep(TRUE, length(combinations)), include_null = FALSE) {
+                        by_row = rep(TRUE, length(combinations)), include_null = FALSE,
+                        without_zones = 0L) {
   by_row <- by_row & !is.null(area) & is_in_degrees(sources[[1]])
   rows <- unused_name("row_number", c(before, unlist(combinations)), names(sources))
   flags <- if (include_null) "-c" else "-cn"
@@ -117,7 +118,8 @@ count_cells <- function(sources, combinations, area = NULL, before = character()
     sprintf("r.stats %s input=%s", flags, paste(c(maps, if (adds) rows), collapse = ","))
   }, combinations, by_row)
   script <- c(before, if (any(by_row)) sprintf("r.mapcalc %s = row()", rows), unlist(lines))
-  unname(Map(measured, run_own(script, sources), list(area), list(sources[[1]]), by_row))
+  frames <- run_own(script, sources, without_zones)
+  unname(Map(measured, frames, list(area), list(sources[[1]]), by_row))
 }
 
 # A table of counts as its columns of codes, the cells and, if a unit is given, the areas. If the

@@ -11,13 +11,14 @@ USUAL_NODATA <- c(255L, -9999L, -32768L)
 each_block <- function(source, use) {
   border <- border_of(source)
   if (!is.null(source$cells)) {
-    border$add(source$cells, 1L)
+    cells <- whole_cells(source, source$cells, 1L)
+    border$add(cells, 1L)
     border$warn()
-    return(use(source$cells))
+    return(use(cells))
   }
   raster <- source$raster
-  is_exact <- is_exact_type(raster)
-  is_float <- datatype(raster) %in% "FLT4S"
+  is_exact <- is_exact_type(raster) && is.null(source$scale)
+  is_float <- datatype(raster) %in% "FLT4S" && is.null(source$scale)
   layers <- c(list(raster), source$alpha)
   failed <- function(e) read_failed(source$name, sprintf("cannot open: %s", told(e)))
   for (layer in layers) tryCatch(readStart(layer), error = failed)
@@ -103,18 +104,27 @@ read_rows <- function(source, raster, row, count) {
   tryCatch(readValues(raster, row, count), error = failed, warning = failed)
 }
 
-# Return the cells of a block as whole numbers, or raise an error about the first that is not one.
+# Return the cells of a block as whole numbers, scaled and rounded on demand, or raise an error
+# about the first that is not one.
 whole_cells <- function(source, cells, first_row) {
-  whole <- suppressWarnings(as.integer(cells))
-  is_equal <- whole == cells
+  if (is.integer(cells) && is.null(source$scale)) return(cells)
+  exact <- if (is.null(source$scale)) cells else round(cells * source$scale)
+  whole <- suppressWarnings(as.integer(exact))
+  is_equal <- whole == exact
   if (all(is_equal, na.rm = TRUE) && sum(is.na(is_equal)) == sum(is.na(cells))) return(whole)
   place <- which(!is_equal | (is.na(is_equal) & !is.na(cells)))[[1]]
   cols <- source$region$cols
   row <- first_row + (place - 1L) %/% cols
   column <- (place - 1L) %% cols + 1L
   value <- cells[[place]]
-  beyond <- if (abs(value) > CATEGORY_LIMIT) ", beyond 2147483647 either way" else ""
-  text <- "not a map of whole numbers: the cell at row %d, column %d is %s%s"
-  text <- sprintf(text, row, column, sprintf("%.15g", value), beyond)
+  place <- sprintf("the cell at row %d, column %d is %.15g", row, column, value)
+  if (is.null(source$scale)) {
+    beyond <- ", beyond 2147483647 either way"
+    reason <- if (abs(value) > CATEGORY_LIMIT) beyond else source$remedy
+    text <- paste0("not a map of whole numbers: ", place, reason)
+  } else {
+    text <- "scale= does not fit: %s, and %.0f times that is beyond %.0f"
+    text <- sprintf(text, place, source$scale, CATEGORY_LIMIT)
+  }
   bad_map(source$name, text, row, column, value)
 }

@@ -6,14 +6,14 @@ DEPTHS <- 1:20
 
 rcell_patches <- function(x, connectivity = 4, area, zones = NULL, classes = NULL,
                           min_cells = NULL, core_depth = 1, labels = NULL, zone_labels = NULL,
-                          zone_field = NULL, layer = NULL, crs = NULL) {
+                          zone_field = NULL, layer = NULL, each = FALSE, crs = NULL) {
   choice <- area_choice(area, missing(area))
   check_selection(connectivity, classes, min_cells)
   if (!is_whole(core_depth) || !(core_depth %in% DEPTHS)) {
     text <- "core_depth= must be a whole number from 1 to %d; got %s"
     refuse(sprintf(text, max(DEPTHS), shown(core_depth)), status = 2L)
   }
-  sources <- zoned_sources(x, zones, zone_field, layer, crs)
+  sources <- zoned_sources(x, zones, zone_field, layer, crs, each = each)
   area <- unit_of(choice, sources$map)
   labels <- labels_from(labels, sources$map$labels)
   zone_labels <- labels_from(zone_labels, sources$zones$labels, "zone_labels")
@@ -22,7 +22,9 @@ rcell_patches <- function(x, connectivity = 4, area, zones = NULL, classes = NUL
   combinations <- lapply(parts, function(part) c("patch", part))
   by_row <- parts %in% c("map", "core")
   lines <- patch_lines(connectivity, core_depth)
-  tables <- count_cells(sources, combinations, area, before = lines, by_row = by_row)
+  tables <- count_cells(
+    sources, combinations, area, before = lines, by_row = by_row, without_zones = 5L
+  )
   names(tables) <- parts
   patches <- patch_table(tables, sources$map, area, labels, zone_labels)
   check_legend(labels, patches$class, "map")

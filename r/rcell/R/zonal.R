@@ -3,15 +3,22 @@
 
 MEASURES <- c("cells", "sum", "mean", "minimum", "maximum", "variance")
 
-rcell_zonal <- function(values, zones, quantiles = 0.5, zone_labels = NULL, zone_field = NULL,
-                        layer = NULL, each = FALSE, crs = NULL) {
+rcell_zonal <- function(values, zones, quantiles = 0.5, scale = NULL, zone_labels = NULL,
+                        zone_field = NULL, layer = NULL, each = FALSE, crs = NULL) {
   is_share <- is.numeric(quantiles) && all(quantiles >= 0 & quantiles <= 1) %in% TRUE
   if (length(quantiles) && !is_share) {
     refuse(sprintf("quantiles= are from 0 to 1, not %s", shown(quantiles)), status = 2L)
   }
+  if (!is.null(scale) && (!is_whole(scale) || scale < 1 || scale > CATEGORY_LIMIT)) {
+    text <- "scale= must be a whole number from 1 to %.0f; got %s"
+    refuse(sprintf(text, CATEGORY_LIMIT, shown(scale)), status = 2L)
+  }
   sources <- zoned_sources(values, zones, zone_field, layer, crs, "values", each)
+  sources$values$scale <- scale
+  sources$values$remedy <- "; scale = 100 rounds to 1/100"
   zone_labels <- labels_from(zone_labels, sources$zones$labels, "zone_labels")
   table <- count_cells(sources, list(c("zones", "values")))[[1]]
+  if (!is.null(scale)) warning(sprintf("values: rounded to 1/%.0f", scale), call. = FALSE)
   zone <- unique(table$codes[[1]])
   check_legend(zone_labels, zone, "zones", "zone_labels")
   rows <- split(seq_along(table$cells), match(table$codes[[1]], zone))
@@ -22,6 +29,10 @@ rcell_zonal <- function(values, zones, quantiles = 0.5, zone_labels = NULL, zone
   columns <- lapply(seq_len(nrow(statistics)), function(measure) statistics[measure, ])
   names(columns) <- unique_titles(c(MEASURES, quantile_titles(quantiles)))
   columns$cells <- as.integer(columns$cells)
+  if (!is.null(scale)) {
+    divisor <- ifelse(names(columns) == "variance", scale^2, scale)
+    columns[-1] <- Map(`/`, columns[-1], divisor[-1])
+  }
   frame_of(c(coded("zone", zone, zone_labels), columns))
 }
 

@@ -5,7 +5,7 @@
 \usage{
 rcell_patches(x, connectivity = 4, area, zones = NULL, classes = NULL,
               min_cells = NULL, core_depth = 1, labels = NULL, zone_labels = NULL,
-              zone_field = NULL, layer = NULL, crs = NULL)
+              zone_field = NULL, layer = NULL, each = FALSE, crs = NULL)
 }
 \arguments{
 \item{x}{a map: a \code{SpatRaster}, a path or a matrix; see \code{\link{rcell-package}}.}
@@ -14,7 +14,7 @@ rcell_patches(x, connectivity = 4, area, zones = NULL, classes = NULL,
 \item{classes}{only patches of these classes have a row.}
 \item{min_cells}{only patches of at least so many cells have a row.}
 \item{core_depth}{how many steps a core cell is away from all other patches, 1 to 20.}
-\item{zones, labels, zone_labels, zone_field, layer}{as in \code{\link{rcell_composition}}.}
+\item{zones, labels, zone_labels, zone_field, layer, each}{as in \code{\link{rcell_composition}}.}
 \item{crs}{as in \code{\link{rcell_run}}.}
 }
 \details{

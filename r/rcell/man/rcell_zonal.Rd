@@ -1,15 +1,17 @@
 \name{rcell_zonal}
 \alias{rcell_zonal}
 \title{Statistics by Zone}
-\description{Summarise the whole numbers of a map in each zone.}
+\description{Summarise the whole numbers, or scaled decimals, of a map in each zone.}
 \usage{
-rcell_zonal(values, zones, quantiles = 0.5, zone_labels = NULL, zone_field = NULL,
-            layer = NULL, each = FALSE, crs = NULL)
+rcell_zonal(values, zones, quantiles = 0.5, scale = NULL, zone_labels = NULL,
+            zone_field = NULL, layer = NULL, each = FALSE, crs = NULL)
 }
 \arguments{
 \item{values}{a map of whole numbers; see \code{\link{rcell-package}}.}
 \item{zones, zone_labels, zone_field, layer, each}{as in \code{\link{rcell_composition}}.}
 \item{quantiles}{numbers from 0 to 1; between two values they are interpolated, as \code{quantile(type = 7)} does.}
+\item{scale}{for a map of decimals: its values are rounded to 1 / \code{scale}, with a warning that says so; 100 keeps two decimals. Without it
+decimals are an error.}
 \item{crs}{as in \code{\link{rcell_run}}.}
 }
 \value{

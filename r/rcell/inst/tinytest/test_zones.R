@@ -75,6 +75,17 @@ expect_identical(found$zone_label, c("a", "b", "c"))
 expect_identical(found$cells, c(16L, 16L, 24L))
 expect_identical(refusal(rcell_composition(land, zones = land, each = TRUE))$text, "each= is for polygons, and zones= is a raster")
 
+# Decimals by an explicit scale, and no others.
+slope <- setValues(land, c(0.125, 0.5, 1.25, NA, rep(2.5, 28)))
+expect_warning(found <- rcell_zonal(slope, land, quantiles = 0.5, scale = 100), "values: rounded to 1/100")
+expect_equal(found$minimum, 0.12)
+expect_equal(found$sum, 0.12 + 0.5 + 1.25 + 2.5 * 28)
+expect_equal(found$variance, mean((c(0.12, 0.5, 1.25, rep(2.5, 28)) - found$mean)^2))
+fault <- function(...) refusal(rcell_zonal(slope, land, ...))$text
+expect_identical(fault(), "not a map of whole numbers: the cell at row 1, column 1 is 0.125; scale = 100 rounds to 1/100")
+expect_identical(fault(scale = 2e9), "scale= does not fit: the cell at row 1, column 3 is 1.25, and 2000000000 times that is beyond 2147483647")
+expect_identical(fault(scale = 0.5), "scale= must be a whole number from 1 to 2147483647; got 0.5")
+
 # terra reads a missing number as 0: a SpatVector of a file that has some is an error, and one of which that is not known a warning.
 counted <- polygons(c(box(0, 4), box(4, 8)), number = c(0L, 5L))
 known <- stored(counted, "known.gpkg")
