@@ -82,6 +82,7 @@ EDITED = (
     "rcell_pipe_response",
     "rcell_plan",
     "rcell_plan_response",
+    "rcell_worked",
 )
 # Those before the proofs take seconds: if one fails, the gate ends there.
 EARLY = [

@@ -1,0 +1,40 @@
+-- A worked request: the one that docs/pipe.md shows with its response.
+use Rattle.std.specs.Prelude.{ℕ, ◌≡◌, List, [], ◌∷◌, ◌++◌, codes}
+use Rattle.cell_core.specs.Shelf.{ShelfValue}
+use Rattle.rcell_script.specs.declared.statement.Statement.{Statement}
+use Rattle.rcell_pipe_response.specs.Frames.{OutputFrame, GivesFrames}
+use Rattle.rcell_pipe_response.specs.FrameBytes.{response_bytes}
+use Rattle.rcell_pipe_response.specs.RunEnds.{done_end}
+use Rattle.rcell_plan_response.specs.Responses.{AsksForFrames}
+use Rattle.rcell_worked.specs.WorkedRuns.{given}
+
+-- the response to a request for frames, as the theorem of `respond` has it
+pub record Responds (request response : List ℕ) : Type 0 where
+  pub shelf : ShelfValue
+  pub statements : List Statement
+  pub asks : AsksForFrames (given request) shelf statements
+  pub frames : List OutputFrame
+  pub after : ShelfValue
+  pub gives : GivesFrames shelf statements frames after
+  pub bytes : response_bytes frames done_end ≡ response
+
+abbrev pub table_request : List ℕ
+table_request =
+    codes "RCELLQ1\n" ++ (1 ∷ 0 ∷ 0 ∷ 0 ∷ 4 ∷ []) ++ codes "land"
+    ++ (1 ∷ 50 ∷ 1 ∷ 48 ∷ 1 ∷ 51 ∷ 1 ∷ 48 ∷ 2 ∷ 0 ∷ 0 ∷ 0 ∷ 3 ∷ 0 ∷ 0 ∷ 0 ∷ [])
+    ++ (1 ∷ 1 ∷ 255 ∷ 0 ∷ 0 ∷ 0 ∷ 0 ∷ 0 ∷ 0 ∷ 0 ∷ 0 ∷ 0 ∷ 0 ∷ 0 ∷ 1 ∷ 1 ∷ [])
+    ++ (2 ∷ 2 ∷ 2 ∷ 255 ∷ 22 ∷ 0 ∷ 0 ∷ 0 ∷ []) ++ codes "r.stats -c input=land\n"
+
+abbrev pub table_response : List ℕ
+table_response =
+    codes "RCELLA1\nTABL" ++ (1 ∷ 0 ∷ 0 ∷ 0 ∷ 0 ∷ 0 ∷ 0 ∷ 0 ∷ 3 ∷ 0 ∷ 0 ∷ 0 ∷ 0 ∷ 0 ∷ 0 ∷ 0 ∷ [])
+    ++ (1 ∷ 0 ∷ 0 ∷ 0 ∷ 0 ∷ 0 ∷ 0 ∷ 0 ∷ 1 ∷ 0 ∷ 32 ∷ 1 ∷ 0 ∷ 0 ∷ 0 ∷ 0 ∷ [])
+    ++ (0 ∷ 0 ∷ 0 ∷ 42 ∷ 4 ∷ 0 ∷ 0 ∷ 0 ∷ 0 ∷ 0 ∷ 0 ∷ 0 ∷ []) ++ codes "land"
+    ++ (2 ∷ 0 ∷ 0 ∷ 0 ∷ 0 ∷ 0 ∷ 0 ∷ 0 ∷ 3 ∷ 0 ∷ 0 ∷ 0 ∷ 0 ∷ 0 ∷ 0 ∷ 0 ∷ [])
+    ++ (1 ∷ 0 ∷ 0 ∷ 0 ∷ 0 ∷ 0 ∷ 0 ∷ 0 ∷ 1 ∷ 0 ∷ 0 ∷ 0 ∷ 2 ∷ 0 ∷ 0 ∷ 0 ∷ []) ++ (0 ∷ 0 ∷ 0 ∷ 128 ∷ [])
+    ++ codes "DONE" ++ (0 ∷ 0 ∷ 0 ∷ 0 ∷ 0 ∷ 0 ∷ 0 ∷ 0 ∷ 0 ∷ 0 ∷ 0 ∷ 0 ∷ 0 ∷ 0 ∷ 0 ∷ 0 ∷ [])
+    ++ (0 ∷ 0 ∷ 0 ∷ 0 ∷ 0 ∷ 0 ∷ 0 ∷ 0 ∷ 0 ∷ 0 ∷ 0 ∷ 0 ∷ 0 ∷ 0 ∷ 0 ∷ 0 ∷ [])
+    ++ (0 ∷ 0 ∷ 0 ∷ 0 ∷ 0 ∷ 0 ∷ 0 ∷ 0 ∷ 0 ∷ 0 ∷ 0 ∷ 0 ∷ 0 ∷ 0 ∷ 0 ∷ 0 ∷ [])
+
+pub record WorkedRequests : Type 0 where
+  pub table : Responds table_request table_response

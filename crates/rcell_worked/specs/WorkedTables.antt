@@ -1,0 +1,19 @@
+-- Worked tables of r.stats.
+use Rattle.std.specs.Prelude.{ℕ, List, [], ◌∷◌, codes}
+use Rattle.rcell_worked.specs.WorkedRuns.{Prints, land, zone}
+
+pub record WorkedTables : Type 0 where
+  -- the first example of the documents: each category with its cells, null last
+  pub counted : Prints (land ∷ []) (codes "r.stats -c input=land\n") (codes "1 5\n2 4\n3 2\n* 1\n")
+  -- without null
+  pub without_null : Prints (land ∷ []) (codes "r.stats -c -n input=land\n") (codes "1 5\n2 4\n3 2\n")
+  -- two maps, and the table after one of its combinations
+  pub crossed : Prints (land ∷ zone ∷ [])
+      (codes "r.stats -c input=zone,land separator=comma null_value=NA\nr.stats -c -n input=zone,land after=7,2\n")
+      (codes "7,1,3\n7,2,1\n7,3,1\n8,1,2\n8,2,3\n8,NA,1\nNA,3,1\n7 3 1\n8 1 2\n8 2 3\n")
+  -- a line for each cell
+  pub each_cell : Prints (land ∷ []) (codes "r.stats -1 -n input=land\n") (codes "1\n1\n2\n1\n2\n2\n2\n3\n3\n1\n1\n")
+  -- new classes, and a cell of no class
+  pub grouped : Prints (land ∷ [])
+      (codes "r.reclass input=land output=wood\n1 3 = 7 wood\n* = 8\nend\nr.stats -c input=wood\n")
+      (codes "7 7\n8 4\n* 1\n")

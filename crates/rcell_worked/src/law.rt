@@ -1,0 +1,28 @@
+//! What the definitions give for worked runs.
+
+ghost use Rattle.rcell_worked.specs.WorkedGrids.{WorkedGrids};
+ghost use Rattle.rcell_worked.specs.WorkedRequests.{WorkedRequests};
+ghost use Rattle.rcell_worked.specs.WorkedTables.{WorkedTables};
+
+use rcell_script::law::script_reading_denotes;
+
+/// Tables: the first example of the documents, without null, of two maps, after a combination, cell by cell, of new classes.
+pub fn tables()
+    ensures { WorkedTables }
+{
+    script_reading_denotes();
+}
+
+/// Grids: a map with another text for null, and an expression with an offset, which is null beyond the edge.
+pub fn grids()
+    ensures { WorkedGrids }
+{
+    script_reading_denotes();
+}
+
+/// The request of docs/pipe.md and its response, byte for byte.
+pub fn requests()
+    ensures { WorkedRequests }
+{
+    script_reading_denotes();
+}
