@@ -42,8 +42,6 @@ class RegionsOfTheProgram(unittest.TestCase):
             ((1e-9, 0, 1, 0, 1, 1), "north is not above south once they are rounded"),
             ((1, 0, 0, 1, 1, 1), "east is not above west"),
             ((1, 0, 1, 0, 0, 1), "0 rows"),
-            ((1, 0, 1, 0, 65_536, 1), "65,536 rows and 1 columns"),
-            ((1, 0, 1, 0, 65_535, 65_535), "rcell.tiles"),
         ):
             with self.subTest(words=words), self.assertRaises(BadMap) as caught:
                 Region(*words)

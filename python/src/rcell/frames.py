@@ -30,6 +30,7 @@ from .core.change import Change
 from .core.columns import Column, Matrix, Table
 from .core.protocol import NULL
 from .core.sources import ArrayMap
+from .core.tiling import working
 from .raster import Raster
 
 if TYPE_CHECKING:
@@ -62,6 +63,16 @@ __all__ = [
 Words = ParamSpec("Words")
 Made = TypeVar("Made")
 Returned = TypeVar("Returned")
+
+
+# What all calls have besides their own parameters, and the place for it in their documentation.
+_WORK_TYPES = {"workers": "int | None", "resume": "str | os.PathLike[str] | None"}
+_RETURNS = "\n\n    Returns\n"
+_WORK_WORDS = """
+    workers : int, optional
+        The number of tiles of a large map that are worked on at a time; by default one for each processor.
+    resume : path, optional
+        A folder that keeps the results of tiles of maps in files: after a call was ended, the same call with this folder continues."""
 
 
 def frame_of(table: Table) -> pandas.DataFrame:
@@ -97,16 +108,30 @@ def _series(column: Column) -> Any:
 def _returning(
     kind: str, convert: Callable[[Made], Returned]
 ) -> Callable[[Callable[Words, Made]], Callable[Words, Returned]]:
-    """Return a decorator: the function returns what `convert` makes of its result, which `help` shows as `kind`."""
+    """Return a decorator: the function returns what `convert` makes of its result, which `help` shows as `kind`.
+
+    It also gets the parameters `workers` and `resume`, which say how large maps are worked on.
+    """
 
     def wrap(make: Callable[Words, Made]) -> Callable[Words, Returned]:
         @functools.wraps(make)
         def call(*words: Words.args, **named: Words.kwargs) -> Returned:
-            return convert(make(*words, **named))
+            with working(named.pop("workers", None), named.pop("resume", None)):
+                return convert(make(*words, **named))
 
-        call.__annotations__ = {**make.__annotations__, "return": kind}
-        signature = inspect.signature(make).replace(return_annotation=kind)
-        call.__signature__ = signature  # type: ignore[attr-defined]
+        call.__annotations__ = {**make.__annotations__, **_WORK_TYPES, "return": kind}
+        call.__doc__ = (make.__doc__ or "").replace(_RETURNS, _WORK_WORDS + _RETURNS, 1)
+        signature = inspect.signature(make)
+        own, more = list(signature.parameters.values()), []
+        if own[-1].kind is inspect.Parameter.VAR_KEYWORD:
+            more = [own.pop()]
+        for name, type_ in _WORK_TYPES.items():
+            word = inspect.Parameter(
+                name, inspect.Parameter.KEYWORD_ONLY, default=None, annotation=type_
+            )
+            own.append(word)
+        told = signature.replace(parameters=own + more, return_annotation=kind)
+        call.__signature__ = told  # type: ignore[attr-defined]
         return call
 
     return wrap

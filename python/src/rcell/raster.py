@@ -19,6 +19,7 @@ from .core.arrays import ArrayLike, NDArray
 from .core.errors import BadArgument
 from .core.legends import legend_of
 from .core.libraries import has, need
+from .core.protocol import NULL
 from .core.region import Region, Transform
 from .core.sieve import Sieved
 from .core.sources import ArrayMap, array_map, null_cells
@@ -108,10 +109,11 @@ class Raster:
         >>> rcell.Raster([[1, 1], [2, 0]], nodata=0).array.tolist()
         [[1, 1], [2, None]]
         """
-        cells = self._source.array
-        return np.ma.MaskedArray(
-            cells, null_cells(cells, self._source.null, self._source.nodata_value)
-        )
+        source = self._source
+        is_null = null_cells(source.array, source.null, source.nodata_value)
+        if source.is_narrow:
+            return np.ma.MaskedArray(np.where(is_null, np.int32(NULL), source.array), is_null)
+        return np.ma.MaskedArray(source.array, is_null)
 
     @property
     def shape(self) -> tuple[int, int]:

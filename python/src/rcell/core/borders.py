@@ -3,6 +3,7 @@
 
 from __future__ import annotations
 
+import threading
 from collections.abc import Iterator
 from typing import Any
 
@@ -12,32 +13,55 @@ from .arrays import NDArray
 from .host import warn
 from .sources import Block, Source
 
-__all__ = ["watched"]
+__all__ = ["Watch", "watched"]
 
 # What programs write for nodata: the end of the type of bytes and of 16 bits, and a number that people agree on.
 _USUAL = (255, -9999, -32768)
 
 
+class Watch:
+    """Counts usual nodata values along the border of a map, in blocks or windows of it that come in any order."""
+
+    def __init__(self, name: str, source: Source) -> None:
+        self._name = name
+        self._shape = source.region.shape
+        self._scale = getattr(source, "scale", 1)
+        self._values = [
+            value for value in _USUAL if _may_be_undeclared(source, value * self._scale)
+        ]
+        self._counts = np.zeros(len(self._values), np.int64)
+        self._lock = threading.Lock()
+
+    def add(self, block: Block, row: int, col: int) -> None:
+        """Count the cells of a block that begins at a row and a column."""
+        if self._values:
+            cells, null = _border(block, row, col, self._shape)
+            found = [
+                np.count_nonzero((cells == value * self._scale) & ~null) for value in self._values
+            ]
+            with self._lock:
+                self._counts += found
+
+    def finish(self) -> None:
+        """Warn if a usual nodata value fills more than half of the border."""
+        rows, cols = self._shape
+        border = rows * cols - max(rows - 2, 0) * max(cols - 2, 0)
+        for value, count in zip(self._values, self._counts.tolist()):
+            if 2 * count > border:
+                warn(
+                    f"{self._name}: {count:,} of the {border:,} cells along its border are {value}, and no nodata value is declared: "
+                    f"if {value} means nodata, declare it, for example with gdal_edit.py -a_nodata {value}"
+                )
+
+
 def watched(name: str, source: Source) -> Iterator[Block]:
     """Yield the blocks of a map; after the last one, warn if a usual nodata value fills more than half of its border."""
-    rows, cols = source.region.shape
-    scale = getattr(source, "scale", 1)
-    values = [value for value in _USUAL if _may_be_undeclared(source, value * scale)]
-    counts = np.zeros(len(values), np.int64)
-    row = 0
+    watch, row = Watch(name, source), 0
     for block in source.blocks():
-        if values:
-            cells, null = _border(block, row, rows)
-            counts += [np.count_nonzero((cells == value * scale) & ~null) for value in values]
+        watch.add(block, row, 0)
         row += len(block.cells)
         yield block
-    border = rows * cols - max(rows - 2, 0) * max(cols - 2, 0)
-    for value, count in zip(values, counts.tolist()):
-        if 2 * count > border:
-            warn(
-                f"{name}: {count:,} of the {border:,} cells along its border are {value}, and no nodata value is declared: "
-                f"if {value} means nodata, declare it, for example with gdal_edit.py -a_nodata {value}"
-            )
+    watch.finish()
 
 
 def _may_be_undeclared(source: Source, value: int) -> bool:
@@ -48,15 +72,18 @@ def _may_be_undeclared(source: Source, value: int) -> bool:
     return limits.min <= value <= limits.max and (value != 255 or source.dtype == np.uint8)
 
 
-def _border(block: Block, first: int, rows: int) -> tuple[NDArray[Any], NDArray[np.bool_]]:
-    """Return the cells of a block on the border of a map, and which of them are null; the block begins at a row."""
-    parts: list[Any] = [np.s_[:, 0]] + ([np.s_[:, -1]] if block.cells.shape[1] > 1 else [])
-    height = len(block.cells)
-    if first == 0:
-        parts.append(np.s_[0, 1:-1])
-    if first + height == rows and (height > 1 or first > 0):
-        parts.append(np.s_[-1, 1:-1])
-    cells = np.concatenate([block.cells[part] for part in parts])
+def _border(
+    block: Block, row: int, col: int, shape: tuple[int, int]
+) -> tuple[NDArray[Any], NDArray[np.bool_]]:
+    """Return the cells of a block on the border of a map, and which of them are null; the block begins at a row and a column."""
+    (rows, cols), (high, wide) = shape, block.cells.shape
+    is_last = row + high == rows and rows > 1
+    inner = slice(int(row == 0), high - is_last)
+    parts: list[Any] = [np.s_[0, :]] if row == 0 else []
+    parts += [np.s_[-1, :]] if is_last else []
+    parts += [np.s_[inner, 0]] if col == 0 else []
+    parts += [np.s_[inner, -1]] if col + wide == cols and cols > 1 else []
+    cells = np.concatenate([block.cells[:0, 0], *(block.cells[part] for part in parts)])
     if block.null is None:
         return cells, np.zeros(cells.shape, np.bool_)
-    return cells, np.concatenate([block.null[part] for part in parts])
+    return cells, np.concatenate([block.null[:0, 0], *(block.null[part] for part in parts)])

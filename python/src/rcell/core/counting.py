@@ -19,6 +19,7 @@ from .legends import labels_of
 from .protocol import NULL
 from .runs import execute
 from .sources import Source, source_of, sources_of
+from .tile_tables import in_order, order_of
 from .zones import Zones, zones_of
 
 __all__ = ["Counts", "Maps", "label_column", "legend_for", "places_of"]
@@ -143,7 +144,7 @@ class Maps:
             [output.values for output in execute(script, {**self.sources, "zones": zones})]
             for zones in self._zones.maps
         ]
-        merged = [_in_order(np.concatenate(parts)) for parts in list(zip(*runs))[once:]]
+        merged = [in_order(np.concatenate(parts)) for parts in list(zip(*runs))[once:]]
         return runs[0][:once] + merged
 
     def counts(
@@ -182,26 +183,13 @@ def counts_of(values: Integers, measure: Measure) -> Counts:
         cells = values[:, -1].copy()
         return Counts(values[:, :-1], cells, None if measure.unit is None else measure.area(cells))
     area = values[:, -1] * measure.by_row[values[:, 0] - 1]
-    order = _order_of(values[:, 1:-1])
+    order = order_of(values[:, 1:-1])
     classes = values[order, 1:-1]
     first = places_of(classes)
     if not first.size:
         return Counts(classes, values[:, -1], area)
     cells = np.add.reduceat(values[order, -1], first)
     return Counts(classes[first], cells, np.add.reduceat(area[order], first) / measure.divisor)
-
-
-def _in_order(table: Integers) -> Integers:
-    """Return a table with its rows in ascending order, null last."""
-    ordered: Integers = table[_order_of(table)]
-    return ordered
-
-
-def _order_of(classes: Integers) -> NDArray[np.intp]:
-    """Return the order of rows of classes, null last; rows that are equal stay in their order."""
-    ordered = np.where(classes == NULL, np.iinfo(np.int64).max, classes)
-    order: NDArray[np.intp] = np.lexsort(ordered.T[::-1])
-    return order
 
 
 def places_of(ordered: Integers) -> NDArray[np.intp]:

@@ -16,7 +16,7 @@ from .columns import Column, Table
 from .counting import Maps, places_of
 from .protocol import NULL
 from .scripts import Run, Stats
-from .sources import ArrayMap, MapLike, source_of
+from .sources import BLOCK_CELLS, ArrayMap, MapLike, source_of
 
 __all__ = ["clump", "clump_line", "patches"]
 
@@ -161,15 +161,29 @@ def clump(
     check_connectivity(connectivity)
     fewest = 1 if min_cells is None else whole_number_of("min_cells", min_cells, 1)
     listed = classes_of(classes)
-    script = f"{clump_line(connectivity)}\nr.stats -c -n input=patch,map"
-    stats, numbers = Run(script, {"map": source_of("map", map)}, {}, crs).outputs(["patch"])
+    run = Run(clump_line(connectivity), {"map": source_of("map", map)}, {}, crs)
+    if fewest == 1 and listed is None:
+        [numbers] = run.maps(["patch"])
+        return dataclasses.replace(numbers, labels={}, colors={})
+    run.script += "\nr.stats -c -n input=patch,map"
+    stats, numbers = run.outputs(["patch"])
     assert isinstance(stats, Stats) and isinstance(numbers, ArrayMap) and stats.cells is not None
     kept = np.zeros(len(stats.categories) + 1, np.bool_)
     kept[1:] = stats.cells >= fewest
     if listed is not None:
         kept[1:] &= np.isin(stats.categories[:, 1], listed)
-    is_null = ~kept[np.maximum(numbers.array, 0)]
-    return dataclasses.replace(numbers, null=is_null, labels={}, colors={})
+    _leave_out(numbers, kept)
+    return dataclasses.replace(numbers, labels={}, colors={})
+
+
+def _leave_out(numbers: ArrayMap, kept: NDArray[np.bool_]) -> None:
+    """Make the cells of patches that are not kept null, some rows at a time."""
+    null = numbers.nodata_value
+    step = max(1, BLOCK_CELLS // numbers.region.cols)
+    for row in range(0, numbers.region.rows, step):
+        part = numbers.array[row : row + step]
+        is_kept = (part != null) & kept[np.where(part == null, 0, part)]
+        np.copyto(part, null, where=~is_kept)
 
 
 def clump_line(connectivity: int, name: str = "map") -> str:

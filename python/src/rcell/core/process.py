@@ -55,13 +55,15 @@ os.register_at_fork(before=_lock.acquire, after_in_parent=_lock.release, after_i
 def begin_work() -> None:
     """Note that a file is unfinished, or a program runs."""
     global _works
-    _works += 1
+    with _lock:
+        _works += 1
 
 
 def end_work() -> None:
     """Note that it is finished, or removed, or ended."""
     global _works
-    _works -= 1
+    with _lock:
+        _works -= 1
 
 
 def has_work() -> bool:

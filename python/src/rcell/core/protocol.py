@@ -22,6 +22,7 @@ from .process import WATCH_SECONDS, Started, close, pipe
 __all__ = [
     "COMMANDS",
     "NULL",
+    "NULL_BYTE",
     "Block",
     "Buffer",
     "Call",
@@ -508,7 +509,12 @@ class _Response:
         )
 
     def grid(self) -> GridFrame:
-        line, null_text, name, edges = self.count(), bytes(self.text()), self.name(), self.names(4)
+        line, null_text, name, edges = (
+            self.count(),
+            bytes(self.text()),
+            self.name(),
+            self.names(4),
+        )
         rows, cols = self.numbers(2)
         kind, letter = {1: ("u8", "B"), 6: ("i32", "i")}.get(self.take(1)[0]) or self.unknown()
         return GridFrame(

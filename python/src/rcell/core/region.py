@@ -23,6 +23,7 @@ __all__ = [
     "Transform",
     "check_upright",
     "edges_of_transform",
+    "fits_one_run",
     "six_numbers",
     "units_of",
 ]
@@ -42,6 +43,17 @@ NEARLY_WHOLE = 1e-3
 def units_of(edge: float | Fraction) -> int:
     """Return an edge in units of 10^-8, the precision of the program."""
     return int(round(Fraction(edge) * UNITS))
+
+
+def fits_one_run(shape: tuple[int, int]) -> bool:
+    """Return whether the program takes a map of so many rows and columns in one run.
+
+    Examples
+    --------
+    >>> fits_one_run((65_535, 32_768)), fits_one_run((65_535, 32_769)), fits_one_run((65_536, 1))
+    (True, False, False)
+    """
+    return max(shape) <= SIDE_LIMIT and shape[0] * shape[1] <= CELL_LIMIT
 
 
 def _is_number(given: Any) -> bool:
@@ -91,13 +103,13 @@ class Region:
     north, south, east, west : float
         The outer edges of the outer cells, in the units of the map.
     rows, cols : int
-        The numbers of cells from north to south and from west to east, 1 to 65,535 each.
+        The numbers of cells from north to south and from west to east.
 
     Raises
     ------
     BadMap
         The region is not allowed: an edge has more than ten digits before the point, north is not above south or east
-        not above west after rounding, or there are too many rows, columns or cells.
+        not above west after rounding, or there is no row or column.
 
     Examples
     --------
@@ -142,17 +154,8 @@ class Region:
                 "region",
                 f"rows and columns that are no whole numbers: {self.rows!r} and {self.cols!r}",
             )
-        if not (
-            1 <= self.rows <= SIDE_LIMIT
-            and 1 <= self.cols <= SIDE_LIMIT
-            and self.rows * self.cols <= CELL_LIMIT
-        ):
-            size = f"{self.rows:,} rows and {self.cols:,} columns"
-            limits = f"1 to {SIDE_LIMIT:,} each, and {CELL_LIMIT:,} cells in all"
-            raise BadMap(
-                "region",
-                f"{size}, where the program takes {limits}; for larger maps there is rcell.tiles",
-            )
+        if self.rows < 1 or self.cols < 1:
+            raise BadMap("region", f"{self.rows:,} rows and {self.cols:,} columns")
 
     @classmethod
     def from_transform(cls, transform: Sequence[float], rows: int, cols: int) -> Region:
@@ -217,7 +220,12 @@ class Region:
         >>> rcell.Region(1, 0, 2, 0, 1, 2).units
         (100000000, 0, 200000000, 0)
         """
-        return units_of(self.north), units_of(self.south), units_of(self.east), units_of(self.west)
+        return (
+            units_of(self.north),
+            units_of(self.south),
+            units_of(self.east),
+            units_of(self.west),
+        )
 
     @property
     def shape(self) -> tuple[int, int]:
@@ -241,7 +249,10 @@ class Region:
         >>> rcell.Region(300, 0, 100, 0, 3, 2).res
         (50.0, 100.0)
         """
-        return float(self.east - self.west) / self.cols, float(self.north - self.south) / self.rows
+        return (
+            float(self.east - self.west) / self.cols,
+            float(self.north - self.south) / self.rows,
+        )
 
     @property
     def bounds(self) -> tuple[float, float, float, float]:

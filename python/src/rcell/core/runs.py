@@ -3,7 +3,7 @@
 
 from __future__ import annotations
 
-from dataclasses import dataclass
+from dataclasses import dataclass, replace
 from typing import Any, Iterable, Iterator, Mapping, Sequence
 
 import numpy as np
@@ -11,12 +11,23 @@ import numpy as np
 from . import protocol
 from .arrays import NDArray
 from .borders import watched
+from .errors import BadMap
 from .host import host
 from .programs import Path, find_pipe, program_errors
 from .protocol import NULL
+from .region import CELL_LIMIT, SIDE_LIMIT, fits_one_run
 from .sources import ArrayMap, Source
 
-__all__ = ["Output", "execute", "grid_text", "grids", "planned", "printed"]
+__all__ = [
+    "Output",
+    "check_size",
+    "entries_of",
+    "execute",
+    "grid_text",
+    "grids",
+    "planned",
+    "printed",
+]
 
 
 @dataclass(frozen=True)
@@ -31,8 +42,8 @@ class Output:
     maps : tuple of str
         The maps that it read.
     values : array
-        Of a table int64, entries x columns: the categories of each map, and the number of cells if it was asked for.
-        Of a map int32, rows x cols. `NULL` is null in both.
+        Of a table int64, entries x columns: the categories of each map, and the number of cells if it was asked for. `NULL` is null.
+        Of a map rows x cols, int32 with `NULL` for null; or, if it is put together from tiles, bytes with 255 for null.
     has_counts, has_labels : bool
         Whether the statement has the flags `-c` and `-l`.
     """
@@ -52,7 +63,9 @@ def execute(
     wanted: Sequence[str] = (),
     program: Path | None = None,
 ) -> list[Output]:
-    """Run a script over maps of one region.
+    """Run a script over maps of one region: in one run, or by tiles if the maps are large, with equal outputs.
+
+    Every call gets its tables and maps here.
 
     Parameters
     ----------
@@ -77,8 +90,19 @@ def execute(
         A cell can't be sent.
     OutOfMemory, Killed, MissingProgram, WrongProgram
     """
+    from .tile_runs import demand_of, run_tiles
+    from .tiling import is_small, takes_one_run
+
+    lines = "\n".join([script, *(f"r.out.ascii input={name}" for name in wanted)])
+    if not is_small(maps):
+        plan = planned(lines, maps, program=program)
+        demand = demand_of(plan, maps)
+        if not takes_one_run(plan, maps, demand):
+            _tell_host(script, maps)
+            outputs = run_tiles(plan, maps, demand)
+            return _numbered(outputs, len(wanted))
     frames = _frames(script, maps, wanted, program)
-    return [_output(frame, at < len(frames) - len(wanted)) for at, frame in enumerate(frames)]
+    return _numbered([_output(frame) for frame in frames], len(wanted))
 
 
 def planned(
@@ -91,7 +115,8 @@ def planned(
 
 
 def printed(script: str, maps: Mapping[str, Source], *, program: Path | None = None) -> bytes:
-    """Return what rcell prints for a script; arguments and errors are the same as in `execute`."""
+    """Return what rcell prints for a script in one run; arguments and errors are the same as in `execute`."""
+    check_size(maps)
     with program_errors(script, list(maps), path := find_pipe(program)):
         return b"".join(
             protocol.text(path, _sent(maps), protocol.script_bytes(script), watch=host().watch)
@@ -127,13 +152,28 @@ def _frames(
     program: Path | None = None,
 ) -> list[protocol.Frame]:
     """Return the frames of a script, and then the frames of some of its maps."""
+    check_size(maps)
     lines = [script, *(f"r.out.ascii input={name}" for name in wanted)]
-    started = host().started
-    if started is not None:
-        started(script, maps)
+    _tell_host(script, maps)
     with program_errors(script, list(maps), path := find_pipe(program)):
         words = protocol.script_bytes("\n".join(lines))
         return protocol.run(path, _sent(maps), words, watch=host().watch)
+
+
+def _tell_host(script: str, maps: Mapping[str, Source]) -> None:
+    started = host().started
+    if started is not None:
+        started(script, maps)
+
+
+def check_size(maps: Mapping[str, Source]) -> None:
+    """Raise BadMap if maps are too large for one run, which some calls need."""
+    source = next(iter(maps.values()))
+    if not fits_one_run(source.region.shape):
+        rows, cols = source.region.shape
+        limits = f"up to {SIDE_LIMIT:,} rows and columns, and {CELL_LIMIT:,} cells"
+        told = f"{rows:,} rows and {cols:,} columns; this call takes {limits}"
+        raise BadMap(source.name, f"{told}: cut the map first, for example with gdal_translate")
 
 
 def _sent(maps: Mapping[str, Source]) -> list[protocol.Map]:
@@ -175,21 +215,26 @@ class _Progress:
             report(self._sent / self._cells)
 
 
-def _output(frame: protocol.Frame, is_own: bool) -> Output:
-    line = frame.line if is_own else 0
+def _numbered(outputs: list[Output], wanted: int) -> list[Output]:
+    """Return outputs in which maps that were asked for by name are of no line."""
+    first = len(outputs) - wanted
+    return [replace(one, line=0) if at >= first else one for at, one in enumerate(outputs)]
+
+
+def _output(frame: protocol.Frame) -> Output:
     if isinstance(frame, protocol.GridFrame):
-        return Output("r.out.ascii", line, (frame.name,), _cells(frame))
+        return Output("r.out.ascii", frame.line, (frame.name,), _cells(frame))
     return Output(
         "r.stats",
-        line,
+        frame.line,
         frame.names,
-        _entries(frame),
+        entries_of(frame),
         frame.counts is not None,
         frame.labels is not None,
     )
 
 
-def _entries(frame: protocol.TableFrame) -> NDArray[np.int64]:
+def entries_of(frame: protocol.TableFrame) -> NDArray[np.int64]:
     """Return the entries of a table, with their counts if it has them."""
     cells = np.asarray(frame.cells).reshape(frame.entries, len(frame.names))
     counts = [] if frame.counts is None else [np.asarray(frame.counts).astype(np.int64)]

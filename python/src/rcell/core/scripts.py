@@ -15,7 +15,7 @@ from .arguments import check_named_maps, check_script
 from .arrays import NDArray
 from .columns import Column, Matrix, Table
 from .errors import BadArgument, Refused
-from .protocol import NULL, Statement
+from .protocol import NULL, NULL_BYTE, Statement
 from .runs import Output, execute, planned
 from .sources import ArrayMap, MapLike, Source, named_once, sources_of
 
@@ -146,16 +146,18 @@ class Run:
 
     def _map(self, output: Output) -> ArrayMap:
         [name] = output.maps
+        is_narrow = output.values.dtype == np.uint8
         return ArrayMap(
             name,
             output.values,
             self.first.region,
-            output.values == NULL,
+            nodata_value=NULL_BYTE if is_narrow else NULL,
             labels=self.labels(name),
             crs=self.crs,
             exact_transform=self.first.transform,
             colors=self.sources[name].colors if name in self.sources else {},
             files=tuple(file for source in self.sources.values() for file in source.files),
+            is_narrow=is_narrow,
         )
 
 

@@ -121,12 +121,14 @@ def sieve(
         sides, corners = (_Touching.of(cells.size, part) for part in (touching[:2], touching[2:]))
         new = _Merging(classes, cells, sides, corners).run(fewest)
     by_number = np.concatenate([[NULL], new]).astype(np.int32)
-    made = by_number[np.maximum(patch.array, 0)]
+    made = by_number[patch.filled(0)]
     sieved = dataclasses.replace(
         patch,
         name="sieved",
         array=made,
-        null=made == NULL,
+        null=None,
+        nodata_value=NULL,
+        is_narrow=False,
         labels=source.labels,
         colors=source.colors,
     )

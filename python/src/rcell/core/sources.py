@@ -83,7 +83,11 @@ class Block:
 
 
 class Source(Protocol):
-    """A map as the program needs it."""
+    """A map as the program needs it.
+
+    Maps that can be read by parts also have `window(row, col, rows, cols)`, which returns a block of them, from any thread; a map
+    that keeps its cells in blocks has their `block_shape`.
+    """
 
     @property
     def name(self) -> str:
@@ -374,6 +378,8 @@ class ArrayMap:
     crs : any, optional
     exact_transform : tuple of six float, optional
         The transform that results get; None: the transform of the region.
+    is_narrow : bool
+        Whether the array is of bytes to save memory, and people get its cells as int32.
 
     Raises
     ------
@@ -391,6 +397,7 @@ class ArrayMap:
     exact_transform: Transform | None = None
     colors: Mapping[int, str] = field(default_factory=dict)
     files: tuple[str, ...] = ()
+    is_narrow: bool = False
 
     def __post_init__(self) -> None:
         check_array(self.name, self.array)
@@ -423,13 +430,24 @@ class ArrayMap:
         """Whether its blocks have masks."""
         return self.null is not None and not is_converted(self.array.dtype)
 
+    def filled(self, null: int) -> Cells:
+        """Return all cells of a map of whole numbers, with a number for null."""
+        is_null = null_cells(self.array, self.null, self.nodata_value)
+        wide = np.promote_types(self.array.dtype, np.int32)
+        return np.where(is_null, wide.type(null), self.array)
+
     def blocks(self) -> Iterator[Block]:
         """Yield the rows from north to south."""
         rows, cols = self.region.shape
         step = max(1, BLOCK_CELLS // cols)
         for row in range(0, rows, step):
-            null = None if self.null is None else self.null[row : row + step]
-            yield checked(self.name, self.array[row : row + step], null, self.nodata_value, row)
+            yield self.window(row, 0, min(step, rows - row), cols)
+
+    def window(self, row: int, col: int, rows: int, cols: int) -> Block:
+        """Return some of the cells, counted from the north-west corner."""
+        part = np.s_[row : row + rows, col : col + cols]
+        null = None if self.null is None else self.null[part]
+        return checked(self.name, self.array[part], null, self.nodata_value, row, col)
 
 
 def check_array(name: str, array: Any) -> None:
@@ -502,9 +520,9 @@ def _placed(
         return array, null, region, region.transform
     a, b, c, d, e, f = six_numbers(name, place)
     if e > 0 and not b and not d:
-        array, null, e, f = array[::-1], None if null is None else null[::-1], -e, f + e * rows
+        array, null, e, f = (array[::-1], None if null is None else null[::-1], -e, f + e * rows)
     transform = (a, b, c, d, e, f)
-    return array, null, in_region(name, Region.from_transform, transform, rows, cols), transform
+    return (array, null, in_region(name, Region.from_transform, transform, rows, cols), transform)
 
 
 def in_region(name: str, make: Any, *words: Any) -> Region:

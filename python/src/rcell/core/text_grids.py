@@ -24,7 +24,7 @@ from .files import opened, read_some
 from .errors import BadMap, ReadFailed
 from .host import host
 from .sources import Block, Source, in_region
-from .region import Region, Transform, units_of
+from .region import Region, Transform, fits_one_run, units_of
 
 __all__ = ["TextMap", "is_grid", "open_path"]
 
@@ -180,6 +180,8 @@ def _region_of(name: str, head: bytes) -> Region | None:
         )
         rows, cols = int(fields["rows"]), int(fields["cols"])
     except (KeyError, ValueError, OverflowError):
+        return None
+    if not fits_one_run((rows, cols)):
         return None
     try:
         return in_region(name, Region, north, south, east, west, rows, cols)

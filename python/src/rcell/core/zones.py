@@ -4,26 +4,35 @@
 from __future__ import annotations
 
 import datetime
-from collections.abc import Iterable, Mapping, Sequence
+import sys
+import threading
+from collections.abc import Callable, Iterable, Mapping, Sequence
 from dataclasses import dataclass, replace
 from typing import Any, Optional, Protocol
 
 import numpy as np
 
 from .arrays import NDArray
+from .crews import Crew
 from .crs import common_crs
 from .errors import BadMap
 from .host import option, warn
+from .kept import cells_for
 from .legends import is_missing, whole_number
+from .memory import processors
 from .protocol import NULL
+from .rectangles import Rectangle, rectangles_of
 from .region import Transform
 from .sources import ArrayMap, Source
+from .tiling import work
 
 __all__ = ["Feature", "Layer", "Zones", "zones_of"]
 
 _KINDS = ("Polygon", "MultiPolygon")
 _LARGEST_ID = 2**63 - 1
 _SHOWN = 3
+# Polygons become cells in blocks of so many rows and columns, whatever the tiles of a call are: so the cells are always the same.
+_BLOCK = 2048
 
 
 @dataclass(frozen=True)
@@ -194,6 +203,26 @@ def _name(feature: Feature, zone: int, labels: Mapping[int, str]) -> str:
     return f"feature {feature.id}" + ("" if label == str(feature.id) else f" ({label})")
 
 
+class _Losses:
+    """The cells that are in more than one polygon, and the features that lost them."""
+
+    def __init__(self) -> None:
+        self.cells = 0
+        self.first = (sys.maxsize, 0)
+        self.features: set[int] = set()
+        self._lock = threading.Lock()
+
+    def add(self, place: Rectangle, first: NDArray[np.int32], lost: NDArray[np.bool_]) -> None:
+        """Note the cells of a block that the first feature has lost."""
+        if not lost.any():
+            return
+        row, col = np.unravel_index(int(np.argmax(lost)), lost.shape)
+        with self._lock:
+            self.cells += int(np.count_nonzero(lost))
+            self.features |= set(np.unique(first[lost]).tolist())
+            self.first = min(self.first, (int(row) + place.top, int(col) + place.left))
+
+
 @dataclass
 class _Grid:
     """The features of a layer on the grid of a map.
@@ -213,42 +242,68 @@ class _Grid:
 
     def __post_init__(self) -> None:
         self._has_centre = np.zeros(len(self.features) + 1, np.bool_)
+        boxes = [self.layer.bounds(feature.geometry) for feature in self.features]
+        self._boxes = np.array(boxes, np.float64)
 
     def map(self, part: Sequence[int]) -> ArrayMap:
-        """Return some features as a map of the categories of their zones."""
-        last = self._burnt(part)
-        first = self._burnt(part[::-1])
-        categories = np.concatenate([[0], self.categories]).astype(np.int32)
-        made = categories[last]
-        lost = categories[first] != made
-        if lost.any():
-            self._find_hidden([at for at in part if not self._has_centre[at + 1]])
-            self._warn_of_losers(first, lost)
-        like = self.like
-        name = self.layer.name
-        return ArrayMap(name, made, like.region, last == 0, None, {}, like.crs, like.transform)
+        """Return some features as a map of the categories of their zones, made block by block."""
+        like, name = self.like, self.layer.name
+        categories = np.concatenate([[0], self.categories])
+        dtype = np.min_scalar_type(int(categories.max()))
+        made = cells_for(like.region.shape, dtype if dtype.itemsize <= 2 else np.int32)
+        full = Rectangle(0, 0, *like.region.shape)
+        losses = _Losses()
 
-    def _burnt(self, part: Sequence[int]) -> NDArray[np.int32]:
-        """Return for each cell the last of some features that contains its centre, counted from 1; 0 for none."""
-        shapes = [(self.features[at].geometry, at + 1) for at in part]
-        found = self.layer.burn(shapes, self.like.transform, self.like.region.shape)
-        self._has_centre |= np.bincount(found.reshape(-1), minlength=self._has_centre.size) > 0
-        return found
+        def burn(place: Rectangle) -> NDArray[np.bool_]:
+            last, seen = self._burnt(part, place)
+            first, others = self._burnt(part[::-1], place)
+            place.part_of(full, made)[...] = categories[last]
+            losses.add(place, first, categories[first] != categories[last])
+            return seen | others
+
+        self._over_blocks(burn)
+        if losses.cells:
+            self._find_hidden([at for at in part if not self._has_centre[at + 1]])
+            self._warn_of_losers(losses)
+        return ArrayMap(name, made, like.region, None, 0, {}, like.crs, like.transform)
+
+    def _over_blocks(self, burn: Callable[[Rectangle], NDArray[np.bool_]]) -> None:
+        """Burn features in all blocks of the map, and note which of them contain the centre of a cell."""
+        places = rectangles_of(self.like.region.shape, (_BLOCK, _BLOCK))
+        if len(places) == 1:
+            self._has_centre |= burn(places[0])
+            return
+        with Crew(work().workers or processors(), len(places), is_shown=False) as crew:
+            for _, seen in crew.each(burn, places):
+                self._has_centre |= seen
+
+    def _burnt(
+        self, part: Sequence[int], place: Rectangle
+    ) -> tuple[NDArray[np.int32], NDArray[np.bool_]]:
+        """Return for each cell the last of some features that contains its centre, counted from 1 with 0 for none, and which occur."""
+        width, _, west, _, height, north = self.like.transform
+        transform = (width, 0.0, west + width * place.left, 0.0, height, north + height * place.top)
+        right, low = (transform[2] + width * place.cols, transform[5] + height * place.rows)
+        near = _meets(np.array([transform[2], low, right, transform[5]]), self._boxes)
+        shapes = [(self.features[at].geometry, at + 1) for at in part if near[at]]
+        size = place.rows, place.cols
+        found = self.layer.burn(shapes, transform, size) if shapes else np.zeros(size, np.int32)
+        return (found, np.bincount(found.reshape(-1), minlength=self._has_centre.size) > 0)
 
     def _find_hidden(self, rest: list[int]) -> None:
         """Find the features that contain a centre, and that lie between two others."""
         while rest:
-            self._burnt(rest)
+            self._over_blocks(lambda place: self._burnt(rest, place)[1])
             left = [at for at in rest if not self._has_centre[at + 1]]
             if len(left) == len(rest):
                 return
             rest = left
 
-    def _warn_of_losers(self, first: NDArray[np.int32], lost: NDArray[np.bool_]) -> None:
-        losers = [self.names[at - 1] for at in np.unique(first[lost]).tolist()]
-        row, col = np.unravel_index(int(np.argmax(lost)), lost.shape)
+    def _warn_of_losers(self, losses: _Losses) -> None:
+        losers = [self.names[at - 1] for at in sorted(losses.features)]
+        row, col = losses.first
         warn(
-            f"{self.layer.name}: {np.count_nonzero(lost):,} cells are in more than one polygon, the first at row {row + 1}, column {col + 1}: "
+            f"{self.layer.name}: {losses.cells:,} cells are in more than one polygon, the first at row {row + 1}, column {col + 1}: "
             f"the later polygon has them, and {_listed(losers)} lost them; "
             f"{option('each', True)} takes one polygon after another"
         )
@@ -287,7 +342,7 @@ def _apart(
     for places in members.values():
         own = np.array([bounds[at] for at in places])
         box = np.concatenate([own[:, :2].min(axis=0), own[:, 2:].max(axis=0)])
-        free = (at for at, boxes in enumerate(taken) if not _meets(box, boxes))
+        free = (at for at, boxes in enumerate(taken) if not _meets(box, boxes).any())
         part = next(free, len(parts))
         if part == len(parts):
             parts.append([])
@@ -297,8 +352,9 @@ def _apart(
     return parts
 
 
-def _meets(box: NDArray[np.float64], others: NDArray[np.float64]) -> bool:
-    """Return whether a box touches one of others."""
+def _meets(box: NDArray[np.float64], others: NDArray[np.float64]) -> NDArray[np.bool_]:
+    """Return which of some boxes a box touches."""
     is_below = (others[:, :2] <= box[2:]).all(axis=1)
     is_above = (others[:, 2:] >= box[:2]).all(axis=1)
-    return bool((is_below & is_above).any())
+    found: NDArray[np.bool_] = is_below & is_above
+    return found

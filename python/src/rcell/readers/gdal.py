@@ -30,6 +30,7 @@ from ..core.sources import (
     nodata_of,
     type_of,
 )
+from .handles import of_this_thread
 from .osr import quiet
 
 __all__ = ["RasterMap", "open_dataset", "open_raster"]
@@ -127,7 +128,7 @@ def _map_of(
         has_mask=layer.GetMaskFlags() in masks,
         alpha=alpha,
         is_upside_down=is_upside_down,
-        block_rows=layer.GetBlockSize()[1],
+        block_shape=(layer.GetBlockSize()[1], layer.GetBlockSize()[0]),
         files=tuple(dataset.GetFileList() or ()),
         style_path=path,
     )
@@ -153,7 +154,7 @@ class RasterMap:
         The band that marks transparent cells, which are null.
     is_upside_down : bool
         Whether its rows go from south to north in the file.
-    block_rows : int
+    block_shape : tuple of two ints
     files : tuple of str
     style_path : str
         The raster next to which a style may be; empty for none.
@@ -173,7 +174,7 @@ class RasterMap:
     has_mask: bool
     alpha: Optional[int]
     is_upside_down: bool
-    block_rows: int
+    block_shape: tuple[int, int]
     files: tuple[str, ...]
     style_path: str
     legend: Legend = field(default_factory=lambda: Legend({}, {}))
@@ -229,15 +230,24 @@ class RasterMap:
         """
         rows, cols = self.region.shape
         step = max(1, BLOCK_CELLS // cols)
-        step = max(step - step % self.block_rows, min(step, self.block_rows))
+        height = self.block_shape[0]
+        step = max(step - step % height, min(step, height))
         dataset = open_dataset(self.name, self.path)
         for row in range(0, rows, step):
             count = min(step, rows - row)
-            cells, null = self._read(dataset, row, count)
+            cells, null = self._read(dataset, row, 0, count, cols)
             yield checked(self.name, cells, null, self.file_nodata, row)
 
-    def _read(self, dataset: Any, row: int, rows: int) -> tuple[Cells, Optional[Mask]]:
-        """Return some rows, and which of their cells a mask, transparency or a range makes null."""
+    def window(self, row: int, col: int, rows: int, cols: int) -> Block:
+        """Return some of the cells, counted from the north-west corner; errors are the same as in `blocks`."""
+        dataset = of_this_thread(self.path, lambda: open_dataset(self.name, self.path))
+        cells, null = self._read(dataset, row, col, rows, cols)
+        return checked(self.name, cells, null, self.file_nodata, row, col)
+
+    def _read(
+        self, dataset: Any, row: int, col: int, rows: int, cols: int
+    ) -> tuple[Cells, Optional[Mask]]:
+        """Return some cells, and which of them a mask, transparency or a range makes null."""
         top = self.region.rows - row - rows if self.is_upside_down else row
         bands = [dataset.GetRasterBand(self.band)]
         if self.has_mask:
@@ -247,7 +257,7 @@ class RasterMap:
         gdal.ErrorReset()
         try:
             with quiet():
-                read = [band.ReadAsArray(0, top, self.region.cols, rows) for band in bands]
+                read = [band.ReadAsArray(col, top, cols, rows) for band in bands]
             text = gdal.GetLastErrorMsg()
         except RuntimeError as error:
             read, text = [None], str(error)

@@ -6,6 +6,7 @@ from __future__ import annotations
 import contextlib
 import functools
 import os
+import threading
 import warnings
 import xml.etree.ElementTree as ElementTree
 from dataclasses import dataclass
@@ -31,6 +32,7 @@ from ..core.sources import (
     type_of,
 )
 from ..core.region import Region, Transform, check_upright, six_numbers
+from .handles import of_this_thread
 
 __all__ = [
     "Layer",
@@ -46,6 +48,7 @@ _PURPOSE = "to read a raster"
 _IDENTITY: Transform = (1.0, 0.0, 0.0, 0.0, 1.0, 0.0)
 # The most cells of a block, for files whose blocks have very many rows.
 MOST_BLOCK_CELLS = 1 << 23
+_one_thread = threading.Lock()
 
 
 def open_raster(name: str, given: Any, band: int | None = None) -> RasterMap:
@@ -225,6 +228,7 @@ class RasterMap:
     is_upside_down: bool
     block_shape: tuple[int, int]
     labels_path: str
+    thread: int
 
     @classmethod
     def of_dataset(cls, name: str, dataset: Any, band: int | None) -> RasterMap:
@@ -247,6 +251,7 @@ class RasterMap:
             is_upside_down=is_upside_down,
             block_shape=dataset.block_shapes[band - 1],
             labels_path=dataset.name,
+            thread=threading.get_ident(),
         )
 
     @property
@@ -305,9 +310,16 @@ class RasterMap:
             A cell is not a whole number in range.
         """
         top = self.region.rows - row - rows if self.is_upside_down else row
-        cells, null = self.layer.read(
-            self.name, self.dataset, (top, col, rows, cols), f"rows {row + 1} to {row + rows}"
-        )
+        place, told = (top, col, rows, cols), f"rows {row + 1} to {row + rows}"
+        if threading.get_ident() == self.thread:
+            cells, null = self.layer.read(self.name, self.dataset, place, told)
+        elif type(self.dataset).__name__ == "DatasetReader":
+            name = self.dataset.name
+            own = of_this_thread(name, lambda: open_dataset(self.name, name))
+            cells, null = self.layer.read(self.name, own, place, told)
+        else:  # a warped raster, for example, which has no name to open it again
+            with _one_thread:
+                cells, null = self.layer.read(self.name, self.dataset, place, told)
         if self.is_upside_down:
             cells, null = cells[::-1], None if null is None else null[::-1]
         return checked(self.name, cells, null, self.layer.nodata, row, col)

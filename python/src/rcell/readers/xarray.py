@@ -118,11 +118,21 @@ class DataArrayMap:
         chunks = self.array.chunks
         step = max(1, BLOCK_CELLS // cols, chunks[0][0] if chunks else 1)
         for row in range(0, rows, step):
-            part = self.array[row : row + step].data
-            cells, null = unmasked(part.compute() if is_lazy(self.array) else part)
-            check_computed(self.name, cells, self.array.dtype, part.shape)
-            null = np.zeros(cells.shape, np.bool_) if self.is_masked and null is None else null
-            yield checked(self.name, cells, null, self.nodata_value, row)
+            yield self.window(row, 0, min(step, rows - row), cols)
+
+    @property
+    def block_shape(self) -> tuple[int, int]:
+        """Rows and columns that Dask keeps together."""
+        chunks = self.array.chunks
+        return (max(chunks[0]), max(chunks[1])) if chunks else (1, 1)
+
+    def window(self, row: int, col: int, rows: int, cols: int) -> Block:
+        """Return some of the cells, counted from the north-west corner; Dask computes the chunks that have them."""
+        part = self.array[row : row + rows, col : col + cols].data
+        cells, null = unmasked(part.compute() if is_lazy(self.array) else part)
+        check_computed(self.name, cells, self.array.dtype, part.shape)
+        null = np.zeros(cells.shape, np.bool_) if self.is_masked and null is None else null
+        return checked(self.name, cells, null, self.nodata_value, row, col)
 
 
 class Flat(NamedTuple):

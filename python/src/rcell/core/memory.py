@@ -1,0 +1,37 @@
+# SPDX-License-Identifier: Apache-2.0 OR GPL-2.0-or-later
+"""The memory and the processors that this process may use."""
+
+from __future__ import annotations
+
+import contextlib
+import os
+
+__all__ = ["free_memory", "processors"]
+
+_GROUP = "/sys/fs/cgroup"
+# If nothing says how much is free, there is hardly less.
+_UNKNOWN = 4 << 30
+
+
+def processors() -> int:
+    """Return the number of processors that this process may use."""
+    if hasattr(os, "sched_getaffinity"):
+        return len(os.sched_getaffinity(0))
+    return os.cpu_count() or 1
+
+
+def free_memory() -> int:
+    """Return the bytes that this machine, or the group of processes that this one belongs to, has left."""
+    found = [_UNKNOWN]
+    with contextlib.suppress(OSError, ValueError, KeyError, IndexError):
+        with open("/proc/meminfo", encoding="ascii") as file:
+            lines = dict(line.split(":", 1) for line in file)
+        found = [int(lines["MemAvailable"].split()[0]) * 1024]
+    with contextlib.suppress(OSError, ValueError):
+        found.append(_number(f"{_GROUP}/memory.max") - _number(f"{_GROUP}/memory.current"))
+    return max(min(found), 0)
+
+
+def _number(path: str) -> int:
+    with open(path, encoding="ascii") as file:
+        return int(file.read())

@@ -1,0 +1,68 @@
+# SPDX-License-Identifier: Apache-2.0 OR GPL-2.0-or-later
+"""Rectangles of the cells of a map, into which large maps are cut."""
+
+from __future__ import annotations
+
+from typing import Any, NamedTuple
+
+from .arrays import NDArray
+from .protocol import Margin
+from .region import Region
+
+__all__ = ["NO_MARGIN", "Rectangle", "rectangles_of"]
+
+NO_MARGIN = Margin()
+
+
+class Rectangle(NamedTuple):
+    """A rectangle of the cells of a map: its first row and column, counted from 0, and how many of each."""
+
+    top: int
+    left: int
+    rows: int
+    cols: int
+
+    @property
+    def cells(self) -> int:
+        """The number of its cells."""
+        return self.rows * self.cols
+
+    @property
+    def region(self) -> Region:
+        """The region of these cells in a map whose cells have sides of 1 and whose top left corner is at 0, 0."""
+        low, right = self.top + self.rows, self.left + self.cols
+        return Region(-self.top, -low, right, self.left, self.rows, self.cols)
+
+    def with_halo(self, reach: Margin, shape: tuple[int, int]) -> Rectangle:
+        """Return the rectangle with a margin around it, as far as the map goes.
+
+        Examples
+        --------
+        >>> Rectangle(0, 4, 2, 3).with_halo(Margin(1, 1, 2, 2), (8, 8))
+        Rectangle(top=0, left=2, rows=3, cols=6)
+        """
+        top, left = max(self.top - reach.up, 0), max(self.left - reach.left, 0)
+        low = min(self.top + self.rows + reach.down, shape[0])
+        right = min(self.left + self.cols + reach.right, shape[1])
+        return Rectangle(top, left, low - top, right - left)
+
+    def part_of(self, outer: Rectangle, cells: NDArray[Any]) -> NDArray[Any]:
+        """Return the cells of this rectangle from the cells of one around it."""
+        top, left = self.top - outer.top, self.left - outer.left
+        return cells[top : top + self.rows, left : left + self.cols]
+
+
+def rectangles_of(shape: tuple[int, int], size: tuple[int, int]) -> list[Rectangle]:
+    """Return the tiles of a map, row by row; each cell is in one.
+
+    Examples
+    --------
+    >>> [tuple(tile) for tile in rectangles_of((2, 5), (2, 3))]
+    [(0, 0, 2, 3), (0, 3, 2, 2)]
+    """
+    (rows, cols), (high, wide) = shape, size
+    return [
+        Rectangle(top, left, min(high, rows - top), min(wide, cols - left))
+        for top in range(0, rows, high)
+        for left in range(0, cols, wide)
+    ]

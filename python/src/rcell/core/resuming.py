@@ -1,0 +1,90 @@
+# SPDX-License-Identifier: Apache-2.0 OR GPL-2.0-or-later
+"""Results of finished tiles, kept in a folder, so that a call that was ended can continue."""
+
+from __future__ import annotations
+
+import contextlib
+import hashlib
+import os
+from collections.abc import Callable, Mapping, Sequence
+from dataclasses import dataclass
+from typing import Any, Optional
+
+import numpy as np
+
+from .arrays import NDArray
+from .errors import BadArgument
+from .programs import find_pipe
+from .rectangles import Rectangle
+from .sources import Source
+from .writing import replacing, told_of
+
+__all__ = ["Shelf"]
+
+Results = Sequence[NDArray[Any]]
+
+
+@dataclass(frozen=True)
+class Shelf:
+    """A folder of results, or none.
+
+    Attributes
+    ----------
+    folder : str or None
+    state : bytes
+        What differs for other maps and programs: paths, sizes and times of files.
+    """
+
+    folder: Optional[str]
+    state: bytes
+
+    @classmethod
+    def of(cls, folder: Optional[str], maps: Mapping[str, Source], shape: tuple[int, int]) -> Shelf:
+        """Return the shelf of a folder for some maps; the folder is made if it is missing."""
+        if folder is None:
+            return cls(None, b"")
+        lacking = [source.name for source in maps.values() if not source.files]
+        if lacking:
+            told = f"needs maps in files, and {lacking[0]} is not in a file"
+            raise BadArgument("resume", told)
+        with told_of(folder):
+            os.makedirs(folder, exist_ok=True)
+        parts = [repr(shape), _state_of(find_pipe())]
+        for name, source in maps.items():
+            parts += [
+                name,
+                repr(source.region.units),
+                str(source.nodata),
+                str(source.dtype),
+            ]
+            parts += [
+                repr(getattr(source, "part", None)),
+                *map(_state_of, source.files),
+            ]
+        return cls(folder, "\0".join(parts).encode("utf-8", "surrogateescape"))
+
+    def kept(
+        self, script: str, place: Rectangle, make: Callable[[], list[NDArray[Any]]]
+    ) -> list[NDArray[Any]]:
+        """Return the results of a tile from the folder, or make them and keep them there."""
+        if self.folder is None:
+            return make()
+        words = script.encode("utf-8", "surrogateescape")
+        name = hashlib.sha256(b"\0".join([self.state, words, repr(tuple(place)).encode()]))
+        path = os.path.join(self.folder, f"{name.hexdigest()}.npz")
+        with contextlib.suppress(OSError, ValueError, EOFError, KeyError):
+            with np.load(path, allow_pickle=False) as found:
+                return [found[f"arr_{at}"] for at in range(len(found.files))]
+        made = make()
+        with replacing(path) as beside, told_of(path), open(beside, "wb") as file:
+            np.savez(file, *made)
+        return made
+
+
+def _state_of(path: str) -> str:
+    """Return what changes if a file does."""
+    try:
+        state = os.stat(path)
+    except OSError:
+        return path
+    return f"{os.path.realpath(path)} {state.st_size} {state.st_mtime_ns}"

@@ -1,0 +1,48 @@
+# SPDX-License-Identifier: Apache-2.0 OR GPL-2.0-or-later
+"""The progress of long work, where people see it."""
+
+from __future__ import annotations
+
+import contextlib
+import sys
+from typing import Any
+
+from .host import Host
+
+__all__ = ["Bar"]
+
+# Work that ends earlier needs no bar.
+SECONDS = 2.0
+
+
+class Bar:
+    """A bar of tqdm on a terminal or in a notebook, unless the host shows progress itself.
+
+    Parameters
+    ----------
+    steps : int
+    caller : Host
+    """
+
+    def __init__(self, steps: int, caller: Host) -> None:
+        self._bar: Any = None
+        is_seen = sys.stderr is not None and (sys.stderr.isatty() or _is_notebook())
+        if caller.progress is None and is_seen:
+            with contextlib.suppress(ImportError):
+                from tqdm.auto import tqdm
+
+                self._bar = tqdm(total=steps, unit="tile", delay=SECONDS, leave=False)
+
+    def step(self) -> None:
+        """Show that a tile is done."""
+        if self._bar is not None:
+            self._bar.update()
+
+    def close(self) -> None:
+        """Remove the bar."""
+        if self._bar is not None:
+            self._bar.close()
+
+
+def _is_notebook() -> bool:
+    return "ipykernel" in sys.modules

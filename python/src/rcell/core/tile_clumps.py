@@ -1,0 +1,181 @@
+# SPDX-License-Identifier: Apache-2.0 OR GPL-2.0-or-later
+"""Clumps of tiles, joined to the clumps of the full map and numbered.
+
+The proved program rcell-join does that (`rcell.core.joiner`). This module writes the borders that it reads, and reads the numbering that
+it writes into numpy arrays; it makes no Python object for a clump.
+"""
+
+from __future__ import annotations
+
+from collections.abc import Iterable, Sequence
+from dataclasses import dataclass
+from typing import Any, Optional
+
+import numpy as np
+
+from .arrays import NDArray
+from .counts import numbers_of
+from .joiner import numbering_of
+from .protocol import NULL
+from .rectangles import Rectangle
+
+__all__ = ["Joined", "TileNumbers", "border_text", "join", "renumber"]
+
+Integers = NDArray[Any]
+
+NO_CLUMP = 0
+"""Null in a map of clumps, whose numbers begin at 1."""
+
+LEAST_WIDTH = 4
+"""The least columns of a border, whose ninth row has four numbers."""
+
+PIECE = 2**18
+"""So many cells at a time are given their numbers: little memory besides, and within the cache of a processor."""
+
+FIELDS = 4
+"""The numbers of a line of the numbering: a tile, its first clump and its last, and the number of the first in the full map."""
+
+
+@dataclass(frozen=True, eq=False)
+class TileNumbers:
+    """The numbers that the clumps of a tile have in the full map, by runs of the numbering.
+
+    Attributes
+    ----------
+    clumps : int
+        How many clumps the tile has.
+    firsts : ndarray of int64, shape (n,)
+        Ascending: of each run the number of its first clump in the tile.
+    numbers : ndarray of int64, shape (n,)
+        The number that this clump has in the full map; those after it, up to the next run, have the next ones.
+    """
+
+    clumps: int
+    firsts: Integers
+    numbers: Integers
+
+    def looked_up(self, numbers: Integers) -> Integers:
+        """Return numbers of the full map in place of numbers of the tile, 0 for null."""
+        if not self.clumps:
+            return np.zeros(numbers.shape, dtype=np.int64)
+        run = np.maximum(np.searchsorted(self.firsts, numbers, side="right") - 1, 0)
+        return np.where(numbers > 0, self.numbers[run] + (numbers - self.firsts[run]), 0)
+
+
+@dataclass(frozen=True, eq=False)
+class Joined:
+    """The number of clumps of the full map, and the numbers of all tiles in the order they were given."""
+
+    clumps: int
+    tiles: Sequence[TileNumbers]
+
+
+def border_text(
+    place: Rectangle, cells: Integers, numbers: Integers, diagonal: bool = False
+) -> bytes:
+    """Return the border of a tile as rcell-join reads it: the same bytes as `rcell-join border` writes of its cells.
+
+    Parameters
+    ----------
+    place : Rectangle
+    cells : ndarray of integers, rows x cols
+        With `NULL` for null.
+    numbers : ndarray of integers, rows x cols
+        The numbers that r.clump gives in the tile, 0 for null.
+    diagonal : bool
+        Whether cells that touch at a corner are connected.
+
+    Examples
+    --------
+    >>> text = border_text(Rectangle(0, 0, 1, 2), np.array([[8, 9]]), np.array([[1, 2]]))
+    >>> text.splitlines()[6:8], text.splitlines()[-2:]
+    ([b'8 9 * *', b'1 2 * *'], [b'1 2 2 4', b'2 * * *'])
+    """
+    # Clumps are numbered by their first cells: so many begin in the first rows as the largest number there.
+    begun = np.maximum.accumulate(numbers.max(axis=1))
+    sides = [(slice(0, 1), slice(None)), (slice(-1, None), slice(None))]
+    sides += [(slice(None), slice(0, 1)), (slice(None), slice(-1, None))]
+    lines = [
+        _words(part[side].ravel().tolist(), null)
+        for side in sides
+        for part, null in ((cells, NULL), (numbers, NO_CLUMP))
+    ]
+    told = [place.rows, place.cols, int(begun[-1]), 8 if diagonal else 4]
+    lines += [_words(told), _words(np.diff(begun, prepend=0).tolist())]
+    width = max(place.rows, place.cols, LEAST_WIDTH)
+    north, south, east, west = place.region.edges
+    head = f"north: {north}\nsouth: {south}\neast: {east}\nwest: {west}\nrows: 10\ncols: {width}\n"
+    rows = (" ".join(line + ["*"] * (width - len(line))) for line in lines)
+    return (head + "\n".join(rows) + "\n").encode()
+
+
+def _words(values: Iterable[int], null: Optional[int] = None) -> list[str]:
+    return ["*" if value == null else str(value) for value in values]
+
+
+def join(borders: Sequence[bytes], diagonal: bool = False) -> Joined:
+    """Join the clumps of tiles to the clumps of the full map, and number these by their first cells.
+
+    Parameters
+    ----------
+    borders : sequence of bytes
+        The borders of all tiles, as `rcell-join border` writes them, row by row of tiles from the top left (law `grids_cover`).
+    diagonal : bool
+        Whether cells that touch at a corner are connected: as for the borders.
+
+    Examples
+    --------
+    >>> cells, numbers = np.array([[4, 4]]), np.array([[1, 1]])
+    >>> whole = join([border_text(Rectangle(top, 0, 1, 2), cells, numbers) for top in (0, 1)])
+    >>> whole.clumps, renumber(np.array([[1, 1]]), whole.tiles[1]).tolist()
+    (1, [[1, 1]])
+    """
+    text = numbering_of(borders, diagonal)
+    runs = numbers_of(text, FIELDS)
+    ends = np.searchsorted(runs[:, 0], np.arange(1, len(borders) + 2))
+    tiles = [
+        TileNumbers(
+            int(runs[end - 1, 2]) if end > begin else 0,
+            runs[begin:end, 1],
+            runs[begin:end, 3],
+        )
+        for begin, end in zip(ends, ends[1:])
+    ]
+    return Joined(int((runs[:, 3] + runs[:, 2] - runs[:, 1]).max(initial=0)), tiles)
+
+
+def renumber(numbers: Integers, tile: TileNumbers, out: Optional[Integers] = None) -> Integers:
+    """Replace the clump numbers of a tile by the numbers of the full map.
+
+    Parameters
+    ----------
+    numbers : ndarray of integers, any shape
+        Numbers that r.clump gives in the tile, 0 for null.
+    tile : TileNumbers
+        What `join` found of the tile.
+    out : ndarray of integers, the same shape, optional
+        Where to put them: it may be `numbers` itself. Its type has room for the number of clumps of the full map.
+
+    Returns
+    -------
+    ndarray, the same shape
+        The numbers that r.clump gives in the full map, 0 for null: `out`, or an array of int64.
+
+    Examples
+    --------
+    >>> renumber(np.array([[1, 0, 2]]), TileNumbers(2, np.array([1]), np.array([5]))).tolist()
+    [[5, 0, 6]]
+    """
+    if out is None:
+        out = np.empty(numbers.shape, dtype=np.int64)
+    table = None
+    if numbers.size > tile.clumps:
+        table = np.zeros(tile.clumps + 1, dtype=out.dtype)
+        for start in range(1, tile.clumps + 1, PIECE):
+            piece = np.arange(start, min(start + PIECE, tile.clumps + 1))
+            table[piece] = tile.looked_up(piece)
+    given, taken = numbers.reshape(-1), out.reshape(-1)
+    for start in range(0, given.size, PIECE):
+        piece = given[start : start + PIECE]
+        taken[start : start + PIECE] = tile.looked_up(piece) if table is None else table[piece]
+    return out

@@ -1,0 +1,199 @@
+# SPDX-License-Identifier: Apache-2.0 OR GPL-2.0-or-later
+"""One run or tiles: which of the two a call takes, and how large the tiles are."""
+
+from __future__ import annotations
+
+import contextlib
+import contextvars
+import math
+import os
+from collections.abc import Iterator, Mapping, Sequence
+from dataclasses import dataclass
+from typing import Any, Optional
+
+from .arguments import whole_number_of
+from .errors import OutOfMemory
+from .memory import free_memory, processors
+from .protocol import Margin, Statement
+from .region import SIDE_LIMIT, fits_one_run
+from .sources import Source
+
+__all__ = [
+    "Demand",
+    "Work",
+    "is_small",
+    "takes_one_run",
+    "tile_size",
+    "work",
+    "working",
+]
+
+# Below it, starting programs costs more than it saves.
+SMALL_CELLS = 10_000_000
+# The sides of tiles: with smaller ones halos and programs cost time, with larger ones memory.
+LEAST_SIDE, USUAL_SIDE, MOST_SIDE = 256, 1_024, 4_096
+# So many tiles for each worker, so that none waits long for the last one.
+TILES_EACH = 4
+# The part of the free memory that tiles may take.
+SHARE = 0.8
+# Bytes of a program and its buffers.
+PROGRAM_BYTES = 4 << 20
+# Bytes a cell that the program needs for a map without runs of equal cells, and while it clumps one.
+MAP_BYTES, CLUMP_BYTES = 4.15, 4.0
+_TEST_SIZE = "RCELL_TEST_TILES"
+
+
+@dataclass(frozen=True)
+class Work:
+    """How a call works.
+
+    Attributes
+    ----------
+    workers : int or None
+        The number of tiles that are worked on at a time; None for one for each processor.
+    resume : str or None
+        A folder that keeps the results of finished tiles.
+    size : tuple of two ints or None
+        Rows and columns of tiles, for tests: then all maps are cut.
+    """
+
+    workers: Optional[int] = None
+    resume: Optional[str] = None
+    size: Optional[tuple[int, int]] = None
+
+
+_work: contextvars.ContextVar[Work] = contextvars.ContextVar("rcell.work", default=Work())
+
+
+def work() -> Work:
+    """Return how the current call works."""
+    current = _work.get()
+    given = os.environ.get(_TEST_SIZE)
+    if given and current.size is None:
+        rows, _, cols = given.partition("x")
+        return Work(current.workers, current.resume, (int(rows), int(cols)))
+    return current
+
+
+@contextlib.contextmanager
+def working(
+    workers: Optional[int] = None,
+    resume: Any = None,
+    size: Optional[tuple[int, int]] = None,
+) -> Iterator[None]:
+    """Set how the calls in this block work; what is not given stays as it is."""
+    before = _work.get()
+    count = None if workers is None else whole_number_of("workers", workers, 1)
+    folder = None if resume is None else os.fspath(resume)
+    token = _work.set(Work(count or before.workers, folder or before.resume, size or before.size))
+    try:
+        yield
+    finally:
+        _work.reset(token)
+
+
+@dataclass(frozen=True)
+class Demand:
+    """The memory that a tile needs per cell of it, halo included.
+
+    Attributes
+    ----------
+    bytes : float
+        Bytes a cell.
+    reach : Margin
+        The halo.
+    """
+
+    bytes: float
+    reach: Margin
+
+    @classmethod
+    def of(
+        cls,
+        maps: Mapping[str, Source],
+        made: int,
+        grids: int,
+        clumps: int,
+        reach: Margin,
+    ) -> Demand:
+        """Return the demand of a script that makes some maps, of which some are clumps, and writes some."""
+        read = sum(_read_bytes(source) for source in maps.values())
+        program = MAP_BYTES * (len(maps) + made) + CLUMP_BYTES * clumps
+        # A map that is written is there twice: as it came, and in its place.
+        return cls(read + program + 8 * grids, reach)
+
+    def of_tile(self, rows: int, cols: int) -> int:
+        """Return the bytes of a tile and its program."""
+        up, down, left, right = self.reach
+        cells = (rows + up + down) * (cols + left + right)
+        return PROGRAM_BYTES + math.ceil(self.bytes * cells)
+
+
+def _read_bytes(source: Source) -> int:
+    """Return the bytes of a cell while it is read: cells of more than two bytes are checked, and copied."""
+    size = source.dtype.itemsize
+    return (size if size <= 2 else 2 * size + 3) + source.is_masked
+
+
+def is_small(maps: Mapping[str, Source]) -> bool:
+    """Return whether maps are so small that one run is the fastest way."""
+    rows, cols = shape = next(iter(maps.values())).region.shape
+    return work().size is None and rows * cols <= SMALL_CELLS and fits_one_run(shape)
+
+
+def takes_one_run(plan: Sequence[Statement], maps: Mapping[str, Source], demand: Demand) -> bool:
+    """Return whether maps that are not small take one run all the same.
+
+    A table with `-1` lists cells, which tiles cannot. Texts can't be read by parts. Tiles are no faster with one processor.
+    """
+    if any("1" in each.options for each in plan):
+        return True
+    if not all(hasattr(source, "window") for source in maps.values()):
+        return True
+    shape = next(iter(maps.values())).region.shape
+    current = work()
+    if current.size is not None or not fits_one_run(shape):
+        return False
+    workers = current.workers or processors()
+    return workers == 1 and demand.of_tile(*shape) <= free_memory() * SHARE
+
+
+def tile_size(maps: Mapping[str, Source], demand: Demand) -> tuple[tuple[int, int], int]:
+    """Return the rows and columns of tiles, and how many are worked on at a time.
+
+    Tiles are squares; bands of whole rows if the first map keeps whole rows together, since each tile would have to read them whole.
+
+    Raises
+    ------
+    OutOfMemory
+        Even the smallest tile needs more memory than is free.
+    """
+    current = work()
+    first = next(iter(maps.values()))
+    (rows, cols), workers = first.region.shape, current.workers or processors()
+    if current.size is not None:
+        return current.size, workers
+    up, down, left, right = demand.reach
+    enough = math.isqrt(rows * cols // (workers * TILES_EACH)) + 1
+    side = min(max(enough, USUAL_SIDE), MOST_SIDE)
+    room = free_memory() * SHARE
+    while side > LEAST_SIDE and demand.of_tile(side, side) * workers > room:
+        side //= 2
+    workers = min(workers, int(room // demand.of_tile(side, side)))
+    if workers < 1:
+        raise _too_little(demand.of_tile(side, side), side)
+    high, wide = getattr(first, "block_shape", (LEAST_SIDE, LEAST_SIDE))
+    if wide >= cols > side and cols + left + right <= SIDE_LIMIT:
+        return (_multiple(max(side * side // cols, 1), high), cols), workers
+    return (_multiple(side, high), _multiple(side, wide)), workers
+
+
+def _multiple(side: int, block: int) -> int:
+    """Return about a side, a multiple of the sides of blocks if these are smaller."""
+    return side if block > side else side // block * block
+
+
+def _too_little(needed: int, side: int) -> OutOfMemory:
+    free = free_memory()
+    told = f"a tile of {side} x {side} cells may need {needed:,} bytes, and {free:,} are free"
+    return OutOfMemory(f"{told}: end other programs, or take fewer maps", "arguments", 0, 3)

@@ -1,0 +1,33 @@
+# SPDX-License-Identifier: Apache-2.0 OR GPL-2.0-or-later
+"""Open rasters of threads: GDAL lets several threads read at a time, each from a dataset of its own."""
+
+from __future__ import annotations
+
+import threading
+from collections.abc import Callable
+from typing import Any
+
+__all__ = ["of_this_thread"]
+
+# A map of many files must not keep all of them open.
+MOST_OPEN = 64
+
+_here = threading.local()
+
+
+def of_this_thread(path: str, open_path: Callable[[], Any]) -> Any:
+    """Return the dataset of a path that this thread has opened, or opens now; the one used longest ago is closed if there are many.
+
+    Examples
+    --------
+    >>> of_this_thread("a", lambda: [1]) is of_this_thread("a", lambda: [1])
+    True
+    """
+    handles: dict[str, Any] = _here.__dict__.setdefault("handles", {})
+    dataset = handles.pop(path, None)
+    if dataset is None:
+        dataset = open_path()
+        while len(handles) >= MOST_OPEN:
+            del handles[next(iter(handles))]
+    handles[path] = dataset
+    return dataset

@@ -1,0 +1,496 @@
+# SPDX-License-Identifier: Apache-2.0 OR GPL-2.0-or-later
+"""Tiles of a map give what one run over the map gives: the same tables, the same cells, the same errors and warnings."""
+
+from __future__ import annotations
+
+import os
+import pathlib
+import signal
+import subprocess
+import sys
+import threading
+import time
+import warnings
+from collections.abc import Callable
+from typing import Any
+
+import numpy as np
+import pytest
+from hypothesis import given, settings
+from hypothesis import strategies as st
+from hypothesis.extra.numpy import arrays
+
+import rcell
+from rcell.core import memory, tiling
+from rcell.core.host import Host, serving
+from rcell.core.joiner import border_of
+from rcell.core.protocol import NULL
+from rcell.core.rectangles import NO_MARGIN, Rectangle
+from rcell.core.sources import ArrayMap
+from rcell.core.tile_clumps import border_text
+
+Write = Callable[..., str]
+
+METRES = {"transform": (10, 0, 500_000, 0, -20, 5_500_000), "crs": "EPSG:32632"}
+DEGREES = {"transform": (0.1, 0, 7, 0, -0.1, 53), "crs": "EPSG:4326"}
+NO_CELL = -9
+# A longer run: RCELL_MORE=40 python3 -m pytest tests/test_any_size.py
+MORE = int(os.environ.get("RCELL_MORE", "1"))
+
+some = settings(max_examples=15 * MORE, deadline=None)
+
+
+def as_tiles(call: Callable[[], Any], size: tuple[int, int], workers: int = 2) -> Any:
+    with tiling.working(workers=workers, size=size):
+        return call()
+
+
+def check_equal(found: Any, expected: Any) -> None:
+    """Compare DataFrames, Rasters, and lists of them."""
+    if isinstance(expected, rcell.Raster):
+        assert found.array.dtype == expected.array.dtype
+        assert np.array_equal(np.ma.getmaskarray(found.array), np.ma.getmaskarray(expected.array))
+        assert found.array.tolist() == expected.array.tolist()
+        assert (found.labels, found.colors) == (expected.labels, expected.colors)
+        assert (found.region, found.transform) == (expected.region, expected.transform)
+    elif hasattr(expected, "columns"):
+        assert list(found.columns) == list(expected.columns)
+        assert found.dtypes.tolist() == expected.dtypes.tolist()
+        exact = [name for name in expected.columns if expected[name].dtype != np.float64]
+        assert found[exact].equals(expected[exact])
+        for name in set(expected.columns) - set(exact):
+            assert found[name].to_numpy() == pytest.approx(
+                expected[name].to_numpy(), rel=1e-12, nan_ok=True
+            )
+    else:
+        assert len(found) == len(expected)
+        for one, other in zip(found, expected):
+            check_equal(one, other)
+
+
+@st.composite
+def cut_maps(draw: st.DrawFn, most: int = 11) -> tuple[Any, Any, tuple[int, int]]:
+    """Two maps of one shape, and the size of tiles."""
+    shape = draw(st.tuples(st.integers(1, most), st.integers(1, most)))
+    elements = st.sampled_from([1, 1, 2, 3, 300, NO_CELL])
+    first, second = (draw(arrays(np.int16, shape, elements=elements)) for _ in range(2))
+    return first, second, draw(st.tuples(st.integers(1, most), st.integers(1, most)))
+
+
+OFFSETS = st.integers(-3, 3)
+TERMS = st.one_of(
+    st.sampled_from(["a", "b", "row()", "col()", "nrows()", "ncols()", "7", "null()"]),
+    st.builds("{}[{},{}]".format, st.sampled_from("ab"), OFFSETS, OFFSETS),
+)
+EXPRESSIONS = st.recursive(
+    TERMS,
+    lambda inner: st.one_of(
+        st.builds(
+            "({} {} {})".format,
+            inner,
+            st.sampled_from("+ - * / % == < &&& |||".split()),
+            inner,
+        ),
+        st.builds("if({}, {}, {})".format, inner, inner, inner),
+        st.builds("{}({}, {})".format, st.sampled_from(["nmode", "nmax", "min"]), inner, inner),
+        st.builds("isnull({})".format, inner),
+    ),
+    max_leaves=6,
+)
+
+
+@some
+@given(
+    case=cut_maps(),
+    expression=EXPRESSIONS,
+    flags=st.sampled_from(["-c", "-cn", "-cN", "-cl", "-l", "-n", ""]),
+    after=st.sampled_from(["", " after=2,1", " after=1,*"]),
+    inputs=st.sampled_from(["a,x", "y,b", "x,y", "a,b", "k,x", "x,k"]),
+    diagonal=st.sampled_from(["", "-d "]),
+)
+def test_scripts(
+    case: Any, expression: str, flags: str, after: str, inputs: str, diagonal: str
+) -> None:
+    """With offsets, positions, rules, patches of what was made, and expressions over their numbers."""
+    first, second, size = case
+    maps = {
+        "a": rcell.Raster(first, nodata=NO_CELL),
+        "b": rcell.Raster(second, nodata=NO_CELL),
+    }
+    script = (
+        f"r.mapcalc x = {expression}\nr.reclass input=x output=y\n1 thru 3 = 1 few\n4 thru 9 = 2\n* = 3 many\nend\n"
+        f"r.clump {diagonal}input=y output=p\nr.mapcalc k = p[0,1] - p\n"
+        f"r.stats {flags} input={inputs}{after}\nr.out.ascii input=k\nr.out.ascii input=x\nr.stats -c input=p,a"
+    )
+    check_equal(as_tiles(lambda: rcell.run(script, maps), size), rcell.run(script, maps))
+
+
+def _polygons(rows: int, cols: int, place: dict[str, Any]) -> Any:
+    """Three polygons over the map; two overlap."""
+    geopandas = pytest.importorskip("geopandas")
+    from shapely.geometry import Polygon
+
+    width, _, west, _, height, north = place["transform"]
+
+    def shape(*corners: tuple[float, float]) -> Any:
+        return Polygon([(west + width * col, north + height * row) for row, col in corners])
+
+    shapes = [
+        shape((0, 0), (0, cols * 0.7), (rows, 0)),
+        shape(
+            (rows * 0.2, cols * 0.3),
+            (rows * 0.2, cols),
+            (rows, cols),
+            (rows, cols * 0.3),
+        ),
+        shape((0, cols * 0.8), (0, cols), (rows * 0.1, cols)),
+    ]
+    return geopandas.GeoDataFrame(
+        {"name": ["b", "a", "b"]}, geometry=shapes, crs=place["crs"], index=[5, 7, 9]
+    )
+
+
+ANSWERS: dict[str, Callable[[Any, Any, Any], Any]] = {
+    "composition": lambda a, b, zones: rcell.composition(a),
+    "with null": lambda a, b, zones: rcell.composition(a, b, include_null=True),
+    "by polygons": lambda a, b, zones: rcell.composition(a, zones, zone_field="name"),
+    "by each polygon": lambda a, b, zones: rcell.composition(a, zones, each=True),
+    "cross": lambda a, b, zones: rcell.cross(a=a, b=b),
+    "change": lambda a, b, zones: list(rcell.change(a, b)),
+    "zonal": lambda a, b, zones: rcell.zonal(b, a),
+    "zonal of polygons": lambda a, b, zones: rcell.zonal(b, zones),
+    "adjacency": lambda a, b, zones: rcell.adjacency(a),
+    "patches": lambda a, b, zones: rcell.patches(a),
+    "patches by corners": lambda a, b, zones: rcell.patches(a, 8, core_depth=2),
+    "some patches": lambda a, b, zones: rcell.patches(a, classes=[1, 300], min_cells=3, area=None),
+    "patches by zone": lambda a, b, zones: rcell.patches(a, zones=b),
+    "patches by polygon": lambda a, b, zones: rcell.patches(a, 8, zones=zones, zone_field="name"),
+    "majority": lambda a, b, zones: rcell.majority(a),
+    "wide majority": lambda a, b, zones: rcell.majority(b, 7, fill=True),
+    "reclass": lambda a, b, zones: rcell.reclass(a, {(1, 2): 7, 3: None}, other="keep"),
+    "clump": lambda a, b, zones: rcell.clump(a),
+    "large clumps": lambda a, b, zones: rcell.clump(b, 8, min_cells=3),
+    "clumps of classes": lambda a, b, zones: rcell.clump(b, classes=[2]),
+}
+
+
+@pytest.mark.filterwarnings("ignore::UserWarning")
+@pytest.mark.parametrize("name", ANSWERS)
+@pytest.mark.parametrize("place", [METRES, DEGREES], ids=["metres", "degrees"])
+def test_answers(name: str, place: dict[str, Any]) -> None:
+    random = np.random.default_rng(len(name))
+    for _ in range(3 * MORE):
+        shape = tuple(random.integers(2, 24, 2))
+        a, b = (
+            rcell.Raster(
+                random.choice([1, 1, 1, 2, 3, 300, NO_CELL], shape).astype(np.int16),
+                nodata=NO_CELL,
+                labels={1: "wood", 300: "lake"},
+                **place,
+            )
+            for _ in range(2)
+        )
+        zones = _polygons(*shape, place)
+        call = ANSWERS[name]
+        try:
+            expected = call(a, b, zones)
+        except rcell.Refused as error:
+            with pytest.raises(type(error), match=str(error).split("\n")[0][:40]):
+                as_tiles(lambda: call(a, b, zones), (3, 5))
+            continue
+        for size in ((3, 5), (7, 2), (1, 30), (30, 1)):
+            check_equal(as_tiles(lambda: call(a, b, zones), size), expected)
+
+
+def comb(rows: int, cols: int) -> Any:
+    """Teeth that meet in the last row alone: one patch, which is many until the last row of tiles."""
+    cells = np.full((rows, cols), 1, np.int32)
+    cells[:-1, 1::2] = 2
+    return cells
+
+
+def spiral(side: int) -> Any:
+    """A way from the corner to the middle, one cell wide."""
+    cells = np.full((side, side), 2, np.int32)
+    for ring in range(0, side // 2, 2):
+        end = side - 1 - ring
+        cells[ring, ring : end + 1] = cells[ring : end + 1, end] = 1
+        cells[end, ring : end + 1] = cells[ring + 2 : end + 1, ring] = 1
+        cells[ring + 2, ring : ring + 3] = 1
+    return cells
+
+
+SHAPES = {
+    "comb": comb(23, 21),
+    "comb on its side": comb(23, 21).T,
+    "spiral": spiral(25),
+    "checkerboard": np.add.outer(np.arange(20), np.arange(21)) % 2 + 1,
+    "diagonals": np.subtract.outer(np.arange(21), np.arange(20)) % 5,
+    "one row": comb(1, 30),
+    "null alone": np.full((6, 7), NO_CELL, np.int32),
+}
+
+
+@pytest.mark.parametrize("size", [(1, 99), (99, 1), (7, 5), (8, 8)], ids=str)
+@pytest.mark.parametrize("name", SHAPES)
+def test_shapes_that_are_hard_to_cut(name: str, size: tuple[int, int]) -> None:
+    cells = rcell.Raster(SHAPES[name], nodata=NO_CELL)
+    for connectivity in (4, 8):
+        for call in (rcell.clump, rcell.patches):
+            expected = call(cells, connectivity)
+            check_equal(as_tiles(lambda: call(cells, connectivity), size), expected)
+
+
+@some
+@given(case=cut_maps(), diagonal=st.booleans())
+def test_borders_are_those_of_rcell_join(case: Any, diagonal: bool) -> None:
+    cells, _, (top, left) = case
+    flag = "-d " if diagonal else ""
+    numbers = rcell.grid(
+        f"r.clump {flag}input=a output=k", "k", a=rcell.Raster(cells, nodata=NO_CELL)
+    )
+    place = Rectangle(top, left, *cells.shape)
+    own = np.where(cells == NO_CELL, NULL, cells.astype(np.int32))
+    text = border_text(place, own, numbers.array.filled(0), diagonal)
+    assert text == border_of(ArrayMap("a", cells, place.region, nodata_value=NO_CELL), diagonal)
+
+
+# Files and arrays
+
+
+@pytest.mark.parametrize("dtype", ["uint8", "int16", "int32", "float32", "float64"])
+@pytest.mark.parametrize("is_tiled", [False, True])
+def test_files_are_read_by_windows(raster: Write, dtype: str, is_tiled: bool) -> None:
+    cells = np.random.default_rng(3).integers(0, 200, (70, 50)).astype(dtype)
+    words = {"tiled": True, "blockxsize": 16, "blockysize": 32} if is_tiled else {}
+    path = raster(cells, nodata=7, compress="deflate", **words)
+    for size in ((16, 32), (11, 50)):
+        call = lambda: rcell.composition(path, include_null=True)  # noqa: E731
+        check_equal(as_tiles(call, size, 3), call())
+
+
+def test_files_with_rows_from_the_south_and_masks(raster: Write) -> None:
+    cells = np.random.default_rng(4).integers(0, 5, (20, 30)).astype(np.uint8)
+
+    def edit(dataset: Any) -> None:
+        dataset.write_mask(cells != 3)
+
+    path = raster(cells, transform=(10.0, 0.0, 0.0, 0.0, 10.0, 0.0), edit=edit)
+    call = lambda: rcell.patches(path)  # noqa: E731
+    check_equal(as_tiles(call, (6, 7)), call())
+
+
+def test_open_datasets_and_bands(raster: Write) -> None:
+    rasterio = pytest.importorskip("rasterio")
+    from rasterio.vrt import WarpedVRT
+
+    cells = np.random.default_rng(5).integers(0, 5, (2, 20, 30)).astype(np.uint8)
+    with rasterio.open(raster(cells)) as dataset, WarpedVRT(dataset) as warped:
+        for given in (dataset, warped):
+            call = lambda: rcell.composition(rasterio.band(given, 2))  # noqa: E731
+            check_equal(as_tiles(call, (6, 7)), call())
+
+
+def test_maps_of_gdal(raster: Write) -> None:
+    pytest.importorskip("osgeo.gdal")
+    from rcell.readers.gdal import open_raster
+
+    cells = np.random.default_rng(6).integers(0, 5, (20, 30)).astype(np.uint8)
+    source: Any = open_raster("lc", raster(cells, nodata=2))
+    call = lambda: rcell.composition(source, include_null=True)  # noqa: E731
+    check_equal(as_tiles(call, (6, 7)), call())
+
+
+def test_arrays_of_dask(raster: Write) -> None:
+    xarray = pytest.importorskip("xarray")
+    pytest.importorskip("dask.array")
+    cells = np.random.default_rng(7).integers(0, 5, (20, 30))
+    whole = xarray.DataArray(cells, dims=("y", "x"))
+    lazy = whole.chunk({"y": 6, "x": 7})
+    for call in (rcell.composition, rcell.majority, rcell.patches):
+        check_equal(as_tiles(lambda: call(lazy), (12, 14)), call(whole))
+
+
+def test_grids_of_text_take_one_run(tmp_path: pathlib.Path) -> None:
+    path = rcell.Raster(np.arange(12).reshape(3, 4)).write(tmp_path / "a.txt")
+    check_equal(as_tiles(lambda: rcell.composition(path), (2, 2)), rcell.composition(path))
+
+
+def test_cells_are_listed_in_one_run() -> None:
+    a = np.arange(12).reshape(3, 4)
+    call = lambda: rcell.run("r.stats -1 input=a,a", a=a)  # noqa: E731
+    check_equal(as_tiles(call, (2, 2)), call())
+
+
+def test_more_columns_than_one_run_has() -> None:
+    cells = np.tile(np.arange(70_000) // 10_000, (3, 1)).astype(np.uint8)
+    assert rcell.composition(cells).cells.tolist() == [30_000] * 7
+    assert rcell.patches(cells).cells.tolist() == [30_000] * 7
+    assert rcell.majority(cells).array.tolist() == cells.tolist()
+    with pytest.raises(rcell.BadMap, match="70,000 columns; this call takes up to 65,535"):
+        rcell.Raster(cells).text()
+
+
+# What goes wrong
+
+
+def test_a_bad_cell_has_its_place_in_the_full_map() -> None:
+    cells = np.ones((20, 30))
+    cells[17, 22] = 1.5
+    with pytest.raises(rcell.BadMap, match="the cell at row 18, column 23 is 1.5"):
+        as_tiles(lambda: rcell.composition(cells), (6, 7))
+
+
+def test_warnings_are_given_once_and_where_the_call_is() -> None:
+    cells = np.full((20, 30), 255, np.uint8)
+    with pytest.warns(UserWarning, match="96 of the 96 cells along its border are 255") as caught:
+        as_tiles(lambda: rcell.composition(cells), (6, 7))
+    assert [one.filename for one in caught] == [__file__]
+    large = np.full((20, 30), 2.0**25, np.float32)
+    with pytest.warns(UserWarning, match="not exact beyond") as caught:
+        as_tiles(lambda: rcell.composition(large), (6, 7))
+    assert [one.filename for one in caught] == [__file__]
+
+
+def test_too_little_memory_for_a_tile(monkeypatch: pytest.MonkeyPatch) -> None:
+    monkeypatch.setattr(tiling, "SMALL_CELLS", 100)
+    monkeypatch.setattr(tiling, "free_memory", lambda: 4_500_000)
+    with pytest.raises(rcell.OutOfMemory, match="a tile of 256 x 256 cells may need .* are free"):
+        rcell.composition(np.ones((600, 600), np.int32))
+
+
+def test_tiles_shrink_and_fewer_are_worked_on_if_memory_is_short() -> None:
+    source: Any = ArrayMap(
+        "a", np.ones((8_000, 8_000), np.uint8), rcell.Region.of_cells(8_000, 8_000)
+    )
+    demand = tiling.Demand(100.0, NO_MARGIN)
+    for free, expected in (
+        (1 << 40, (2001, 4)),
+        (1 << 30, (1000, 4)),
+        (80_000_000, (500, 2)),
+    ):
+        with pytest.MonkeyPatch.context() as patch, tiling.working(workers=4):
+            patch.setattr(tiling, "free_memory", lambda: free)
+            (rows, _), workers = tiling.tile_size({"a": source}, demand)
+            assert (rows, workers) == expected
+
+
+def test_the_number_of_workers_is_checked() -> None:
+    with pytest.raises(
+        rcell.BadArgument, match="workers must be a whole number, at least 1; got 0"
+    ):
+        rcell.composition([[1]], workers=0)
+
+
+def test_a_host_ends_the_programs_of_all_tiles() -> None:
+    class Cancelled(Exception):
+        """What the host raises."""
+
+    shares: list[float] = []
+
+    def watch() -> None:
+        if shares:
+            raise Cancelled
+
+    before = threading.active_count()
+    with serving(Host(watch=watch, progress=shares.append)), pytest.raises(Cancelled):
+        as_tiles(lambda: rcell.composition(np.ones((200, 200))), (10, 10))
+    assert threading.active_count() == before
+    assert 0 < shares[0] < 1
+
+
+def test_progress_ends_at_one() -> None:
+    shares: list[float] = []
+    with serving(Host(progress=shares.append)):
+        as_tiles(lambda: rcell.patches(np.ones((20, 20))), (10, 10))
+    assert shares == [at / 12 for at in range(1, 13)]
+
+
+def test_an_interrupt_ends_programs_and_leaves_nothing(tmp_path: pathlib.Path) -> None:
+    code = (
+        "import numpy as np, rcell\n"
+        "cells = np.random.default_rng(1).integers(0, 9, (6000, 6000)).astype(np.uint8)\n"
+        "print('ready', flush=True)\nrcell.patches(cells, core_depth=20)"
+    )
+    words = {**os.environ, "TMPDIR": str(tmp_path)}
+    with subprocess.Popen(
+        [sys.executable, "-c", code],
+        stdout=subprocess.PIPE,
+        stderr=subprocess.PIPE,
+        env=words,
+    ) as process:
+        assert process.stdout is not None and process.stdout.readline()
+        time.sleep(1)
+        process.send_signal(signal.SIGINT)
+        begun = time.monotonic()
+        _, told = process.communicate()
+        assert time.monotonic() - begun < 5
+    assert told.strip().endswith(b"KeyboardInterrupt")
+    assert not list(tmp_path.iterdir())
+    running = subprocess.run(["ps", "-o", "args=", "--ppid", str(process.pid)], capture_output=True)
+    assert b"rcell-pipe" not in running.stdout
+
+
+def test_memory_is_known() -> None:
+    assert 0 < memory.free_memory() < 1 << 50
+    assert memory.processors() >= 1
+
+
+# Results that are too large for memory
+
+
+def test_cells_of_large_maps_are_kept_in_a_file(
+    monkeypatch: pytest.MonkeyPatch, tmp_path: pathlib.Path
+) -> None:
+    monkeypatch.setattr("rcell.core.kept.free_memory", lambda: 100)
+    monkeypatch.setenv("TMPDIR", str(tmp_path))
+    cells = np.random.default_rng(8).integers(0, 500, (40, 30)).astype(np.int16)
+    for call in (rcell.majority, rcell.clump):
+        check_equal(as_tiles(lambda: call(cells), (7, 11)), call(cells))
+    assert not list(tmp_path.iterdir())
+
+
+def test_too_little_room_for_such_a_file(monkeypatch: pytest.MonkeyPatch) -> None:
+    monkeypatch.setattr("rcell.core.kept.free_memory", lambda: 100)
+    monkeypatch.setenv("TMPDIR", "/nowhere")
+    with pytest.raises(rcell.WriteFailed, match="kept in /nowhere: No such file .*; set TMPDIR"):
+        as_tiles(lambda: rcell.majority(np.ones((40, 30))), (7, 11))
+
+
+# Work that continues
+
+
+def test_finished_tiles_are_kept_and_taken_again(raster: Write, tmp_path: pathlib.Path) -> None:
+    cells = np.random.default_rng(9).integers(0, 5, (40, 30)).astype(np.uint8)
+    path, folder = raster(cells), tmp_path / "shelf"
+    expected = rcell.composition(path)
+    for script_runs in (1, 0):
+        starts: list[int] = []
+        with pytest.MonkeyPatch.context() as patch:
+            from rcell.core import protocol
+
+            run = protocol.run
+            patch.setattr(protocol, "run", lambda *a, **b: (starts.append(1), run(*a, **b))[1])
+            found = as_tiles(lambda: rcell.composition(path, resume=folder), (20, 30))
+        check_equal(found, expected)
+        assert len(starts) == 2 * script_runs
+    # Another script, or another file, is not the same work.
+    as_tiles(lambda: rcell.majority(path, resume=folder), (20, 30))
+    assert len(list(folder.iterdir())) == 4
+    raster(cells[::-1])
+    os.utime(path, (1, 1))
+    check_equal(
+        as_tiles(lambda: rcell.majority(path, resume=folder), (20, 30)),
+        rcell.majority(path),
+    )
+    assert len(list(folder.iterdir())) == 6
+    next(folder.iterdir()).write_bytes(b"broken")
+    check_equal(
+        as_tiles(lambda: rcell.composition(path, resume=folder), (20, 30)),
+        rcell.composition(path),
+    )
+
+
+def test_resume_needs_files() -> None:
+    with pytest.raises(rcell.BadArgument, match="resume needs maps in files, and map is not"):
+        as_tiles(lambda: rcell.composition([[1]], resume="nowhere"), (1, 1))
