@@ -10,7 +10,6 @@ import subprocess
 import sys
 import threading
 import time
-import warnings
 from collections.abc import Callable
 from typing import Any
 
@@ -168,6 +167,11 @@ ANSWERS: dict[str, Callable[[Any, Any, Any], Any]] = {
     "majority": lambda a, b, zones: rcell.majority(a),
     "wide majority": lambda a, b, zones: rcell.majority(b, 7, fill=True),
     "reclass": lambda a, b, zones: rcell.reclass(a, {(1, 2): 7, 3: None}, other="keep"),
+    "dominant": lambda a, b, zones: rcell.dominant(a, b),
+    "accuracy": lambda a, b, zones: list(rcell.accuracy(a, b))[:2],
+    "sieve": lambda a, b, zones: rcell.sieve(a, min_cells=4),
+    "sieve by corners": lambda a, b, zones: rcell.sieve(b, min_cells=4, connectivity=8),
+    "within": lambda a, b, zones: rcell.within(a, [300], [25, 50]),
     "clump": lambda a, b, zones: rcell.clump(a),
     "large clumps": lambda a, b, zones: rcell.clump(b, 8, min_cells=3),
     "clumps of classes": lambda a, b, zones: rcell.clump(b, classes=[2]),
@@ -194,7 +198,7 @@ def test_answers(name: str, place: dict[str, Any]) -> None:
         call = ANSWERS[name]
         try:
             expected = call(a, b, zones)
-        except rcell.Refused as error:
+        except rcell.RcellError as error:
             with pytest.raises(type(error), match=str(error).split("\n")[0][:40]):
                 as_tiles(lambda: call(a, b, zones), (3, 5))
             continue
@@ -286,8 +290,8 @@ def test_open_datasets_and_bands(raster: Write) -> None:
 
     cells = np.random.default_rng(5).integers(0, 5, (2, 20, 30)).astype(np.uint8)
     with rasterio.open(raster(cells)) as dataset, WarpedVRT(dataset) as warped:
-        for given in (dataset, warped):
-            call = lambda: rcell.composition(rasterio.band(given, 2))  # noqa: E731
+        for one in (dataset, warped):
+            call = lambda: rcell.composition(rasterio.band(one, 2))  # noqa: E731
             check_equal(as_tiles(call, (6, 7)), call())
 
 
@@ -365,9 +369,9 @@ def test_tiles_shrink_and_fewer_are_worked_on_if_memory_is_short() -> None:
     )
     demand = tiling.Demand(100.0, NO_MARGIN)
     for free, expected in (
-        (1 << 40, (2001, 4)),
-        (1 << 30, (1000, 4)),
-        (80_000_000, (500, 2)),
+        (1 << 40, (1792, 4)),
+        (1 << 30, (768, 4)),
+        (40_000_000, (250, 3)),
     ):
         with pytest.MonkeyPatch.context() as patch, tiling.working(workers=4):
             patch.setattr(tiling, "free_memory", lambda: free)
@@ -494,3 +498,138 @@ def test_finished_tiles_are_kept_and_taken_again(raster: Write, tmp_path: pathli
 def test_resume_needs_files() -> None:
     with pytest.raises(rcell.BadArgument, match="resume needs maps in files, and map is not"):
         as_tiles(lambda: rcell.composition([[1]], resume="nowhere"), (1, 1))
+
+
+# Files that are written
+
+
+@pytest.mark.parametrize("memory_cells", [0, 1 << 20])
+def test_large_maps_are_written_some_rows_at_a_time(
+    memory_cells: int, monkeypatch: pytest.MonkeyPatch, tmp_path: pathlib.Path
+) -> None:
+    rasterio = pytest.importorskip("rasterio")
+    monkeypatch.setattr("rcell.geotiff._BLOCK_CELLS", 1)
+    monkeypatch.setattr("rcell.geotiff._IN_MEMORY", memory_cells)
+    monkeypatch.setattr("rcell.core.kept.free_memory", lambda: 100)
+    cells = np.random.default_rng(10).integers(0, 5, (700, 600)).astype(np.uint8)
+    cells[:300] = 1
+    found = as_tiles(lambda: rcell.majority(rcell.Raster(cells, nodata=0, **METRES)), (256, 300))
+    expected = rcell.majority(rcell.Raster(cells, nodata=0, **METRES))
+    for name, is_cog in (("a.tif", False), ("b.tif", True), ("a.cog.tif", False)):
+        path = found.write(tmp_path / name, cog=is_cog)
+        with rasterio.open(path) as dataset:
+            assert dataset.dtypes == ("uint8",)
+            assert np.array_equal(dataset.read(1), expected.array.filled(255))
+            layout = dataset.tags(ns="IMAGE_STRUCTURE").get("LAYOUT")
+            assert layout == ("COG" if is_cog or ".cog" in name else None)
+            assert dataset.block_shapes == ([(512, 512)] if layout else [(256, 256)])
+    assert sorted(os.listdir(tmp_path)) == ["a.cog.tif", "a.tif", "b.tif"]
+
+
+def test_a_file_that_was_not_written_whole_leaves_the_old_one(
+    monkeypatch: pytest.MonkeyPatch, tmp_path: pathlib.Path
+) -> None:
+    rasterio = pytest.importorskip("rasterio")
+    path = rcell.Raster([[1, 2]]).write(tmp_path / "a.tif")
+    old = pathlib.Path(path).read_bytes()
+    monkeypatch.setattr("rcell.geotiff._IN_MEMORY", 0)
+    read = rasterio.DatasetReader.read
+    monkeypatch.setattr(rasterio.DatasetReader, "read", lambda *a, **b: read(*a, **b) + 1)
+    with pytest.raises(rcell.WriteFailed, match="rows 1 to 1 are not as they were written"):
+        rcell.Raster([[3, 4]]).write(path)
+    assert pathlib.Path(path).read_bytes() == old
+    assert os.listdir(tmp_path) == ["a.tif"]
+
+
+# Several files as one map
+
+
+def _cut(
+    raster: Write, cells: Any, places: list[tuple[int, int, int, int]], **words: Any
+) -> list[str]:
+    """Write parts of a map as files."""
+    a, _, c, _, e, f = (10.0, 0.0, 500.0, 0.0, -20.0, 900.0)
+    return [
+        raster(
+            cells[top : top + rows, left : left + cols],
+            f"part_{at}.tif",
+            (a, 0.0, c + a * left, 0.0, e, f + e * top),
+            **words,
+        )
+        for at, (top, left, rows, cols) in enumerate(places)
+    ]
+
+
+@pytest.mark.parametrize("nodata", [0, None])
+@pytest.mark.parametrize("dtype", ["uint8", "float32"])
+def test_a_list_or_a_pattern_of_files_is_one_map(
+    raster: Write, tmp_path: pathlib.Path, nodata: Any, dtype: str
+) -> None:
+    random = np.random.default_rng(11)
+    cells = random.integers(0, 4, (30, 40)).astype(dtype)
+    places = [(0, 0, 10, 20), (0, 20, 10, 20), (10, 5, 20, 35)]
+    paths = _cut(raster, cells, places, nodata=nodata)
+    is_null = np.ones(cells.shape, bool)
+    for top, left, rows, cols in places:
+        is_null[top : top + rows, left : left + cols] = False
+    is_null |= (cells == 0) & (nodata == 0)
+    place = {"transform": (10, 0, 500, 0, -20, 900), "crs": "EPSG:32632"}
+    expected = rcell.patches(rcell.Raster(np.ma.masked_array(cells, is_null), **place))
+    for files in (paths, tuple(paths), str(tmp_path / "part_*.tif"), tmp_path / "part_?.tif"):
+        check_equal(rcell.patches(files), expected)
+        check_equal(as_tiles(lambda: rcell.patches(files), (7, 9)), expected)
+    assert rcell.composition([paths[2]]).cells.sum() == (~is_null[10:, 5:]).sum()
+
+
+def test_of_files_that_overlap_the_later_has_the_cells(raster: Write) -> None:
+    first = raster(np.array([[1, 1, 1]], np.uint8), "first.tif", nodata=0)
+    second = raster(
+        np.array([[2, 0, 2]], np.uint8),
+        "second.tif",
+        (25.0, 0.0, 500_025.0, 0.0, -25.0, 5_500_000.0),
+        nodata=0,
+    )
+    with pytest.warns(UserWarning, match="first.tif and .*second.tif overlap: the later file has"):
+        assert rcell.grid("", "lc", lc=[first, second]).array.tolist() == [[1, 2, 1, 2]]
+    with pytest.warns(UserWarning, match="overlap"):
+        assert rcell.grid("", "lc", lc=[second, first]).array.tolist() == [[1, 1, 1, 2]]
+
+
+@pytest.mark.parametrize(
+    ("change", "error", "told"),
+    [
+        (
+            {"transform": (30, 0, 500, 0, -20, 900)},
+            rcell.OtherRegion,
+            "differ: cells of 30 x 20, and those",
+        ),
+        (
+            {"transform": (10, 0, 503, 0, -20, 900)},
+            rcell.OtherRegion,
+            "differ: shifted by 0 rows and -0.3",
+        ),
+        ({"crs": "EPSG:32633"}, rcell.OtherCrs, "EPSG:32633"),
+        ({"nodata": 9}, rcell.BadMap, "the nodata value is 9 in the one, and 0 in the other"),
+        ({"dtype": np.int16}, rcell.BadMap, "the type of cells is int16 in the one, and uint8"),
+    ],
+)
+def test_files_that_differ_are_named(
+    raster: Write, change: dict[str, Any], error: type[Exception], told: str
+) -> None:
+    words: dict[str, Any] = {"transform": (10, 0, 500, 0, -20, 900), "nodata": 0}
+    cells = np.ones((2, 2), np.uint8)
+    one = raster(cells, "one.tif", **words)
+    other = raster(cells.astype(change.pop("dtype", np.uint8)), "other.tif", **{**words, **change})
+    with pytest.raises(error, match="other.tif") as caught:
+        rcell.composition([one, other])
+    assert told in str(caught.value) and "one.tif" in str(caught.value)
+
+
+def test_patterns_without_a_file_and_texts_in_lists(raster: Write, tmp_path: pathlib.Path) -> None:
+    with pytest.raises(rcell.ReadFailed, match=r"cannot open: no\*.tif: no file matches it"):
+        rcell.composition("no*.tif")
+    text = rcell.Raster([[1, 2]]).write(tmp_path / "a.txt")
+    with pytest.raises(rcell.BadMap, match="a.txt is a text, and only rasters can be joined"):
+        rcell.composition([text, text])
+    named = raster(np.ones((2, 2), np.uint8), "a[1].tif")
+    assert rcell.composition(named).cells.tolist() == [4]

@@ -3,6 +3,8 @@
 
 from __future__ import annotations
 
+import warnings
+from collections.abc import Callable, Iterator
 from typing import TYPE_CHECKING, Any
 
 import numpy as np
@@ -12,6 +14,8 @@ from .core.protocol import NULL
 from .core.writing import replacing, told_of
 from .core.labels import checked_labels, write_labels
 from .core.libraries import need
+from .core.memory import processors
+from .core.tiling import work
 
 if TYPE_CHECKING:
     from .raster import Raster
@@ -21,6 +25,17 @@ __all__ = ["profile_of", "smallest_type", "write_geotiff"]
 TILE = 256
 # A file with at least so many cells may exceed 4 GB before compression.
 _BIG_FROM = 1 << 29
+# Files of up to so many cells are made in memory.
+_IN_MEMORY = 1 << 25
+# Cells that are written at a time, and bytes that GDAL may keep of them.
+_BLOCK_CELLS = 1 << 23
+_CACHE = 64 << 20
+_COG = {
+    "driver": "COG",
+    "compress": "deflate",
+    "overview_resampling": "nearest",
+    "bigtiff": "if_safer",
+}
 
 
 def smallest_type(least: int, greatest: int) -> tuple[str, int]:
@@ -59,16 +74,24 @@ def profile_of(
         "transform": affine.Affine(*transform),
         "compress": "deflate",
         "BIGTIFF": "YES" if rows * cols >= _BIG_FROM else "IF_SAFER",
+        "NUM_THREADS": str(work().workers or processors()),
     }
     if rows >= TILE and cols >= TILE:
         profile |= {"tiled": True, "blockxsize": TILE, "blockysize": TILE}
     return profile | ({} if crs is None else {"crs": crs})
 
 
-def write_geotiff(grid: Raster, path: str) -> None:
-    """Write a grid as a GeoTIFF, completely or not at all.
+def write_geotiff(grid: Raster, path: str, is_cog: bool = False) -> None:
+    """Write a grid as a GeoTIFF, completely or not at all, some rows at a time.
 
-    The compressed file is made in memory and written by Python, since the library does not report a full disk.
+    The library does not report a full disk, so a large file is read back before it gets its name.
+
+    Parameters
+    ----------
+    grid : Raster
+    path : str
+    is_cog : bool
+        Whether it is cloud optimised: tiled, with overviews by the nearest cell.
 
     Raises
     ------
@@ -78,30 +101,86 @@ def write_geotiff(grid: Raster, path: str) -> None:
         It cannot hold a label.
     """
     rasterio = need("rasterio", "gis", "to write a GeoTIFF")
-    labels = checked_labels(
-        grid.name, grid.labels
-    )  # labels of rules may have bytes that are not text
-    kept = grid.array.compressed()
-    dtype, nodata = (
-        smallest_type(int(kept.min()), int(kept.max())) if kept.size else smallest_type(0, 0)
-    )
-    cells = grid.array.astype(np.int32).filled(nodata).astype(dtype)
+    # Labels of rules may have bytes that are not text.
+    labels = checked_labels(grid.name, grid.labels)
+    dtype, nodata = smallest_type(*_range_of(grid))
     profile = profile_of(*grid.region.shape, grid.transform, grid.crs, dtype, nodata)
-    with replacing(path) as beside, told_of(path, rasterio.errors.RasterioError):
-        with need("rasterio.io", "gis", "to write a GeoTIFF").MemoryFile() as memory:
-            with memory.open(**profile) as dataset:
-                if (
-                    grid.colors and dtype == "uint8"
-                ):  # the only one of the three types with a colour table
-                    dataset.write_colormap(
-                        1,
-                        {
-                            code: tuple(bytes.fromhex(color[1:]))
-                            for code, color in grid.colors.items()
-                            if 0 <= code < nodata
-                        },
-                    )
-                dataset.write(cells, 1)
-            with open(beside, "wb") as file:
-                file.write(memory.getbuffer())
+    is_large = grid.region.rows * grid.region.cols > _IN_MEMORY
+    make = _write_cog if is_cog else _write
+    with replacing(path) as beside, told_of(
+        path, rasterio.errors.RasterioError, UnicodeEncodeError
+    ):
+        with warnings.catch_warnings(), rasterio.Env(GDAL_CACHEMAX=_CACHE):
+            warnings.simplefilter("ignore", rasterio.errors.NotGeoreferencedWarning)
+            if is_large:
+                make(grid, beside, profile)
+                _check(grid, beside, profile)
+            else:
+                _write_from_memory(grid, beside, profile, make)
         write_labels(beside, labels)
+
+
+def _write_from_memory(
+    grid: Raster, path: str, profile: dict[str, Any], make: Callable[..., None]
+) -> None:
+    """Make a file in memory and write it with Python, which reports why it cannot, and takes any path."""
+    with need("rasterio.io", "gis", "to write a GeoTIFF").MemoryFile(ext=".tif") as memory:
+        make(grid, memory.name, profile)
+        with open(path, "wb") as file:
+            file.write(memory.getbuffer())
+
+
+def _write_cog(grid: Raster, path: str, profile: dict[str, Any]) -> None:
+    """Write a grid as a plain GeoTIFF first: cloud optimised ones are copies."""
+    plain = path + ".plain.tif"
+    _write(grid, plain, profile)
+    shutil = need("rasterio.shutil", "gis", "to write a GeoTIFF")
+    shutil.copy(plain, path, **_COG, num_threads=profile["NUM_THREADS"])
+    shutil.delete(plain)
+
+
+def _write(grid: Raster, path: str, profile: dict[str, Any]) -> None:
+    dtype, nodata = profile["dtype"], profile["nodata"]
+    rasterio = need("rasterio", "gis", "to write a GeoTIFF")
+    with rasterio.open(path, "w", **profile) as dataset:
+        # Of the three types only bytes have a colour table.
+        if grid.colors and dtype == "uint8":
+            colors = {
+                code: tuple(bytes.fromhex(color[1:]))
+                for code, color in grid.colors.items()
+                if 0 <= code < nodata
+            }
+            dataset.write_colormap(1, colors)
+        for row, cells in _rows_of(grid):
+            dataset.write(cells.filled(nodata).astype(dtype), 1, window=_window(row, cells))
+
+
+def _check(grid: Raster, path: str, profile: dict[str, Any]) -> None:
+    """Raise OSError unless a file has the cells of a grid."""
+    with need("rasterio", "gis", "to write a GeoTIFF").open(path) as dataset:
+        for row, cells in _rows_of(grid):
+            expected = cells.filled(profile["nodata"]).astype(profile["dtype"])
+            if not np.array_equal(dataset.read(1, window=_window(row, cells)), expected):
+                rows = f"rows {row + 1} to {row + len(cells)}"
+                raise OSError(f"{rows} are not as they were written: the disk may be full")
+
+
+def _window(row: int, cells: Any) -> Any:
+    windows = need("rasterio.windows", "gis", "to write a GeoTIFF")
+    return windows.Window(0, row, cells.shape[1], len(cells))
+
+
+def _range_of(grid: Raster) -> tuple[int, int]:
+    """Return the smallest and the largest category, 0 and 0 if all cells are null."""
+    ends = [
+        (int(cells.min()), int(cells.max())) for _, cells in _rows_of(grid) if np.ma.count(cells)
+    ]
+    return (min(low for low, _ in ends), max(high for _, high in ends)) if ends else (0, 0)
+
+
+def _rows_of(grid: Raster) -> Iterator[tuple[int, Any]]:
+    """Yield the rows of a grid, some at a time, each with the number of the first."""
+    rows, cols = grid.region.shape
+    step = max(_BLOCK_CELLS // cols // TILE, 1) * TILE
+    for row in range(0, rows, step):
+        yield row, grid.rows(row, min(row + step, rows)).astype(np.int32)

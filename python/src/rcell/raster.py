@@ -31,6 +31,7 @@ THUMBNAIL = 320
 # With more categories, a legend cannot be read.
 LEGEND_LIMIT = 30
 _PALETTES = ("tab20", "tab20b", "tab20c")
+_COG = (".cog.tif", ".cog.tiff")
 
 
 class Raster:
@@ -109,11 +110,36 @@ class Raster:
         >>> rcell.Raster([[1, 1], [2, 0]], nodata=0).array.tolist()
         [[1, 1], [2, None]]
         """
+        return self._masked(0, self.region.rows)
+
+    def rows(self, first: int, end: int) -> Any:
+        """Return some rows of `array`; rows of a map that is larger than memory are read from its file.
+
+        Parameters
+        ----------
+        first, end : int
+            The first row, from 0, and the row after the last.
+
+        Returns
+        -------
+        numpy.ma.MaskedArray
+            These rows.
+
+        Examples
+        --------
+        >>> import rcell
+        >>> rcell.Raster([[1, 1], [2, 0]], nodata=0).rows(1, 2).tolist()
+        [[2, None]]
+        """
+        return self.array[first:end] if "array" in vars(self) else self._masked(first, end)
+
+    def _masked(self, first: int, end: int) -> Any:
         source = self._source
-        is_null = null_cells(source.array, source.null, source.nodata_value)
+        cells, null = source.array[first:end], source.null
+        is_null = null_cells(cells, None if null is None else null[first:end], source.nodata_value)
         if source.is_narrow:
-            return np.ma.MaskedArray(np.where(is_null, np.int32(NULL), source.array), is_null)
-        return np.ma.MaskedArray(source.array, is_null)
+            cells = np.where(is_null, np.int32(NULL), cells)
+        return np.ma.MaskedArray(cells, is_null)
 
     @property
     def shape(self) -> tuple[int, int]:
@@ -189,7 +215,7 @@ class Raster:
         found: list[int] = np.unique(self.array.compressed()).tolist()
         return found
 
-    def write(self, path: str | os.PathLike[str]) -> str:
+    def write(self, path: str | os.PathLike[str], *, cog: bool = False) -> str:
         """Write the map to a file, completely or not at all.
 
         Parameters
@@ -198,6 +224,8 @@ class Raster:
             `.tif` or `.tiff` for a GeoTIFF (compressed, of the smallest type that holds the categories and nodata) with transform,
             reference system, nodata, labels as category names and colours as a colour table; `.txt` for an rcell grid, which GRASS
             also reads. An existing file is replaced.
+        cog : bool
+            Whether a GeoTIFF is cloud optimised, with overviews; so it is if its name ends in `.cog.tif`.
 
         Returns
         -------
@@ -230,7 +258,7 @@ class Raster:
         if text.lower().endswith((".tif", ".tiff")):
             from .geotiff import write_geotiff
 
-            write_geotiff(self, text)
+            write_geotiff(self, text, cog or text.lower().endswith(_COG))
         elif text.lower().endswith(".txt"):
             write_beside(text, self.text())
         else:

@@ -426,9 +426,15 @@ def _write_maps(targets: Sequence[str], make: Callable[[], list[Any]]) -> None:
         parts = [files.enter_context(replacing(path)) for path in targets]
         for raster, path, part in zip(maps, targets, parts):
             try:
-                _write_map(raster, part, os.path.splitext(path)[1].lower())
+                _write_map(raster, part, _map_ending(path))
             except WriteFailed as error:
                 raise WriteFailed(str(error).replace(part, path)) from None
+
+
+def _map_ending(path: str) -> str:
+    """Return the ending of a map; a cloud optimised GeoTIFF has `.cog.tif`."""
+    stem, ending = os.path.splitext(path.lower())
+    return f".cog{ending}" if stem.endswith(".cog") else ending
 
 
 def _write_map(raster: Any, path: str, ending: str) -> None:
@@ -444,7 +450,8 @@ def _write_map(raster: Any, path: str, ending: str) -> None:
             figure = raster.plot().figure
             figure.savefig(path, format=ending[1:], bbox_inches="tight", dpi=150)
     else:
-        importlib.import_module("rcell.geotiff").write_geotiff(raster, path)
+        write = importlib.import_module("rcell.geotiff").write_geotiff
+        write(raster, path, ending.startswith(".cog"))
 
 
 def _told(path: str) -> contextlib.AbstractContextManager[None]:

@@ -6,7 +6,7 @@ from __future__ import annotations
 import contextlib
 import hashlib
 import os
-from collections.abc import Callable, Mapping, Sequence
+from collections.abc import Callable, Mapping
 from dataclasses import dataclass
 from typing import Any, Optional
 
@@ -21,7 +21,8 @@ from .writing import replacing, told_of
 
 __all__ = ["Shelf"]
 
-Results = Sequence[NDArray[Any]]
+# What a map is of its files: its band, and what is null.
+_DETAILS = ("layer", "band", "null_ranges", "file_nodata")
 
 
 @dataclass(frozen=True)

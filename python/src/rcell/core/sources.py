@@ -63,8 +63,8 @@ _ROUNDED = (
 
 Cells = NDArray[Any]
 Mask = NDArray[np.bool_]
-# A map of a call: a path, an array, an array with its place, a Raster, a DataArray, or a dataset or band of rasterio.
-MapLike = Union[str, "os.PathLike[str]", ArrayLike, tuple[Any, Any], "Source", Any]
+# A map of a call: a path, a list or a pattern of paths, an array, an array with its place, a Raster, a DataArray, or a dataset or band of rasterio.
+MapLike = Union[str, "os.PathLike[str]", "list[str]", ArrayLike, tuple[Any, Any], "Source", Any]
 
 
 @dataclass(frozen=True)
@@ -491,9 +491,6 @@ def array_map(
     BadMap
         It is not an array of two dimensions, or its place is not upright.
     """
-    if isinstance(given, (list, tuple)) and given and isinstance(given[0], (str, os.PathLike)):
-        told = "a list of files, and a map is one: join them first, for example with gdalbuildvrt all.vrt"
-        raise BadMap(name, f"{told} {' '.join(map(os.fspath, given[:2]))}")
     try:
         array, null = unmasked(given)
     except ValueError as error:
@@ -540,7 +537,7 @@ def source_of(name: str, given: Any) -> Source:
     Parameters
     ----------
     name : str
-    given : path, array, masked array, (array, region or transform), Raster, DataArray, dataset or band of rasterio
+    given : path, list or pattern of paths, array, masked array, (array, region or transform), Raster, DataArray, dataset or band of rasterio
 
     Raises
     ------
@@ -554,9 +551,15 @@ def source_of(name: str, given: Any) -> Source:
         source = given.source(name)
         return source
     if isinstance(given, (str, os.PathLike)):
+        from .mosaics import is_pattern, open_pattern
         from .text_grids import open_path
 
-        return open_path(name, given)
+        path = os.fsdecode(given)
+        return open_pattern(name, path) if is_pattern(path) else open_path(name, given)
+    if _are_paths(given):
+        from .mosaics import open_files
+
+        return open_files(name, given)
     module = type(given).__module__.partition(".")[0]
     if module == "rasterio":
         from ..readers.rasterio import open_raster
@@ -573,6 +576,15 @@ def source_of(name: str, given: Any) -> Source:
     if isinstance(given, (np.ndarray, list)):
         return array_map(name, given)
     raise BadMap(name, f"neither a path nor an array nor a raster, but a {type(given).__name__}")
+
+
+def _are_paths(given: Any) -> bool:
+    """Return whether a map is given as the files that have its parts."""
+    return (
+        isinstance(given, (list, tuple))
+        and bool(given)
+        and all(isinstance(one, (str, os.PathLike)) for one in given)
+    )
 
 
 _NAME = re.compile(r"[A-Za-z_][A-Za-z0-9_.]{0,63}")
