@@ -116,7 +116,8 @@ def _returning(
     def wrap(make: Callable[Words, Made]) -> Callable[Words, Returned]:
         @functools.wraps(make)
         def call(*words: Words.args, **named: Words.kwargs) -> Returned:
-            with working(named.pop("workers", None), named.pop("resume", None)):
+            options: Any = named
+            with working(options.pop("workers", None), options.pop("resume", None)):
                 return convert(make(*words, **named))
 
         call.__annotations__ = {**make.__annotations__, **_WORK_TYPES, "return": kind}

@@ -52,6 +52,9 @@ ENDINGS = {
 }
 PICTURES = (".png", ".svg", ".pdf")
 MAPS = (".tif", ".tiff", ".txt", ".asc", *PICTURES)
+# The options of commands that count, and the commands that have none of them.
+_WORK = ("workers", "resume", "dry_run")
+_WITHOUT_WORK = ("convert", "explain")
 BAD_INPUT, COMMAND_LINE, MEMORY, FILES, INTERRUPTED = 1, 2, 3, 4, 130
 LONGEST_NAME = 255  # bytes of the name of a file
 
@@ -135,7 +138,8 @@ def _parser() -> tuple[_Parser, dict[str, _Parser]]:
     for name, command in COMMANDS.items():
         found[name] = commands.add_parser(name, description=f"Writes {command.does}.")
         found[name].set_defaults(run=command.run, options=command.options.split())
-        for word in (*command.words.split(), *command.options.split()):
+        work = () if name in _WITHOUT_WORK else _WORK
+        for word in (*command.words.split(), *command.options.split(), *work):
             option, settings = OPTIONS[word]
             found[name].add_argument(option, **settings)
     return parser, found
@@ -681,8 +685,8 @@ def _status_of(given: list[str]) -> int:
     settings = _parsed(given)
     settings.given = {}
     try:
-        with _writing_a_table(settings.__dict__.get("out")):
-            return settings.run(settings) or 0
+        with _writing_a_table(settings.__dict__.get("out")), _working(settings):
+            return _run_command(settings)
     except RcellError as error:
         if isinstance(error, (OtherRegion, OtherCrs)):
             error.advice = _align_words(error, settings.given)
@@ -704,6 +708,30 @@ def _status_of(given: list[str]) -> int:
     except OSError as error:
         _tell(": ".join(str(part) for part in (error.filename, error.strerror or error) if part))
         return FILES
+
+
+def _working(settings: argparse.Namespace) -> contextlib.AbstractContextManager[None]:
+    """Set how large maps are worked on, as the options say."""
+    given = {name: settings.__dict__.get(name) for name in _WORK}
+    if not any(value is not None and value is not False for value in given.values()):
+        return contextlib.nullcontext()
+    working: Any = importlib.import_module("rcell.core.tiling").working
+    how: contextlib.AbstractContextManager[None] = working(
+        given["workers"], given["resume"], is_dry=bool(given["dry_run"])
+    )
+    return how
+
+
+def _run_command(settings: argparse.Namespace) -> int:
+    """Run a command, or print how it would run."""
+    if not settings.__dict__.get("dry_run"):
+        return settings.run(settings) or 0
+    dry_run = importlib.import_module("rcell.core.tiling").DryRun
+    try:
+        return settings.run(settings) or 0
+    except dry_run as plan:
+        emit(str(plan))
+        return 0
 
 
 def _warn(text: str) -> None:

@@ -214,6 +214,22 @@ OPTIONS: dict[str, tuple[str, dict[str, Any]]] = {
         "--like",
         {"metavar": "MAP", "help": "takes the reference system and the extent of this map"},
     ),
+    "workers": (
+        "--workers",
+        {
+            "type": int,
+            "metavar": "N",
+            "help": "tiles of large maps at a time; one for each processor if not given",
+        },
+    ),
+    "resume": (
+        "--resume",
+        {"metavar": "DIR", "help": "keeps finished tiles there, and takes those that are there"},
+    ),
+    "dry_run": (
+        "--dry-run",
+        {"action": "store_true", "help": "prints tiles, memory and reading; runs nothing"},
+    ),
     "outs": (
         "--out",
         {

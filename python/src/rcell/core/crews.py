@@ -69,7 +69,7 @@ class Crew:
         self, do: Callable[[Rectangle], Made], places: Sequence[Rectangle]
     ) -> Iterator[tuple[int, Made]]:
         """Yield what a function returns of each place, with the index of the place, as it comes."""
-        running: dict[Future[Made], int] = {}
+        running: dict[Future[Any], int] = {}
         waiting = iter(enumerate(places))
         while True:
             while len(running) < self._ahead and (following := next(waiting, None)):
@@ -81,7 +81,7 @@ class Crew:
                 yield running.pop(future), future.result()
                 self._step()
 
-    def _run(self, do: Callable[[Rectangle], Made], place: Rectangle) -> Made:
+    def _run(self, do: Callable[[Rectangle], Any], place: Rectangle) -> Any:
         """Work on a tile in a thread, for a host that collects warnings: the caller's host gets them at the end."""
         caller = dataclasses.replace(
             self._caller,
@@ -91,7 +91,7 @@ class Crew:
             started=None,
         )
 
-        def run() -> Made:
+        def run() -> Any:
             with serving(caller):
                 self._check()
                 return do(place)
@@ -102,7 +102,7 @@ class Crew:
         if self._stop.is_set():
             raise _Stopped
 
-    def _ended(self, running: dict[Future[Made], int]) -> set[Future[Made]]:
+    def _ended(self, running: dict[Future[Any], int]) -> set[Future[Any]]:
         """Return the tiles that have ended; what watches the call is asked meanwhile."""
         while True:
             if self._caller.watch is not None:

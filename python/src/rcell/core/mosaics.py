@@ -69,7 +69,8 @@ def open_files(name: str, paths: Sequence[Any]) -> Source:
             raise BadMap(name, f"{path} is a text, and only rasters can be joined: convert it")
         sources.append(source)
     if len(sources) == 1:
-        return replace(sources[0], name=name)
+        only: Source = replace(sources[0], name=name)
+        return only
     crs = common_crs({source.name: source.crs for source in sources})
     first = sources[0]
     shifts = [_shift_of(name, first, source) for source in sources]
@@ -172,10 +173,10 @@ class MosaicMap:
     @property
     def is_masked(self) -> bool:
         """Whether its blocks have masks: if a file has one, or there may be gaps and no value is null."""
-        has_gaps = sum(part.place.cells for part in self.parts) < np.prod(self.region.shape)
-        has_gaps = has_gaps or bool(self.overlaps)
+        rows, cols = self.region.shape
+        may_have_gaps = bool(self.overlaps) or sum(at.cells for _, at in self.parts) < rows * cols
         return any(part.source.is_masked for part in self.parts) or (
-            self.nodata is None and bool(has_gaps)
+            self.nodata is None and may_have_gaps
         )
 
     @property

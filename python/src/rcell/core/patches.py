@@ -163,8 +163,7 @@ def clump(
     listed = classes_of(classes)
     run = Run(clump_line(connectivity), {"map": source_of("map", map)}, {}, crs)
     if fewest == 1 and listed is None:
-        [numbers] = run.maps(["patch"])
-        return dataclasses.replace(numbers, labels={}, colors={})
+        return dataclasses.replace(run.maps(["patch"])[0], labels={}, colors={})
     run.script += "\nr.stats -c -n input=patch,map"
     stats, numbers = run.outputs(["patch"])
     assert isinstance(stats, Stats) and isinstance(numbers, ArrayMap) and stats.cells is not None
@@ -179,6 +178,7 @@ def clump(
 def _leave_out(numbers: ArrayMap, kept: NDArray[np.bool_]) -> None:
     """Make the cells of patches that are not kept null, some rows at a time."""
     null = numbers.nodata_value
+    assert null is not None
     step = max(1, BLOCK_CELLS // numbers.region.cols)
     for row in range(0, numbers.region.rows, step):
         part = numbers.array[row : row + step]

@@ -91,12 +91,14 @@ def execute(
     OutOfMemory, Killed, MissingProgram, WrongProgram
     """
     from .tile_runs import demand_of, run_tiles
-    from .tiling import is_small, takes_one_run
+    from .tiling import DryRun, describe, is_small, takes_one_run, work
 
     lines = "\n".join([script, *(f"r.out.ascii input={name}" for name in wanted)])
-    if not is_small(maps):
+    if not is_small(maps) or work().is_dry:
         plan = planned(lines, maps, program=program)
         demand = demand_of(plan, maps)
+        if work().is_dry:
+            raise DryRun(describe(plan, maps, demand))
         if not takes_one_run(plan, maps, demand):
             _tell_host(script, maps)
             outputs = run_tiles(plan, maps, demand)

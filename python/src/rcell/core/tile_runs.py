@@ -121,7 +121,7 @@ class _Tiles:
         script = TileScript.of(
             [each for each in plan if each.made not in self._maps], outputs, self._maps
         )
-        sums = [
+        sums: list[TableSum | _Grid] = [
             TableSum(len(each.inputs)) if each.command == "r.stats" else _Grid(self._shape)
             for each in outputs
         ]

@@ -92,7 +92,7 @@ class TileScript:
                 for name, margin in each.reads.items()
             ]
             found[each.made] = Margin(*(max(sides) for sides in zip(NO_MARGIN, *margins)))
-            widest = Margin(*map(max, widest, found[each.made]))
+            widest = Margin(*(max(sides) for sides in zip(widest, found[each.made])))
         return widest
 
     @property

@@ -63,7 +63,7 @@ def _added(rows: Integers) -> Integers:
         return ordered
     differs = (ordered[1:, :-1] != ordered[:-1, :-1]).any(axis=1)
     first = np.concatenate([[0], np.flatnonzero(differs) + 1])
-    found = ordered[first]
+    found: Integers = ordered[first]
     found[:, -1] = np.add.reduceat(ordered[:, -1], first)
     return found
 
@@ -78,7 +78,7 @@ def order_of(classes: Integers) -> NDArray[np.intp]:
     """Return the order of rows of classes, null last; rows that are equal stay in their order."""
     keys = np.zeros(len(classes), np.int64)
     span = 1
-    for column in classes.T[::-1] if len(classes) else ():
+    for column in list(classes.T[::-1]) if len(classes) else []:
         is_null = column == NULL
         low, high = int(column[~is_null].min(initial=0)), int(column[~is_null].max(initial=0))
         size = high - low + 2

@@ -8,7 +8,7 @@ import contextvars
 import math
 import os
 from collections.abc import Iterator, Mapping, Sequence
-from dataclasses import dataclass
+from dataclasses import dataclass, replace
 from typing import Any, Optional
 
 from .arguments import whole_number_of
@@ -20,6 +20,7 @@ from .sources import Source
 
 __all__ = [
     "Demand",
+    "DryRun",
     "Work",
     "is_small",
     "takes_one_run",
@@ -55,11 +56,14 @@ class Work:
         A folder that keeps the results of finished tiles.
     size : tuple of two ints or None
         Rows and columns of tiles, for tests: then all maps are cut.
+    is_dry : bool
+        Whether the call ends with a `DryRun` when it would begin to read.
     """
 
     workers: Optional[int] = None
     resume: Optional[str] = None
     size: Optional[tuple[int, int]] = None
+    is_dry: bool = False
 
 
 _work: contextvars.ContextVar[Work] = contextvars.ContextVar("rcell.work", default=Work())
@@ -71,7 +75,7 @@ def work() -> Work:
     given = os.environ.get(_TEST_SIZE)
     if given and current.size is None:
         rows, _, cols = given.partition("x")
-        return Work(current.workers, current.resume, (int(rows), int(cols)))
+        return replace(current, size=(int(rows), int(cols)))
     return current
 
 
@@ -80,16 +84,53 @@ def working(
     workers: Optional[int] = None,
     resume: Any = None,
     size: Optional[tuple[int, int]] = None,
+    is_dry: bool = False,
 ) -> Iterator[None]:
     """Set how the calls in this block work; what is not given stays as it is."""
     before = _work.get()
     count = None if workers is None else whole_number_of("workers", workers, 1)
     folder = None if resume is None else os.fspath(resume)
-    token = _work.set(Work(count or before.workers, folder or before.resume, size or before.size))
+    token = _work.set(
+        Work(
+            count or before.workers,
+            folder or before.resume,
+            size or before.size,
+            is_dry or before.is_dry,
+        )
+    )
     try:
         yield
     finally:
         _work.reset(token)
+
+
+class DryRun(Exception):
+    """Says how a call would work, in place of its result; the argument is a text."""
+
+
+def describe(plan: Sequence[Statement], maps: Mapping[str, Source], demand: Demand) -> str:
+    """Return how a script over maps would run: its tiles, their memory, and what is read."""
+    rows, cols = next(iter(maps.values())).region.shape
+    lines = [f"{rows:,} rows and {cols:,} columns: {rows * cols:,} cells"]
+    if is_small(maps) or takes_one_run(plan, maps, demand):
+        lines.append(f"one run, at most {_megabytes(demand.of_tile(rows, cols))}")
+    else:
+        (high, wide), workers = tile_size(maps, demand)
+        high, wide = min(high, rows), min(wide, cols)
+        tiles = -(-rows // high) * -(-cols // wide)
+        memory = _megabytes(demand.of_tile(high, wide))
+        lines.append(f"{tiles:,} tiles of up to {high:,} x {wide:,} cells, at most {memory} each")
+        lines.append(f"{workers} tiles at a time; {_megabytes(free_memory())} of memory are free")
+    clumps = sum(each.command == "r.clump" for each in plan)
+    for name, source in maps.items():
+        size = _megabytes(rows * cols * source.dtype.itemsize)
+        times = f"{1 + clumps} times" if clumps else "once"
+        lines.append(f"{name}: {size} of {source.dtype}, read {times}")
+    return "\n".join(lines) + "\n"
+
+
+def _megabytes(count: int) -> str:
+    return f"{-(-count // 1_000_000):,} MB"
 
 
 @dataclass(frozen=True)
