@@ -4,14 +4,13 @@
 
 Sixteen rasters of one place go through one call of a package, and their cells come back with the labels of one of them. A raster that is no
 map must be rejected, by row and column if a cell is bad, and so must maps of two places. Of r.rcell its own part is tried, from the
-numbers that GRASS hands out to the text of a grid; `shell` is `rcell-gis convert` and rcell; `tiles` writes one map of each call by tiles.
+numbers that GRASS hands out to the text of a grid; `shell` is `rcell-gis convert` and rcell; `tiles` is Python by tiles.
 Progress comes every 5,000 rasters; a group is made again by --seed and --from. The last line is 'N passed, M failed, K skipped'.
 """
 
 from __future__ import annotations
 
 import argparse
-import functools
 import json
 import os
 import pathlib
@@ -349,22 +348,11 @@ def answer_of_python(asked: Asked) -> Answer:
     return [categories.to_numpy(np.int64), found[1].array.filled(NULL)], found[1].labels
 
 
-@functools.cache
-def cluster() -> Any:
-    import distributed
-
-    return distributed.Client(processes=False, dashboard_address=None)  # type: ignore[no-untyped-call]
-
-
 def answer_of_tiles(asked: Asked) -> Answer:
-    import rcell.tiles
+    from rcell.core.tiling import working
 
-    made, size = f"{asked.paths[0]}.tiled.tif", (asked.rows // 2 + 1, asked.cols // 3 + 1)
-    with rcell.tiles.open({"m0": asked.paths[0]}, size=size, scheduler=cluster()) as mosaic:
-        mosaic.grid("r.mapcalc made = m0", made)
-    dataset = gdal.Open(made)
-    is_null = dataset.GetRasterBand(1).GetMaskBand().ReadAsArray() == 0
-    return [np.where(is_null, NULL, dataset.ReadAsArray().astype(np.int64))] * 2, {}
+    with working(workers=2, size=(asked.rows // 2 + 1, asked.cols // 3 + 1)):
+        return answer_of_python(asked)
 
 
 def answer_of_qgis(asked: Asked) -> Answer:
@@ -377,7 +365,7 @@ def answer_of_qgis(asked: Asked) -> Answer:
         for name, path in zip(asked.names, asked.paths)
     }
     table, grid = Run(asked.script, maps, {}).outputs()
-    return [table.categories, np.where(grid.null, NULL, grid.array)], grid.labels
+    return [table.categories, grid.filled(NULL)], grid.labels
 
 
 def answer_of_grass(asked: Asked) -> Answer:
@@ -553,9 +541,7 @@ def try_group(
             if made.cells is not None:
                 made.cells.tofile(f"{made.path}.cells")
     for front in fronts:
-        mine = [made for made in rasters if front.name != "grass" or not made.reason][
-            : 1 if front.name == "tiles" else GROUP
-        ]
+        mine = [made for made in rasters if front.name != "grass" or not made.reason]
         good = [made for made in mine if not made.reason_in(front.name)]
         if good:
             front.judge(place, good, number % len(good))

@@ -1,6 +1,6 @@
 #!/bin/sh
 # What the gate runs of the Python package, on bin/rcell: the tests that need numpy alone, of rasters and files at the edge, of the seven
-# calls and rcell-gis next to their peers, and of DataArrays by tiles next to one run.
+# calls and rcell-gis next to their peers, and of tiles next to one run.
 # The last line is 'N passed, M failed, K skipped'.
 cd "$(dirname "$0")/.." || exit 1
 room=$(mktemp -d) || exit 1
@@ -19,11 +19,11 @@ elif ! has 'numpy, pandas'; then
     skip python 'numpy or pandas is not installed' python3-numpy python3-pandas
 else
     add 'with numpy alone' "$python" tests/gate.py
-    if has 'pytest, hypothesis, rasterio, osgeo, pandas, xarray, rioxarray, zarr, distributed, tqdm, psutil, cryptography, pyproj, fiona, geopandas, matplotlib, numpydoc, scipy' && command -v grass > /dev/null; then
+    if has 'pytest, hypothesis, rasterio, osgeo, pandas, xarray, rioxarray, zarr, dask.array, tqdm, pyproj, fiona, geopandas, matplotlib, numpydoc, scipy' && command -v grass > /dev/null; then
         add 'at the edge' "$python" tests/gate.py tests/test_gdal.py tests/test_edge.py tests/test_edge_files.py
         add 'the calls' "$python" tests/gate.py tests/test_last_mile.py tests/test_shell.py tests/test_shell_texts.py tests/test_inputs.py tests/test_grass.py
         add 'zones, legends, areas and arguments' "$python" tests/gate.py tests/test_zones.py tests/test_legends.py tests/test_areas.py tests/test_arguments.py tests/test_more_answers.py
-        add 'with Dask' "$python" tests/gate.py tests/tiles/test_dask.py tests/tiles/test_memory.py
+        add 'any size' "$python" tests/gate.py tests/test_any_size.py tests/test_xarray.py
         add 'random rasters by tiles' "$python" ../fronts/random_rasters.py --count 320 tiles
     else
         # shellcheck disable=SC2046

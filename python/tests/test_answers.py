@@ -103,11 +103,11 @@ def test_labels_of_rules_and_of_maps() -> None:
 
 def test_without_xarray_and_matplotlib() -> None:
     code = (
-        "import sys\nfor name in ('matplotlib', 'xarray', 'distributed'): sys.modules[name] = None\nimport numpy as np, rcell\n"
+        "import sys\nfor name in ('matplotlib', 'xarray'): sys.modules[name] = None\nimport numpy as np, rcell\n"
         "import importlib.util as u\nfind = u.find_spec\nu.find_spec = lambda name: None if name in ('matplotlib', 'xarray') else find(name)\n"
         "lc = rcell.Raster(np.array([[1, 2]]), labels={1: '<b>'})\nprint('pandas' in sys.modules)\n"
         "print(rcell.grid('', 'lc', lc=lc)._repr_html_())\n"
-        "for call in (lambda: rcell.tiles, rcell.grid('', 'lc', lc=lc).to_xarray, rcell.grid('', 'lc', lc=lc).plot):\n"
+        "for call in (rcell.grid('', 'lc', lc=lc).to_xarray, rcell.grid('', 'lc', lc=lc).plot):\n"
         "    try: call()\n    except rcell.MissingLibrary as e: print(e.library)\n"
     )
     ran = subprocess.run(
@@ -119,7 +119,6 @@ def test_without_xarray_and_matplotlib() -> None:
     assert ran.stdout.splitlines() == [
         "False",
         "<p><b>lc</b>: 1 rows, 2 columns, 2 categories</p>",
-        "distributed",
         "xarray",
         "matplotlib",
     ], ran.stderr

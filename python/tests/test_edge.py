@@ -7,7 +7,6 @@ import gc
 import importlib
 import os
 import pathlib
-import subprocess
 import sys
 import time
 import xml.etree.ElementTree as ElementTree
@@ -559,15 +558,7 @@ def test_a_refusal_says_what_to_write(script: str, column: int | None, advice: s
 
 
 def test_all_errors_are_of_one_tree() -> None:
-    tiles = pytest.importorskip("rcell.tiles")
-    for error in (
-        tiles.ClusterFailed,
-        tiles.TooManyCells,
-        tiles.WorkerLost,
-        tiles.TooLittleMemory,
-        rcell.OtherCrs,
-    ):
-        assert issubclass(error, rcell.RcellError)
+    assert issubclass(rcell.OtherCrs, rcell.RcellError)
     assert "x86-64-v2" in str(rcell.Killed(4))
 
 
@@ -575,17 +566,6 @@ def test_a_pivot_tells_classes_of_one_label_apart() -> None:
     labelled = rcell.Raster([[1, 2, 3, 0]], nodata=0, labels={1: "x", 2: "x", 3: "null"})
     matrix = rcell.table("r.stats -cl input=a,b", a=labelled, b=labelled, pivot=True)
     assert matrix.index.tolist() == ["x (1)", "x (2)", "null (3)", "null"]
-
-
-def test_modules_without_their_libraries(monkeypatch: pytest.MonkeyPatch) -> None:
-    code = (
-        "import sys; sys.modules['scipy'] = sys.modules['psutil'] = None; from rcell import *; import rcell, numpy\n"
-        "try: rcell.tiles\nexcept rcell.MissingLibrary as error: print(error.library)\n"
-    )
-    ran = subprocess.run(
-        [sys.executable, "-c", code], capture_output=True, text=True, env=environment(), check=False
-    )
-    assert (ran.stdout.split(), ran.stderr) == (["psutil"], "")
 
 
 def environment(**words: str) -> dict[str, str]:

@@ -694,7 +694,7 @@ def test_an_attribute_table_has_labels_and_colours(raster: Write) -> None:
 
 def test_docstrings_are_whole() -> None:
     validate = pytest.importorskip("numpydoc.validate").validate
-    names = [name for name in rcell.__all__ if not name.startswith("__") and name != "tiles"]
+    names = [name for name in rcell.__all__ if not name.startswith("__")]
     names += [
         f"{name}.{member}"
         for name in names

@@ -21,15 +21,14 @@ NEEDS = {
     "xarray": (".to_xarray()", "xarray."),
     "matplotlib": (".plot(", ".picture(", "matplotlib"),
     "affine": ("profile_of(",),
-    "dask": ("tiles",),
-    "rasterio": ("rasterio", "tiles", "EPSG:"),
+    "rasterio": ("rasterio", "EPSG:"),
 }
 
 MODULES = {
     "rcell.readers.gdal": ("osgeo",),
     "rcell.readers.osr": ("osgeo",),
     "rcell.readers.pyproj": ("pyproj",),
-    "rcell.xarray": ("xarray", "distributed"),
+    "rcell.xarray": ("xarray",),
 }
 
 
@@ -37,12 +36,12 @@ def examples() -> list[doctest.DocTest]:
     found: list[doctest.DocTest] = []
     for module in pkgutil.walk_packages(rcell.__path__, "rcell."):
         is_run = all(has(library) for library in MODULES.get(module.name, ()))
-        if is_run and not module.ispkg and not module.name.startswith("rcell.tiles"):
+        if is_run and not module.ispkg:
             found += doctest.DocTestFinder(exclude_empty=True).find(
                 importlib.import_module(module.name), extraglobs={"np": np}
             )
     for name in rcell.__all__:
-        named = getattr(rcell, name, None) if name != "tiles" else None
+        named = getattr(rcell, name, None)
         if inspect.isclass(named) and named.__module__ == "rcell":
             found += doctest.DocTestFinder(exclude_empty=True).find(
                 named, f"rcell.{name}", module=False, globs={"np": np}
@@ -87,7 +86,7 @@ class Examples(unittest.TestCase):
             )
 
     def test_each_public_name_has_a_docstring_with_an_example(self) -> None:
-        for name in set(rcell.__all__) - {"MapLike", "__version__", "tiles"}:
+        for name in set(rcell.__all__) - {"MapLike", "__version__"}:
             public = getattr(rcell, name)
             members = (
                 [

@@ -70,7 +70,7 @@ class ErrorsArePickled(unittest.TestCase):
             rcell.WrongProgram("another"),
             rcell.Killed(9),
             rcell.WriteFailed("full"),
-            rcell.MissingLibrary("dask", "tiles", "to"),
+            rcell.MissingLibrary("rasterio", "gis", "to"),
         ):
             again = pickle.loads(pickle.dumps(error))
             self.assertIs(type(again), type(error))

@@ -65,7 +65,6 @@ __all__ = [
 if TYPE_CHECKING:
     from typing import Any
 
-    from . import tiles
     from ._version import __version__
     from .core.accuracy import Accuracy
     from .core.align import Aligned
@@ -113,8 +112,6 @@ if TYPE_CHECKING:
     from .raster import Raster
     from .readers.bands import bands
     from .versions import show_versions
-
-    __all__ += ["tiles"]
 
 # Each name is imported when it is first used: the command line reads and explains files without numpy.
 _MODULES = {
@@ -173,8 +170,6 @@ def __getattr__(name: str) -> Any:
     """Import a name when it is first used."""
     import importlib
 
-    if name == "tiles":
-        return importlib.import_module(".tiles", __name__)
     if name not in _MODULE_OF:
         raise AttributeError(f"module {__name__!r} has no attribute {name!r}")
     value = getattr(importlib.import_module(_MODULE_OF[name], __name__), name)
@@ -183,4 +178,4 @@ def __getattr__(name: str) -> Any:
 
 
 def __dir__() -> list[str]:
-    return sorted({*globals(), *_MODULE_OF, "tiles"})
+    return sorted({*globals(), *_MODULE_OF})

@@ -5,9 +5,9 @@ from __future__ import annotations
 
 import sys
 
-from .shell import emit, main, script_of
+from .shell import main
 
-__all__ = ["emit", "main", "script_of"]
+__all__ = ["main"]
 
 if __name__ == "__main__":
     sys.exit(main())

@@ -630,13 +630,6 @@ COMMANDS = {
         "",
         _explain,
     ),
-    "tiles": Command(
-        "COMMAND",
-        "tables and maps by tiles, of maps that are larger than memory",
-        "",
-        "",
-        lambda _: None,
-    ),
 }
 
 
@@ -676,9 +669,6 @@ def _end_on_interrupt(*_: Any) -> None:
 
 def _status_of(given: list[str]) -> int:
     """Run a command line, and return its status; errors become a line on standard error."""
-    if given[:1] == ["tiles"]:
-        begin_work()  # a cluster
-        return int(importlib.import_module("rcell.tiles._command").main(given[1:]))
     if given == ["--version"]:
         emit(f"{NAME} {importlib.import_module('rcell').__version__}\n")
         return 0

@@ -1,8 +1,8 @@
 # SPDX-License-Identifier: Apache-2.0 OR GPL-2.0-or-later
 """`import rcell.xarray` gives the DataArrays and Datasets of xarray an accessor, `.rcell`.
 
-A DataArray is a map under its own name, or `map` if it has none; a Dataset has its variables as maps. Expressions over cells that Dask
-holds are computed chunk by chunk, with the client that is current, and are lazy as well; the other calls read the chunks one by one.
+A DataArray is a map under its own name, or `map` if it has none; a Dataset has its variables as maps. Cells that Dask holds are computed
+window by window, with the client that is current. Expressions over them are lazy as well.
 """
 
 from __future__ import annotations
@@ -16,8 +16,9 @@ from .core.change import Change
 from .core.errors import BadArgument, BadMap, MissingLibrary
 from .core.protocol import NULL
 from .core.runs import planned
-from .core.sources import MapLike, named_once
+from .core.sources import MapLike, named_once, sources_of
 from .raster import Raster
+from .readers.lazy import lazy_cells
 from .readers.xarray import data_array, flat_of, is_lazy, variables_of
 
 try:
@@ -58,7 +59,6 @@ class Accessor:
         else:
             is_name = given.name is not None and _NAME.fullmatch(str(given.name))
             self._maps = {given.name if is_name else "map": given}
-        self._is_lazy = any(map(is_lazy, self._maps.values()))
 
     def composition(self, zones: Any = None, **options: Any) -> pandas.DataFrame:
         """Count the cells of each class, with areas and percentages; see `rcell.composition`.
@@ -277,8 +277,7 @@ class Accessor:
             4 connects cells that share an edge, 8 also those that share a corner.
         classes : iterable of int, optional
         min_cells : int, optional
-            Only patches of these classes, and with at least so many cells; for all patches of chunks of Dask, the result is lazy too,
-            and null is 0.
+            Only patches of these classes, and with at least so many cells.
         **options
             As in `rcell.clump`.
 
@@ -293,10 +292,7 @@ class Accessor:
         >>> xarray.DataArray(np.array([[1, 1, 2], [3, 2, 2]]), dims=("y", "x")).rcell.clump().values.tolist()
         [[1, 1, 2], [3, 2, 2]]
         """
-        only = self._only()
-        if self._is_lazy and classes is None and min_cells is None and not options:
-            return self._mosaic().clump(next(iter(self._maps)), connectivity=connectivity)
-        return self._like(frames.clump(only, connectivity, classes, min_cells, **options))
+        return self._like(frames.clump(self._only(), connectivity, classes, min_cells, **options))
 
     def table(
         self,
@@ -335,8 +331,6 @@ class Accessor:
         0       1      1      1
         1       1      2      1
         """
-        if self._is_lazy:
-            return self._mosaic(crs, more).table(script, area, percent, compute=False).compute()
         maps = named_once(self._maps, more)
         return frames.table(script, maps, area=area, percent=percent, crs=crs)
 
@@ -355,7 +349,8 @@ class Accessor:
         Returns
         -------
         DataArray
-            Of int32, with the dimensions and coordinates of the first map; null is -2147483648, which its attribute `_FillValue` says.
+            Of int32, with the dimensions and coordinates of the first map; null is -2147483648, which its attribute `_FillValue` says. If
+            Dask holds the cells of all maps, and the script has no r.clump, Dask computes the result too, in the chunks of the first map.
 
         Examples
         --------
@@ -363,15 +358,27 @@ class Accessor:
         >>> xarray.DataArray(np.array([[1, 1, 2]]), dims=("y", "x")).rcell.grid("edge = if(map != map[0,1], map, 0)").values.tolist()
         [[0, 1, -2147483648]]
         """
-        if self._is_lazy:
-            return self._mosaic(crs, more).grid(script)
         maps = named_once(self._maps, more)
         is_script = script.lstrip().startswith(("r.", "#"))
         text = script if is_script else f"r.mapcalc {script.strip()}"
         plan = planned(text, maps)
         if not plan or not plan[-1].made:
             raise BadArgument("script", f"must make a map in its last line; got {script!r}")
-        return self._like(frames.grid(text, plan[-1].made, maps, crs=crs))
+        name = plan[-1].made
+        is_local = not any(statement.command == "r.clump" for statement in plan)
+        if is_local and all(map(is_lazy, maps.values())):
+            return self._lazy(f"{text}\nr.out.ascii input={name}", maps, crs)
+        return self._like(frames.grid(text, name, maps, crs=crs))
+
+    def _lazy(self, text: str, maps: dict[str, Any], crs: Any) -> Any:
+        """Return the map that a script writes, as Dask computes it when it is asked for."""
+        sources: Any
+        sources, common = sources_of(maps, crs)
+        first = next(iter(sources.values()))
+        plan = planned(text, maps)
+        cells = lazy_cells(plan, sources, first.array.chunks)
+        name, labels = plan[-2].made, plan[-2].labels
+        return data_array(cells, first.transform, common, labels, name, like=first.array)
 
     def _only(self) -> Any:
         names = list(self._maps)
@@ -386,13 +393,6 @@ class Accessor:
         like = flat_of("map", next(iter(self._maps.values()))).array
         cells = made.array.filled(NULL)
         return data_array(cells, made.transform, made.crs, made.labels, made.name, like=like)
-
-    def _mosaic(self, crs: Any = None, more: Any = None) -> Any:
-        from .tiles._engine import Engine
-        from .tiles._sheet import open_maps
-        from .tiles.mosaic import Mosaic
-
-        return Mosaic(open_maps(named_once(self._maps, more or {}), crs), None, Engine(None))
 
 
 for _register in (xarray.register_dataarray_accessor, xarray.register_dataset_accessor):

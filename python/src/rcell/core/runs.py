@@ -16,15 +16,15 @@ from .host import host
 from .programs import Path, find_pipe, program_errors
 from .protocol import NULL
 from .region import CELL_LIMIT, SIDE_LIMIT, fits_one_run
-from .sources import ArrayMap, Source
+from .sources import Source
 
 __all__ = [
     "Output",
     "check_size",
     "entries_of",
     "execute",
+    "execute_once",
     "grid_text",
-    "grids",
     "planned",
     "printed",
 ]
@@ -103,6 +103,17 @@ def execute(
             _tell_host(script, maps)
             outputs = run_tiles(plan, maps, demand)
             return _numbered(outputs, len(wanted))
+    return execute_once(script, maps, wanted=wanted, program=program)
+
+
+def execute_once(
+    script: str,
+    maps: Mapping[str, Source],
+    *,
+    wanted: Sequence[str] = (),
+    program: Path | None = None,
+) -> list[Output]:
+    """Run a script over maps in one run; all else is as in `execute`."""
     frames = _frames(script, maps, wanted, program)
     return _numbered([_output(frame) for frame in frames], len(wanted))
 
@@ -123,23 +134,6 @@ def printed(script: str, maps: Mapping[str, Source], *, program: Path | None = N
         return b"".join(
             protocol.text(path, _sent(maps), protocol.script_bytes(script), watch=host().watch)
         )
-
-
-def grids(script: str, maps: Mapping[str, Source], wanted: Sequence[str]) -> list[ArrayMap]:
-    """Return maps of a script that writes nothing, of the type in which the program sends them; all else is as in `execute`."""
-    region = next(iter(maps.values())).region
-    frames = (
-        frame for frame in _frames(script, maps, wanted) if isinstance(frame, protocol.GridFrame)
-    )
-    return [
-        ArrayMap(
-            frame.name,
-            np.asarray(frame.cells).reshape(region.shape),
-            region,
-            nodata_value=frame.null,
-        )
-        for frame in frames
-    ]
 
 
 def grid_text(source: Source) -> bytes:

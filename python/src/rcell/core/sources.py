@@ -555,6 +555,10 @@ def source_of(name: str, given: Any) -> Source:
         from .text_grids import open_path
 
         path = os.fsdecode(given)
+        if path.rstrip("/").endswith(".zarr"):
+            from ..readers.xarray import open_zarr
+
+            return open_zarr(name, path)
         return open_pattern(name, path) if is_pattern(path) else open_path(name, given)
     if _are_paths(given):
         from .mosaics import open_files

@@ -14,7 +14,6 @@ from typing import Any, Optional
 import numpy as np
 
 from .arrays import NDArray
-from .counts import numbers_of
 from .joiner import numbering_of
 from .protocol import NULL
 from .rectangles import Rectangle
@@ -31,9 +30,6 @@ LEAST_WIDTH = 4
 
 PIECE = 2**18
 """So many cells at a time are given their numbers: little memory besides, and within the cache of a processor."""
-
-FIELDS = 4
-"""The numbers of a line of the numbering: a tile, its first clump and its last, and the number of the first in the full map."""
 
 
 @dataclass(frozen=True, eq=False)
@@ -130,8 +126,7 @@ def join(borders: Sequence[bytes], diagonal: bool = False) -> Joined:
     >>> whole.clumps, renumber(np.array([[1, 1]]), whole.tiles[1]).tolist()
     (1, [[1, 1]])
     """
-    text = numbering_of(borders, diagonal)
-    runs = numbers_of(text, FIELDS)
+    runs = numbering_of(borders, diagonal)
     ends = np.searchsorted(runs[:, 0], np.arange(1, len(borders) + 2))
     tiles = [
         TileNumbers(

@@ -26,7 +26,7 @@ def bands(raster: Any, /, **numbers: int) -> dict[str, Any]:
     Returns
     -------
     dict
-        A mapping of maps, as `run`, `table`, `grid` and `rcell.tiles.open` take it.
+        A mapping of maps, as `run`, `table` and `grid` take it.
 
     Raises
     ------

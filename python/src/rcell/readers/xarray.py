@@ -12,7 +12,7 @@ import numpy as np
 from ..core.protocol import NULL
 
 from ..core.crs import wkt_of
-from ..core.errors import BadMap
+from ..core.errors import BadMap, ReadFailed
 from ..core.labels import flags_of
 from ..core.libraries import need
 from ..core.sources import (
@@ -36,6 +36,7 @@ __all__ = [
     "flat_of",
     "is_lazy",
     "layers_of",
+    "open_zarr",
     "series_of",
     "source_of_data_array",
     "variables_of",
@@ -198,6 +199,20 @@ def source_of_data_array(name: str, array: Any) -> DataArrayMap:
     else:
         region = in_region(name, Region.from_transform, transform, *flat.shape)
     return DataArrayMap(name, flat, region, transform or region.transform, crs, nodata, labels)
+
+
+def open_zarr(name: str, path: str) -> DataArrayMap:
+    """Return the only map of a Zarr store, as it is stored: xarray would make floats of whole numbers with a nodata value."""
+    xarray = need("xarray", "xarray", "to read Zarr")
+    need("zarr", "xarray", "to read Zarr")
+    try:
+        found = variables_of(xarray.open_zarr(path, mask_and_scale=False))
+    except (OSError, ValueError, KeyError) as error:
+        raise ReadFailed(name, f"cannot open: {path}: {error}") from None
+    if len(found) != 1:
+        told = f"a store of {len(found)} maps ({', '.join(found)}): give one"
+        raise BadMap(name, f"{told}, as xarray.open_zarr(path, mask_and_scale=False)[name]")
+    return source_of_data_array(name, *found.values())
 
 
 def variables_of(dataset: Any) -> dict[str, Any]:
