@@ -162,6 +162,10 @@ ANSWERS: dict[str, Callable[[Any, Any, Any], Any]] = {
     "patches": lambda a, b, zones: rcell.patches(a),
     "patches by corners": lambda a, b, zones: rcell.patches(a, 8, core_depth=2),
     "some patches": lambda a, b, zones: rcell.patches(a, classes=[1, 300], min_cells=3, area=None),
+    "summary of patches": lambda a, b, zones: rcell.patches(a, summary="class"),
+    "summary of some": lambda a, b, zones: rcell.patches(
+        b, 8, summary="class", classes=[1, 3], min_cells=2, area=None
+    ),
     "patches by zone": lambda a, b, zones: rcell.patches(a, zones=b),
     "patches by polygon": lambda a, b, zones: rcell.patches(a, 8, zones=zones, zone_field="name"),
     "majority": lambda a, b, zones: rcell.majority(a),
@@ -204,6 +208,25 @@ def test_answers(name: str, place: dict[str, Any]) -> None:
             continue
         for size in ((3, 5), (7, 2), (1, 30), (30, 1)):
             check_equal(as_tiles(lambda: call(a, b, zones), size), expected)
+
+
+@pytest.mark.parametrize("place", [METRES, DEGREES], ids=["metres", "degrees"])
+def test_a_summary_is_the_summary_of_the_patches(place: dict[str, Any]) -> None:
+    cells = np.random.default_rng(12).choice([1, 1, 2, 3, NO_CELL], (40, 30)).astype(np.int16)
+    raster = rcell.Raster(cells, nodata=NO_CELL, **place)
+    grouped = rcell.patches(raster, 8).groupby("class")
+    found = rcell.patches(raster, 8, summary="class").set_index("class")
+    assert found.patches.tolist() == grouped.size().tolist()
+    assert found.cells.tolist() == grouped.cells.sum().tolist()
+    for name, expected in (
+        ("area_ha", grouped.area_ha.sum()),
+        ("largest_ha", grouped.area_ha.max()),
+        ("mean_ha", grouped.area_ha.mean()),
+    ):
+        assert found[name].tolist() == pytest.approx(expected.tolist(), rel=1e-12)
+    for words in ({"summary": "all"}, {"summary": "class", "zones": raster}):
+        with pytest.raises(rcell.BadArgument, match="summary must be"):
+            rcell.patches(raster, **words)
 
 
 def comb(rows: int, cols: int) -> Any:

@@ -550,7 +550,7 @@ COMMANDS = {
         "MAP...",
         "the patches of a map: connected cells of one class",
         "maps",
-        f"connectivity classes min_cells core_depth {_ZONES} each_zone labels area {_TABLE}",
+        f"connectivity classes min_cells core_depth summary {_ZONES} each_zone labels area {_TABLE}",
         _of_each,
     ),
     "zonal": Command(

@@ -132,6 +132,10 @@ OPTIONS: dict[str, tuple[str, dict[str, Any]]] = {
         {"type": float, "metavar": "HA", "help": "the smallest area of a patch in hectares"},
     ),
     "drop": ("--drop", {"action": "store_true", "help": "leaves small patches out"}),
+    "summary": (
+        "--summary",
+        {"choices": ["class"], "help": "a row for each class in place of each patch"},
+    ),
     "core_depth": (
         "--core-depth",
         {"type": int, "metavar": "N", "help": "steps from the border of a patch to its core"},

@@ -14,6 +14,8 @@ from .arguments import check_connectivity, classes_of, whole_number_of
 from .arrays import NDArray
 from .columns import Column, Table
 from .counting import Maps, places_of
+from .errors import BadArgument
+from .patch_summary import class_summary
 from .protocol import NULL
 from .scripts import Run, Stats
 from .sources import BLOCK_CELLS, ArrayMap, MapLike, source_of
@@ -41,6 +43,7 @@ def patches(
     zone_field: str | None = None,
     layer: str | None = None,
     each: bool = False,
+    summary: str | None = None,
     crs: Any = None,
 ) -> Table:
     """List the patches of a map: connected cells of one class, with the numbers of r.clump.
@@ -66,6 +69,8 @@ def patches(
         As in `composition`.
     each : bool
         Whether polygons that overlap are taken one after another, as in `composition`.
+    summary : {"class"}, optional
+        Returns a row for each class in place of each patch, without making the table of patches, which may be too large for memory.
     crs : any, optional
         The reference system of maps that have none.
 
@@ -74,7 +79,8 @@ def patches(
     pandas.DataFrame
         Columns `patch`, `class`, `label`, `cells`, `area_ha`, `perimeter_m`, `core_ha`, `west`, `south`, `east`, `north`, and with zones
         `zone` and `zone_label`. The perimeter includes sides to other patches, to null and along the map's edge; in degrees it is NaN,
-        with a warning, and so it is without a reference system.
+        with a warning, and so it is without a reference system. With a summary `class`, `label`, `patches`, `cells`, `area_ha`,
+        `largest_ha`, `mean_ha`, or without areas `largest_cells` and `mean_cells`.
 
     Raises
     ------
@@ -97,8 +103,13 @@ def patches(
     depth = whole_number_of("core_depth", core_depth, 1, MOST_CORE_DEPTH)
     fewest = 1 if min_cells is None else whole_number_of("min_cells", min_cells, 1)
     listed = classes_of(classes)
+    if summary is not None and (summary != "class" or zones is not None):
+        told = "must be left out with zones" if summary == "class" else 'must be "class"'
+        raise BadArgument("summary", f"{told}; got {summary!r}")
     maps = Maps({"map": map}, crs, zones, zone_field, layer, each)
     measure = maps.measure(area)
+    if summary is not None:
+        return class_summary(maps, clump_line(connectivity), measure, listed, fewest, labels)
     by_row = measure.by_row is not None
     script = _script(connectivity, listed, depth, zones is not None, by_row)
     sides, core, by_rows, by_cols, *in_zones = maps.tables(script, once=4)

@@ -4,7 +4,7 @@
 from __future__ import annotations
 
 from dataclasses import dataclass, replace
-from typing import Any, Iterable, Iterator, Mapping, Sequence
+from typing import Any, Callable, Iterable, Iterator, Mapping, Sequence
 
 import numpy as np
 
@@ -62,6 +62,7 @@ def execute(
     *,
     wanted: Sequence[str] = (),
     program: Path | None = None,
+    fold: Callable[[NDArray[Any], NDArray[Any]], None] | None = None,
 ) -> list[Output]:
     """Run a script over maps of one region: in one run, or by tiles if the maps are large, with equal outputs.
 
@@ -76,6 +77,9 @@ def execute(
         Maps of the script, which has been planned, whose cells are returned after its outputs.
     program : path, optional
         Of rcell-pipe.
+    fold : callable, optional
+        Gets the table of the script, which has one r.clump and one r.stats, tile by tile as it comes, with the numbers of patches that
+        may be in other tiles too. Then the table is not among the outputs.
 
     Returns
     -------
@@ -101,9 +105,13 @@ def execute(
             raise DryRun(describe(plan, maps, demand))
         if not takes_one_run(plan, maps, demand):
             _tell_host(script, maps)
-            outputs = run_tiles(plan, maps, demand)
+            outputs = run_tiles(plan, maps, demand, fold)
             return _numbered(outputs, len(wanted))
-    return execute_once(script, maps, wanted=wanted, program=program)
+    outputs = execute_once(script, maps, wanted=wanted, program=program)
+    if fold is None:
+        return outputs
+    fold(outputs[0].values, np.empty(0, np.int64))
+    return []
 
 
 def execute_once(

@@ -7,7 +7,7 @@ the given maps. That tiles give the same is proved in the crate `cell_parts` of 
 
 from __future__ import annotations
 
-from collections.abc import Mapping, Sequence
+from collections.abc import Callable, Mapping, Sequence
 from dataclasses import dataclass, replace
 from typing import Any
 
@@ -36,6 +36,7 @@ from .tiling import Demand, tile_size, work
 __all__ = ["demand_of", "run_tiles"]
 
 Integers = NDArray[Any]
+Fold = Callable[[Integers, Integers], None]
 
 
 def demand_of(plan: Sequence[Statement], maps: Mapping[str, Source]) -> Demand:
@@ -51,7 +52,10 @@ def _outputs_of(plan: Sequence[Statement]) -> list[Statement]:
 
 
 def run_tiles(
-    plan: Sequence[Statement], maps: Mapping[str, Source], demand: Demand
+    plan: Sequence[Statement],
+    maps: Mapping[str, Source],
+    demand: Demand,
+    fold: Fold | None = None,
 ) -> list[Output]:
     """Return the outputs of a script over maps of one region, by tiles.
 
@@ -62,6 +66,8 @@ def run_tiles(
     maps : mapping of str to Source
         All of them have `window`.
     demand : Demand
+    fold : callable, optional
+        As in `execute`.
 
     Raises
     ------
@@ -83,7 +89,7 @@ def run_tiles(
         tiles = _Tiles(crew, dict(maps), places, shape)
         for clump in clumps:
             tiles.add_clumps(plan, clump)
-        found = tiles.outputs(plan, outputs) if outputs else []
+        found = tiles.outputs(plan, outputs, fold) if outputs else []
         tiles.finish()
     return found
 
@@ -116,8 +122,10 @@ class _Tiles:
         for watch in self._watches.values():
             watch.finish()
 
-    def outputs(self, plan: Sequence[Statement], outputs: Sequence[Statement]) -> list[Output]:
-        """Return the outputs of the statements that need no clumps of their own."""
+    def outputs(
+        self, plan: Sequence[Statement], outputs: Sequence[Statement], fold: Fold | None
+    ) -> list[Output]:
+        """Return the outputs of statements, once the maps of clumps are known."""
         script = TileScript.of(
             [each for each in plan if each.made not in self._maps], outputs, self._maps
         )
@@ -132,12 +140,24 @@ class _Tiles:
             return self._shelf.kept(text, place, lambda: self._results(text, place, outer, outputs))
 
         for at, results in self._crew.each(made, self._places):
+            if fold is not None:
+                fold(results[0], self._open_clumps(plan, self._places[at]))
+                continue
             for total, result in zip(sums, results):
                 if isinstance(total, TableSum):
                     total.add(result)
                 else:
                     total.put(self._places[at], result)
-        return [_output(each, total) for each, total in zip(outputs, sums)]
+        return [] if fold else [_output(each, total) for each, total in zip(outputs, sums)]
+
+    def _open_clumps(self, plan: Sequence[Statement], place: Rectangle) -> Integers:
+        """Return the clumps that may continue outside a tile: those along its sides."""
+        [clump] = [each.made for each in plan if each.command == "r.clump"]
+        source = self._maps[clump]
+        assert isinstance(source, ArrayMap)
+        own = place.part_of(self._full, source.array)
+        sides: Integers = np.concatenate([own[0], own[-1], own[:, 0], own[:, -1]])
+        return np.unique(sides)
 
     def _results(
         self,
