@@ -20,7 +20,7 @@ HERE = pathlib.Path(__file__).resolve().parent
 REPOSITORY = HERE.parent
 # The modules of the Python package that the plugin carries: the core, and what reads with GDAL's own Python.
 ENGINE = re.compile(
-    r"python/src/rcell/(core/[a-z_]+\.(?:py|json)|readers/(?:__init__|gdal|ogr|osr)\.py)"
+    r"python/src/rcell/(core/[a-z_]+\.(?:py|json)|readers/(?:__init__|gdal|handles|ogr|osr)\.py)"
 )
 KINDS = (".json", ".model3", ".py", ".svg", ".txt")
 

@@ -23,7 +23,6 @@ __all__ = [
     "geotiff",
     "land_and_zones",
     "land_cover",
-    "land_cover_array",
     "noise",
     "runs_of",
     "spiral",
@@ -52,27 +51,6 @@ def land_cover(path: Path, side: int) -> None:
             dataset.write(
                 _land_cover(rows, np.arange(side)), 1, window=Window(0, top, side, len(rows))
             )
-
-
-def land_cover_array(side: int, chunk: int) -> Any:
-    """The same map as a DataArray of Dask, of which each chunk is made when it is needed: no file has its cells."""
-    import cloudpickle  # type: ignore[import]
-    import dask.array
-    import xarray
-
-    cloudpickle.register_pickle_by_value(sys.modules[__name__])  # workers do not have this module
-    along = dask.array.arange(side, chunks=chunk)
-    cells = dask.array.map_blocks(
-        lambda *place: _land_cover(*place),
-        along[:, None],
-        along[None, :],
-        dtype=np.uint8,
-        meta=np.empty((0, 0), np.uint8),
-    )
-    centres = 25 * (np.arange(side) + 0.5)
-    return xarray.DataArray(
-        cells, {"y": centres[::-1], "x": centres}, ("y", "x"), "lc", {"_FillValue": 0}
-    )
 
 
 def _land_cover(rows: npt.NDArray[Any], cols: npt.NDArray[Any]) -> Cells:

@@ -29,7 +29,7 @@ from .resuming import Shelf
 from .runs import Output, entries_of
 from .sources import MAX_CATEGORY, ArrayMap, Source
 from .tile_clumps import NO_CLUMP, Joined, border_text, join, renumber
-from .tile_scripts import TileScript, is_diagonal
+from .tile_scripts import TileScript, is_counted, is_diagonal
 from .tile_tables import TableSum
 from .tiling import Demand, tile_size, work
 
@@ -130,7 +130,9 @@ class _Tiles:
             [each for each in plan if each.made not in self._maps], outputs, self._maps
         )
         sums: list[TableSum | _Grid] = [
-            TableSum(len(each.inputs)) if each.command == "r.stats" else _Grid(self._shape)
+            TableSum(len(each.inputs), is_counted(each))
+            if each.command == "r.stats"
+            else _Grid(self._shape)
             for each in outputs
         ]
 
@@ -168,11 +170,12 @@ class _Tiles:
     ) -> list[Integers]:
         """Return the tables and maps of a tile, without its halo."""
         frames = self._frames(text, place, outer)
+        halo = outer.cells - place.cells
         return [
             _cells_of(frame, place, outer)
             if isinstance(frame, GridFrame)
-            else _counted(entries_of(frame), outer.cells - place.cells)
-            for frame in frames
+            else _counted(entries_of(frame), halo if is_counted(each) else 0)
+            for frame, each in zip(frames, outputs)
         ]
 
     def add_clumps(self, plan: Sequence[Statement], clump: Statement) -> None:
@@ -310,5 +313,5 @@ def _output(statement: Statement, total: TableSum | _Grid) -> Output:
     if isinstance(total, _Grid):
         return Output("r.out.ascii", line, statement.inputs, total.cells)
     values, has_counts = total.table(), "c" in options
-    values = values if has_counts else values[:, :-1]
+    values = values if has_counts else values[:, : len(statement.inputs)]
     return Output("r.stats", line, statement.inputs, values, has_counts, "l" in options)

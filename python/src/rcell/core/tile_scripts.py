@@ -11,7 +11,7 @@ from string import ascii_lowercase
 from .protocol import NULL, Margin, Statement
 from .rectangles import NO_MARGIN, Rectangle
 
-__all__ = ["TileScript", "is_diagonal"]
+__all__ = ["TileScript", "is_counted", "is_diagonal"]
 
 
 def _short_names(taken: Iterable[str]) -> Iterator[str]:
@@ -31,10 +31,16 @@ def _with_calls(statement: Statement, written: Mapping[str, str]) -> str:
 
 
 def _counting(stats: Statement, inputs: Sequence[str]) -> str:
-    """Return the line of an r.stats over other maps, which counts, and prints no labels."""
-    flags = "".join(sorted({*stats.options, "c"} - {"l"}))
+    """Return the line of an r.stats over other maps, without labels, and with counts if these or `halo_cells` are needed."""
+    more = {"c"} if is_counted(stats) else set()
+    flags = "".join(sorted({*stats.options, *more} - {"l"}))
     after = ",".join("*" if category == NULL else str(category) for category in stats.after)
     return f"r.stats -{flags} input={','.join(inputs)}{after and f' after={after}'}"
+
+
+def is_counted(stats: Statement) -> bool:
+    """Return whether tiles count the cells of a table: if it has counts, or null in all maps, which also the cells of a halo are."""
+    return "c" in stats.options or not {"n", "N"} & {*stats.options}
 
 
 @dataclass(frozen=True)

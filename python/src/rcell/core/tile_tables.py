@@ -3,6 +3,8 @@
 
 from __future__ import annotations
 
+import sys
+
 import numpy as np
 
 from .arrays import NDArray
@@ -15,15 +17,18 @@ Integers = NDArray[np.int64]
 # So many rows of tiles wait before they are added up.
 _WAITING = 1 << 20
 _LIMIT = 2**62
+# Adding up is worth while if so large a part of the rows is left, or a smaller one.
+_SHRUNK = 0.8
 
 
 class TableSum:
-    """The sum of tables, each of combinations of categories in ascending order and their numbers of cells.
+    """The sum of tables, each of combinations of categories in ascending order, and their numbers of cells if these are counted.
 
     Parameters
     ----------
     maps : int
         The number of maps.
+    is_counted : bool
 
     Examples
     --------
@@ -34,15 +39,16 @@ class TableSum:
     [[1, 10], [5, 7], [-2147483648, 1]]
     """
 
-    def __init__(self, maps: int) -> None:
-        self._parts = [np.empty((0, maps + 1), np.int64)]
-        self._rows = self._summed = 0
+    def __init__(self, maps: int, is_counted: bool = True) -> None:
+        self._is_counted = is_counted
+        self._parts = [np.empty((0, maps + is_counted), np.int64)]
+        self._rows, self._most = 0, _WAITING
 
     def add(self, table: Integers) -> None:
         """Add the table of a tile."""
         self._parts.append(table)
         self._rows += len(table)
-        if self._rows > max(2 * self._summed, _WAITING):
+        if self._rows > self._most:
             self._sum()
 
     def table(self) -> Integers:
@@ -52,20 +58,28 @@ class TableSum:
 
     def _sum(self) -> None:
         if len(self._parts) > 1:
-            self._parts = [_added(np.concatenate(self._parts))]
-        self._rows = self._summed = len(self._parts[0])
+            self._parts = [_added(np.concatenate(self._parts), self._is_counted)]
+        before, self._rows = self._rows, len(self._parts[0])
+        # If few combinations are in several tiles, adding them up before the end saves no memory.
+        is_worth_it = self._rows < _SHRUNK * before
+        self._most = max(2 * self._rows, _WAITING) if is_worth_it else sys.maxsize
 
 
-def _added(rows: Integers) -> Integers:
+def _added(rows: Integers, is_counted: bool) -> Integers:
     """Return rows in order, with equal combinations added."""
-    ordered = rows[order_of(rows[:, :-1])]
-    if not len(ordered):
-        return ordered
-    differs = (ordered[1:, :-1] != ordered[:-1, :-1]).any(axis=1)
+    columns = np.ascontiguousarray(rows.T)
+    maps = len(columns) - is_counted
+    columns = columns[:, _order_of_columns(columns[:maps])]
+    if not columns.shape[1]:
+        return columns.T
+    differs = np.zeros(columns.shape[1] - 1, np.bool_)
+    for column in columns[:maps]:
+        differs |= column[1:] != column[:-1]
     first = np.concatenate([[0], np.flatnonzero(differs) + 1])
-    found: Integers = ordered[first]
-    found[:, -1] = np.add.reduceat(ordered[:, -1], first)
-    return found
+    found: Integers = columns[:, first]
+    if is_counted:
+        found[-1] = np.add.reduceat(columns[-1], first)
+    return found.T
 
 
 def in_order(table: Integers) -> Integers:
@@ -76,22 +90,23 @@ def in_order(table: Integers) -> Integers:
 
 def order_of(classes: Integers) -> NDArray[np.intp]:
     """Return the order of rows of classes, null last; rows that are equal stay in their order."""
-    keys = np.zeros(len(classes), np.int64)
+    return _order_of_columns(np.ascontiguousarray(classes.T))
+
+
+def _order_of_columns(columns: Integers) -> NDArray[np.intp]:
+    """Return the order of rows by their columns, the first of which counts most."""
+    keys = np.zeros(columns.shape[1], np.int64)
     span = 1
-    for column in list(classes.T[::-1]) if len(classes) else []:
+    for column in list(columns[::-1]) if keys.size else []:
         is_null = column == NULL
         low, high = int(column[~is_null].min(initial=0)), int(column[~is_null].max(initial=0))
         size = high - low + 2
         if span * size >= _LIMIT:
-            return _lexical_order(classes)
+            ordered = np.where(columns == NULL, np.iinfo(np.int64).max, columns)
+            lexical: NDArray[np.intp] = np.lexsort(ordered[::-1])
+            return lexical
         keys += span * np.where(is_null, size - 1, column - low)
         span *= size
     # Tables of tiles are runs in ascending order, which this sort merges.
     order: NDArray[np.intp] = np.argsort(keys, kind="stable")
-    return order
-
-
-def _lexical_order(classes: Integers) -> NDArray[np.intp]:
-    ordered = np.where(classes == NULL, np.iinfo(np.int64).max, classes)
-    order: NDArray[np.intp] = np.lexsort(ordered.T[::-1])
     return order
