@@ -36,7 +36,7 @@ NO_CELL = -9
 # A longer run: RCELL_MORE=40 python3 -m pytest tests/test_any_size.py
 MORE = int(os.environ.get("RCELL_MORE", "1"))
 
-some = settings(max_examples=15 * MORE, deadline=None)
+some = settings(max_examples=12 * MORE, deadline=None)
 
 
 def as_tiles(call: Callable[[], Any], size: tuple[int, int], workers: int = 2) -> Any:
@@ -68,7 +68,7 @@ def check_equal(found: Any, expected: Any) -> None:
 
 
 @st.composite
-def cut_maps(draw: st.DrawFn, most: int = 11) -> tuple[Any, Any, tuple[int, int]]:
+def cut_maps(draw: st.DrawFn, most: int = 8) -> tuple[Any, Any, tuple[int, int]]:
     """Two maps of one shape, and the size of tiles."""
     shape = draw(st.tuples(st.integers(1, most), st.integers(1, most)))
     elements = st.sampled_from([1, 1, 2, 3, 300, NO_CELL])
@@ -157,6 +157,9 @@ ANSWERS: dict[str, Callable[[Any, Any, Any], Any]] = {
     "cross": lambda a, b, zones: rcell.cross(a=a, b=b),
     "change": lambda a, b, zones: list(rcell.change(a, b)),
     "zonal": lambda a, b, zones: rcell.zonal(b, a),
+    "zonal of decimals": lambda a, b, zones: rcell.zonal(
+        rcell.Raster(b.array.astype(float).filled(np.nan) / 8, b.transform, b.crs), a, scale=100
+    ),
     "zonal of polygons": lambda a, b, zones: rcell.zonal(b, zones),
     "adjacency": lambda a, b, zones: rcell.adjacency(a),
     "patches": lambda a, b, zones: rcell.patches(a),
@@ -187,8 +190,8 @@ ANSWERS: dict[str, Callable[[Any, Any, Any], Any]] = {
 @pytest.mark.parametrize("place", [METRES, DEGREES], ids=["metres", "degrees"])
 def test_answers(name: str, place: dict[str, Any]) -> None:
     random = np.random.default_rng(len(name))
-    for _ in range(3 * MORE):
-        shape = tuple(random.integers(2, 24, 2))
+    for _ in range(2 * MORE):
+        shape = tuple(random.integers(2, 13, 2))
         a, b = (
             rcell.Raster(
                 random.choice([1, 1, 1, 2, 3, 300, NO_CELL], shape).astype(np.int16),
@@ -204,9 +207,9 @@ def test_answers(name: str, place: dict[str, Any]) -> None:
             expected = call(a, b, zones)
         except rcell.RcellError as error:
             with pytest.raises(type(error), match=str(error).split("\n")[0][:40]):
-                as_tiles(lambda: call(a, b, zones), (3, 5))
+                as_tiles(lambda: call(a, b, zones), (4, 7))
             continue
-        for size in ((3, 5), (7, 2), (1, 30), (30, 1)):
+        for size in ((4, 7), (13, 5)):
             check_equal(as_tiles(lambda: call(a, b, zones), size), expected)
 
 
@@ -248,17 +251,17 @@ def spiral(side: int) -> Any:
 
 
 SHAPES = {
-    "comb": comb(23, 21),
-    "comb on its side": comb(23, 21).T,
-    "spiral": spiral(25),
-    "checkerboard": np.add.outer(np.arange(20), np.arange(21)) % 2 + 1,
-    "diagonals": np.subtract.outer(np.arange(21), np.arange(20)) % 5,
+    "comb": comb(15, 13),
+    "comb on its side": comb(15, 13).T,
+    "spiral": spiral(17),
+    "checkerboard": np.add.outer(np.arange(12), np.arange(13)) % 2 + 1,
+    "diagonals": np.subtract.outer(np.arange(13), np.arange(12)) % 5,
     "one row": comb(1, 30),
     "null alone": np.full((6, 7), NO_CELL, np.int32),
 }
 
 
-@pytest.mark.parametrize("size", [(1, 99), (99, 1), (7, 5), (8, 8)], ids=str)
+@pytest.mark.parametrize("size", [(1, 99), (7, 8)], ids=str)
 @pytest.mark.parametrize("name", SHAPES)
 def test_shapes_that_are_hard_to_cut(name: str, size: tuple[int, int]) -> None:
     cells = rcell.Raster(SHAPES[name], nodata=NO_CELL)

@@ -355,6 +355,21 @@ class Scaled:
                 return
             yield block
 
+    def window(self, row: int, col: int, rows: int, cols: int) -> Block:
+        """Return some of the cells, counted from the north-west corner."""
+        source: Any = self.source
+        token = _scale.set(self.scale)
+        try:
+            block: Block = source.window(row, col, rows, cols)
+        finally:
+            _scale.reset(token)
+        return block
+
+
+def has_windows(source: Any) -> bool:
+    """Return whether a map can be read by parts, which grids of text cannot."""
+    return hasattr(source.source if isinstance(source, Scaled) else source, "window")
+
 
 # Maps in memory
 

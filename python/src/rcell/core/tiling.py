@@ -16,7 +16,7 @@ from .errors import OutOfMemory
 from .memory import free_memory, processors
 from .protocol import Margin, Statement
 from .region import SIDE_LIMIT, fits_one_run
-from .sources import Source
+from .sources import Source, has_windows
 
 __all__ = [
     "Demand",
@@ -189,7 +189,7 @@ def takes_one_run(plan: Sequence[Statement], maps: Mapping[str, Source], demand:
     """
     if any("1" in each.options for each in plan):
         return True
-    if not all(hasattr(source, "window") for source in maps.values()):
+    if not all(map(has_windows, maps.values())):
         return True
     shape = next(iter(maps.values())).region.shape
     current = work()
