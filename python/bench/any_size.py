@@ -66,7 +66,7 @@ def measured(task: str, path: str, workers: int) -> None:
 
 
 def line_of(task: str, path: str, counts: list[int], rounds: int) -> str:
-    """Return the row of a task: the least of some rounds, of one run and of some numbers of workers."""
+    """Return the row of a task: the fastest of some rounds, for one run and some numbers of workers."""
     best: dict[int, tuple[float, float, float]] = {}
     results = set()
     for _ in range(rounds):

@@ -2,7 +2,6 @@
 
 from __future__ import annotations
 
-import sys
 from collections.abc import Iterator
 from contextlib import contextmanager
 from pathlib import Path
@@ -16,17 +15,10 @@ from rasterio.windows import Window
 from rcell.geotiff import profile_of
 
 __all__ = [
-    "STRIP",
     "TRANSFORM",
-    "checkerboard",
-    "comb",
     "geotiff",
     "land_and_zones",
     "land_cover",
-    "noise",
-    "runs_of",
-    "spiral",
-    "write",
 ]
 
 CLASSES = 12
@@ -73,50 +65,6 @@ def _field(down: npt.NDArray[Any], right: npt.NDArray[Any], scale: int) -> npt.N
     for factor in (0xFF51AFD7ED558CCD, 0xC4CEB9FE1A85EC53):
         key = (key ^ (key >> np.uint64(33))) * np.uint64(factor)
     return (key >> np.uint64(40)).astype(np.float32) / np.float32(2**24)
-
-
-def noise(path: Path, side: int) -> None:
-    """No two cells side by side need be equal: what costs most memory."""
-    random = np.random.default_rng(46)
-    with _writing(path, side) as dataset:
-        for top in range(0, side, STRIP):
-            rows = min(STRIP, side - top)
-            dataset.write(
-                random.integers(1, 200, (rows, side), dtype=np.uint8),
-                1,
-                window=Window(0, top, side, rows),
-            )
-
-
-def comb(side: int) -> Cells:
-    """Teeth that meet in the last row alone: one area, which is many until the last row of tiles."""
-    cells = np.full((side, side), 1, np.uint8)
-    cells[:-1, 1::2] = 2
-    return cells
-
-
-def spiral(side: int) -> Cells:
-    """A way from the corner to the middle, one cell wide, and the wall next to it."""
-    row, col = np.indices((side, side), np.int32)
-    ring = np.minimum(np.minimum(row, col), np.minimum(side - 1 - row, side - 1 - col))
-    cells: Cells = (ring % 2 + 1).astype(np.uint8)
-    turns = np.arange(0, (side - 1) // 2 - 1, 2)
-    # Each ring ends below its first cell, and continues one ring further in.
-    cells[turns + 1, turns] = 2
-    cells[turns + 2, turns + 1] = 1
-    return cells
-
-
-def checkerboard(side: int) -> Cells:
-    """No two cells of one category share an edge; by corners there are two patches."""
-    cells: Cells = (np.add.outer(np.arange(side), np.arange(side)) % 2 + 1).astype(np.uint8)
-    return cells
-
-
-def write(path: Path, cells: Cells) -> None:
-    """A square map that is in memory."""
-    with _writing(path, len(cells)) as dataset:
-        dataset.write(cells, 1)
 
 
 def patchy(
@@ -173,10 +121,3 @@ def _writing(path: Path, side: int) -> Iterator[Any]:
         transform=rasterio.Affine(25, 0, 0, 0, -25, 25 * side),
     ) as dataset:
         yield dataset
-
-
-def runs_of(path: Path) -> float:
-    """Runs of equal cells side by side, as a part of the cells, of the first strip of a map."""
-    with rasterio.open(path) as dataset:
-        cells = dataset.read(1, window=Window(0, 0, dataset.width, min(STRIP, dataset.height)))
-    return float((cells[:, 1:] != cells[:, :-1]).mean())
