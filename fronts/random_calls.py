@@ -22,6 +22,7 @@ from dataclasses import dataclass, field, replace
 from typing import Any, Callable, Sequence
 
 import numpy as np
+import random_answers
 import random_inputs as inputs
 import reference
 from random_inputs import Made, one_of
@@ -32,6 +33,8 @@ from run import MISSING, PACKAGES, found_by
 FRONTS = ("python", "shell", "qgis", "r")
 BATCH = 500
 EXACT = 1e-9
+# What sums of rounded numbers leave of 0.
+ROUNDED = 1e-13
 ID_DIGITS = 11
 IDS_OF = ("zone", "class", "patch", "from", "to", "neighbour", "cells", "sides")
 PLANT_CALLS = 600
@@ -120,7 +123,7 @@ def are_near(title: str, column: Sequence[tuple[str, str]]) -> bool:
             one is not None
             and other is not None
             and not (is_id(texts[0]) and is_id(texts[1]))
-            and math.isclose(one, other, rel_tol=EXACT, abs_tol=EXACT * largest)
+            and math.isclose(one, other, rel_tol=EXACT, abs_tol=max(EXACT * largest, ROUNDED))
         )
         for texts, (one, other) in zip(column, numbers)
     )
@@ -467,6 +470,7 @@ MAKERS: dict[str, Callable[[Calls], Lines]] = {
     "reclass": reclass,
     "clump": clump,
     "adjacency": adjacency,
+    **random_answers.MAKERS,
 }
 
 # Calls that are drawn more often: polygons, legends and matrices are where packages differ.

@@ -562,8 +562,10 @@ def text_of(value: Any) -> str:
     return str(value).lower() if isinstance(value, bool) else str(value)
 
 
-def zones_of(features: Sequence[Feature], has_field: bool, frame: Frame, most: int) -> Raster:
-    """Zones of polygons: the later one has a cell; `most` is the largest whole number that is an id."""
+def ids_of(
+    features: Sequence[Feature], has_field: bool, most: int
+) -> tuple[list[Feature], list[int], dict[int, str]]:
+    """The features that have a zone, their zones, and the labels of zones; `most` is the largest whole number that is an id."""
     kept = [
         it for it in features if it.parts is not None and not (has_field and is_missing(it.value))
     ]
@@ -576,6 +578,12 @@ def zones_of(features: Sequence[Feature], has_field: bool, frame: Frame, most: i
         known: dict[str, int] = {}
         ids = [known.setdefault(text_of(it.value), len(known) + 1) for it in kept]
         labels = {number: text for text, number in known.items()}
+    return kept, ids, labels
+
+
+def zones_of(features: Sequence[Feature], has_field: bool, frame: Frame, most: int) -> Raster:
+    """Zones of polygons: the later one has a cell."""
+    kept, ids, labels = ids_of(features, has_field, most)
     cells, null = np.zeros((frame.rows, frame.cols), np.int64), np.ones(
         (frame.rows, frame.cols), bool
     )

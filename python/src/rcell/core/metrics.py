@@ -147,7 +147,7 @@ def _of_classes(of: Landscapes, measure: Measure) -> list[Column]:
     whole = of.by_zone(sizes)[of.zone_at]
     # Both sides of a border belong to it.
     at, borders = np.concatenate([of.sides.one, of.sides.other]), np.tile(of.borders, 2)
-    edges = summed(at, borders, cells.size)
+    edges = _edges(at, borders, cells.size, of)
     others = np.bincount(of.zone_at, minlength=of.zones.size)[of.zone_at] - 1
     values = {
         "aggregation_index": _aggregation(of),
@@ -165,7 +165,7 @@ def _of_landscapes(of: Landscapes, measure: Measure) -> list[Column]:
     cells, whole = of.by_zone(of.by_member(of.cells)), of.by_zone(members)
     classes, shares = np.bincount(of.zone_at, minlength=size), members / whole[of.zone_at]
     across, borders = of.zone_at[of.sides.one], of.borders
-    edges = summed(across, borders, size)
+    edges = _edges(across, borders, size, of)
     # The logarithm of one class is 0: what it would divide is not defined.
     most = np.where(classes >= 2, np.log(np.maximum(classes, 2)), np.nan)
     diversity = _entropy(of.zone_at, members, size)
@@ -205,6 +205,11 @@ def _of_sizes(
     if measure.unit is None:
         del values["patches_km2"], values[f"edge_density_m_{unit}"]
     return [Column("patches", "count", count), *_measures(values)]
+
+
+def _edges(at: Integers, borders: Floats, size: int, of: Landscapes) -> Floats:
+    """Return the lengths of the borders of each group: NaN if lengths are not known, also without a border."""
+    return summed(at, borders, size) + (0.0 if of.end == of.end else np.nan)
 
 
 def _aggregation(of: Landscapes) -> Floats:
