@@ -92,6 +92,8 @@ def sample(calls: Any) -> Lines:
     calls.settled()
     lc = calls.held("lc")
     codes = codes_of(lc)
+    seed = one_of(calls.random, SEEDS)
+    calls.option("seed", seed)
     allocation, n = "equal", one_of(calls.random, (1, 2, 5, 10, 60, 3000))
     if calls.chance(0.4):
         pool = [*codes, 99] if calls.chance(0.05) or not codes else codes
@@ -101,8 +103,6 @@ def sample(calls: Any) -> Lines:
     else:
         calls.option("n", n)
         allocation = calls.picked("allocation", ("equal", "proportional"), ("odd",)) or "equal"
-    seed = one_of(calls.random, SEEDS)
-    calls.option("seed", seed)
     labels = legend_of(calls, "labels", codes, lc.labels)
     return reference_answers.sample(lc, labels, n=n, seed=seed, allocation=allocation)
 

@@ -1,4 +1,4 @@
-"""What dominant, accuracy, sample, metrics and zonal with a scale must print, written out with numpy and scipy alone."""
+"""What dominant, accuracy, sample, metrics and zonal with a scale must print, written out over reference.py."""
 
 from __future__ import annotations
 
@@ -10,7 +10,6 @@ from typing import Any, Mapping, Sequence
 
 import numpy as np
 import reference
-import scipy.ndimage
 from reference import DIVISORS, Column, Frame, Lines, Raster, Refusal, labelled, metres, table
 
 # Zones one by one: the id of each, and its cells. They may overlap.

@@ -140,6 +140,7 @@ cells_and_area <- function(cells, size, area) {
 # The measures that classes and landscapes have in common; `group` has the number of each patch's.
 size_measures <- function(found, group, whole, edge, area) {
   count <- length(whole)
+  edge <- edge + 0 * found$sides[[1]] # missing if lengths are, also without an edge
   size <- summed(found$size, group, count)
   squares <- summed(found$size^2, group, count)
   patches <- tabulate(group, count)
