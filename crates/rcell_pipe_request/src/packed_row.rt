@@ -40,7 +40,7 @@ fn has_255(mask: &[u8], bytes: &[u8]) -> bool
 {
     let mut found = false;
     for i in 0..bytes.len() {
-        found = found | (bytes[i] == NULL && !is_hidden(mask, i));
+        found = found | ((bytes[i] == NULL) & !is_hidden(mask, i));
     }
     found
 }
@@ -51,13 +51,13 @@ fn packed_byte(mask: &[u8], null: u8, bytes: &[u8], place: usize) -> u8
     requires { place < length bytes.now }
     ensures { result ≡ packed_byte mask.now null bytes.now place }
 {
-    if is_hidden(mask, place) {
-        return NULL;
+    // The number is read whether it is hidden or not, so that a vector takes several at a time.
+    let byte = bytes[place];
+    if is_hidden(mask, place) | (byte == null) {
+        NULL
+    } else {
+        byte
     }
-    if bytes[place] == null {
-        return NULL;
-    }
-    bytes[place]
 }
 
 // Packs each number.
@@ -100,6 +100,9 @@ pub fn pack_row(nodata: Option<i64>, mask: &[u8], bytes: &mut [u8]) -> bool
 {
     if mask.is_empty() {
         pack_hidden(nodata, &[], bytes)
+    } else if mask.len() == bytes.len() {
+        // Here the compiler knows that each number has a byte of the mask, and takes several at a time.
+        pack_hidden(nodata, mask, bytes)
     } else {
         pack_hidden(nodata, mask, bytes)
     }

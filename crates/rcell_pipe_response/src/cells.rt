@@ -26,7 +26,12 @@ fn is_small_cell(cell: Cell) -> bool
 fn is_small_row(cells: &[Cell]) -> bool
     ensures { result ≡ list_all is_small_cell cells.now }
 {
-    cells.iter().all(|cell| is_small_cell(*cell))
+    // It looks at each, so that a vector looks at several at a time.
+    let mut all = true;
+    for cell in cells {
+        all = all & is_small_cell(*cell);
+    }
+    all
 }
 
 // Whether each cell of a map fits a byte. Rows of the map are copied into the slice.
