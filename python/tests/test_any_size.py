@@ -523,9 +523,14 @@ def test_finished_tiles_are_kept_and_taken_again(raster: Write, tmp_path: pathli
     )
 
 
-def test_resume_needs_files() -> None:
-    with pytest.raises(rcell.BadArgument, match="resume needs maps in files, and map is not"):
-        as_tiles(lambda: rcell.composition([[1]], resume="nowhere"), (1, 1))
+def test_results_of_arrays_and_of_other_patches_are_told_apart(tmp_path: pathlib.Path) -> None:
+    random = np.random.default_rng(13)
+    maps = [random.integers(0, 3, (20, 20)) for _ in range(2)]
+    for cells in maps + maps:
+        for connectivity in (4, 8):
+            call = lambda **words: rcell.patches(cells, connectivity, **words)  # noqa: E731
+            check_equal(as_tiles(lambda: call(resume=tmp_path), (12, 20)), call())
+    assert len(list(tmp_path.iterdir())) == 2 * 2 * 2
 
 
 # Files that are written

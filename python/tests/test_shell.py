@@ -382,3 +382,52 @@ def test_a_library_that_cannot_be_loaded_is_not_called_missing(
         "rcell-gis: to read a raster the library rasterio is needed, but it cannot be loaded: "
         "librasterio.so.32: failed to map segment from shared object\n"
     )
+
+
+def test_large_maps(
+    raster: Write,
+    capfdbinary: Any,
+    tmp_path: pathlib.Path,
+    monkeypatch: pytest.MonkeyPatch,
+) -> None:
+    cells = np.random.default_rng(1).integers(1, 4, (40, 30)).astype(np.uint8)
+    path = raster(cells, "whole.tif", nodata=0)
+    halves = [
+        raster(cells[:20], "half_1.tif", (25, 0, 0, 0, -25, 1000), nodata=0),
+        raster(cells[20:], "half_2.tif", (25, 0, 0, 0, -25, 500), nodata=0),
+    ]
+    commands = (
+        ["composition"],
+        ["patches", "--summary", "class"],
+        ["patches", "--classes", "2", "--min-cells", "4", "--area", "none"],
+    )
+    expected = []
+    for command in commands:
+        assert main([*command, path]) == 0
+        expected.append(said(capfdbinary)[0])
+    monkeypatch.setenv("RCELL_TEST_TILES", "16x16")
+    for command, table in zip(commands, expected):
+        assert main([*command, str(tmp_path / "half_?.tif"), "--workers", "2"]) == 0
+        assert said(capfdbinary)[0].split(",west")[0] == table.split(",west")[0]
+    assert main(["composition", *halves]) == 0
+    assert said(capfdbinary)[0].startswith("file,class,")
+    shelf = str(tmp_path / "shelf")
+    for _ in range(2):
+        assert main(["majority", path, str(tmp_path / "m.cog.tif"), "--resume", shelf]) == 0
+    assert len(os.listdir(shelf)) == 6
+    with rasterio.open(tmp_path / "m.cog.tif") as dataset:
+        assert dataset.tags(ns="IMAGE_STRUCTURE")["LAYOUT"] == "COG"
+        assert dataset.read(1).tolist() == rcell.majority(path).array.tolist()
+
+
+def test_dry_runs(raster: Write, capfdbinary: Any, tmp_path: pathlib.Path) -> None:
+    path, out = raster(LAND, nodata=0), tmp_path / "out.csv"
+    assert main(["patches", path, "--dry-run", "--out", str(out)]) == 0
+    lines = said(capfdbinary)[0].splitlines()
+    assert lines[0] == "3 rows and 4 columns: 12 cells"
+    assert lines[1].startswith("one run, at most ")
+    assert lines[2] == "map: 1 MB of uint8, read 2 times"
+    assert main(["majority", path, str(tmp_path / "m.tif"), "--dry-run"]) == 0
+    assert sorted(os.listdir(tmp_path)) == ["map.tif"]
+    assert main(["composition", path, "--workers", "0"]) == 2
+    assert "--workers must be a whole number, at least 1; got 0" in said(capfdbinary)[1]

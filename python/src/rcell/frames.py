@@ -72,7 +72,7 @@ _WORK_WORDS = """
     workers : int, optional
         The number of tiles of a large map that are worked on at a time; by default one for each processor.
     resume : path, optional
-        A folder that keeps the results of tiles of maps in files: after a call was ended, the same call with this folder continues."""
+        A folder that keeps the results of tiles of large maps: after a call was ended, the same call with this folder continues."""
 
 
 def frame_of(table: Table) -> pandas.DataFrame:

@@ -9,20 +9,20 @@ import os
 from collections.abc import Callable, Mapping
 from dataclasses import dataclass
 from typing import Any, Optional
+from zipfile import BadZipFile
 
 import numpy as np
 
 from .arrays import NDArray
-from .errors import BadArgument
 from .programs import find_pipe
 from .rectangles import Rectangle
-from .sources import Source
+from .sources import Block, Source
 from .writing import replacing, told_of
 
 __all__ = ["Shelf"]
 
 # What a map is of its files: its band, and what is null.
-_DETAILS = ("layer", "band", "null_ranges", "file_nodata")
+_DETAILS = ("layer", "band", "null_ranges", "file_nodata", "scale")
 
 
 @dataclass(frozen=True)
@@ -44,36 +44,42 @@ class Shelf:
         """Return the shelf of a folder for some maps; the folder is made if it is missing."""
         if folder is None:
             return cls(None, b"")
-        lacking = [source.name for source in maps.values() if not source.files]
-        if lacking:
-            told = f"needs maps in files, and {lacking[0]} is not in a file"
-            raise BadArgument("resume", told)
         with told_of(folder):
             os.makedirs(folder, exist_ok=True)
         parts = [repr(shape), _state_of(find_pipe())]
         for name, source in maps.items():
-            parts += [
-                name,
-                repr(source.region.units),
-                str(source.nodata),
-                str(source.dtype),
-            ]
-            parts += [
-                repr(getattr(source, "part", None)),
-                *map(_state_of, source.files),
-            ]
+            parts += [name, repr(source.region.units), str(source.nodata), str(source.dtype)]
+            parts += [repr(getattr(source, what, None)) for what in _DETAILS]
+            parts += map(_state_of, source.files)
         return cls(folder, "\0".join(parts).encode("utf-8", "surrogateescape"))
 
     def kept(
-        self, script: str, place: Rectangle, make: Callable[[], list[NDArray[Any]]]
+        self,
+        script: str,
+        place: Rectangle,
+        blocks: Mapping[str, Block],
+        make: Callable[[], list[NDArray[Any]]],
     ) -> list[NDArray[Any]]:
-        """Return the results of a tile from the folder, or make them and keep them there."""
+        """Return the results of a tile from the folder, or make them and keep them there.
+
+        Parameters
+        ----------
+        script : str
+        place : Rectangle
+        blocks : mapping of str to Block
+            The cells of the maps that are in no file.
+        make : callable
+        """
         if self.folder is None:
             return make()
         words = script.encode("utf-8", "surrogateescape")
-        name = hashlib.sha256(b"\0".join([self.state, words, repr(tuple(place)).encode()]))
-        path = os.path.join(self.folder, f"{name.hexdigest()}.npz")
-        with contextlib.suppress(OSError, ValueError, EOFError, KeyError):
+        sum_of = hashlib.sha256(b"\0".join([self.state, words, repr(tuple(place)).encode()]))
+        for name, block in blocks.items():
+            sum_of.update(f"\0{name} {block.cells.dtype} {block.null is None}\0".encode())
+            for part in (block.cells, block.null):
+                sum_of.update(b"" if part is None else np.ascontiguousarray(part).data)
+        path = os.path.join(self.folder, f"{sum_of.hexdigest()}.npz")
+        with contextlib.suppress(OSError, ValueError, EOFError, KeyError, BadZipFile):
             with np.load(path, allow_pickle=False) as found:
                 return [found[f"arr_{at}"] for at in range(len(found.files))]
         made = make()

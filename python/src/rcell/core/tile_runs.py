@@ -27,7 +27,7 @@ from .rectangles import Rectangle, rectangles_of
 from .region import Region
 from .resuming import Shelf
 from .runs import Output, entries_of
-from .sources import MAX_CATEGORY, ArrayMap, Source
+from .sources import MAX_CATEGORY, ArrayMap, Block, Source
 from .tile_clumps import NO_CLUMP, Joined, border_text, join, renumber
 from .tile_scripts import TileScript, is_counted, is_diagonal
 from .tile_tables import TableSum
@@ -139,7 +139,10 @@ class _Tiles:
         def made(place: Rectangle) -> list[Integers]:
             outer = place.with_halo(script.reach, self._shape)
             text = script.text(place, outer, self._shape)
-            return self._shelf.kept(text, place, lambda: self._results(text, place, outer, outputs))
+            blocks = self._blocks_without_files(outer)
+            return self._shelf.kept(
+                text, place, blocks, lambda: self._results(text, place, outer, outputs, blocks)
+            )
 
         for at, results in self._crew.each(made, self._places):
             if fold is not None:
@@ -161,15 +164,23 @@ class _Tiles:
         sides: Integers = np.concatenate([own[0], own[-1], own[:, 0], own[:, -1]])
         return np.unique(sides)
 
+    def _blocks_without_files(self, outer: Rectangle) -> dict[str, Block]:
+        """Return the cells of maps that are in no file, for results that are kept: files are known by their size and time."""
+        if self._shelf.folder is None:
+            return {}
+        sources: dict[str, Any] = {name: of for name, of in self._maps.items() if not of.files}
+        return {name: source.window(*outer) for name, source in sources.items()}
+
     def _results(
         self,
         text: str,
         place: Rectangle,
         outer: Rectangle,
         outputs: Sequence[Statement],
+        blocks: Mapping[str, Block],
     ) -> list[Integers]:
         """Return the tables and maps of a tile, without its halo."""
-        frames = self._frames(text, place, outer)
+        frames = self._frames(text, place, outer, blocks)
         halo = outer.cells - place.cells
         return [
             _cells_of(frame, place, outer)
@@ -192,7 +203,7 @@ class _Tiles:
         def border(place: Rectangle) -> bytes:
             outer = place.with_halo(script.reach, self._shape)
             text = script.clump_text(clump, place, outer, self._shape)
-            own, cells = self._frames(text, place, outer)
+            own, cells = self._frames(text, place, outer, {})
             assert isinstance(own, GridFrame) and isinstance(cells, GridFrame)
             found = _wide(_cells_of(own, place, outer), NO_CLUMP)
             place.part_of(self._full, numbers)[...] = found
@@ -228,9 +239,14 @@ class _Tiles:
             pass
         return target
 
-    def _frames(self, text: str, place: Rectangle, outer: Rectangle) -> list[protocol.Frame]:
-        """Run a script over the maps of a tile with its halo."""
-        sent = [self._sent(name, source, place, outer) for name, source in self._maps.items()]
+    def _frames(
+        self, text: str, place: Rectangle, outer: Rectangle, blocks: Mapping[str, Block]
+    ) -> list[protocol.Frame]:
+        """Run a script over the maps of a tile with its halo, of which some blocks are known already."""
+        sent = [
+            self._sent(name, source, place, outer, blocks.get(name))
+            for name, source in self._maps.items()
+        ]
         try:
             with program_errors(text, list(self._maps), path := find_pipe()):
                 return protocol.run(path, sent, protocol.script_bytes(text), watch=host().watch)
@@ -238,8 +254,10 @@ class _Tiles:
             told = f"{error.text} for a tile of {outer.rows} x {outer.cols} cells"
             raise OutOfMemory(told, "arguments", 0, error.status) from None
 
-    def _sent(self, name: str, source: Any, place: Rectangle, outer: Rectangle) -> protocol.Map:
-        block = source.window(*outer)
+    def _sent(
+        self, name: str, source: Any, place: Rectangle, outer: Rectangle, known: Block | None
+    ) -> protocol.Map:
+        block = source.window(*outer) if known is None else known
         watch = self._watches.get(name)
         if watch is not None:
             null = None if block.null is None else place.part_of(outer, block.null)
