@@ -1,3 +1,4 @@
 -- What several proofs share.
 pub mod ParseLemmas
+pub mod ProcessLemmas
 pub mod WordLemmas

@@ -1,8 +1,10 @@
 //! The line on standard error that says why a program did not do all its work, and the exit status.
 
 ghost use Rattle.std.specs.Prelude.{◌≡◌, Option};
+ghost use Rattle.rcell_command.specs.Processes.{HasReported};
 ghost use Rattle.rcell_command.specs.Reported.{PlaceValue, on_line, status_of};
 
+use crate::process::Process;
 use crate::shown::Shown;
 use std::fmt;
 use std::marker::Model;
@@ -56,5 +58,17 @@ pub fn report<R: Eprint, T: Reported>(rt: &R, program: &str, reported: &T) -> u8
     let source = Shown { text: place.source };
     let line = place.line;
     let _ = eprintln!(rt; "{program}: {source}:{line}: {reported}");
+    place.status
+}
+
+/// The same of a process, with all that it does to it.
+pub fn report_error<P: Process, T: Reported>(process: &mut P, program: &str, reported: &T) -> u8
+    ensures { HasReported P.opened P.errors P.failed process.old process.new program.now
+        (T.place reported.now) result }
+{
+    let Some(place) = reported.place() else {
+        return 0;
+    };
+    let _ = process.print_error(program, &place, reported);
     place.status
 }

@@ -1,2 +1,3 @@
 -- What several proofs share.
 pub mod WordLemmas
+pub mod WorkLemmas

@@ -1,14 +1,16 @@
 -- Words of a command line, words of grids, and calls that gave no value.
 use Rattle.std.proofs.Common.{Result, Ok, Err, MatchResult, if◌then◌else◌, Bor, Bool, List, ℕ, ◌≡◌, ◌||◌, ◌+◌, ◌<◌}
 use Rattle.std.proofs.Common.{◌∷◌, ◌++◌, [], ◌∙◌, ap, true, false, refl, not, nat_lt, length, drop, arith}
+use Rattle.std.proofs.Common.{get_or}
 use Rattle.std.specs.List.{slice_index_or}
 use Rattle.std.proofs.lemmas.Bool.Decides.{nat_tests}
 use Rattle.std.proofs.lemmas.List.{drop_more}
 use Rattle.clap.specs.Walk.{Text, texts}
+use Rattle.rcell_command.proofs.ProcessLemmas.{text_at}
 use Rattle.rcell_command.specs.CommandWords.{begins_with_hyphen, has_hyphen_word, is_command}
 use Rattle.rcell_program.specs.CommandLine.{first_bad, grid_words, is_grid_argument, is_misuse}
 
-or_true : (b : Bool) → (b || true) ≡ true
+pub or_true : (b : Bool) → (b || true) ≡ true
 or_true true = refl
 or_true false = refl
 
@@ -64,3 +66,8 @@ pub first_bad_next : (place : ℕ) (words : List (Bor Text)) (i : ℕ) (word : B
     → first_bad place (texts (drop i words)) ≡ first_bad (place + 1) (texts (drop (i + 1) words))
 first_bad_next place words i word within good =
     ap (λ left. first_bad place (texts left)) (drop_more words i word within) ∙ rw good refl
+
+-- the text of a word at a place
+pub word_at : (words : List (Bor Text)) (i : ℕ) (word : Bor Text) (none : Text) → word ≡ slice_index_or words i word →
+    i < length words → word.now ≡ get_or (texts words) i none
+word_at words i word none is within = ap (λ (w : Bor Text). w.now) is ∙ text_at words i word none within

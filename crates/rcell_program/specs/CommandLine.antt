@@ -1,5 +1,6 @@
 -- What the words of a command line ask for: rcell SCRIPT NAME=PATH... (profile).
-use Rattle.std.specs.Prelude.{ℕ, Bool, false, List, [], ◌∷◌, ◌++◌, ◌==◌, ◌≡◌, ◌≢◌, ◌+◌, ◌&&◌, ◌||◌, drop, if◌then◌else◌, length, nat_lt, None, Option, Some, Result, Ok, Err, option_map, codes}
+use Rattle.std.specs.Prelude.{ℕ, Bool, false, List, [], ◌∷◌, ◌++◌, ◌==◌, ◌≡◌, ◌≢◌, ◌+◌, ◌&&◌, ◌||◌}
+use Rattle.std.specs.Prelude.{drop, map, if◌then◌else◌, length, nat_lt, None, Option, Some, Result, Ok, Err, option_map, codes}
 use Rattle.std.specs.List.{after_first, before_first}
 use Rattle.cell_core_values.specs.Letters.{byte}
 use Rattle.cell_core_values.specs.Name.{is_name}
@@ -15,6 +16,23 @@ grid_words _ _ = []
 -- NAME=PATH: a name before the first equals sign, and something after it
 abbrev pub is_grid_argument : List ℕ → Bool
 is_grid_argument word = is_name (before_first (λ b. b == byte (codes "=")) word) && nat_lt 0 (length (after_first (λ b. b == byte (codes "=")) word))
+
+-- the path of the script, and the name and the path of each grid, as words give them
+abbrev pub script_path : List (List ℕ) → List ℕ
+script_path [] = []
+script_path (script ∷ grids) = script
+
+abbrev pub grid_name : List ℕ → List ℕ
+grid_name word = before_first (λ b. b == byte (codes "=")) word
+
+abbrev pub grid_path : List ℕ → List ℕ
+grid_path word = after_first (λ b. b == byte (codes "=")) word
+
+abbrev pub grid_names : List (List ℕ) → List (List ℕ)
+grid_names words = map grid_name (drop 1 words)
+
+abbrev pub grid_paths : List (List ℕ) → List (List ℕ)
+grid_paths words = map grid_path (drop 1 words)
 
 -- the place of the first of these words that is not NAME=PATH, if there is one; the words are counted from this place
 abbrev pub first_bad : ℕ → List (List ℕ) → Option ℕ
@@ -33,3 +51,9 @@ refusal_of words = if is_misuse words then Some Usage else option_map (λ place.
 abbrev pub IsRefusedFor : {A : Type 0} → Option Refusal → Result A Refusal → Type 0
 IsRefusedFor reason (Ok request) = reason ≡ None
 IsRefusedFor reason (Err refusal) = refusal ≢ Memory → reason ≡ Some refusal
+
+-- what the words ask for: the path of a script, and the names and paths of grids
+pub record IsRequest (words : List (List ℕ)) (script : List ℕ) (names paths : List (List ℕ)) : Type 0 where
+  pub of_script : script ≡ script_path words
+  pub of_names : names ≡ grid_names words
+  pub of_paths : paths ≡ grid_paths words

@@ -2,3 +2,4 @@
 pub mod CommandLine
 pub mod OpenedGrids
 pub mod Refusals
+pub mod Work

@@ -1,9 +1,14 @@
 -- The grids that a request opened.
-use Rattle.std.specs.Prelude.{ℕ, ◌≡◌, List, All, map}
+use Rattle.std.specs.Prelude.{ℕ, ◌≡◌, List, All, Option, map}
+use Rattle.std.specs.List.{AllZip}
+use Rattle.cell_core_devices.specs.Device.{Coming}
 use Rattle.cell_core_devices.specs.declared.source.Asked.{Asked}
 use Rattle.cell_core_devices.specs.declared.source.Asked.TheVariants.{Going}
+use Rattle.rcell_command.specs.Processes.{GivesFile}
 
--- the sources of grids of these names, in their order, of which none was asked yet
-pub record AreOpened {F : Type 0} (names : List (List ℕ)) (grids : List (List ℕ × (F × Asked))) : Type 0 where
+-- the sources of grids of these names and paths, in their order, of which none was asked yet
+pub record AreOpened {F : Type 0} (files : List ℕ → Option Coming) (coming : F → Option Coming) (asked : F → Asked)
+    (names paths : List (List ℕ)) (grids : List (List ℕ × F)) : Type 0 where
   pub named : map (λ grid. grid.0) grids ≡ names
-  pub asked : All (λ grid. grid.1.1 ≡ Going) grids
+  pub fresh : All (λ grid. asked grid.1 ≡ Going) grids
+  pub gives : AllZip (λ path grid. GivesFile files coming path grid.1) paths grids

@@ -4,7 +4,7 @@ ghost use Rattle.std.specs.Prelude.{◌≡◌, ◌≢◌, ◌++◌, ◌∷◌, t
 ghost use Rattle.std.specs.String.{string_bytes};
 ghost use Rattle.clap.specs.Walk.{texts};
 ghost use Rattle.cell_core_values.specs.Name.{is_name};
-ghost use Rattle.rcell_program.specs.CommandLine.{first_bad, grid_words, is_grid_argument, refusal_of, IsRefusedFor};
+ghost use Rattle.rcell_program.specs.CommandLine.{first_bad, grid_name, grid_path, grid_words, is_grid_argument, refusal_of, IsRefusedFor, IsRequest};
 
 use crate::refusal::Refusal;
 use cell_core::name::{Name, NameFault};
@@ -30,6 +30,8 @@ const SCRIPT_PLACE: u64 = 1;
 fn grid_of<'a>(alloc: Global, word: &'a str, place: u64) -> Result<(Name, &'a str), Refusal>
     ensures cut { IfOk result (λ grid. word.now ≡ grid.0 ++ 61 ∷ grid.1.now) }
     ensures name { IfOk result (λ grid. is_name grid.0 ≡ true) }
+    ensures parts { IfOk result (λ grid. (grid.0 ≡ grid_name word.now)
+        × (grid.1.now ≡ grid_path word.now)) }
     ensures good { OnOk result (is_grid_argument word.now ≡ true) }
     ensures bad { IfErr result (λ refusal. refusal ≢ Refusal.Memory
         → (is_grid_argument word.now ≡ false) × (refusal ≡ Refusal.GridWord place)) }
@@ -53,6 +55,8 @@ fn grids_of<'a>(alloc: Global, words: &[&'a str]) -> Result<(Vec<Name>, Vec<&'a 
     ensures words { IfOk result (λ grids. grid_words grids.0.items (texts grids.1.items)
         ≡ texts words.now) }
     ensures paths { IfOk result (λ grids. vec_len grids.0 ≡ vec_len grids.1) }
+    ensures parts { IfOk result (λ grids. (grids.0.items ≡ map grid_name (texts words.now))
+        × (texts grids.1.items ≡ map grid_path (texts words.now))) }
     ensures good { OnOk result (first_bad 2 (texts words.now) ≡ None) }
     ensures bad { IfErr result (λ refusal. refusal ≢ Refusal.Memory
         → option_map (λ place. Refusal.GridWord place) (first_bad 2 (texts words.now))
@@ -80,6 +84,8 @@ pub fn read_words<'a>(alloc: Global, words: &'a [String]) -> Result<RunRequest<'
     ensures asked { IfOk result (λ request. drop 1 (map string_bytes words.now)
         ≡ request.script.now
         ∷ grid_words request.names.items (map (λ path. path.now) request.paths.items)) }
+    ensures request { IfOk result (λ request. IsRequest (drop 1 (map string_bytes words.now))
+        request.script.now request.names.items (texts request.paths.items)) }
     ensures refused { IsRefusedFor (refusal_of (drop 1 (map string_bytes words.now))) result }
 {
     let found = first_and_rest(alloc, "rcell", words, Refusal::Memory, Refusal::Usage);

@@ -1,59 +1,98 @@
 //! The files that a request names.
 
-ghost use Rattle.std.specs.Prelude.{◌≡◌, ◌≢◌, ◌<◌, IfErr, IfOk, vec_len};
+ghost use Rattle.std.specs.Prelude.{◌≡◌, ◌≢◌, ◌<◌, ℕ, List, [], ◌∷◌, None, IfErr, IfOk, OnErr, OnOk, get_or, vec_len};
+ghost use Rattle.clap.specs.Walk.{texts};
 ghost use Rattle.cell_core_devices.specs.declared.source.Asked.{Asked};
+ghost use Rattle.rcell_command.specs.Processes.{GivesFile, OpensFiles, OpensSomeFiles};
 ghost use Rattle.rcell_program.specs.OpenedGrids.{AreOpened};
 ghost use Rattle.rcell_program.specs.Refusals.{IsOfOpening};
 
 use crate::command_words::RunRequest;
 use crate::refusal::Refusal;
 use cell_core::name::Name;
-use cell_core::source::ReadSource;
-use rcell_command::file_opening::open_file;
-use std::io::Read;
-use std::rt::Files;
+use cell_core::source::Source;
+use rcell_command::process::Process;
+use std::alloc::Global;
 
 /// The sources of a script and of its grids.
 #[derive(Drop)]
-pub struct OpenedFiles<F: Read> {
+pub struct OpenedFiles<F: Source + Drop> {
     /// The source of the script.
-    pub script: ReadSource<F>,
+    pub script: F,
     /// The name of each grid and its source, in order; at least one.
-    pub grids: Vec<(Name, ReadSource<F>)>,
+    pub grids: Vec<(Name, F)>,
     ghost has_grid: { 0 < vec_len grids },
 }
 
 // A grid of a name, with the source of its path.
-fn open_grid<R: Files + AllocGlobal>(
-    rt: &R,
+fn open_grid<P: Process>(
+    alloc: Global,
+    process: &mut P,
     grid: usize,
     name: &Name,
     path: &str,
-) -> Result<(Name, ReadSource<R::File>), Refusal>
+) -> Result<(Name, P::File), Refusal>
     ensures name { IfOk result (λ opened. opened.0 ≡ name.now) }
-    ensures asked { IfOk result (λ opened. opened.1.1 ≡ Asked.Going) }
+    ensures asked { IfOk result (λ opened. P.File.asked opened.1 ≡ Asked.Going) }
+    ensures gives { IfOk result
+        (λ opened. GivesFile (P.files process.old) P.File.coming path.now opened.1) }
+    ensures opens { OnOk result
+        (OpensFiles P.files P.opened P.errors P.failed process.old process.new
+        (path.now ∷ [])) }
+    ensures some { OnErr result
+        (OpensSomeFiles P.files P.opened P.errors P.failed process.old
+        process.new (path.now ∷ [])) }
     ensures reported { IfErr result (λ refusal. refusal ≢ Refusal.Memory
-        → refusal ≡ Refusal.GridFile grid) }
+        → (refusal ≡ Refusal.GridFile grid) × (P.files process.old path.now ≡ None)) }
 {
-    let source = open_file(rt, path, Refusal::Memory, Refusal::GridFile { grid })?;
-    match name.copy(rt.alloc()) {
+    let source = match process.open(path, Refusal::Memory, Refusal::GridFile { grid }) {
+        Ok(source) => source,
+        Err(refusal) => return Err(refusal),
+    };
+    match name.copy(alloc) {
         Ok(name) => Ok((name, source)),
         Err(_) => Err(Refusal::Memory),
     }
 }
 
-// The names and the sources of the grids, in order.
-fn open_grids<R: Files + AllocGlobal>(
-    rt: &R,
-    request: &RunRequest<'_>,
-) -> Result<Vec<(Name, ReadSource<R::File>)>, Refusal>
-    ensures opened { IfOk result (λ grids. AreOpened request.now.names.items grids.items) }
-    ensures reported { IfErr result (IsOfOpening (vec_len request.now.names)) }
+// The path of a grid.
+#[tactic(auto, using(crate::proofs::WordLemmas::word_at))]
+fn path_of<'a>(request: &RunRequest<'a>, grid: usize) -> &'a str
+    requires { grid < vec_len request.now.paths }
+    ensures { (none : List ℕ) → result.now ≡ get_or (texts request.now.paths.items) grid none }
 {
-    let mut grids = Vec::new(rt.alloc());
+    request.paths[grid]
+}
+
+// The names and the sources of the grids, in order.
+fn open_grids<P: Process>(
+    alloc: Global,
+    process: &mut P,
+    request: &RunRequest<'_>,
+) -> Result<Vec<(Name, P::File)>, Refusal>
+    ensures opened { IfOk result (λ grids. AreOpened
+        (P.files process.old) P.File.coming P.File.asked
+        request.now.names.items (texts request.now.paths.items) grids.items) }
+    ensures opens { OnOk result
+        (OpensFiles P.files P.opened P.errors P.failed process.old process.new
+        (texts request.now.paths.items)) }
+    ensures some { OnErr result
+        (OpensSomeFiles P.files P.opened P.errors P.failed process.old
+        process.new (texts request.now.paths.items)) }
+    ensures reported { (script : List ℕ) → IfErr result (IsOfOpening (P.files process.old) script
+        (texts request.now.paths.items)) }
+{
+    let mut grids = Vec::new(alloc);
     for grid in 0..request.names.len() {
-        let opened = open_grid(rt, grid, &request.names[grid], request.paths[grid])?;
-        grids.push(opened).map_err(|_| Refusal::Memory)?;
+        let name = &request.names[grid];
+        let path = path_of(request, grid);
+        let opened = match open_grid(alloc, process, grid, name, path) {
+            Ok(opened) => opened,
+            Err(refusal) => return Err(refusal),
+        };
+        if grids.push(opened).is_err() {
+            return Err(Refusal::Memory);
+        }
     }
     Ok(grids)
 }
@@ -64,17 +103,37 @@ fn open_grids<R: Files + AllocGlobal>(
 ///
 /// [`Refusal::ScriptFile`] or [`Refusal::GridFile`] of the first that can't be opened; [`Refusal::Usage`] if the request
 /// names no grid; [`Refusal::Memory`].
-pub fn open_files<R: Files + AllocGlobal>(
-    rt: &R,
+pub fn open_files<P: Process>(
+    alloc: Global,
+    process: &mut P,
     request: &RunRequest<'_>,
-) -> Result<OpenedFiles<R::File>, Refusal>
+) -> Result<OpenedFiles<P::File>, Refusal>
     // Nothing is read yet: no source was asked, so none has ended or failed.
-    ensures script { IfOk result (λ opened. opened.script.1 ≡ Asked.Going) }
-    ensures grids { IfOk result (λ opened. AreOpened request.now.names.items opened.grids.items) }
-    ensures reported { IfErr result (IsOfOpening (vec_len request.now.names)) }
+    ensures script { IfOk result (λ opened. P.File.asked opened.script ≡ Asked.Going) }
+    ensures gives { IfOk result (λ opened. GivesFile (P.files process.old) P.File.coming
+        request.now.script.now opened.script) }
+    ensures grids { IfOk result (λ opened. AreOpened
+        (P.files process.old) P.File.coming P.File.asked
+        request.now.names.items (texts request.now.paths.items)
+        opened.grids.items) }
+    ensures opens { OnOk result
+        (OpensFiles P.files P.opened P.errors P.failed process.old process.new
+        (request.now.script.now ∷ texts request.now.paths.items)) }
+    ensures some { OnErr result
+        (OpensSomeFiles P.files P.opened P.errors P.failed process.old
+        process.new (request.now.script.now ∷ texts request.now.paths.items)) }
+    ensures reported { IfErr result (IsOfOpening (P.files process.old) request.now.script.now
+        (texts request.now.paths.items)) }
 {
-    let script = open_file(rt, request.script, Refusal::Memory, Refusal::ScriptFile)?;
-    let grids = open_grids(rt, request)?;
+    let path = request.script;
+    let script = match process.open(path, Refusal::Memory, Refusal::ScriptFile) {
+        Ok(script) => script,
+        Err(refusal) => return Err(refusal),
+    };
+    let grids = match open_grids(alloc, process, request) {
+        Ok(grids) => grids,
+        Err(refusal) => return Err(refusal),
+    };
     if grids.is_empty() {
         return Err(Refusal::Usage);
     }

@@ -1,12 +1,13 @@
 use Rattle.std.proofs.lemmas.Result.{err_from_is_err_and}
-use Rattle.std.proofs.Common.{Bor, Bool, Option, Some, true, false, Result, MatchResult, Ok, Err, if◌then◌else◌, arith, rules, refl, drop, ap, ap₂, sym, ◌≡◌, ◌∙◌, ◌++◌, ◌∷◌, [], ◌+◌, ◌<◌, take, length, vec_len, List, ℕ, is_ok}
+use Rattle.std.proofs.Common.{Bor, Bool, Option, Some, true, false, Result, MatchResult, Ok, Err, if◌then◌else◌, arith, rules, refl, drop, map}
+use Rattle.std.proofs.Common.{ap, ap₂, sym, ◌≡◌, ◌∙◌, ◌++◌, ◌∷◌, [], ◌+◌, ◌<◌, take, length, vec_len, List, ℕ, is_ok}
 use Rattle.std.specs.List.{slice_index_or}
 use Rattle.std.specs.Option.{option_map}
 use Rattle.std.proofs.lemmas.List.{drop_all, drop_more, length-map, map-append, take_all, take_more}
 use Rattle.clap.specs.Walk.{Text, texts}
 use Rattle.rcell_program.specs.declared.refusal.Refusal.{Refusal}
 use Rattle.rcell_program.specs.declared.refusal.Refusal.TheVariants.{GridWord, Memory}
-use Rattle.rcell_program.specs.CommandLine.{first_bad, grid_words, is_grid_argument}
+use Rattle.rcell_program.specs.CommandLine.{first_bad, grid_name, grid_path, grid_words, is_grid_argument}
 use Rattle.rcell_program.proofs.WordLemmas.{first_bad_next, grid_words_more, when_ok, made_reported}
 use borrow.Author.Count.{falls}
 use Rattle.rcell_program.proofs.command_words.grids_of.Goals as goal
@@ -21,6 +22,13 @@ refused_here is at reported = rw (is, reported, at) refl
 
 one_more : (index : ℕ) → index + 2 + 1 ≡ index + 1 + 2
 one_more index = omega arith
+
+one_more_of : (f : Text → Text) (made before more : List Text) (x word : Text) → made ≡ map f before → x ≡ f word →
+    more ≡ before ++ word ∷ []
+    → made ++ x ∷ [] ≡ map f more
+one_more_of f made before more x word is made_of next =
+    ap (λ front. front ++ x ∷ []) is ∙ ap (λ last. map f before ++ last ∷ []) made_of ∙ sym (map-append f before (word
+    ∷ [])) ∙ sym (ap (map f) next)
 
 pub returns-in_err-name-clause-bad : goal.returns-in_err-name-clause-bad
 returns-in_err-name-clause-bad c =
@@ -49,6 +57,8 @@ loop-word-init c =
       paths = c.new-names.ensures.len ∙ sym c.new-paths.ensures.len;
       place = refl;
       good = refl;
+      named = c.new-names.ensures.items;
+      pathed = ap texts c.new-paths.ensures.items;
       words = ap₂ grid_words c.new-names.ensures.items (ap texts c.new-paths.ensures.items);
     }
 
@@ -68,6 +78,8 @@ loop-word-preserved c =
     let items_are = when_ok (is_ok c.push-in-loop-word.result) (paths.items ++ c.in_ok-name.path ∷ []) paths.items pathed c.push-in-loop-word.ensures.items in
     let paths_are = ap texts items_are ∙ map-append _ paths.items _ in
     let before : length names.items ≡ length (texts paths.items) = sym names.ok.0 ∙ is.paths ∙ paths.ok.0 ∙ sym (length-map _ _) in
+    let next = ap texts (take_more c.args.words.now c.loop-word.word-index _ c.loop-word-test.true) ∙ map-append _
+    (take c.loop-word.word-index c.args.words.now) _ in
     let words_are : texts (take (c.loop-word.word-index + 1) c.args.words.now) ≡ texts (take c.loop-word.word-index c.args.words.now) ++ (name ++ 61 ∷ path) ∷ [] =
     ap texts (take_more c.args.words.now c.loop-word.word-index _ c.loop-word-test.true) ∙ map-append _ (take c.loop-word.word-index c.args.words.now) _
     ∙ ap (λ word. texts (take c.loop-word.word-index c.args.words.now) ++ word ∷ []) c.in_ok-name.ensures.cut in
@@ -77,6 +89,8 @@ loop-word-preserved c =
       place = search rules;
       good = is.good ∙ first_bad_next (c.loop-word.word-index + 2) c.args.words.now c.loop-word.word-index _ c.loop-word-test.true c.in_ok-name.ensures.good
           ∙ ap (λ place. first_bad place (texts (drop (c.loop-word.word-index + 1) c.args.words.now))) (one_more c.loop-word.word-index);
+      named = names_are ∙ one_more_of grid_name _ _ _ _ _ is.named c.in_ok-name.ensures.parts.0 next;
+      pathed = paths_are ∙ one_more_of grid_path _ _ _ _ _ is.pathed c.in_ok-name.ensures.parts.1 next;
       words = ap₂ grid_words names_are paths_are ∙ grid_words_more _ _ name path before
           ∙ ap (λ (words : List Text). words ++ (name ++ 61 ∷ path) ∷ []) is.words ∙ sym words_are;
     }
@@ -85,6 +99,9 @@ pub returns : goal.returns
 returns c = record {
   words = c.loop-word.invariant.words ∙ ap texts (take_all c.loop-word.word-index c.args.words.now c.loop-word-test.false);
   paths = c.loop-word.invariant.paths;
+  parts =
+      let all = ap texts (take_all c.loop-word.word-index c.args.words.now c.loop-word-test.false) in
+      (c.loop-word.invariant.named ∙ ap (map grid_name) all, c.loop-word.invariant.pathed ∙ ap (map grid_path) all);
   good = c.loop-word.invariant.good ∙ ap (λ left. first_bad (c.loop-word.word-index + 2) (texts left)) (drop_all c.loop-word.word-index c.args.words.now c.loop-word-test.false);
   bad = tt;
 }

@@ -3,7 +3,7 @@ use Rattle.std.specs.String.{string_bytes}
 use Rattle.std.proofs.lemmas.Result.{err_from_is_err_and}
 use Rattle.clap.specs.Walk.{Text, texts}
 use Rattle.rcell_command.specs.CommandWords.{has_hyphen_word, is_command}
-use Rattle.rcell_program.specs.CommandLine.{first_bad, is_misuse, refusal_of}
+use Rattle.rcell_program.specs.CommandLine.{first_bad, grid_names, grid_paths, is_misuse, refusal_of, script_path}
 use Rattle.rcell_program.specs.declared.refusal.Refusal.TheVariants.{GridWord}
 use Rattle.rcell_program.proofs.WordLemmas.{flagged, too_few, well_used}
 use Rattle.rcell_program.proofs.command_words.read_words.Goals as goal
@@ -58,3 +58,14 @@ returns-clause-refused c =
     used_well (drop 1 (map string_bytes c.args.words.now)) script (texts grids) all c.in-Ok.ensures.good
     (sym c.if-has_hyphen_word.false ∙ c.has_hyphen_word.ensures)
     ∙ ap (option_map (λ place. GridWord place)) c.in_ok-names.ensures.good
+
+pub returns-clause-request : goal.returns-clause-request
+returns-clause-request c =
+    let script = c.in-Ok.found.0.now in
+    let all = c.in-Ok.ensures.found
+    ∙ ap (λ (lent : List (Bor Text)). script ∷ texts lent) (sym c.as_slice-grids.ensures.value) in
+    record {
+      of_script = sym (ap script_path all);
+      of_names = c.in_ok-names.ensures.parts.0 ∙ sym (ap grid_names all);
+      of_paths = c.in_ok-names.ensures.parts.1 ∙ sym (ap grid_paths all);
+    }

@@ -1,22 +1,43 @@
-use Rattle.std.proofs.lemmas.Result.{err_from_is_err_and}
-use Rattle.std.proofs.Common.{rules, Bool, true, false, Result, MatchResult, Ok, Err, if◌then◌else◌, arith, ap, sym, map, take, length, ℕ, is_ok, subst, ◌≡◌, ◌≢◌, ◌<◌, ◌≤◌, ◌∙◌, ◌++◌, ◌∷◌, []}
-use Rattle.std.proofs.lemmas.List.{map-append, take_more, take_all}
-use Rattle.std.proofs.lemmas.List.Elements.{All-nil, All-push}
+use Rattle.std.proofs.Common.{rules, refl, zero, suc, ◌+◌, Bool, true, false, Bor, Option, None, Result, ap, sym, arith}
+use Rattle.std.proofs.Common.{map, take, length, ℕ, List, get_or, subst, unwrap_or, ◌≡◌, ◌≢◌, ◌<◌, ◌≤◌, ◌∙◌, ◌++◌, ◌∷◌, []}
+use Rattle.std.proofs.lemmas.List.{length-map, map-append, take_more, take_all}
+use Rattle.std.proofs.lemmas.List.Elements.{All-push}
+use Rattle.std.proofs.lemmas.Option.{unwrap_or-slice_get}
+use Rattle.cell_core_devices.specs.Device.{Coming}
 use Rattle.cell_core_devices.specs.declared.source.Asked.TheVariants.{Going}
-use Rattle.rcell_program.specs.Refusals.{IsOfOpening}
+use Rattle.clap.specs.Walk.{Text, texts}
+use Rattle.rcell_command.specs.Processes.{GivesFile}
+use Rattle.rcell_command.proofs.ProcessLemmas.{nowhere, opened_as, opened_then, some_more, some_of, text_at, zip_push}
+use Rattle.rcell_program.specs.Refusals.{IsOfOpening, grid_path_at}
 use Rattle.rcell_program.specs.declared.refusal.Refusal.{Refusal}
 use Rattle.rcell_program.specs.declared.refusal.Refusal.TheVariants.{Usage, GridWord, Memory, ScriptFile, GridFile}
-use Rattle.rcell_program.proofs.WordLemmas.{when_ok, made_reported}
-use borrow.Author.Count.{falls}
 use Rattle.rcell_program.proofs.opening.open_grids.Goals as goal
 
+same_default : (paths : List Text) (i : ℕ) (d e : Text) → i < length paths → get_or paths i d ≡ get_or paths i e
+same_default [] i d e within = absurd (nowhere i within)
+same_default (path ∷ paths) zero d e within = refl
+same_default (path ∷ paths) (suc i) d e within = same_default paths i d e (omega arith)
+
+one_more : (paths : List Text) (i : ℕ) (path : Text) → i < length paths → path ≡ get_or paths i path → take i paths ++
+    path ∷ [] ≡ take (i + 1) paths
+one_more paths i path within is = ap (λ next. take i paths ++ next ∷ []) is ∙ sym (take_more paths i path within)
+
 -- out of memory and the error of one of these grids are errors of an opening
-of_grid : (grids grid : ℕ) (refusal : Refusal) → grid < grids → (refusal ≢ Memory → refusal ≡ GridFile grid) → IsOfOpening grids refusal
-of_grid grids grid Usage within reported = let is : Usage ≡ GridFile grid = reported (λ same. cc) in cc
-of_grid grids grid (GridWord place) within reported = let is : GridWord place ≡ GridFile grid = reported (λ same. cc) in cc
-of_grid grids grid Memory within reported = tt
-of_grid grids grid ScriptFile within reported = tt
-of_grid grids grid (GridFile other) within reported = subst (IsOfOpening grids) (sym (reported (λ same. cc))) within
+of_grid : (files : Text → Option Coming) (script : Text) (paths : List Text) (grid : ℕ) (path : Text) (refusal :
+    Refusal) → grid < length paths → path ≡ get_or paths grid path
+    → (refusal ≢ Memory → (refusal ≡ GridFile grid) × (files path ≡ None)) → IsOfOpening files script paths refusal
+of_grid files script paths grid path Usage within is reported = let p = reported (λ same. cc) in let bad : Usage ≡
+    GridFile grid = p.0 in cc
+of_grid files script paths grid path (GridWord place) within is reported = let p = reported (λ same. cc) in let bad :
+    GridWord place ≡ GridFile grid = p.0 in cc
+of_grid files script paths grid path Memory within is reported = tt
+of_grid files script paths grid path ScriptFile within is reported = let p = reported (λ same. cc) in let bad :
+    ScriptFile ≡ GridFile grid = p.0 in cc
+of_grid files script paths grid path (GridFile other) within is reported =
+    let p = reported (λ same. cc) in
+    let at : grid_path_at paths grid ≡ path = unwrap_or-slice_get paths grid [] ∙ same_default paths grid [] path
+    within ∙ sym is in
+    subst (IsOfOpening files script paths) (sym p.0) (within, ap files at ∙ p.1)
 
 below : {grid end n : ℕ} → grid < end → end ≡ n → grid < n
 below lower same = omega arith
@@ -24,44 +45,79 @@ below lower same = omega arith
 at_least : {grid end n : ℕ} → end ≤ grid → end ≡ n → n ≤ grid
 at_least ended same = omega arith
 
-pub loop-grid-init : goal.loop-grid-init
-loop-grid-init g c = record {
-  names = ap (map (λ grid. grid.0)) c.new-grids.ensures.items;
-  asked = rw c.new-grids.ensures.items (All-nil _);
-}
+pub returns-in-Err-clause-some : goal.returns-in-Err-clause-some
+returns-in-Err-clause-some g c =
+    let words = c.args.request.now.paths.items in
+    let path = c.path_of-path.result.now in
+    let within = below c.loop-grid-test.true (c.len-grid-end.ensures ∙ c.args.request.now.has_paths ∙
+    c.args.request.now.paths.ok.0) in
+    let is : path ≡ get_or (texts words) c.loop-grid.grid path = c.path_of-path.ensures path in
+    some_more (texts words) c.loop-grid.grid path (below within (sym (length-map _ _))) is c.loop-grid.invariant.opens
+    c.in-Err.ensures.some
 
-pub loop-grid-smaller : goal.loop-grid-smaller
-loop-grid-smaller g c = falls _ c.loop-grid.grid c.loop-grid-test.true
+pub returns-in-Err-clause-reported : goal.returns-in-Err-clause-reported
+returns-in-Err-clause-reported g c = λ script.
+    let words = c.args.request.now.paths.items in
+    let path = c.path_of-path.result.now in
+    let within = below c.loop-grid-test.true (c.len-grid-end.ensures ∙ c.args.request.now.has_paths ∙
+    c.args.request.now.paths.ok.0) in
+    let is : path ≡ get_or (texts words) c.loop-grid.grid path = c.path_of-path.ensures path in
+    of_grid (g.P.Process.files c.args.process.now) script (texts words) c.loop-grid.grid path c.in-Err.refusal (below
+    within (sym (length-map _ _))) is
+    (λ other. let p = c.in-Err.ensures.reported other in (
+      p.0,
+      ap (λ (files : Text → Option Coming). files path) (sym
+          c.loop-grid.invariant.opens.same_files) ∙ p.1,
+    ))
+
+pub returns-then-is_err-clause-some : goal.returns-then-is_err-clause-some
+returns-then-is_err-clause-some g c =
+    let words = c.args.request.now.paths.items in
+    let path = c.path_of-path.result.now in
+    let within = below c.loop-grid-test.true (c.len-grid-end.ensures ∙ c.args.request.now.has_paths ∙
+    c.args.request.now.paths.ok.0) in
+    let is : path ≡ get_or (texts words) c.loop-grid.grid path = c.path_of-path.ensures path in
+    some_of (c.loop-grid.grid + 1)
+    (opened_as (one_more (texts words) c.loop-grid.grid path (below within (sym (length-map _ _))) is) (opened_then
+    c.loop-grid.invariant.opens c.in-Ok.ensures.opens))
 
 pub loop-grid-preserved : goal.loop-grid-preserved
 loop-grid-preserved g c =
+    let words = c.args.request.now.paths.items in
     let names = c.args.request.now.names.items in
     let grids = c.loop-grid.grids.items in
-    let items_are = when_ok (is_ok c.push.result) (grids ++ c.in_ok-opened.opened ∷ []) grids c.in_ok-map_err.ensures.variant c.push.ensures.items in
-    let within : c.loop-grid.grid < length names = below c.loop-grid-test.true (c.len-grid-end.ensures ∙ c.args.request.now.names.ok.0) in
+    let path = c.path_of-path.result.now in
+    let within = below c.loop-grid-test.true (c.len-grid-end.ensures ∙ c.args.request.now.has_paths ∙
+    c.args.request.now.paths.ok.0) in
+    let named : c.loop-grid.grid < length names = below c.loop-grid-test.true (c.len-grid-end.ensures ∙
+    c.args.request.now.names.ok.0) in
+    let is : path ≡ get_or (texts words) c.loop-grid.grid path = c.path_of-path.ensures path in
+    let whole = one_more (texts words) c.loop-grid.grid path (below within (sym (length-map _ _))) is in
+    let items : c.push.new.self.items ≡ grids ++ c.in-Ok.opened ∷ [] = search rules in
     record {
-      names = ap (map (λ grid. grid.0)) items_are ∙ map-append _ grids _
-          ∙ ap (λ before. before ++ c.in_ok-opened.opened.0 ∷ []) c.loop-grid.invariant.names
-          ∙ ap (λ name. take c.loop-grid.grid names ++ name ∷ []) (c.in_ok-opened.ensures.name ∙ c.index.ensures)
-          ∙ sym (take_more names c.loop-grid.grid _ within);
-      asked = rw items_are
-          (All-push (λ grid. grid.1.1 ≡ Going) grids _ c.loop-grid.invariant.asked c.in_ok-opened.ensures.asked);
+      named = ap (map (λ grid. grid.0)) items ∙ map-append _ grids _
+          ∙ ap (λ before. before ++ c.in-Ok.opened.0 ∷ []) c.loop-grid.invariant.named
+          ∙ ap (λ name. take c.loop-grid.grid names ++ name ∷ []) (c.in-Ok.ensures.name ∙ c.index-name.ensures)
+          ∙ sym (take_more names c.loop-grid.grid _ named);
+      fresh = rw items (All-push (λ grid. g.P.File.Source.asked grid.1 ≡ Going) grids _ c.loop-grid.invariant.fresh
+          c.in-Ok.ensures.asked);
+      gives = rw (items, sym whole) (zip_push _ (take c.loop-grid.grid (texts words)) grids path c.in-Ok.opened
+          c.loop-grid.invariant.gives
+          (subst (λ files. GivesFile files g.P.File.Source.coming path c.in-Ok.opened.1)
+          c.loop-grid.invariant.opens.same_files c.in-Ok.ensures.gives));
+      opens = opened_as whole (opened_then c.loop-grid.invariant.opens c.in-Ok.ensures.opens);
     }
 
-pub returns-in_err-opened-clause-reported : goal.returns-in_err-opened-clause-reported
-returns-in_err-opened-clause-reported g c =
-    let p = err_from_is_err_and c.from_residual.result c.from_residual.ensures.1 in
-    rw (p.1, p.2) (of_grid _ c.loop-grid.grid c.in_err-opened.field-0.0 (below c.loop-grid-test.true c.len-grid-end.ensures) c.in_err-opened.ensures.reported)
-
-pub returns-in_err-map_err-clause-reported : goal.returns-in_err-map_err-clause-reported
-returns-in_err-map_err-clause-reported g c =
-    let p = err_from_is_err_and c.from_residual-in_err-map_err.result c.from_residual-in_err-map_err.ensures.1 in
-    rw (p.1, p.2) (made_reported c.push.result _ c.in_err-map_err.ensures.cases (λ e h. let made : c.in_err-map_err.field-0.0 ≡ Memory = search rules in subst (IsOfOpening _) (sym made) tt))
-
 pub returns-clause-opened : goal.returns-clause-opened
-returns-clause-opened g c = record {
-  named = c.loop-grid.invariant.names
-      ∙ take_all c.loop-grid.grid _
-      (at_least c.loop-grid-test.false (c.len-grid-end.ensures ∙ c.args.request.now.names.ok.0));
-  asked = c.loop-grid.invariant.asked;
-}
+returns-clause-opened g c =
+    let words = c.args.request.now.paths.items in
+    let all = at_least c.loop-grid-test.false (c.len-grid-end.ensures ∙ c.args.request.now.has_paths ∙
+    c.args.request.now.paths.ok.0) in
+    record {
+      named = c.loop-grid.invariant.named
+          ∙ take_all c.loop-grid.grid _ (at_least c.loop-grid-test.false (c.len-grid-end.ensures ∙
+          c.args.request.now.names.ok.0));
+      fresh = c.loop-grid.invariant.fresh;
+      gives = rw (sym (take_all c.loop-grid.grid (texts words) (at_least all (sym (length-map _ _)))))
+          c.loop-grid.invariant.gives;
+    }

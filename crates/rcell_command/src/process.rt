@@ -1,0 +1,83 @@
+//! The words, files and standard error of a program.
+
+ghost use Rattle.std.specs.Prelude.{◌≡◌, ◌≢◌, ℕ, Bool, ◌||◌, List, [], ◌∷◌, Option, None, Some, IfErr, IfOk, IfSome, OnErr, OnOk, is_err, map};
+ghost use Rattle.std.specs.String.{string_bytes};
+ghost use Rattle.cell_core_devices.specs.Device.{Coming};
+ghost use Rattle.rcell_command.specs.Processes.{ErrorLine, GivesFile, OpensFiles, error_line, grown};
+
+use crate::reported::Place;
+use cell_core_devices::device::DeviceFault;
+use cell_core_devices::source::Source;
+use std::alloc::Global;
+use std::fmt::Display;
+
+/// The words of a command line, files by their paths, and standard error. Standard input is a `Source`, and standard output
+/// a `Sink`.
+///
+/// What the ghost members say may be unknown, as it is of the system's process. Of a process in memory all is known.
+pub trait Process {
+    ghost use Rattle.cell_core_devices.specs.Device.{Coming};
+    ghost use Rattle.cell_core_devices.specs.declared.source.Asked.{Asked};
+    ghost use Rattle.rcell_command.specs.Processes.{ErrorLine};
+
+    /// The source of an opened file.
+    type File: Source + Drop;
+
+    /// The words of the command line, the program's own name first.
+    ghost words: { Self → Option (List (List ℕ)) };
+
+    /// What the file of a path gives when it is read.
+    ghost files: { Self → List ℕ → Option Coming };
+
+    /// The paths of the files that were opened, in order.
+    ghost opened: { Self → Option (List (List ℕ)) };
+
+    /// The lines that standard error took, in order.
+    ghost errors: { Self → Option (List ErrorLine) };
+
+    /// Whether standard error failed.
+    ghost failed: { Self → Bool };
+
+    /// The words of the command line, the program's own name first.
+    ///
+    /// # Errors
+    ///
+    /// `usage` if a word is not UTF-8; `memory`.
+    fn words<E: Copy>(&self, alloc: Global, memory: E, usage: E) -> Result<Vec<String>, E>
+        ensures given { IfOk result
+            (λ given. IfSome (words self.now) (λ known. map string_bytes given.items ≡ known)) }
+        ensures reported { IfErr result (λ error. error ≢ memory → (error ≡ usage)
+            × (words self.now ≡ None)) };
+
+    /// Opens the file of a path.
+    ///
+    /// # Errors
+    ///
+    /// `file` if it can't be opened; `memory`.
+    fn open<E: Copy>(&mut self, path: &str, memory: E, file: E) -> Result<Self::File, E>
+        // Nothing is read yet: the source was not asked, so it has neither ended nor failed.
+        ensures asked { IfOk result (λ source. Self.File.asked source ≡ Asked.Going) }
+        ensures gives { IfOk result (GivesFile (files self.old) Self.File.coming path.now) }
+        ensures opens { OnOk result
+            (OpensFiles files opened errors failed self.old self.new (path.now ∷ [])) }
+        ensures unopened { OnErr result
+            (OpensFiles files opened errors failed self.old self.new []) }
+        ensures reported { IfErr result (λ error. error ≢ memory → (error ≡ file)
+            × (files self.old path.now ≡ None)) };
+
+    /// Prints the line `PROGRAM: SOURCE:LINE: TEXT` on standard error.
+    ///
+    /// # Errors
+    ///
+    /// [`DeviceFault`] if standard error did not take the line. From then on, it has failed.
+    fn print_error<T: Display>(
+        &mut self,
+        program: &str,
+        place: &Place<'_>,
+        text: &T,
+    ) -> Result<(), DeviceFault>
+        ensures told { OnOk result (errors self.new
+            ≡ grown (errors self.old) (error_line program.now place.now ∷ [])) }
+        ensures failed { failed self.new ≡ failed self.old || is_err result }
+        ensures opened { opened self.new ≡ opened self.old };
+}

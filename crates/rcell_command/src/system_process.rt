@@ -1,0 +1,115 @@
+//! The process of the system.
+
+ghost use Rattle.std.specs.Prelude.{◌≡◌, false};
+
+use crate::process::Process;
+use crate::reported::Place;
+use crate::shown::Shown;
+use cell_core_devices::device::DeviceFault;
+use cell_core_devices::source::ReadSource;
+use std::alloc::Global;
+use std::env::FillError;
+use std::fmt::Display;
+use std::fs::{File, OpenOptions};
+use std::io::ErrorKind;
+use std::rt::{Env, Files};
+use std::{env, io};
+
+// The words alone: the environment of the process is empty. With the environment and the folder of `HostRuntime` a program
+// would rest on what their calls do, which it never makes.
+#[derive(Drop)]
+struct WordsOnly<'a> {
+    rt: &'a HostRuntime,
+}
+
+impl<'a> Env for WordsOnly<'a> {
+    fn arg(&self, i: usize, buf: &mut [u8]) -> Result<usize, FillError> {
+        self.rt.arg(i, buf)
+    }
+
+    fn var(&self, _name: &str, _buf: &mut [u8]) -> Result<usize, FillError> {
+        Err(FillError::NotPresent)
+    }
+
+    fn var_at(&self, _i: usize, _buf: &mut [u8]) -> Result<usize, FillError> {
+        Err(FillError::NotPresent)
+    }
+}
+
+/// The process of the system: the words that the program was given, the files of the system and standard error.
+///
+/// Nothing is known of them, since std's `args`, `open_file` and `eprintln` promise nothing. Tests cover that the words come
+/// from the process, that a source has the bytes of the file, and that a line is printed.
+#[derive(Drop)]
+pub struct SystemProcess<'a> {
+    rt: &'a HostRuntime,
+    failed: bool,
+}
+
+impl<'a> SystemProcess<'a> {
+    /// The process that runs.
+    pub fn new(rt: &'a HostRuntime) -> SystemProcess<'a>
+        ensures { result.failed ≡ false }
+    {
+        SystemProcess { rt, failed: false }
+    }
+}
+
+impl<'a> Process for SystemProcess<'a> {
+    ghost use Rattle.std.specs.Prelude.{None};
+
+    type File = ReadSource<File>;
+
+    ghost words = { λ _. None };
+
+    ghost files = { λ _ _. None };
+
+    ghost opened = { λ _. None };
+
+    ghost errors = { λ _. None };
+
+    ghost failed = { λ p. p.failed };
+
+    fn words<E: Copy>(&self, alloc: Global, memory: E, usage: E) -> Result<Vec<String>, E> {
+        let given = match env::args(&(WordsOnly { rt: self.rt }, alloc)) {
+            Ok(given) => given,
+            Err(fault) => {
+                return match fault.kind() {
+                    io::ErrorKind::OutOfMemory => Err(memory),
+                    _ => Err(usage),
+                };
+            }
+        };
+        given.collect(alloc).map_err(|_| memory)
+    }
+
+    fn open<E: Copy>(&mut self, path: &str, memory: E, file: E) -> Result<ReadSource<File>, E> {
+        let mut how = OpenOptions::new();
+        how.read(true);
+        // Not `fs::open`: it is generic over `Files`, of which a program would rest on all calls.
+        match self.rt.open_file(&how, path) {
+            Ok(opened) => Ok(ReadSource::new(opened)),
+            Err(fault) => match fault.kind() {
+                ErrorKind::OutOfMemory => Err(memory),
+                _ => Err(file),
+            },
+        }
+    }
+
+    fn print_error<T: Display>(
+        &mut self,
+        program: &str,
+        place: &Place<'_>,
+        text: &T,
+    ) -> Result<(), DeviceFault> {
+        let source = Shown { text: place.source };
+        let line = place.line;
+        match eprintln!(self.rt; "{program}: {source}:{line}: {text}") {
+            Ok(()) => Ok(()),
+            Err(_) => {
+                self.failed = true;
+                Err(DeviceFault)
+            }
+        }
+    }
+}

@@ -1,0 +1,110 @@
+-- What `rcell` does: the words of its process, the files that it opens, its output and its error (profile).
+use Rattle.std.specs.Prelude.{ℕ, ◌≡◌, ◌<◌, Bool, false, true, ⊤, List, []}
+use Rattle.std.specs.Prelude.{◌∷◌, drop, length, take, Option, None, Some, IfSome, IsNone, codes}
+use Rattle.std.specs.List.{AllZip}
+use Rattle.cell_core.specs.Shelf.{ShelfValue}
+use Rattle.cell_core_devices.specs.Device.{Coming, Faults, after_flush, append_known, has_failed}
+use Rattle.rcell.specs.Output.{IsOutput}
+use Rattle.rcell.specs.Reports.{fault_line_number, fault_source}
+use Rattle.rcell.specs.RunFaults.{IsBeforeExecution, IsInExecution, IsOfInput}
+use Rattle.rcell.specs.Sources.{Named}
+use Rattle.rcell.specs.declared.outcome.Outcome.{Outcome}
+use Rattle.rcell.specs.declared.run_fault.RunFault.{RunFault}
+use Rattle.rcell.specs.declared.run_fault.RunFault.TheVariants.{Write}
+use Rattle.rcell.specs.runs.Accepted.{IsAccepted}
+use Rattle.rcell.specs.runs.Endings.{IsRefusal, IsRunDone, IsRunStopped}
+use Rattle.rcell.specs.runs.Outcomes.{Writes}
+use Rattle.rcell.specs.runs.Statuses.{status_after}
+use Rattle.rcell_command.specs.Processes.{ErrorLine, IsTold, grown}
+use Rattle.rcell_command.specs.Reported.{PlaceValue}
+use Rattle.rcell_program.specs.CommandLine.{grid_name, grid_names, grid_path, grid_paths, refusal_of, script_path}
+use Rattle.rcell_program.specs.Refusals.{grid_path_at, refusal_place, run_place}
+use Rattle.rcell_program.specs.declared.refusal.Refusal.{Refusal}
+use Rattle.rcell_program.specs.declared.refusal.Refusal.TheVariants as refusals
+use Rattle.rcell_script.specs.declared.statement.Statement.{Statement}
+
+-- what the files hold that words name, the script's and each grid's under its name
+pub record AreTexts (files : List ℕ → Option Coming) (words : List (List ℕ)) (named : List Named) (text : Coming) :
+    Type 0 where
+  pub script : files (script_path words) ≡ Some text
+  pub grids : AllZip (λ word n. (grid_name word ≡ n.0) × (files (grid_path word) ≡ Some n.1)) (drop 1 words) named
+
+-- how the work ends: rejected before a run, or with the outcome of a run
+pub data WorkEnd : Type 0 where
+  Rejected : (refusal : Refusal) → WorkEnd
+  Ran : (outcome : Outcome) → WorkEnd
+
+-- where the error is reported, with the names of the grids
+abbrev pub end_place : List (List ℕ) → WorkEnd → Option PlaceValue
+end_place names (Rejected refusal) = Some (refusal_place names refusal)
+end_place names (Ran outcome) = run_place names outcome
+
+-- why no run was started: the form of the words, a file that the process is not known to have, or want of memory
+abbrev pub IsReason : (List ℕ → Option Coming) → List (List ℕ) → Refusal → Type 0
+IsReason files words refusals.Usage = refusal_of words ≡ Some refusals.Usage
+IsReason files words (refusals.GridWord place) = refusal_of words ≡ Some (refusals.GridWord place)
+IsReason files words refusals.Memory = ⊤
+IsReason files words refusals.ScriptFile = files (script_path words) ≡ None
+IsReason files words (refusals.GridFile grid) = (grid < length (grid_paths words)) × (files (grid_path_at (grid_paths
+    words) grid) ≡ None)
+
+-- no run was started: some of the files were opened, in order, and nothing was written
+pub record IsRejected {W : Type 0} (files : List ℕ → Option Coming) (words : List (List ℕ)) (opened now_opened :
+    Option (List (List ℕ))) (out now : W) (refusal : Refusal) : Type 0 where
+  pub reason : IsReason files words refusal
+  pub count : ℕ
+  pub opens : now_opened ≡ grown opened (take count (script_path words ∷ grid_paths words))
+  pub untouched : now ≡ out
+
+-- what a run over these texts wrote, if its error is none, of the input or in execution
+pub record IsRunOfTexts (named : List Named) (text : Coming) (before now : Option (List ℕ)) (failed : Bool) (outcome :
+    Outcome) : Type 0 where
+  pub done : IsNone outcome.fault → IsRunDone named text before now outcome.written
+  pub refused : IfSome outcome.fault (λ f. IsOfInput f → IsRefusal named text f)
+  pub stopped : IfSome outcome.fault (λ f. IsInExecution f → IsRunStopped named text before now outcome.written f)
+  pub headline : (shelf : ShelfValue) (statements : List Statement) → IsAccepted named text shelf statements → Writes
+      shelf statements before now failed outcome
+
+-- a run over the files that the words name, all of which were opened, in order
+pub record IsRunOver {W : Type 0} (files : List ℕ → Option Coming) (words : List (List ℕ)) (opened now_opened : Option
+    (List (List ℕ))) (taken : W → Option (List ℕ)) (faults : W → Faults) (out now : W) (outcome : Outcome) : Type 0
+  where
+    pub accepted : refusal_of words ≡ None
+    pub opens : now_opened ≡ grown opened (script_path words ∷ grid_paths words)
+    pub over : (named : List Named) (text : Coming) → AreTexts files words named text → IsRunOfTexts named text (taken
+        out) (taken now) (has_failed (faults now)) outcome
+    pub untouched : IfSome outcome.fault (λ f. IsBeforeExecution f → (now ≡ out) × (outcome.written ≡ 0))
+    pub status : outcome.status ≡ status_after outcome.fault
+    pub sound : outcome.status ≡ 0 → faults now ≡ after_flush (faults out) false
+    pub write : outcome.fault ≡ Some Write → has_failed (faults now) ≡ true
+
+abbrev pub EndsWork : {W : Type 0} → (List ℕ → Option Coming) → List (List ℕ) → Option (List (List ℕ)) → Option (List
+    (List ℕ)) → (W → Option (List ℕ)) → (W → Faults) → W → W → WorkEnd → Type 0
+EndsWork files words opened now_opened taken faults out now (Rejected refusal) = IsRejected files words opened
+    now_opened out now refusal
+EndsWork files words opened now_opened taken faults out now (Ran outcome) = IsRunOver files words opened now_opened
+    taken faults out now outcome
+
+-- the work of `rcell`: it ends for the words of the process, without the program's own name, if these are known;
+-- exactly the line of its error is on standard error, unless standard error failed; and the exit status is the
+-- error's, or 0
+pub record IsWork {P W : Type 0} (words : P → Option (List (List ℕ))) (files : P → List ℕ → Option Coming) (opened : P
+    → Option (List (List ℕ))) (errors : P → Option (List ErrorLine)) (failed : P → Bool) (old new : P) (taken : W →
+    Option (List ℕ)) (faults : W → Faults) (out now : W) (status : ℕ) : Type 0 where
+  pub given : List (List ℕ)
+  pub known : IfSome (words old) (λ all. given ≡ drop 1 all)
+  pub end : WorkEnd
+  pub ends : EndsWork (files old) given (opened old) (opened new) taken faults out now end
+  pub told : IsTold errors failed old new (codes "rcell") (end_place (grid_names given) end) status
+
+-- exactly the output of these statements was written, the files of these paths were opened, in order, nothing is
+-- on standard error, and the exit status is 0
+pub record IsDoneWork (shelf : ShelfValue) (statements : List Statement) (paths : List (List ℕ)) (opened now_opened :
+    Option (List (List ℕ))) (errors now_errors : Option (List ErrorLine)) (before now : Option (List ℕ)) (status : ℕ)
+    : Type 0 where
+  pub output : List ℕ
+  pub of_script : IsOutput shelf statements output
+  pub written : now ≡ append_known before output
+  pub opens : now_opened ≡ grown opened paths
+  pub silent : now_errors ≡ errors
+  pub good : status ≡ 0

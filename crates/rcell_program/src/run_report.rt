@@ -1,0 +1,41 @@
+//! The report of a run.
+
+ghost use Rattle.rcell_program.specs.Refusals.{run_place};
+
+use cell_core::name::Name;
+use rcell::outcome::Outcome;
+use rcell::report::fault_line;
+use rcell_command::reported::{Place, Reported};
+use std::fmt;
+
+/// The report of a run, by the names of its grids.
+#[derive(Drop)]
+pub struct RunReport<'a> {
+    pub outcome: Outcome,
+    pub names: &'a [Name],
+}
+
+impl<'a> fmt::Display for RunReport<'a> {
+    fn fmt<W: fmt::Write>(&self, f: &mut fmt::Formatter<W>) -> fmt::Result {
+        match fault_line(&self.outcome, self.names) {
+            Some(line) => {
+                let text = line.text;
+                write!(f, "{text}")
+            }
+            None => Ok(()),
+        }
+    }
+}
+
+impl<'a> Reported for RunReport<'a> {
+    ghost place = { λ r. run_place r.names.now r.outcome };
+
+    fn place(&self) -> Option<Place<'_>> {
+        let reported = fault_line(&self.outcome, self.names)?;
+        Some(Place {
+            source: reported.source,
+            line: reported.line,
+            status: self.outcome.status,
+        })
+    }
+}

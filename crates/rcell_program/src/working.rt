@@ -1,0 +1,70 @@
+//! What the program does in a process.
+
+ghost use Rattle.std.specs.Prelude.{◌≡◌, ◌≢◌, ◌∷◌, ℕ, List, false, drop, Some, None, codes};
+ghost use Rattle.cell_core.specs.Shelf.{ShelfValue};
+ghost use Rattle.cell_core_devices.specs.Device.{Coming, has_failed};
+ghost use Rattle.rcell.specs.Sources.{Named};
+ghost use Rattle.rcell.specs.runs.Accepted.{IsAccepted};
+ghost use Rattle.rcell_command.specs.Processes.{HasReported};
+ghost use Rattle.rcell_program.specs.CommandLine.{grid_paths, refusal_of, script_path};
+ghost use Rattle.rcell_program.specs.Refusals.{refusal_place};
+ghost use Rattle.rcell_program.specs.Work.{AreTexts, IsDoneWork, IsWork};
+ghost use Rattle.rcell_script.specs.declared.statement.Statement.{Statement};
+
+use crate::command_words::read_words;
+use crate::opening::open_files;
+use crate::refusal::{Refusal, RefusalReport};
+use crate::run_report::RunReport;
+use cell_core::name::Name;
+use cell_core::sink::Sink;
+use rcell::run;
+use rcell_command::process::Process;
+use rcell_command::reported::report_error;
+use std::alloc::Global;
+
+// The program's name in the line of an error.
+const PROGRAM: &str = "rcell";
+
+// Reports an error before a run, and returns the exit status.
+fn refuse<P: Process>(process: &mut P, refusal: Refusal, names: &[Name]) -> u8
+    ensures { HasReported P.opened P.errors P.failed process.old process.new (codes "rcell")
+        (Some (refusal_place names.now refusal)) result }
+{
+    report_error(process, PROGRAM, &RefusalReport { refusal, names })
+}
+
+/// Does what the words of the process ask for, and returns the exit status: opens the files that they name, runs the script
+/// over the grids, writes the output to `out`, and reports the error, if there is one.
+pub fn work<P: Process, W: Sink>(alloc: Global, process: &mut P, out: &mut W) -> u8
+    // The words come from the process; the files that they name were opened, in their order; `out` has taken what a run
+    // over exactly these files writes; standard error has exactly the line of the error, and the exit status is the error's.
+    ensures work { IsWork P.words P.files P.opened P.errors P.failed process.old process.new
+        W.taken W.faults out.old out.new result }
+    // For words and files that are known, and an accepted script over grids of one region, if memory lasts and the sink takes
+    // everything: exactly the output of its statements is written, nothing is on standard error, and the status is 0.
+    ensures headline { (words : List (List ℕ)) (named : List Named) (text : Coming)
+        (shelf : ShelfValue) (statements : List Statement)
+        → P.words process.old ≡ Some words → refusal_of (drop 1 words) ≡ None
+        → AreTexts (P.files process.old) (drop 1 words) named text
+        → IsAccepted named text shelf statements
+        → result ≢ 3 → has_failed (W.faults out.new) ≡ false
+        → IsDoneWork shelf statements (script_path (drop 1 words) ∷ grid_paths (drop 1 words))
+        (P.opened process.old) (P.opened process.new) (P.errors process.old)
+        (P.errors process.new) (W.taken out.old) (W.taken out.new) result }
+{
+    let words = match process.words(alloc, Refusal::Memory, Refusal::Usage) {
+        Ok(words) => words,
+        Err(refusal) => return refuse(process, refusal, &[]),
+    };
+    let request = match read_words(alloc, &words) {
+        Ok(request) => request,
+        Err(refusal) => return refuse(process, refusal, &[]),
+    };
+    let opened = match open_files(alloc, process, &request) {
+        Ok(opened) => opened,
+        Err(refusal) => return refuse(process, refusal, &request.names),
+    };
+    let outcome = run(alloc, opened.script, opened.grids, out);
+    let names = request.names.as_slice();
+    report_error(process, PROGRAM, &RunReport { outcome, names })
+}
