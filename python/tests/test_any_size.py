@@ -20,7 +20,7 @@ from hypothesis import strategies as st
 from hypothesis.extra.numpy import arrays
 
 import rcell
-from rcell.core import memory, tiling
+from rcell.core import memory, tile_tables, tiling
 from rcell.core.host import Host, serving
 from rcell.core.joiner import find_joiner
 from rcell.core.protocol import NULL
@@ -666,3 +666,38 @@ def test_patterns_without_a_file_and_texts_in_lists(raster: Write, tmp_path: pat
         rcell.composition([text, text])
     named = raster(np.ones((2, 2), np.uint8), "a[1].tif")
     assert rcell.composition(named).cells.tolist() == [4]
+
+
+# Tables that are added up
+
+
+@settings(max_examples=60, deadline=None)
+@given(
+    rows=st.lists(
+        st.tuples(
+            st.sampled_from([NULL, -5, 0, 3, 2**31 - 1, -(2**31) + 1]),
+            st.sampled_from([NULL, 1, 2, 2**40]),
+            st.sampled_from([NULL, 7, 2**31 - 1]),
+            st.integers(1, 2**40),
+        ),
+        max_size=30,
+    ),
+    cut=st.integers(0, 30),
+    is_counted=st.booleans(),
+    waiting=st.sampled_from([1, 1 << 20]),
+)
+def test_sums_of_tables(rows: Any, cut: int, is_counted: bool, waiting: int) -> None:
+    width = 3 + is_counted
+    expected: dict[Any, int] = {}
+    for *classes, cells in rows:
+        expected[tuple(classes)] = expected.get(tuple(classes), 0) + cells
+    with pytest.MonkeyPatch.context() as patch:
+        patch.setattr(tile_tables, "_WAITING", waiting)
+        total = tile_tables.TableSum(3, is_counted)
+        for part in (rows[:cut], rows[cut:]):
+            table = tile_tables.TableSum(3, is_counted)
+            table.add(np.array(part, np.int64).reshape(-1, 4)[:, :width])
+            total.add(table.table())
+    last = sorted(expected, key=lambda classes: [(one == NULL, one) for one in classes])
+    found = total.table().tolist()
+    assert found == [[*classes, expected[classes]][:width] for classes in last]

@@ -239,10 +239,13 @@ def _output(frame: protocol.Frame) -> Output:
 
 
 def entries_of(frame: protocol.TableFrame) -> NDArray[np.int64]:
-    """Return the entries of a table, with their counts if it has them."""
-    cells = np.asarray(frame.cells).reshape(frame.entries, len(frame.names))
-    counts = [] if frame.counts is None else [np.asarray(frame.counts).astype(np.int64)]
-    return np.column_stack([cells.astype(np.int64), *counts])
+    """Return the entries of a table, with their counts if it has them, column by column in memory."""
+    width = len(frame.names)
+    columns = np.empty((width + (frame.counts is not None), frame.entries), np.int64)
+    columns[:width] = np.asarray(frame.cells).reshape(frame.entries, width).T
+    if frame.counts is not None:
+        columns[-1] = np.asarray(frame.counts)
+    return columns.T
 
 
 def _cells(frame: protocol.GridFrame) -> NDArray[np.int32]:

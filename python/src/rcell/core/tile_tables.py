@@ -4,6 +4,7 @@
 from __future__ import annotations
 
 import sys
+from typing import Optional
 
 import numpy as np
 
@@ -58,7 +59,9 @@ class TableSum:
 
     def _sum(self) -> None:
         if len(self._parts) > 1:
-            self._parts = [_added(np.concatenate(self._parts), self._is_counted)]
+            rows = np.concatenate(self._parts)
+            self._parts = []  # so many rows are in memory twice at most
+            self._parts = [_added(rows, self._is_counted)]
         before, self._rows = self._rows, len(self._parts[0])
         # If few combinations are in several tiles, adding them up before the end saves no memory.
         is_worth_it = self._rows < _SHRUNK * before
@@ -69,16 +72,20 @@ def _added(rows: Integers, is_counted: bool) -> Integers:
     """Return rows in order, with equal combinations added."""
     columns = np.ascontiguousarray(rows.T)
     maps = len(columns) - is_counted
-    columns = columns[:, _order_of_columns(columns[:maps])]
     if not columns.shape[1]:
-        return columns.T
-    differs = np.zeros(columns.shape[1] - 1, np.bool_)
-    for column in columns[:maps]:
-        differs |= column[1:] != column[:-1]
+        return rows
+    keys = _keys_of(columns[:maps])
+    order = _order_of_columns(columns[:maps], keys)
+    if keys is None:
+        ordered = columns[:maps, order]
+        differs = (ordered[:, 1:] != ordered[:, :-1]).any(axis=0)
+    else:
+        keys = keys[order]
+        differs = keys[1:] != keys[:-1]
     first = np.concatenate([[0], np.flatnonzero(differs) + 1])
-    found: Integers = columns[:, first]
+    found: Integers = columns[:, order[first]]
     if is_counted:
-        found[-1] = np.add.reduceat(columns[-1], first)
+        found[-1] = np.add.reduceat(columns[-1][order], first)
     return found.T
 
 
@@ -90,23 +97,35 @@ def in_order(table: Integers) -> Integers:
 
 def order_of(classes: Integers) -> NDArray[np.intp]:
     """Return the order of rows of classes, null last; rows that are equal stay in their order."""
-    return _order_of_columns(np.ascontiguousarray(classes.T))
+    columns = np.ascontiguousarray(classes.T)
+    return _order_of_columns(columns, _keys_of(columns))
 
 
-def _order_of_columns(columns: Integers) -> NDArray[np.intp]:
+def _order_of_columns(columns: Integers, keys: Optional[Integers]) -> NDArray[np.intp]:
     """Return the order of rows by their columns, the first of which counts most."""
-    keys = np.zeros(columns.shape[1], np.int64)
-    span = 1
-    for column in list(columns[::-1]) if keys.size else []:
-        is_null = column == NULL
-        low, high = int(column[~is_null].min(initial=0)), int(column[~is_null].max(initial=0))
-        size = high - low + 2
-        if span * size >= _LIMIT:
-            ordered = np.where(columns == NULL, np.iinfo(np.int64).max, columns)
-            lexical: NDArray[np.intp] = np.lexsort(ordered[::-1])
-            return lexical
-        keys += span * np.where(is_null, size - 1, column - low)
-        span *= size
+    if keys is None:
+        ordered = np.where(columns == NULL, np.iinfo(np.int64).max, columns)
+        lexical: NDArray[np.intp] = np.lexsort(ordered[::-1])
+        return lexical
     # Tables of tiles are runs in ascending order, which this sort merges.
     order: NDArray[np.intp] = np.argsort(keys, kind="stable")
     return order
+
+
+def _keys_of(columns: Integers) -> Optional[Integers]:
+    """Return a number for each row, in the order of the rows; None if 64 bits are too few."""
+    keys = np.zeros(columns.shape[1], np.int64)
+    span = 1
+    for column in list(columns[::-1]) if keys.size else []:
+        low, high = int(column.min()), int(column.max())
+        is_null = None
+        if low == NULL:
+            is_null = column == NULL
+            low = int(column.min(where=~is_null, initial=high))
+        size = high - low + 2
+        if span * size >= _LIMIT:
+            return None
+        part = column - low if is_null is None else np.where(is_null, size - 1, column - low)
+        keys += part if span == 1 else part * span
+        span *= size
+    return keys
