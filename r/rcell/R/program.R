@@ -190,6 +190,7 @@ end_of <- function(frames) frames[[length(frames)]]
 # Run a script over maps, and return its frames without the last. An error of the script is one of
 # the caller's lines.
 run_pipe <- function(path, sources, script, lines = script) {
+  if (is.function(recorder$add)) recorder$add(sources, script)
   frames_of(ask_pipe(path, run_request(sources, script)), path, names_of(sources), lines)
 }
 

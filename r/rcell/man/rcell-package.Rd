@@ -52,7 +52,7 @@ its end.
 \code{\link{rcell_composition}}, \code{\link{rcell_cross}}, \code{\link{rcell_change}}, \code{\link{rcell_patches}}, \code{\link{rcell_zonal}},
 \code{\link{rcell_majority}}, \code{\link{rcell_align}}, \code{\link{rcell_adjacency}}, \code{\link{rcell_reclass}}, \code{\link{rcell_clump}},
 \code{\link{rcell_accuracy}}, \code{\link{rcell_sample}}, \code{\link{rcell_trajectories}}, \code{\link{rcell_aggregate}},
-\code{\link{rcell_dominant}}, \code{\link{rcell_metrics}}, \code{\link{rcell_sieve}}, \code{\link{rcell_within}}; scripts: \code{\link{rcell_table}},
+\code{\link{rcell_dominant}}, \code{\link{rcell_metrics}}, \code{\link{rcell_sieve}}, \code{\link{rcell_within}}, \code{\link{rcell_record}}; scripts: \code{\link{rcell_table}},
 \code{\link{rcell_run}}, \code{\link{rcell_grid}}; \code{\link{rcell_program}}
 }
 \examples{

@@ -1,0 +1,48 @@
+# SPDX-License-Identifier: Apache-2.0 OR GPL-2.0-or-later
+# JSON, as records are kept in.
+
+JSON_TOKEN <- paste0(
+  "\\G[ \t\r\n]*(\"(?:[^\"\\\\]|\\\\[\"\\\\/bfnrt]|\\\\u[0-9a-fA-F]{4})*\"|",
+  "-?[0-9]+(?:[.][0-9]+)?(?:[eE][+-]?[0-9]+)?|true|false|null|[][{}:,])[ \t\r\n]*"
+)
+TOKENS_OF_R <- c(
+  "{" = "list(", "[" = "list(", "}" = ")", "]" = ")", ":" = "=", "," = ",", "null" = "NULL",
+  "true" = "TRUE", "false" = "FALSE"
+)
+
+# A list as JSON: names are keys, in alphabetical order; one value is no array.
+json_of <- function(value, indent = "") {
+  if (is.null(value)) return("null")
+  if (is.character(value) && length(value) == 1L) return(json_text(value))
+  if (is.logical(value) && length(value) == 1L) return(if (value) "true" else "false")
+  if (is.numeric(value) && length(value) == 1L) return(sub("[.]0$", "", number_text(value)))
+  inner <- paste0(indent, " ")
+  keys <- names(value)
+  if (!is.null(keys)) value <- value[order(keys, method = "radix")]
+  parts <- vapply(as.list(value), json_of, "", inner)
+  if (!is.null(keys)) parts <- paste0(json_text(names(value)), ": ", parts)
+  ends <- if (is.null(keys)) c("[", "]") else c("{", "}")
+  if (!length(parts)) return(paste(ends, collapse = ""))
+  lines <- paste0("\n", inner, parts, collapse = ",")
+  paste0(ends[[1]], lines, "\n", indent, ends[[2]])
+}
+
+json_text <- function(text) {
+  text <- gsub("\"", "\\\"", gsub("\\", "\\\\", text, fixed = TRUE), fixed = TRUE)
+  text <- gsub("\n", "\\n", gsub("\r", "\\r", gsub("\t", "\\t", text, fixed = TRUE)))
+  paste0("\"", text, "\"")
+}
+
+# JSON as a list. Its tokens have the forms of R, but for the names of punctuation.
+list_of_json <- function(text, wrong) {
+  tokens <- parts_of(text, JSON_TOKEN)
+  if (tokens$end <= nchar(text, "bytes")) wrong()
+  words <- tokens$groups[[1]]
+  is_text <- startsWith(words, "\"")
+  words[is_text] <- gsub("\\/", "/", words[is_text], fixed = TRUE)
+  is_known <- words %in% names(TOKENS_OF_R)
+  words[is_known] <- TOKENS_OF_R[words[is_known]]
+  code <- tryCatch(str2expression(paste(words, collapse = " ")), error = function(e) wrong())
+  if (length(code) != 1L) wrong()
+  tryCatch(eval(code[[1]], baseenv()), error = function(e) wrong())
+}

@@ -1,0 +1,266 @@
+# SPDX-License-Identifier: Apache-2.0 OR GPL-2.0-or-later
+# Tables with a record of what they were made of, which anyone can verify later.
+
+RECORD_FORM <- 1L
+# Arguments that are words; other texts are paths if there is such a file.
+WORDS <- c(
+  "area", "crs", "zone_field", "field", "layer", "level", "allocation", "other", "resample", "seed"
+)
+# Files that are not sent as cells, so that their bytes count.
+TEXT_FILES <- "[.](csv|tsv|qml)$"
+
+# What is noted of each run while a call is recorded.
+recorder <- new.env(parent = emptyenv())
+
+rcell_record <- function(.path, .call, ..., .table = NULL) {
+  check_text(.table, ".table")
+  if (!is_path(.path) || !grepl("[.]csv$", .path, ignore.case = TRUE)) {
+    refuse(sprintf("the path must end in .csv; got %s", shown(.path)), status = 2L)
+  }
+  check_filename(.path, TRUE)
+  folder <- normalizePath(dirname(native_path(.path)))
+  arguments <- list(...)
+  keys <- names(arguments)
+  if (is.null(keys)) keys <- rep("", length(arguments))
+  plain <- unname(Map(plain_argument, keys, arguments, folder))
+  named <- plain[nzchar(keys)]
+  names(named) <- keys[nzchar(keys)]
+  call <- list(
+    name = name_of_call(.call), words = plain[!nzchar(keys)],
+    named = named[order(names(named))], part = .table
+  )
+  made <- recorded_call(call, arguments, .table)
+  check_inputs(.path, c(made$files, legend_files_in(arguments)))
+  record <- list(
+    rcell_record = RECORD_FORM, call = call, runs = made$runs, program = sum_of(program_path()),
+    versions = list(
+      R = as.character(getRversion()), rcell = as.character(packageVersion("rcell")),
+      terra = as.character(packageVersion("terra"))
+    )
+  )
+  write_record(.path, made$text, record)
+  made$result
+}
+
+rcell_verify <- function(path) {
+  beside <- paste0(path, ".json")
+  wrong <- function() {
+    text <- "%s is not a record of this version of the package for R"
+    refuse(sprintf(text, beside), "record")
+  }
+  record <- list_of_json(utf8_text(native_path(beside), "record"), wrong)
+  if (!is.list(record) || !identical(as.integer(record$rcell_record), RECORD_FORM)) wrong()
+  call <- record$call
+  if (!(call$name %in% getNamespaceExports("rcell"))) wrong()
+  kept <- utf8_text(native_path(path), "record")
+  folder <- normalizePath(dirname(native_path(path)))
+  told <- c(
+    character(),
+    if (sum_of(native_path(path)) != record$table$sha256) "the table is not as it was written",
+    other_files(list(call$words, call$named), folder)
+  )
+  if (sum_of(program_path()) != record$program) {
+    text <- "the program differs: it was of rcell %s, and this is %s"
+    told <- c(told, sprintf(text, record$versions$rcell, packageVersion("rcell")))
+  }
+  arguments <- lapply(c(call$words, call$named), placed_argument, folder)
+  made <- tryCatch(recorded_call(call, arguments, call$part), rcell_error = function(e) e)
+  if (inherits(made, "rcell_error")) {
+    reason <- strsplit(conditionMessage(made), "\n", fixed = TRUE)[[1]][[1]]
+    return(c(told, paste("the call fails:", reason)))
+  }
+  c(told, other_runs(made$runs, record$runs), other_lines(kept, made$text))
+}
+
+name_of_call <- function(call) {
+  names <- grep("^rcell_", getNamespaceExports("rcell"), value = TRUE)
+  if (is.function(call)) {
+    is_it <- vapply(names, function(name) identical(call, getExportedValue("rcell", name)), NA)
+    names <- names[is_it]
+    call <- "a function"
+  } else if (is_path(call)) {
+    names <- intersect(call, names)
+  }
+  if (length(names)) return(names)
+  text <- "the call must be one of this package, for example rcell_composition; got %s"
+  refuse(sprintf(text, shown(call)), status = 2L)
+}
+
+# Run a call: its result, the text of its table, the runs of the program, and the files it read.
+recorded_call <- function(call, arguments, part) {
+  program_path()
+  runs <- list()
+  files <- character()
+  recorder$add <- function(sources, script) {
+    maps <- lapply(sources, sum_of_cells)
+    names(maps) <- names_of(sources)
+    runs[[length(runs) + 1L]] <<- list(maps = maps, script = paste(script, collapse = "\n"))
+    files <<- c(files, inputs_of(sources))
+  }
+  on.exit(recorder$add <- NULL)
+  result <- do.call(getExportedValue("rcell", call$name), arguments)
+  list(result = result, text = csv_of(table_in(result, part)), runs = runs, files = files)
+}
+
+table_in <- function(result, part) {
+  tables <- if (is.data.frame(result)) list(table = result)
+  if (is.list(result) && is.null(tables)) tables <- Filter(is.data.frame, result)
+  if (!length(tables)) {
+    text <- "the call must return a table; got a %s"
+    refuse(sprintf(text, class(result)[[1]]), status = 2L)
+  }
+  if (identical(part, "summary") && is.null(tables$summary) && "kappa" %in% names(result)) {
+    return(as.data.frame(result[-(1:2)]))
+  }
+  if (is.null(part)) return(tables[[1]])
+  if (part %in% names(tables)) return(tables[[part]])
+  text <- ".table= must be one of %s; got %s"
+  refuse(sprintf(text, paste(names(tables), collapse = ", "), shown(part)), status = 2L)
+}
+
+# A table as text: numbers in the shortest form that reads back the same, missing values empty.
+csv_of <- function(table) {
+  quoted <- function(texts) {
+    is_odd <- grepl("[\",\r\n]", texts)
+    texts[is_odd] <- sprintf("\"%s\"", gsub("\"", "\"\"", texts[is_odd], fixed = TRUE))
+    texts
+  }
+  columns <- lapply(table, function(column) {
+    texts <- as.character(column)
+    if (is.double(column)) texts <- sub("[.]0$", "", number_text(column))
+    ifelse(is.na(column), "", quoted(texts))
+  })
+  rows <- if (nrow(table)) do.call(paste, c(unname(columns), sep = ","))
+  paste0(enc2utf8(c(paste(quoted(names(table)), collapse = ","), rows)), "\n", collapse = "")
+}
+
+# Write the table, and next to it the record, both or none.
+write_record <- function(path, text, record) {
+  target <- linked_path(native_path(path))
+  room <- private_folder(dirname(target), path)
+  on.exit(room$remove())
+  main <- file.path(room$path, basename(target))
+  write_file(main, function(write) write(charToRaw(text)))
+  record$table <- list(name = basename(target), sha256 = sum_of(main))
+  json <- charToRaw(paste0(enc2utf8(json_of(record)), "\n"))
+  write_file(paste0(main, ".json"), function(write) write(json))
+  replace_files(room$path, target, path)
+}
+
+# Sums
+
+# The SHA-256 of a file.
+sum_of <- function(path) {
+  tool <- Sys.which("sha256sum")[[1]]
+  if (!nzchar(tool)) refuse("records need the command sha256sum, which is not there", status = 2L)
+  ran <- run(tool, c("-b", "--", normalizePath(path)), error_on_status = FALSE)
+  if (ran$status != 0L) read_failed("record", sprintf("cannot open: %s", path))
+  sub("^\\\\?([0-9a-f]{64}).*", "\\1", ran$stdout)
+}
+
+# The sum of a map's region and cells, as integers of 32 bits, whatever its file has: Python has the
+# same sum.
+sum_of_cells <- function(source) {
+  folder <- new_folder()
+  on.exit(unlink(folder, recursive = TRUE))
+  region <- source$region
+  head <- paste0(paste(c(short_edge(region$edges), region$rows, region$cols), collapse = " "), "\n")
+  path <- file.path(folder, "cells")
+  write_file(path, function(write) {
+    write(charToRaw(head))
+    each_block(source, write)
+  })
+  sum_of(path)
+}
+
+# Arguments
+
+# An argument as a record has it; files by their paths relative to a folder.
+plain_argument <- function(name, value, folder) {
+  if (is.character(value) && length(value) == 1L && is.null(names(value))) {
+    return(plain_text(name, value, folder))
+  }
+  if (is.null(value)) return(NULL)
+  if (!(is.numeric(value) || is.logical(value) || is.character(value) || is.list(value)) ||
+    is.object(value) || !is.null(dim(value))) {
+    text <- "arguments must be paths, numbers or texts to be recorded; got a %s"
+    refuse(sprintf(text, class(value)[[1]]), status = 2L)
+  }
+  if (is.null(names(value)) && !is.list(value) && length(value) == 1L) return(value)
+  parts <- unname(lapply(as.list(value), function(part) plain_argument(name, part, folder)))
+  if (is.null(names(value))) return(parts)
+  list(items = unname(Map(list, names(value), parts)))
+}
+
+plain_text <- function(name, text, folder) {
+  file <- sub("[|].*$", "", native_path(text))
+  if (name %in% WORDS || !file.exists(file) || dir.exists(file)) return(text)
+  rest <- substring(native_path(text), nchar(file) + 1L)
+  told <- list(path = paste0(relative_path(normalizePath(file), folder), rest))
+  if (grepl(TEXT_FILES, file, ignore.case = TRUE)) told$sha256 <- sum_of(file)
+  told
+}
+
+relative_path <- function(path, folder) {
+  parts <- lapply(c(path, folder), function(path) strsplit(path, "/", fixed = TRUE)[[1]])
+  count <- min(lengths(parts))
+  shared <- sum(cumprod(parts[[1]][seq_len(count)] == parts[[2]][seq_len(count)]))
+  up <- rep("..", length(parts[[2]]) - shared)
+  paste(c(up, parts[[1]][-seq_len(shared)]), collapse = "/")
+}
+
+# An argument from a record.
+placed_argument <- function(told, folder) {
+  if (!is.list(told)) return(told)
+  if (!is.null(told$path)) return(file.path(folder, told$path))
+  items <- if (is.null(told$items)) told else lapply(told$items, `[[`, 2L)
+  values <- lapply(items, placed_argument, folder)
+  if (!is.null(told$items)) names(values) <- vapply(told$items, `[[`, "", 1L)
+  is_plain <- vapply(values, function(value) is.atomic(value) && length(value) == 1L, NA)
+  kinds <- unique(vapply(values, typeof, ""))
+  if (all(is_plain) && length(kinds) == 1L) unlist(values) else values
+}
+
+legend_files_in <- function(arguments) {
+  texts <- unlist(Filter(is.character, arguments))
+  Filter(function(path) file.exists(path) && !dir.exists(path), as.character(texts))
+}
+
+# Differences
+
+# Which legends and other texts of a call have changed.
+other_files <- function(told, folder) {
+  if (!is.list(told)) return(NULL)
+  if (is.null(told$sha256)) return(unlist(lapply(unname(told), other_files, folder)))
+  path <- file.path(folder, told$path)
+  if (file.exists(path) && sum_of(path) != told$sha256) sprintf("%s differs", told$path)
+}
+
+other_runs <- function(now, then) {
+  pairs <- seq_len(min(length(now), length(then)))
+  maps <- unlist(lapply(pairs, function(place) {
+    sums <- then[[place]]$maps
+    names(sums)[!vapply(names(sums), function(name) {
+      identical(now[[place]]$maps[[name]], sums[[name]])
+    }, NA)]
+  }))
+  scripts <- lapply(list(now, then), function(runs) lapply(runs, `[[`, "script"))
+  c(
+    if (length(maps)) sprintf("the cells of %s differ", unique(maps)),
+    if (!identical(scripts[[1]], scripts[[2]])) "the scripts differ: other lines were run"
+  )
+}
+
+# The first line in which a table differs from what its call returns now.
+other_lines <- function(kept, now) {
+  if (identical(kept, now)) return(NULL)
+  lines <- lapply(c(kept, now), function(text) strsplit(text, "\n", fixed = TRUE)[[1]])
+  count <- min(lengths(lines))
+  first <- match(TRUE, lines[[1]][seq_len(count)] != lines[[2]][seq_len(count)])
+  if (is.na(first)) {
+    text <- "the table has %d lines, and its call returns %d"
+    return(sprintf(text, length(lines[[1]]), length(lines[[2]])))
+  }
+  text <- "the table differs in line %d: `%s`, and its call returns `%s`"
+  sprintf(text, first, lines[[1]][[first]], lines[[2]][[first]])
+}

@@ -1,0 +1,73 @@
+source("helpers.R")
+
+# Tables with a record, and what verifying it says.
+room <- tempfile("records")
+dir.create(file.path(room, "maps"), recursive = TRUE)
+file <- function(name) file.path(room, name)
+land <- made_map(8, 9, 3, seed = 3)
+writeRaster(land, file("maps/land.tif"), datatype = "INT1U")
+writeRaster(land > 1, file("maps/zones.tif"), datatype = "INT1U")
+writeLines(c("value,label", "1,wood", "2,\"field, wet\"", "3,town"), file("legend.csv"))
+recorded <- function() {
+  rcell_record(file("table.csv"), rcell_composition, file("maps/land.tif"), zones = file("maps/zones.tif"), labels = file("legend.csv"))
+}
+verified <- function() rcell_verify(file("table.csv"))
+found <- recorded()
+expect_identical(found, rcell_composition(land, zones = land > 1, labels = file("legend.csv")))
+expect_identical(verified(), character())
+read <- read.csv(file("table.csv"))
+expect_equal(read, found, check.attributes = FALSE)
+record <- readLines(file("table.csv.json"))
+expect_true(any(grepl("\"path\": \"maps/land.tif\"", record, fixed = TRUE)))
+before <- tools::md5sum(c(file("table.csv"), file("table.csv.json")))
+recorded()
+expect_identical(tools::md5sum(names(before)), before)
+
+# Python records the same sum for these cells.
+sums <- rcell:::sum_of_cells(rcell:::sources_of(list(m = rast(matrix(c(1, NA, 3, 4), 2, byrow = TRUE), extent = ext(0, 2, 0, 2), crs = "")))$m)
+expect_identical(substr(sums, 1, 12), "92c4ddb19ec7")
+
+# Another type, nodata value and compression are the same cells; so is another folder.
+writeRaster(land, file("maps/land.tif"), datatype = "INT4S", NAflag = -5, gdal = "COMPRESS=DEFLATE", overwrite = TRUE)
+expect_identical(verified(), character())
+files <- list.files(room, full.names = TRUE)
+dir.create(file("moved"))
+file.copy(files, file("moved"), recursive = TRUE)
+expect_identical(rcell_verify(file("moved/table.csv")), character())
+
+# A cell, a letter of the table, a legend, a map that is gone.
+other <- setValues(land, replace(values(land, mat = FALSE), 5, 3))
+writeRaster(other, file("maps/land.tif"), datatype = "INT1U", overwrite = TRUE)
+told <- verified()
+expect_identical(told[[1]], "the cells of map differ")
+expect_true(startsWith(told[[2]], "the table differs in line "))
+writeRaster(land, file("maps/land.tif"), datatype = "INT1U", overwrite = TRUE)
+text <- readLines(file("table.csv"))
+writeLines(sub("wood", "woods", text), file("table.csv"))
+told <- verified()
+expect_identical(told[[1]], "the table is not as it was written")
+expect_true(grepl("woods", told[[2]]))
+writeLines(text, file("table.csv"))
+writeLines(c("value,label", "1,wood", "2,field", "3,town"), file("legend.csv"))
+expect_identical(verified()[[1]], "legend.csv differs")
+unlink(file("maps/zones.tif"))
+expect_true(any(startsWith(verified(), "the call fails: zones: cannot open")))
+
+# Calls of several tables, vectors with names, maps of no file.
+writeRaster(land, file("maps/later.tif"))
+rcell_record(file("change.csv"), "rcell_change", file("maps/land.tif"), file("maps/later.tif"), labels = c("1" = "a", "2" = "b", "3" = "c"), .table = "summary")
+expect_identical(readLines(file("change.csv"))[[1]], "class,label,before_ha,after_ha,gain_ha,loss_ha,net_ha,swap_ha,persistence_ha")
+expect_identical(rcell_verify(file("change.csv")), character())
+fault <- function(...) refusal(rcell_record(...))$text
+expect_identical(fault(file("t.csv"), rcell_composition, land), "arguments must be paths, numbers or texts to be recorded; got a SpatRaster")
+expect_identical(fault(file("t.txt"), rcell_composition), sprintf("the path must end in .csv; got \"%s\"", file("t.txt")))
+expect_identical(fault(file("t.csv"), sum), "the call must be one of this package, for example rcell_composition; got \"a function\"")
+expect_identical(fault(file("t.csv"), rcell_majority, file("maps/land.tif")), "the call must return a table; got a SpatRaster")
+expect_identical(fault(file("legend.csv"), rcell_composition, file("maps/land.tif"), labels = file("legend.csv")), "the output file is the input file: give another filename=")
+expect_false(file.exists(file("t.csv")))
+expect_true(startsWith(refusal(rcell_verify(file("maps/none.csv")))$text, "cannot open"))
+writeLines("{\"rcell_record\": 1, \"call\": system(\"true\")}", file("bad.csv.json"))
+expect_true(grepl("is not a record", refusal(rcell_verify(file("bad.csv")))$text))
+
+unlink(room, recursive = TRUE)
+expect_identical(leftovers(), character())
