@@ -3,6 +3,7 @@
 
 from __future__ import annotations
 
+import io
 import os
 import pathlib
 import signal
@@ -232,6 +233,23 @@ def test_a_summary_is_the_summary_of_the_patches(place: dict[str, Any]) -> None:
             rcell.patches(raster, **words)
 
 
+def test_more_patches_than_32_bits_have(
+    monkeypatch: pytest.MonkeyPatch, tmp_path: pathlib.Path
+) -> None:
+    monkeypatch.setattr("rcell.core.tile_runs.MAX_CATEGORY", 9)
+    cells = rcell.Raster(np.random.default_rng(14).integers(0, 4, (20, 20)), nodata=0)
+    expected = rcell.clump(cells).array
+    found = as_tiles(lambda: rcell.clump(cells), (7, 9))
+    assert found.array.dtype == np.int64 and found.array.tolist() == expected.tolist()
+    first = tuple(np.argwhere(~np.ma.getmaskarray(expected))[0])
+    found.array[first] = 2**40
+    rasterio = pytest.importorskip("rasterio")
+    with rasterio.open(found.write(tmp_path / "clumps.tif")) as dataset:
+        written = dataset.read(1)
+    assert written[first] == 2**40
+    assert written[1:].tolist() == expected.filled(NULL)[1:].tolist()
+
+
 def comb(rows: int, cols: int) -> Any:
     """Teeth that meet in the last row alone: one patch, which is many until the last row of tiles."""
     cells = np.full((rows, cols), 1, np.int32)
@@ -431,11 +449,30 @@ def test_a_host_ends_the_programs_of_all_tiles() -> None:
     assert 0 < shares[0] < 1
 
 
+def test_a_bar_is_shown_on_a_terminal_after_two_seconds(
+    monkeypatch: pytest.MonkeyPatch,
+) -> None:
+    class Terminal(io.StringIO):
+        def isatty(self) -> bool:
+            return True
+
+    for seconds, is_host, shown in ((0.0, False, True), (2.0, False, False), (0.0, True, False)):
+        monkeypatch.setattr("rcell.core.showing.SECONDS", seconds)
+        monkeypatch.setattr(sys, "stderr", Terminal())
+        with serving(Host(progress=(lambda share: None) if is_host else None)):
+            as_tiles(lambda: rcell.composition(np.ones((20, 20))), (5, 5))
+        assert ("tile" in sys.stderr.getvalue()) == shown  # type: ignore[attr-defined]
+
+
 def test_progress_ends_at_one() -> None:
     shares: list[float] = []
     with serving(Host(progress=shares.append)):
         as_tiles(lambda: rcell.patches(np.ones((20, 20))), (10, 10))
     assert shares == [at / 12 for at in range(1, 13)]
+    shares.clear()
+    with serving(Host(progress=shares.append)):
+        as_tiles(lambda: rcell.clump(np.ones((20, 20))), (10, 10))
+    assert shares == [at / 8 for at in range(1, 9)]
 
 
 def test_an_interrupt_ends_programs_and_leaves_nothing(tmp_path: pathlib.Path) -> None:

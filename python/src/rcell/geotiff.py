@@ -45,12 +45,14 @@ def smallest_type(least: int, greatest: int) -> tuple[str, int]:
     --------
     >>> smallest_type(1, 12), smallest_type(0, 255), smallest_type(-5, 5), smallest_type(1, 70000)
     (('uint8', 255), ('int16', -32768), ('int16', -32768), ('int32', -2147483648))
+    >>> smallest_type(1, 2**31)
+    ('int64', -2147483648)
     """
     if 0 <= least and greatest < 255:
         return "uint8", 255
     if -32_768 < least and greatest <= 32_767:
         return "int16", -32_768
-    return "int32", NULL
+    return ("int32" if greatest <= -NULL - 1 else "int64"), NULL
 
 
 def profile_of(
@@ -183,4 +185,5 @@ def _rows_of(grid: Raster) -> Iterator[tuple[int, Any]]:
     rows, cols = grid.region.shape
     step = max(_BLOCK_CELLS // cols // TILE, 1) * TILE
     for row in range(0, rows, step):
-        yield row, grid.rows(row, min(row + step, rows)).astype(np.int32)
+        cells = grid.rows(row, min(row + step, rows))
+        yield row, cells if cells.dtype == np.int64 else cells.astype(np.int32)

@@ -43,7 +43,8 @@ class Output:
         The maps that it read.
     values : array
         Of a table int64, entries x columns: the categories of each map, and the number of cells if it was asked for. `NULL` is null.
-        Of a map rows x cols, int32 with `NULL` for null; or, if it is put together from tiles, bytes with 255 for null.
+        Of a map rows x cols, int32 with `NULL` for null. Put together from tiles, it may be of bytes with 255 for null, or of patch
+        numbers of 64 bits.
     has_counts, has_labels : bool
         Whether the statement has the flags `-c` and `-l`.
     """

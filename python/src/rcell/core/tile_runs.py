@@ -84,14 +84,25 @@ def run_tiles(
     if clumps:
         find_joiner()  # it is needed at the end, and missed at the beginning
         check_files(len(places))
-    steps = len(places) * (2 * len(clumps) + bool(outputs))
+    numbered = {clump.made for clump in clumps}
+    rest = [each for each in outputs if not _is_map_of(each, numbered)]
+    steps = len(places) * (2 * len(clumps) + bool(rest))
     with Crew(workers, steps) as crew:
         tiles = _Tiles(crew, dict(maps), places, shape)
         for clump in clumps:
             tiles.add_clumps(plan, clump)
-        found = tiles.outputs(plan, outputs, fold) if outputs else []
+        found = iter(tiles.outputs(plan, rest, fold) if rest else [])
         tiles.finish()
-    return found
+        if fold is not None:
+            return []
+        return [
+            tiles.clumps(each) if _is_map_of(each, numbered) else next(found) for each in outputs
+        ]
+
+
+def _is_map_of(output: Statement, names: set[str]) -> bool:
+    """Return whether an output is one of some maps, as it is."""
+    return output.command == "r.out.ascii" and output.inputs[0] in names
 
 
 class _Tiles:
@@ -153,7 +164,7 @@ class _Tiles:
                     total.add(result)
                 else:
                     total.put(self._places[at], result)
-        return [] if fold else [_output(each, total) for each, total in zip(outputs, sums)]
+        return [_output(each, total) for each, total in zip(outputs, sums)]
 
     def _open_clumps(self, plan: Sequence[Statement], place: Rectangle) -> Integers:
         """Return the clumps that may continue outside a tile: those along its sides."""
@@ -219,6 +230,16 @@ class _Tiles:
             next(iter(self._maps.values())).region,
             nodata_value=NO_CLUMP,
         )
+
+    def clumps(self, output: Statement) -> Output:
+        """Return the map of clumps that a statement writes, once no other one reads it."""
+        source = self._maps[output.inputs[0]]
+        assert isinstance(source, ArrayMap)
+        for place in self._places if source.nodata_value == NO_CLUMP else ():
+            part = place.part_of(self._full, source.array)
+            np.copyto(part, NULL, where=part == NO_CLUMP)
+        self._maps[output.inputs[0]] = replace(source, nodata_value=NULL)
+        return Output("r.out.ascii", output.line, output.inputs, source.array)
 
     @property
     def _full(self) -> Rectangle:
