@@ -14,9 +14,11 @@ IMPERATIVE = set("embed exceed feed need shed seed speed bring string focus disc
 
 def subjects():
     """The commits after the last old one, each with its subject; none if the history is not here."""
-    words = ["git", "log", "--no-merges", "--format=%h %s", f"{LAST_OLD}..HEAD"]
+    words = ["git", "log", "--no-merges", "--format=%H %s", f"{LAST_OLD}..HEAD"]
     listed = subprocess.run(words, cwd=ROOT, capture_output=True, text=True, check=False).stdout
-    return [line.split(" ", 1) for line in listed.splitlines()]
+    # git's own short hashes grow with the repository, and the list of exceptions has these.
+    pairs = (line.split(" ", 1) for line in listed.splitlines())
+    return [(commit[: len(LAST_OLD)], subject) for commit, subject in pairs]
 
 
 def fault_of(subject):
