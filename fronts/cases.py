@@ -12,10 +12,10 @@ from dataclasses import dataclass, field, replace
 # The folder with `cases` and `rasters`, which may be another one than this.
 HERE = pathlib.Path(os.environ.get("RCELL_CASES") or pathlib.Path(__file__).resolve().parent)
 TABLES = (
-    *("composition", "cross", "change", "patches", "zonal", "adjacency"),
+    *("composition", "cross", "change", "trajectories", "patches", "zonal", "adjacency"),
     *("dominant", "accuracy", "metrics", "sample"),
 )
-MAPS = ("majority", "align", "reclass", "clump", "sieve", "within")
+MAPS = ("majority", "align", "reclass", "clump", "sieve", "within", "aggregate")
 # Maps with an account of how they were made, and its columns.
 FACTS = {
     "align": ("shift_rows", "shift_columns", "cells_used", "cells_repeated", "cells_lost"),
@@ -97,6 +97,11 @@ class Case:
     def expected_of(self, front: str) -> tuple[list[str], bool]:
         """What must come out of a package, and whether it is an error."""
         return self.expected.get(front, self.expected.get("", ([], False)))
+
+    @property
+    def makes_map(self) -> bool:
+        """Whether the result is a map."""
+        return self.call in MAPS or "map" in self.options
 
     def is_for(self, front: str) -> bool:
         """Whether a package runs the case: r.rcell has scripts alone, and `rcell-gis` only the ready calls."""

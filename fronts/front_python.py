@@ -29,11 +29,11 @@ OPTIONS: dict[str, Callable[[str], Any]] = {
     **dict.fromkeys(("labels", "zone_labels", "zone_field", "resample", "crs"), str),
     **dict.fromkeys(("rules", "other", "areas", "field", "level", "n", "seed", "allocation"), str),
     **dict.fromkeys(("years", "classes"), lambda text: [int(part) for part in text.split(",")]),
-    **dict.fromkeys(("connectivity", "min_cells", "core_depth", "size", "scale"), int),
+    **dict.fromkeys(("connectivity", "min_cells", "core_depth", "size", "factor", "scale"), int),
     **dict.fromkeys(
         ("quantiles", "distances"), lambda text: [float(part) for part in text.split(",")]
     ),
-    "min_ha": float,
+    **dict.fromkeys(("min_ha", "min_percent"), float),
 }
 
 
@@ -49,6 +49,15 @@ def of_table(case: Case) -> list[str]:
 
 def of_grid(grid: rcell.Raster) -> list[str]:
     return [" ".join(plain(value) for value in row) for row in grid.array.tolist()]
+
+
+def of_shares(names: list[str], layers: Any) -> list[str]:
+    """The name of each class, and below it its shares."""
+    return [
+        line
+        for name, layer in zip(names, layers.tolist())
+        for line in (name, *(" ".join(plain(value) for value in row) for row in layer))
+    ]
 
 
 def of_frame(case: Case, frame: Any) -> list[str]:
@@ -70,7 +79,7 @@ def options_of(case: Case) -> dict[str, Any]:
     return {
         key: case.maps[text] if key in ("zones", "to") else OPTIONS[key](text)
         for key, text in case.options.items()
-        if key not in ("table", "band")
+        if key not in ("table", "map", "band")
     }
 
 
@@ -86,12 +95,20 @@ def answered(case: Case) -> list[str]:
         found = rcell.change(*maps, **options) if len(maps) == 2 else rcell.change(maps, **options)
         part = getattr(found, case.options.get("table", "table"))
         return of_frame(case, part.reset_index() if case.options.get("table") == "matrix" else part)
+    if case.call == "trajectories":
+        kept = rcell.trajectories(maps, include_maps="map" in case.options, **options)
+        if "map" in case.options:
+            return of_grid(kept.maps[case.options["map"]])
+        return of_frame(case, getattr(kept, case.options.get("table", "table")))
     answer = getattr(rcell, case.call)(*maps, **options)
     if case.call == "accuracy":
         part = case.options.get("table", "classes")
         if part == "summary":
             return of_frame(case, pandas.DataFrame([answer[2:]], columns=answer._fields[2:]))
         answer = answer.classes if part == "classes" else answer.matrix.reset_index()
+    if case.call == "aggregate":
+        shares, is_wanted = answer.shares, case.options.get("map") == "shares"
+        return of_shares(shares.names, shares.percent) if is_wanted else of_grid(answer.majority)
     if case.outs:
         answer.write(case.outs["out"])
         return [f"written: {case.outs['out']}"]

@@ -18,7 +18,7 @@ os.environ.setdefault("QT_QPA_PLATFORM", "offscreen")
 sys.path[:0] = [str(HERE.parent / "qgis"), "/usr/share/qgis/python/plugins"]
 
 from cases import HERE as FOLDER
-from cases import ANSWERS, FACTS, MAPS, POLYGONS, Case, Scratch, cases, copied, kind_of, notes
+from cases import ANSWERS, FACTS, POLYGONS, Case, Scratch, cases, copied, kind_of, notes
 from osgeo import gdal
 from qgis.core import (
     NULL,
@@ -31,10 +31,15 @@ from qgis.core import (
 )
 from qgis.PyQt.QtCore import QVariant
 
-# Parts of a change that are outputs of their own.
-PARTS = {"matrix": "MATRIX", "summary": "SUMMARY"}
 # What the second map of a call is.
 SECOND = {"zonal": "ZONES", "dominant": "ZONES", "accuracy": "REFERENCE"}
+# Tables that are outputs of their own.
+PARTS = {name: name.upper() for name in ("matrix", "summary", "changes", "intervals")}
+# Maps that are outputs of their own.
+PARTS_THAT_ARE_MAPS = {
+    "changes": "CHANGES_MAP",
+    **{name: name.upper() for name in ("first_change", "last_change", "shares")},
+}
 TYPES = {
     QVariant.Int: "integer",
     QVariant.LongLong: "integer",
@@ -85,10 +90,17 @@ def asked(case: Case) -> tuple[str, dict[str, Any]]:
 
 
 def of_raster(path: str) -> list[str]:
+    """The rows of a map; of shares the rows of each band, below its name."""
     dataset = gdal.Open(path)
-    nodata = dataset.GetRasterBand(1).GetNoDataValue()
-    rows = dataset.ReadAsArray().tolist()
-    return [" ".join("*" if value == nodata else str(value) for value in row) for row in rows]
+    lines: list[str] = []
+    for number in range(1, dataset.RasterCount + 1):
+        band = dataset.GetRasterBand(number)
+        nodata, name = band.GetNoDataValue(), band.GetDescription()
+        lines += [name] if name else []
+        for row in band.ReadAsArray().tolist():
+            texts = ("*" if it in (nodata, None) or it != it else f"{it:.12g}" for it in row)
+            lines.append(" ".join(texts))
+    return lines
 
 
 def of_layer(layer: Any, digits: int = 12) -> list[str]:
@@ -113,14 +125,14 @@ def parameters_of(case: Case) -> dict[str, Any]:
     """The parameters of an algorithm, named as in Python, in capitals."""
     layers = [layer_of(case, name) for name in case.words]
     parameters: dict[str, Any] = {
-        "INPUT": layers if case.call in ("cross", "change") else layers[0]
+        "INPUT": layers if case.call in ("cross", "change", "trajectories") else layers[0]
     }
     if case.call in SECOND:
         parameters[SECOND[case.call]] = layers[1]
     for key, text in case.options.items():
         name = {"rules": "RULES_FILE"}.get(key, key.upper())
         name += "_FILE" * (key == "areas" and text != "map")
-        if key != "table":
+        if key not in ("table", "map"):
             parameters[name] = (
                 layer_of(case, text)
                 if key in ("zones", "to")
@@ -137,14 +149,15 @@ def answered(case: Case, room: str) -> list[str]:
 
     parameters, feedback = parameters_of(case), Feedback()
     part = PARTS.get(case.options.get("table", ""), "OUTPUT")
+    if "map" in case.options:
+        part = PARTS_THAT_ARE_MAPS[case.options["map"]]
     if case.outs:
         outputs = {
             {"out": "OUTPUT"}.get(name, name.upper()): path for name, path in case.outs.items()
         }
-    elif case.call in MAPS:
-        outputs = {"OUTPUT": os.path.join(room, f"{case.name}.tif")}
     else:
-        outputs = {"OUTPUT": "TEMPORARY_OUTPUT", part: "TEMPORARY_OUTPUT"}
+        path = os.path.join(room, f"{case.name}.tif") if case.makes_map else "TEMPORARY_OUTPUT"
+        outputs = {"OUTPUT": "TEMPORARY_OUTPUT", part: path}
     try:
         found = processing.run(f"rcell:{case.call}", {**parameters, **outputs}, feedback=feedback)
     except QgsProcessingException as error:
@@ -152,10 +165,10 @@ def answered(case: Case, room: str) -> list[str]:
     types = case.types
     if case.outs:
         lines = [f"written: {path}" for path in case.outs.values()]
-    elif case.call in MAPS:
+    elif case.makes_map:
         names = FACTS.get(case.call, ())
         facts = ["|".join(names), "|".join(plain(found[name.upper()]) for name in names)]
-        lines = [*(facts if names else []), *of_raster(found["OUTPUT"])]
+        lines = [*(facts if names else []), *of_raster(found[part])]
     else:
         lines, types = of_layer(found[part], case.digits), types_of(found[part])
     return lines + notes(case, types, feedback.warnings)

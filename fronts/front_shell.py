@@ -52,12 +52,16 @@ def words_of(case: Case, target: str) -> list[str]:
         f"{name}={case.maps[name]}" if case.call == "cross" else case.maps[name]
         for name in case.words
     ]
-    words += [target] if case.call in MAPS else []
-    for key, text in case.options.items():
+    options = dict(case.options)
+    part = options.pop("map", "")
+    words += [target] if case.call in MAPS and not part else []
+    words += [f"{target}.tif", "--shares", target] if part == "shares" else []
+    words += ["--map", f"{part}={target}"] if part and part != "shares" else []
+    for key, text in options.items():
         option = f"--{key.replace('_', '-')}"
         value = case.maps[text] if key in ("zones", "to") else text
         words += [option] if key in FLAGS else [option, value]
-    return [case.call, *words, *(["--out", target] if case.outs and case.call not in MAPS else [])]
+    return [case.call, *words, *(["--out", target] if case.outs and not case.makes_map else [])]
 
 
 def plain(title: str, text: str, digits: int) -> str:
@@ -76,9 +80,16 @@ def of_table(case: Case, text: str) -> list[str]:
 
 
 def of_raster(path: str) -> list[str]:
+    """The rows of a map; of shares the rows of each band, below its name."""
     with rasterio.open(path) as file:
-        rows = file.read(1, masked=True).tolist()
-    return [" ".join("*" if value is None else str(value) for value in row) for row in rows]
+        layers, names = file.read(masked=True).tolist(), file.descriptions
+    lines = []
+    for rows, name in zip(layers, names):
+        lines += [name] if name else []
+        for row in rows:
+            texts = ("*" if value is None else f"{value:.12g}" for value in row)
+            lines.append(" ".join(texts))
+    return lines
 
 
 def refusal(status: int, told: str) -> list[str]:
@@ -105,14 +116,13 @@ def answer(case: Case, room: str) -> list[str]:
     status, out, told = ran(words_of(case, target))
     start = "rcell-gis: warning: "
     warned = [line.removeprefix(start) for line in told.splitlines() if line.startswith(start)]
-    lines = (
-        [] if case.call in MAPS and case.call not in FACTS else of_table(case, out) if out else []
-    )
+    is_map = case.makes_map and case.call not in FACTS
+    lines = of_table(case, out) if out and not is_map else []
     if status:
         lines = refusal(status, told)
     elif case.outs:
         lines = [f"written: {target}"]
-    elif case.call in MAPS:
+    elif case.makes_map:
         lines += of_raster(target)
     return lines + notes(case, case.types, warned)
 

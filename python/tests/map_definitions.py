@@ -123,7 +123,7 @@ def within(
 ) -> Rows:
     """Return the number of the first distance within which each cell has a cell of the classes."""
     inside = [place for place in places(rows) if at(rows, place) in classes]
-    limits = [0, *(Fraction(distance) ** 2 for distance in distances)]
+    limits = [Fraction(distance) ** 2 for distance in (0, *distances)]
     found: Rows = [[None] * len(rows[0]) for _ in rows]
     for row, col in places(rows):
         squares = (
@@ -135,3 +135,31 @@ def within(
             rings = (ring for ring, limit in enumerate(limits) if nearest <= limit)
             found[row][col] = next(rings, None)
     return found
+
+
+def aggregate(
+    rows: Rows, factor: int, min_percent: float = 0
+) -> tuple[Rows, dict[tuple[int, int, int], float]]:
+    """Return the most frequent class of each block, and the percentage of a class by class, row and column."""
+    high, wide = -(-len(rows) // factor), -(-len(rows[0]) // factor)
+    majority: Rows = [[None] * wide for _ in range(high)]
+    shares = {}
+    for row, col in places(majority):
+        block = [
+            at(rows, (row * factor + down, col * factor + right))
+            for down in range(factor)
+            for right in range(factor)
+        ]
+        counts = Counter(cell for cell in block if cell is not None)
+        cells = sum(counts.values())
+        if cells and cells * 100 >= min_percent * factor**2:
+            most = max(counts.values())
+            majority[row][col] = min(code for code in counts if counts[code] == most)
+            for code, count in counts.items():
+                shares[code, row, col] = 100 * count / cells
+    return majority, shares
+
+
+def steps_of(way: Sequence[Any], years: Sequence[int]) -> list[int]:
+    """Return the years in which a new class is first seen."""
+    return [year for year, one, two in zip(years[1:], way, way[1:]) if one != two]

@@ -42,9 +42,9 @@ def test_maps_at_the_edges_are_sieved_as_defined(name: str, fewest: int, connect
 @pytest.mark.parametrize("seed", range(60))
 def test_random_maps_are_sieved_as_defined(seed: int) -> None:
     random = np.random.default_rng(seed)
-    shape = random.integers(1, 15, 2).tolist()
+    rows, cols, classes = (int(random.integers(1, most)) for most in (15, 15, 6))
     null, grain = random.choice([0, 0.1, 0.4]), int(random.integers(1, 4))
-    land = random_map(seed, *shape, int(random.integers(1, 6)), null, grain)
+    land = random_map(seed, rows, cols, classes, null, grain)
     connectivity, fewest = (4, 8)[seed % 2], int(random.integers(1, 30))
     found = rcell.sieve(land, fewest, connectivity=connectivity)
     assert found.array.tolist() == sieve(land.tolist(), fewest, connectivity)

@@ -5,6 +5,7 @@ from __future__ import annotations
 
 import colorsys
 import contextlib
+import math
 import os
 from typing import Any, Mapping, Sequence
 
@@ -25,6 +26,7 @@ from qgis.core import (
 from qgis.PyQt import QtCore
 from qgis.PyQt.QtGui import QColor
 
+from .engine.core.aggregate import BlockShares
 from .engine.core.area import measure_of
 from .engine.core.columns import Table
 from .engine.core.crs import UNITS_OF_AREA
@@ -55,10 +57,27 @@ def put_raster(path: str, map: ArrayMap, like: Source, check: Check, null: int =
     ------
     WriteFailed
     """
+    write_raster(path, _driver(path), cells_of(map, null), null, like, map.labels, check)
+
+
+def put_shares(path: str, shares: BlockShares, check: Check) -> None:
+    """Write the shares of classes to a file, with a band for each class.
+
+    Raises
+    ------
+    WriteFailed
+    """
+    like, names = shares.blocks, shares.names
+    if not names:
+        raise WriteFailed(f"{path} cannot be written: no class has a share, all cells are null")
+    write_raster(path, _driver(path), shares.percent, math.nan, like, {}, check, names)
+
+
+def _driver(path: str) -> str:
     driver = QgsRasterFileWriter.driverForExtension(os.path.splitext(path)[1])
     if not driver:
         raise WriteFailed(f"{path} cannot be written: no format has this ending")
-    write_raster(path, driver, cells_of(map, null), null, like, map.labels, check)
+    return str(driver)
 
 
 def put_legend(

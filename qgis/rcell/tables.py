@@ -12,7 +12,6 @@ import threading
 from collections.abc import Iterable, Iterator, Mapping, Sequence
 from typing import Any, Callable
 
-import numpy as np
 from numpy.typing import NDArray
 from osgeo import gdal, ogr
 
@@ -192,27 +191,30 @@ def _quoted(name: str) -> str:
 def write_raster(
     path: str,
     driver: str,
-    cells: NDArray[np.int32],
-    null: int,
+    cells: NDArray[Any],
+    null: float,
     like: Source,
     labels: Mapping[int, str],
     check: Check = no_check,
+    names: Sequence[str] = ("",),
 ) -> None:
-    """Write a map as a raster of 32-bit integers.
+    """Write a map as a raster of 32-bit integers, or several ones with decimals as its bands.
 
     Parameters
     ----------
     path : str
     driver : str
         The name of GDAL's driver.
-    cells : array of int32, rows x cols
-    null : int
+    cells : array of int32, rows x cols, or of float64, bands x rows x cols
+    null : float
         The value of cells that is null, which becomes nodata.
     like : Source
         The map whose position and reference system are used.
     labels : mapping of int to str
     check : callable
         Called from time to time; an exception ends the writing.
+    names : sequence of str
+        The descriptions of the bands.
 
     Raises
     ------
@@ -223,7 +225,9 @@ def write_raster(
         gdal.ErrorReset()
         folder = f"/vsimem/rcell_{os.getpid()}_{id(part)}"
         try:
-            copied = _copied(folder, part, driver, cells, null, like, check)
+            tiff = f"{folder}/map.tif"
+            is_made = _write_tiff(tiff, cells, null, like, check, names)
+            copied = _copied(folder, part, driver, tiff) if is_made else ""
             if not copied:
                 raise OSError(gdal.GetLastErrorMsg() or "the disk may be full")
             _copy_out(copied, part)
@@ -232,42 +236,44 @@ def write_raster(
             gdal.RmdirRecursive(folder)
 
 
-def _copied(
-    folder: str,
-    part: str,
-    driver: str,
-    cells: NDArray[np.int32],
-    null: int,
-    like: Source,
-    check: Check,
-) -> str:
-    """Write a raster to memory and return its path, since GDAL does not report every full disk; empty if that failed."""
-    tiff, copied = f"{folder}/map.tif", f"{folder}/copy{os.path.splitext(part)[1]}"
-    if not _write_tiff(tiff, cells, null, like, check):
-        return ""
+def _copied(folder: str, part: str, driver: str, tiff: str) -> str:
+    """Copy a raster in memory and return the copy's path, since GDAL does not report every full disk; empty if that failed."""
     if driver == "GTiff":
         return tiff
+    copied = f"{folder}/copy{os.path.splitext(part)[1]}"
     copy = gdal.GetDriverByName(driver).CreateCopy(copied, gdal.Open(tiff))
     return copied if copy is not None and _flushed(copy) else ""
 
 
-def _write_tiff(path: str, cells: NDArray[np.int32], null: int, like: Source, check: Check) -> bool:
-    rows, cols = cells.shape
-    dataset = gdal.GetDriverByName("GTiff").Create(path, cols, rows, 1, gdal.GDT_Int32, _OPTIONS)
+def _write_tiff(
+    path: str,
+    cells: NDArray[Any],
+    null: float,
+    like: Source,
+    check: Check,
+    names: Sequence[str],
+) -> bool:
+    layers = cells if cells.ndim == 3 else cells[None]
+    count, rows, cols = layers.shape
+    kind = gdal.GDT_Float64 if cells.dtype.kind == "f" else gdal.GDT_Int32
+    dataset = gdal.GetDriverByName("GTiff").Create(path, cols, rows, count, kind, _OPTIONS)
     if dataset is None:
         return False
     width, b, west, d, height, north = like.transform
     dataset.SetGeoTransform((west, width, b, north, d, height))
     if like.crs:
         dataset.SetProjection(like.crs)
-    band = dataset.GetRasterBand(1)
-    band.SetNoDataValue(null)
     step = max(1, BLOCK_CELLS // cols)
-    for row in range(0, rows, step):
-        check()
-        if band.WriteArray(cells[row : row + step], 0, row) not in (None, gdal.CE_None):
-            return False
-    del band
+    for number, (layer, name) in enumerate(zip(layers, names), 1):
+        band = dataset.GetRasterBand(number)
+        if name:
+            band.SetDescription(name)
+        band.SetNoDataValue(null)
+        for row in range(0, rows, step):
+            check()
+            if band.WriteArray(layer[row : row + step], 0, row) not in (None, gdal.CE_None):
+                return False
+        del band
     return _flushed(dataset)
 
 

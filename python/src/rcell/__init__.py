@@ -18,6 +18,7 @@ TYPE_CHECKING = False  # typing takes longer to import than all of this module
 
 __all__ = [
     "Accuracy",
+    "Aggregate",
     "Aligned",
     "BadArgument",
     "BadMap",
@@ -35,12 +36,15 @@ __all__ = [
     "Refused",
     "Region",
     "Result",
+    "Shares",
     "Sieved",
+    "Trajectories",
     "WriteFailed",
     "WrongProgram",
     "__version__",
     "accuracy",
     "adjacency",
+    "aggregate",
     "align",
     "bands",
     "change",
@@ -58,6 +62,7 @@ __all__ = [
     "show_versions",
     "sieve",
     "table",
+    "trajectories",
     "within",
     "zonal",
 ]
@@ -67,6 +72,7 @@ if TYPE_CHECKING:
 
     from ._version import __version__
     from .core.accuracy import Accuracy
+    from .core.aggregate import Aggregate
     from .core.align import Aligned
     from .core.change import Change
     from .core.errors import (
@@ -87,10 +93,12 @@ if TYPE_CHECKING:
     from .core.region import Region
     from .core.sieve import Sieved
     from .core.sources import MapLike
+    from .core.trajectories import Trajectories
     from .frames import (
         Result,
         accuracy,
         adjacency,
+        aggregate,
         align,
         change,
         clump,
@@ -106,17 +114,20 @@ if TYPE_CHECKING:
         sample,
         sieve,
         table,
+        trajectories,
         within,
         zonal,
     )
     from .raster import Raster
     from .readers.bands import bands
+    from .shares import Shares
     from .versions import show_versions
 
 # Each name is imported when it is first used: the command line reads and explains files without numpy.
 _MODULES = {
     "._version": ("__version__",),
     ".core.accuracy": ("Accuracy",),
+    ".core.aggregate": ("Aggregate",),
     ".core.align": ("Aligned",),
     ".core.change": ("Change",),
     ".core.errors": (
@@ -137,10 +148,12 @@ _MODULES = {
     ".core.region": ("Region",),
     ".core.sieve": ("Sieved",),
     ".core.sources": ("MapLike",),
+    ".core.trajectories": ("Trajectories",),
     ".frames": (
         "Result",
         "accuracy",
         "adjacency",
+        "aggregate",
         "align",
         "change",
         "clump",
@@ -156,11 +169,13 @@ _MODULES = {
         "sample",
         "sieve",
         "table",
+        "trajectories",
         "within",
         "zonal",
     ),
     ".raster": ("Raster",),
     ".readers.bands": ("bands",),
+    ".shares": ("Shares",),
     ".versions": ("show_versions",),
 }
 _MODULE_OF = {name: module for module, names in _MODULES.items() for name in names}

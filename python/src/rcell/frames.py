@@ -12,6 +12,7 @@ import numpy as np
 
 from .core import accuracy as _accuracy
 from .core import adjacency as _adjacency
+from .core import aggregate as _aggregate
 from .core import align as _align
 from .core import change as _change
 from .core import composition as _composition
@@ -23,15 +24,19 @@ from .core import reclass as _reclass
 from .core import sample as _sample
 from .core import scripts as _scripts
 from .core import sieve as _sieve
+from .core import trajectories as _trajectories
 from .core import within as _within
 from .core import zonal as _zonal
 from .core.accuracy import Accuracy
+from .core.aggregate import Aggregate
 from .core.change import Change
 from .core.columns import Column, Matrix, Table
 from .core.protocol import NULL
 from .core.sources import ArrayMap
 from .core.tiling import working
+from .core.trajectories import Trajectories
 from .raster import Raster
+from .shares import Shares
 
 if TYPE_CHECKING:
     import pandas
@@ -40,6 +45,7 @@ __all__ = [
     "Result",
     "accuracy",
     "adjacency",
+    "aggregate",
     "align",
     "change",
     "clump",
@@ -56,6 +62,7 @@ __all__ = [
     "sample",
     "sieve",
     "table",
+    "trajectories",
     "within",
     "zonal",
 ]
@@ -151,6 +158,20 @@ def _raster_of(found: Any) -> Raster:
     return Raster._of(*found) if isinstance(found, tuple) else Raster._of(found)
 
 
+def _aggregate_of(found: Aggregate) -> Aggregate:
+    return Aggregate(Raster._of(found.majority), Shares(found.shares), Raster._of(found.cells))
+
+
+def _trajectories_of(found: Trajectories) -> Trajectories:
+    maps = {name: Raster._of(made) for name, made in found.maps.items()}
+    return found._replace(
+        table=frame_of(found.table),
+        changes=frame_of(found.changes),
+        intervals=frame_of(found.intervals),
+        maps=maps,
+    )
+
+
 class Result(Sequence[Any]):
     """The outputs of a script in the order of its statements: a DataFrame for each r.stats, a Raster for each r.out.ascii.
 
@@ -238,6 +259,8 @@ metrics = _framed(_metrics.metrics)
 sample = _framed(_sample.sample)
 change = _returning("rcell.Change", _change_of)(_change.change)
 accuracy = _returning("rcell.Accuracy", _accuracy_of)(_accuracy.accuracy)
+trajectories = _returning("rcell.Trajectories", _trajectories_of)(_trajectories.trajectories)
+aggregate = _returning("rcell.Aggregate", _aggregate_of)(_aggregate.aggregate)
 majority = _rastered(_majority.majority)
 align = _rastered(_align.align)
 reclass = _rastered(_reclass.reclass)

@@ -56,7 +56,7 @@ def smallest_type(least: int, greatest: int) -> tuple[str, int]:
 
 
 def profile_of(
-    rows: int, cols: int, transform: tuple[float, ...], crs: Any, dtype: str, nodata: int
+    rows: int, cols: int, transform: tuple[float, ...], crs: Any, dtype: str, nodata: float
 ) -> dict[str, Any]:
     """Return rasterio's creation profile of a GeoTIFF.
 

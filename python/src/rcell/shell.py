@@ -5,10 +5,7 @@ from __future__ import annotations
 
 import argparse
 import contextlib
-import csv
 import importlib
-import io
-import json
 import os
 import re
 import shlex
@@ -32,6 +29,7 @@ from .core.files import (
 from .core.hints import lines_of_error, near
 from .core.host import Host, serving
 from .core.process import begin_work, end_work, has_work
+from .core.table_texts import table_text
 from .shell_options import OPTIONS
 
 __all__ = ["emit", "main", "script_of"]
@@ -156,8 +154,7 @@ def _call(name: str) -> Callable[..., Any]:
 
 def _options(words: argparse.Namespace) -> dict[str, Any]:
     """Return the options of a call that are given."""
-    own = {"format", "out", "band", "table", "part", "legends"}
-    names = (ARGUMENTS.get(name, name) for name in words.options if name not in own)
+    names = (ARGUMENTS.get(name, name) for name in words.options if name not in NO_ARGUMENTS)
     given = {name: getattr(words, name) for name in names}
     given.update({"zones": words.zones} if words.command in ("zonal", "dominant") else {})
     if given.get("area") == "none":
@@ -246,6 +243,39 @@ def _to_map(words: argparse.Namespace) -> None:
         _put(words, words.account._fields, [tuple(words.account)])
 
 
+def _aggregate(words: argparse.Namespace) -> None:
+    words.given = {"map": words.map}
+    if words.shares and not words.shares.lower().endswith(MAPS[:2]):
+        told = f"{words.shares}: shares are written as .tif or .tiff"
+        raise Refused(told, status=COMMAND_LINE)
+
+    def made() -> list[Any]:
+        call = importlib.import_module("rcell").aggregate
+        found = call(_map(words, words.map), **_options(words))
+        return [found.majority, found.shares]
+
+    _write_maps([words.target, *([words.shares] if words.shares else [])], made)
+
+
+def _trajectories(words: argparse.Namespace) -> None:
+    words.given = {f"map_{number}": path for number, path in enumerate(words.maps, 1)}
+    paths, found = _pairs(words.outs), []
+    known = importlib.import_module("rcell.core.trajectories").MAPS
+    for name in paths:
+        if name not in known:
+            raise Refused(f"no map {name}: there are {', '.join(known)}", status=COMMAND_LINE)
+
+    def made() -> list[Any]:
+        maps = [_map(words, path) for path in words.maps]
+        found.append(_call("trajectories")(maps, include_maps=bool(paths), **_options(words)))
+        raster = importlib.import_module("rcell").Raster
+        return [raster._of(found[0].maps[name]) for name in paths]
+
+    _write_maps(list(paths.values()), made)
+    table = getattr(found[0], words.table)
+    _put(words, table.columns, table.rows)
+
+
 def _run(words: argparse.Namespace) -> None:
     words.given, paths = _pairs(words.maps), _pairs(words.outs)
     if words.each is not None:
@@ -260,7 +290,7 @@ def _run(words: argparse.Namespace) -> None:
     _write_maps(list(paths.values()), made)
     tables = [output.table() for output in outputs if hasattr(output, "table")]
     if tables:
-        texts = (_written(words.format or "csv", table.columns, table.rows) for table in tables)
+        texts = (table_text(words.format or "csv", table.columns, table.rows) for table in tables)
         emit("\n".join(texts))
 
 
@@ -303,7 +333,7 @@ def _run_each(words: argparse.Namespace) -> None:
             if is_table:
                 table = output.table()
                 with open(path, "w", encoding="utf-8", errors="surrogateescape") as file:
-                    file.write(_written(form, table.columns, table.rows))
+                    file.write(table_text(form, table.columns, table.rows))
             else:
                 _write_map(output, path, ending)
         os.mkdir(folder)  # a folder that another process has made meanwhile is an error
@@ -358,43 +388,11 @@ def _explain(words: argparse.Namespace) -> int:
 # What is written
 
 
-def _written(form: str, columns: Sequence[str], rows: Sequence[Sequence[Any]]) -> str:
-    """Return a table as text: numbers in the shortest form that reads back the same, missing values empty or null."""
-    if form == "json":
-        objects = (json.dumps(dict(zip(columns, row)), ensure_ascii=False) for row in rows)
-        return "[" + ",\n ".join(objects) + "]\n"
-    if form == "markdown":
-        return _markdown(columns, rows)
-    text = io.StringIO()
-    writer = csv.writer(text, delimiter="\t" if form == "tsv" else ",", lineterminator="\n")
-    writer.writerow(columns)
-    writer.writerows([_shortest(value) for value in row] for row in rows)
-    return text.getvalue()
-
-
-def _shortest(value: Any) -> Any:
-    return repr(value).removesuffix(".0") if isinstance(value, float) else value
-
-
-def _markdown(columns: Sequence[str], rows: Sequence[Sequence[Any]]) -> str:
-    def cell(value: Any) -> str:
-        text = "" if value is None else f"{value:.10g}" if isinstance(value, float) else str(value)
-        return text.replace("\\", "\\\\").replace("|", "\\|").replace("\n", " ")
-
-    sides = [
-        "---" if any(isinstance(row[at], str) for row in rows) else "---:"
-        for at in range(len(columns))
-    ]
-    lines = [" | ".join(map(cell, line)) for line in (columns, *rows)]
-    head, *rest = (f"| {line} |" for line in lines)
-    return "\n".join([head, f"|{'|'.join(sides)}|", *rest]) + "\n"
-
-
 def _put(words: argparse.Namespace, columns: Sequence[str], rows: Sequence[Sequence[Any]]) -> None:
     """Write a table to its file or to standard output."""
     out = words.__dict__.get("out")
     ending = os.path.splitext(out or "")[1].lower()
-    text = _written(words.format or ENDINGS[ending], columns, rows)
+    text = table_text(words.format or ENDINGS[ending], columns, rows)
     if not rows:
         _tell("note: the table is empty: all cells are null or left out")
     if out is None:
@@ -453,6 +451,8 @@ def _write_map(raster: Any, path: str, ending: str) -> None:
         with _told(path):
             figure = raster.plot().figure
             figure.savefig(path, format=ending[1:], bbox_inches="tight", dpi=150)
+    elif hasattr(raster, "percent"):
+        raster._write(path)
     else:
         write = importlib.import_module("rcell.geotiff").write_geotiff
         write(raster, path, ending.startswith(".cog"))
@@ -494,6 +494,10 @@ def script_of(word: str) -> str:
 
 # The commands, with the words and options that each accepts, and the arguments of options that have another name.
 ARGUMENTS = {"each_zone": "each", "of_classes": "classes", "smallest": "min_cells"}
+NO_ARGUMENTS = {
+    *("band", "format", "legends", "out", "part", "shares", "table"),
+    *("maps_of_years", "of_trajectories"),
+}
 _ZONES = "zones zone_field zone_labels layer"
 _TABLE = "band crs format out"
 COMMANDS = {
@@ -545,6 +549,13 @@ COMMANDS = {
         "maps",
         f"level connectivity {_ZONES} each_zone labels area {_TABLE}",
         _of_each,
+    ),
+    "trajectories": Command(
+        "MAP MAP... --years ..",
+        "each sequence of classes over the years, and maps of when classes changed",
+        "maps",
+        f"years of_trajectories maps_of_years labels area {_TABLE}",
+        _trajectories,
     ),
     "patches": Command(
         "MAP...",
@@ -601,6 +612,13 @@ COMMANDS = {
         "map target",
         "of_classes distances band crs",
         _to_map,
+    ),
+    "aggregate": Command(
+        "MAP OUT --factor N",
+        "a coarser map with the most frequent class of blocks of cells, and the share of each class",
+        "map target",
+        "factor min_percent shares band crs",
+        _aggregate,
     ),
     "align": Command(
         "MAP OUT --to OTHER",

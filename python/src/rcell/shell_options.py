@@ -136,6 +136,36 @@ OPTIONS: dict[str, tuple[str, dict[str, Any]]] = {
         "--summary",
         {"choices": ["class"], "help": "a row for each class in place of each patch"},
     ),
+    "factor": (
+        "--factor",
+        {"type": int, "required": True, "metavar": "N", "help": "rows and columns of a block"},
+    ),
+    "min_percent": (
+        "--min-percent",
+        {"type": float, "metavar": "P", "help": "of a block's cells that must not be null"},
+    ),
+    "shares": (
+        "--shares",
+        {"metavar": "FILE", "help": "a GeoTIFF with a band of percentages for each class"},
+    ),
+    "of_trajectories": (
+        "--table",
+        {
+            "choices": ["table", "changes", "intervals"],
+            "default": "table",
+            "help": "a row for each sequence of classes, number of changes, or interval",
+        },
+    ),
+    "maps_of_years": (
+        "--map",
+        {
+            "dest": "outs",
+            "metavar": "NAME=FILE",
+            "action": "append",
+            "default": [],
+            "help": "changes, first_change or last_change, and a file for this map",
+        },
+    ),
     "core_depth": (
         "--core-depth",
         {"type": int, "metavar": "N", "help": "steps from the border of a patch to its core"},

@@ -5,7 +5,7 @@ from __future__ import annotations
 
 from .accuracy import AccuracyAlgorithm, SampleAlgorithm
 from .align import AlignAlgorithm
-from .majority import MajorityAlgorithm, WithinAlgorithm
+from .majority import AggregateAlgorithm, MajorityAlgorithm, WithinAlgorithm
 from .patches import ClumpAlgorithm, MetricsAlgorithm, PatchesAlgorithm, SieveAlgorithm
 from .reclass import ReclassAlgorithm
 from .script import ScriptAlgorithm
@@ -15,6 +15,7 @@ from .tables import (
     CompositionAlgorithm,
     CrossAlgorithm,
     DominantAlgorithm,
+    TrajectoriesAlgorithm,
     ZonalAlgorithm,
 )
 
@@ -22,6 +23,7 @@ ALGORITHMS = (
     CompositionAlgorithm,
     CrossAlgorithm,
     ChangeAlgorithm,
+    TrajectoriesAlgorithm,
     AdjacencyAlgorithm,
     ClumpAlgorithm,
     PatchesAlgorithm,
@@ -33,6 +35,7 @@ ALGORITHMS = (
     MajorityAlgorithm,
     SieveAlgorithm,
     WithinAlgorithm,
+    AggregateAlgorithm,
     AlignAlgorithm,
     ReclassAlgorithm,
     ScriptAlgorithm,

@@ -26,6 +26,7 @@ from qgis.core import (
     QgsProcessingParameterFile,
     QgsProcessingParameterMapLayer,
     QgsProcessingParameterMultipleLayers,
+    QgsProcessingParameterNumber,
     QgsProcessingParameterRasterDestination,
     QgsProcessingParameterRasterLayer,
     QgsProcessingParameters,
@@ -213,6 +214,12 @@ class RcellAlgorithm(QgsProcessingAlgorithm):
             QgsProcessingParameterMultipleLayers("INPUT", title, QgsProcessing.TypeRaster)
         )
 
+    def add_count(self, name: str, title: str, most: int = 2**31 - 1, default: int = 1) -> None:
+        """Add a parameter for a number from 1."""
+        kind = QgsProcessingParameterNumber.Integer
+        parameter = QgsProcessingParameterNumber(name, title, kind, default, False, 1, most)
+        self.addParameter(parameter)
+
     def add_area(self) -> None:
         """Add the parameter for the unit of areas."""
         self.add_choice("AREA", tr("Unit of areas"), AREAS)
@@ -334,7 +341,7 @@ class RcellAlgorithm(QgsProcessingAlgorithm):
         """Check that rasters have one reference system and one region."""
         sources_of({f"map_{place}": raster for place, raster in enumerate(rasters)}, self.crs())
 
-    def raster_layers(self, names: Sequence[str] = ()) -> list[Any]:
+    def raster_layers(self, names: Sequence[str] = (), most: int = MOST_RASTERS) -> list[Any]:
         """Return the layers of a list of rasters.
 
         Raises
@@ -350,8 +357,8 @@ class RcellAlgorithm(QgsProcessingAlgorithm):
         for place, value in enumerate(values if len(layers) < len(values) else []):
             if not self.parameterAsLayerList({"INPUT": [value]}, "INPUT", self.context):
                 raise_unreadable(value, names[place] if place < len(names) else "")
-        if len(layers) > MOST_RASTERS:
-            told = f"{len(layers)} rasters, and a table has at most {MOST_RASTERS}"
+        if len(layers) > most:
+            told = f"{len(layers)} rasters, and a table has at most {most}"
             raise Refused(told, status=2)
         return list(layers)
 

@@ -1,14 +1,17 @@
 # SPDX-License-Identifier: Apache-2.0 OR GPL-2.0-or-later
-"""rcell:majority and rcell:within: maps of the neighbourhood of each cell."""
+"""rcell:majority, rcell:within and rcell:aggregate: maps of the neighbourhood of cells, and of blocks."""
 
 from __future__ import annotations
 
 from typing import Any
 
+from qgis.core import QgsProcessingParameterNumber
+
+from ..engine.core.aggregate import aggregate
 from ..engine.core.majority import SIZES as SIDES
 from ..engine.core.majority import majority
 from ..engine.core.within import within
-from ..results import named_classes
+from ..results import named_classes, put_shares
 from ..translation import noop, tr
 from .base import RcellAlgorithm
 from .tables import numbers_of
@@ -85,3 +88,45 @@ class WithinAlgorithm(RcellAlgorithm):
         made = within(self.rasters[0], map(int, classes), distances, crs=self.crs())
         self.colours = {}
         return {"OUTPUT": self.put_map(made, named_classes(made))}
+
+
+class AggregateAlgorithm(RcellAlgorithm):
+    """A coarser map: the most frequent class of blocks, and the shares of all classes."""
+
+    NAME = "aggregate"
+    TITLE = noop("Aggregate to larger cells")
+    SHORT = noop(
+        "Makes a coarser map with the most frequent class of blocks of cells, and the percentage of each class in each block."
+    )
+    TAGS = "aggregate, resample, coarsen, mode, majority, r.resamp.stats, fraction, share, upscale"
+    HELP = (
+        noop(
+            "<p>Blocks begin at the top left; at the right and at the bottom they may reach beyond the map. Of several most "
+            "frequent classes the smallest is taken. The shares have a band for each class, described by its label.</p>"
+        ),
+    )
+
+    def initAlgorithm(self, configuration: Any = None) -> None:
+        """Declare the parameters."""
+        self.add_raster()
+        self.add_count("FACTOR", tr("Rows and columns of a block"), default=10)
+        kind = QgsProcessingParameterNumber.Double
+        title = tr("Percentage of a block's cells that must have data")
+        self.addParameter(
+            QgsProcessingParameterNumber("MIN_PERCENT", title, kind, 0, False, 0, 100)
+        )
+        self.add_crs()
+        self.add_map(tr("Most frequent class"))
+        self.add_map(tr("Shares of classes"), "SHARES", True)
+
+    def answer(self) -> dict[str, Any]:
+        """Return the map, and the shares if they are requested."""
+        least = self.parameterAsDouble(self.given, "MIN_PERCENT", self.context)
+        found = aggregate(self.rasters[0], self.number("FACTOR"), least, crs=self.crs())
+        made = found.majority
+        results = {"OUTPUT": self.put_map(made, named_classes(made), like=made)}
+        if self.given.get("SHARES"):
+            path = str(self.parameterAsOutputLayer(self.given, "SHARES", self.context))
+            put_shares(path, found.shares, self.check)
+            results["SHARES"] = path
+        return results

@@ -33,11 +33,6 @@ class _OfPatches(RcellAlgorithm):
         self.add_text("CLASSES", tr("Classes, separated by commas (empty: all)"))
         self.add_count("MIN_CELLS", tr("Smallest number of cells"))
 
-    def add_count(self, name: str, title: str, most: int = 2**31 - 1) -> None:
-        """Add a parameter for a number from 1."""
-        kind = QgsProcessingParameterNumber.Integer
-        self.addParameter(QgsProcessingParameterNumber(name, title, kind, 1, False, 1, most))
-
     def check_words(self) -> None:
         """Check the list of classes."""
         self.classes()

@@ -1,5 +1,5 @@
 # SPDX-License-Identifier: Apache-2.0 OR GPL-2.0-or-later
-"""rcell:composition, rcell:cross, rcell:change and rcell:zonal: tables of rasters."""
+"""rcell:composition, rcell:cross, rcell:change, rcell:trajectories, rcell:zonal and rcell:adjacency: tables of rasters."""
 
 from __future__ import annotations
 
@@ -12,8 +12,10 @@ from ..engine.core.change import change
 from ..engine.core.composition import composition, cross
 from ..engine.core.dominant import dominant
 from ..engine.core.errors import Refused
+from ..engine.core.trajectories import trajectories
 from ..engine.core.zonal import zonal
 from ..layers import raster_of
+from ..results import named_classes
 from ..translation import noop, tr
 from .base import RcellAlgorithm, renamed
 
@@ -24,6 +26,9 @@ _ZONES = noop(
     "<p>Zones are a raster on the same grid, or polygons: a cell belongs to a polygon if its centre lies in it. Whole numbers in "
     "the field are the zones; other values become labels of zones numbered 1, 2, ..</p>"
 )
+
+# The most rasters of trajectories, whose classes must be few.
+MOST_DATES = 500
 
 
 class CompositionAlgorithm(RcellAlgorithm):
@@ -177,6 +182,70 @@ class ChangeAlgorithm(RcellAlgorithm):
         for name, part in (("MATRIX", found.matrix), ("SUMMARY", found.summary)):
             if self.given.get(name):
                 results[name] = self.put_table(name, part)
+        return results
+
+
+class TrajectoriesAlgorithm(RcellAlgorithm):
+    """Lists the sequences of classes over the years."""
+
+    NAME = "trajectories"
+    TITLE = noop("Trajectories over years")
+    SHORT = noop(
+        "Lists each sequence of classes over the years, and makes maps of the number of changes and of the first and last change."
+    )
+    TAGS = "trajectory, time series, sequence, change, first change, last change, intensity"
+    IS_OF_ONE_RASTER = False
+    HELP = (
+        noop(
+            "<p>The rasters are in the order of their years. Only cells that have data in all years count. The year of a change "
+            "is the one in which the new class is first seen.</p>"
+        ),
+        noop(
+            "<p>The changes have a row for each number of changes. The intervals have a row for each two years with what changed "
+            "between them, in percent of the area and by year.</p>"
+        ),
+        _DEGREES,
+    )
+    _MAPS = {"changes": "CHANGES_MAP", "first_change": "FIRST_CHANGE", "last_change": "LAST_CHANGE"}
+
+    def initAlgorithm(self, configuration: Any = None) -> None:
+        """Declare the parameters."""
+        self.add_rasters(tr("Rasters in chronological order, two or more"))
+        self.add_text("YEARS", tr("Years, separated by commas"))
+        self.add_area()
+        self.add_labels()
+        self.add_crs()
+        self.add_table()
+        self.add_table(tr("By number of changes"), "CHANGES", True)
+        self.add_table(tr("By interval"), "INTERVALS", True)
+        self.add_map(tr("Map of the number of changes"), "CHANGES_MAP", True)
+        self.add_map(tr("Map of the year of the first change"), "FIRST_CHANGE", True)
+        self.add_map(tr("Map of the year of the last change"), "LAST_CHANGE", True)
+
+    def read(self) -> None:
+        """Read the rasters, and check that they fit each other."""
+        layers = self.raster_layers(most=MOST_DATES)
+        self.rasters = [raster_of(layer, layer.name()) for layer in layers]
+        self.fit(self.rasters)
+
+    def answer(self) -> dict[str, Any]:
+        """Return the table and, if they are requested, the other tables and the maps."""
+        wanted = {name: title for name, title in self._MAPS.items() if self.given.get(title)}
+        found = trajectories(
+            self.rasters,
+            [int(year) for year in numbers_of(self.text("YEARS"), "years")] or None,
+            self.area(),
+            labels=self.labels(),
+            include_maps=bool(wanted),
+            crs=self.crs(),
+        )
+        results = {"OUTPUT": self.put_table("OUTPUT", found.table)}
+        for name, part in (("CHANGES", found.changes), ("INTERVALS", found.intervals)):
+            if self.given.get(name):
+                results[name] = self.put_table(name, part)
+        for name, title in wanted.items():
+            made = found.maps[name]
+            results[title] = self.put_map(made, named_classes(made), title)
         return results
 
 

@@ -17,7 +17,7 @@ from .counting import Counts, Maps, label_column, legend_for
 from .errors import BadArgument
 from .sources import MapLike
 
-__all__ = ["Change", "change"]
+__all__ = ["Change", "change", "checked_years", "maps_in_time"]
 
 _PARTS = ("before", "after", "gain", "loss", "net", "swap", "persistence")
 _YEARS = ("year_from", "year_to")
@@ -102,7 +102,7 @@ def change(
     [1, 2, 1, 0, 1, -1, 0, 1]
     """
     given, told_years = _maps_of(before, after, years)
-    checked = _checked(told_years, len(given))
+    checked = checked_years(told_years, len(given))
     maps = Maps(given, crs)
     measure = maps.measure(area)
     names = list(maps.sources)
@@ -120,15 +120,7 @@ def _maps_of(before: Any, after: Any, years: Any) -> tuple[dict[str, Any], Any]:
     """Return the maps of a call by their names, and the years."""
     if after is not None:
         return {"before": before, "after": after}, years
-    if "time" in getattr(before, "dims", ()):
-        from ..readers.xarray import series_of
-
-        maps, own = series_of(before)
-        years = own if years is None else years
-    elif isinstance(before, (list, tuple)):
-        maps = list(before)
-    else:
-        maps = [before]
+    maps, years = maps_in_time(before, years)
     if len(maps) < 2:
         raise BadArgument("after", "must be a map, unless before is a list of maps; got None")
     if len(maps) == 2:
@@ -136,7 +128,17 @@ def _maps_of(before: Any, after: Any, years: Any) -> tuple[dict[str, Any], Any]:
     return {f"map_{at}": map for at, map in enumerate(maps, 1)}, years
 
 
-def _checked(years: Any, maps: int) -> Optional[list[int]]:
+def maps_in_time(given: Any, years: Any) -> tuple[list[Any], Any]:
+    """Return the maps of a list, or of a DataArray with the dimension `time`, and their years."""
+    if "time" in getattr(given, "dims", ()):
+        from ..readers.xarray import series_of
+
+        maps, own = series_of(given)
+        return list(maps), own if years is None else years
+    return list(given) if isinstance(given, (list, tuple)) else [given], years
+
+
+def checked_years(years: Any, maps: int) -> Optional[list[int]]:
     """Return the years, after checking that there is one for each map."""
     if years is None and maps == 2:
         return None

@@ -1,0 +1,174 @@
+# SPDX-License-Identifier: Apache-2.0 OR GPL-2.0-or-later
+"""Coarser maps: the most frequent class of blocks of cells, and the share of each class."""
+
+from __future__ import annotations
+
+import dataclasses
+import numbers
+from dataclasses import dataclass
+from functools import cached_property
+from typing import Any, NamedTuple
+
+import numpy as np
+
+from .arguments import MAX_CATEGORY, whole_number_of
+from .arrays import NDArray
+from .counting import Maps, places_of
+from .errors import BadArgument
+from .protocol import NULL
+from .region import Region
+from .sources import ArrayMap, MapLike
+
+__all__ = ["Aggregate", "BlockShares", "aggregate"]
+
+Integers = NDArray[np.int64]
+
+
+class Aggregate(NamedTuple):
+    """Maps of blocks of cells; the result of `aggregate`.
+
+    Parameters
+    ----------
+    majority : Raster
+        The most frequent class of each block.
+    shares : Shares
+        The percentage of each class in each block.
+    cells : Raster
+        The number of cells of each block that are not null.
+
+    Examples
+    --------
+    >>> import numpy as np, rcell
+    >>> found = rcell.aggregate(np.array([[1, 1, 2], [1, 3, 2]]), factor=2)
+    >>> found.majority.array.tolist(), found.cells.array.tolist()
+    ([[1, 2]], [[4, 2]])
+    >>> found.shares[3].tolist()
+    [[25.0, 0.0]]
+    """
+
+    majority: Any
+    shares: Any
+    cells: Any
+
+
+@dataclass(frozen=True)
+class BlockShares:
+    """The percentages of classes in blocks; blocks count row by row from 0.
+
+    Attributes
+    ----------
+    blocks : ArrayMap
+        The majority of each block, which is null if the block is.
+    classes : list of int
+        Ascending.
+    entries : array of int64
+        The block, the index of the class, and the cells of each class of each block.
+    cells : array of int64
+        Of each block.
+    """
+
+    blocks: ArrayMap
+    classes: list[int]
+    entries: Integers
+    cells: Integers
+
+    @property
+    def names(self) -> list[str]:
+        """The label of each class, or its number."""
+        return [self.blocks.labels.get(code, str(code)) for code in self.classes]
+
+    @cached_property
+    def percent(self) -> NDArray[np.float64]:
+        """The percentages, classes x rows x columns; NaN for a null block."""
+        block, at, count = self.entries.T
+        found = np.zeros((len(self.classes), self.cells.size))
+        found[at, block] = count * 100.0 / self.cells[block]
+        found[:, self.blocks.array.reshape(-1) == NULL] = np.nan
+        return found.reshape(-1, *self.blocks.region.shape)
+
+
+def aggregate(map: MapLike, factor: int, min_percent: float = 0, *, crs: Any = None) -> Aggregate:
+    """Make a coarser map of blocks of `factor` by `factor` cells, from the north-western corner.
+
+    Parameters
+    ----------
+    map : path, array, .. as a map of `run`
+    factor : int
+        Rows and columns of a block. Blocks at the southern and eastern edge may reach beyond the map.
+    min_percent : float
+        A block is null if fewer of its cells, in percent, are in the map and not null. A block without such cells is always null.
+    crs : any, optional
+        The reference system of a map that has none.
+
+    Returns
+    -------
+    Aggregate
+        `.majority` has the most frequent class of each block, ties go to the smallest; `.shares` the percentages of each class among
+        the cells that are not null; `.cells` the number of these cells.
+
+    Raises
+    ------
+    Refused
+        As for `run`.
+    BadArgument
+        An argument is out of range.
+
+    Examples
+    --------
+    >>> import rcell
+    >>> lc = rcell.Raster([[1, 1, 2], [1, 3, 2]], (10, 0, 0, 0, -10, 20))
+    >>> found = rcell.aggregate(lc, factor=2, min_percent=75)
+    >>> found.majority
+    <Raster majority: north 20, south 0, east 40, west 0, 1 rows, 2 columns>
+    >>> found.majority.array.tolist()
+    [[1, None]]
+    """
+    whole_number_of("factor", factor, 1, MAX_CATEGORY)
+    is_number = isinstance(min_percent, numbers.Real) and not isinstance(min_percent, bool)
+    if not is_number or not 0 <= min_percent <= 100:
+        raise BadArgument("min_percent", f"must be from 0 to 100; got {min_percent!r}")
+    maps = Maps({"map": map}, crs)
+    source = maps.first
+    rows, cols = (-(-size // factor) for size in source.region.shape)
+    if rows * cols > MAX_CATEGORY:
+        told = f"must leave at most {MAX_CATEGORY} blocks; got {factor}, which leaves {rows * cols}"
+        raise BadArgument("factor", told)
+    script = f"r.mapcalc block = (row() - 1) / {factor} * {cols} + (col() - 1) / {factor}"
+    entries = maps.tables(f"{script}\nr.stats -c -n input=block,map")[0]
+    classes, at = np.unique(entries[:, 1], return_inverse=True)
+    entries[:, 1] = at.reshape(-1)
+    most, cells = _counted(entries, classes, rows * cols)
+    most[cells * 100.0 < min_percent * factor**2] = NULL
+    width, _, west, _, height, north = source.transform
+    transform = (width * factor, 0.0, west, 0.0, height * factor, north)
+    array = most.reshape(rows, cols).astype(np.int32)
+    majority = ArrayMap(
+        "majority",
+        array,
+        Region.from_transform(transform, rows, cols),
+        array == NULL,
+        labels=source.labels,
+        crs=maps.crs,
+        exact_transform=transform,
+        colors=source.colors,
+        files=source.files,
+    )
+    counts = cells.reshape(rows, cols)
+    counted = dataclasses.replace(
+        majority, name="cells", array=counts, null=None, labels={}, colors={}
+    )
+    return Aggregate(majority, BlockShares(majority, classes.tolist(), entries, cells), counted)
+
+
+def _counted(entries: Integers, classes: Integers, blocks: int) -> tuple[Integers, Integers]:
+    """Return the most frequent class of each block, null without cells, and its cells; classes are indices, in order by block."""
+    block, at, count = entries.T
+    first = places_of(block)
+    most, cells = np.full(blocks, NULL, np.int64), np.zeros(blocks, np.int64)
+    if first.size:
+        # Of the largest counts, the largest number has the smallest class.
+        ranks = count * classes.size + (classes.size - 1 - at)
+        best = np.maximum.reduceat(ranks, first) % classes.size
+        most[block[first]] = classes[classes.size - 1 - best]
+        cells[block[first]] = np.add.reduceat(count, first)
+    return most, cells
