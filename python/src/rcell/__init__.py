@@ -57,12 +57,15 @@ __all__ = [
     "metrics",
     "patches",
     "reclass",
+    "record",
+    "report",
     "run",
     "sample",
     "show_versions",
     "sieve",
     "table",
     "trajectories",
+    "verify",
     "within",
     "zonal",
 ]
@@ -120,6 +123,7 @@ if TYPE_CHECKING:
     )
     from .raster import Raster
     from .readers.bands import bands
+    from .records import record, report, verify
     from .shares import Shares
     from .versions import show_versions
 
@@ -175,6 +179,7 @@ _MODULES = {
     ),
     ".raster": ("Raster",),
     ".readers.bands": ("bands",),
+    ".records": ("record", "report", "verify"),
     ".shares": ("Shares",),
     ".versions": ("show_versions",),
 }

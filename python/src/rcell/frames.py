@@ -140,6 +140,7 @@ def _returning(
             own.append(word)
         told = signature.replace(parameters=own + more, return_annotation=kind)
         call.__signature__ = told  # type: ignore[attr-defined]
+        call.convert = convert  # type: ignore[attr-defined]
         return call
 
     return wrap

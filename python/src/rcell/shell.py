@@ -30,6 +30,7 @@ from .core.hints import lines_of_error, near
 from .core.host import Host, serving
 from .core.process import begin_work, end_work, has_work
 from .core.table_texts import table_text
+from .shell_files import told_at, write_maps, write_map
 from .shell_options import OPTIONS
 
 __all__ = ["emit", "main", "script_of"]
@@ -48,11 +49,9 @@ ENDINGS = {
     ".md": "markdown",
     ".json": "json",
 }
-PICTURES = (".png", ".svg", ".pdf")
-MAPS = (".tif", ".tiff", ".txt", ".asc", *PICTURES)
 # The options of commands that count, and the commands that have none of them.
 _WORK = ("workers", "resume", "dry_run")
-_WITHOUT_WORK = ("convert", "explain")
+_WITHOUT_WORK = ("convert", "explain", "report")
 BAD_INPUT, COMMAND_LINE, MEMORY, FILES, INTERRUPTED = 1, 2, 3, 4, 130
 LONGEST_NAME = 255  # bytes of the name of a file
 
@@ -146,10 +145,23 @@ def _parser() -> tuple[_Parser, dict[str, _Parser]]:
 # The commands
 
 
-def _call(name: str) -> Callable[..., Any]:
-    """Return a call of the package that returns its table as columns."""
-    call: Callable[..., Any] = getattr(importlib.import_module("rcell"), name).__wrapped__
-    return call
+def _call(words: argparse.Namespace) -> Callable[..., Any]:
+    """Return the call of a command, which returns its table as columns, and is recorded if asked for."""
+    rcell = importlib.import_module("rcell")
+    call: Callable[..., Any] = getattr(rcell, words.command).__wrapped__
+    if not words.__dict__.get("record"):
+        return call
+    if words.format not in (None, "csv") or not (words.out or "").lower().endswith(".csv"):
+        raise Refused("--record needs --out with a name that ends in .csv", status=COMMAND_LINE)
+    if words.command in MANY and len(words.maps) > 1:
+        raise Refused(f"--record takes one map; got {len(words.maps)}", status=COMMAND_LINE)
+    make = importlib.import_module("rcell.core.record").make
+
+    def recorded(*given: Any, **named: Any) -> Any:
+        words.made = make(words.out, call, given, named, words.__dict__.get("table"))
+        return words.made.found
+
+    return recorded
 
 
 def _options(words: argparse.Namespace) -> dict[str, Any]:
@@ -172,12 +184,14 @@ def _map(words: argparse.Namespace, path: str, name: str = "map") -> Any:
     """Return a map for a call: its path, or one of its bands."""
     if words.__dict__.get("band") is None:
         return path
+    if words.__dict__.get("record"):
+        return importlib.import_module("rcell.core.record").BandOf(path, words.band)
     return importlib.import_module("rcell.readers").open_raster(name, path, words.band)
 
 
 def _of_each(words: argparse.Namespace) -> None:
     """Write the tables of one or more maps, below each other."""
-    call, options, tables = _call(words.command), _options(words), []
+    call, options, tables = _call(words), _options(words), []
     for path in words.maps:
         words.given = {"values" if words.command == "zonal" else "map": path}
         words.given.update({"zones": words.zones} if words.__dict__.get("zones") else {})
@@ -199,7 +213,7 @@ def _cross(words: argparse.Namespace) -> None:
     words.given = _pairs(words.maps)
     maps = {name: _map(words, path, name) for name, path in words.given.items()}
     legends = {"labels": _pairs(words.labels)} if words.labels else {}
-    table = _call("cross")(maps, **{**_options(words), **legends})
+    table = _call(words)(maps, **{**_options(words), **legends})
     _put(words, table.columns, table.rows)
 
 
@@ -209,14 +223,14 @@ def _change(words: argparse.Namespace) -> None:
     several = [f"map_{number}" for number in range(1, len(words.maps) + 1)]
     words.given = dict(zip(several if len(words.maps) > 2 else ("before", "after"), words.maps))
     maps = [_map(words, path) for path in words.maps]
-    table = getattr(_call("change")(maps, **_options(words)), words.table)
+    table = getattr(_call(words)(maps, **_options(words)), words.table)
     _put(words, table.columns, table.rows)
 
 
 def _accuracy(words: argparse.Namespace) -> None:
     words.given = {"map": words.map, "reference": words.reference}
     map = None if words.map == "-" else _map(words, words.map)
-    found = _call("accuracy")(map, words.reference, **_options(words))
+    found = _call(words)(map, words.reference, **_options(words))
     is_summary = words.table == "summary"
     summary_of = importlib.import_module("rcell.core.accuracy").summary_of
     table = summary_of(found) if is_summary else getattr(found, words.table)
@@ -238,14 +252,14 @@ def _to_map(words: argparse.Namespace) -> None:
         words.account = found.aligned or found.sieved
         return [found]
 
-    _write_maps([words.target], made)
+    write_maps([words.target], made)
     if words.account is not None:
         _put(words, words.account._fields, [tuple(words.account)])
 
 
 def _aggregate(words: argparse.Namespace) -> None:
     words.given = {"map": words.map}
-    if words.shares and not words.shares.lower().endswith(MAPS[:2]):
+    if words.shares and not words.shares.lower().endswith((".tif", ".tiff")):
         told = f"{words.shares}: shares are written as .tif or .tiff"
         raise Refused(told, status=COMMAND_LINE)
 
@@ -254,7 +268,7 @@ def _aggregate(words: argparse.Namespace) -> None:
         found = call(_map(words, words.map), **_options(words))
         return [found.majority, found.shares]
 
-    _write_maps([words.target, *([words.shares] if words.shares else [])], made)
+    write_maps([words.target, *([words.shares] if words.shares else [])], made)
 
 
 def _trajectories(words: argparse.Namespace) -> None:
@@ -267,11 +281,11 @@ def _trajectories(words: argparse.Namespace) -> None:
 
     def made() -> list[Any]:
         maps = [_map(words, path) for path in words.maps]
-        found.append(_call("trajectories")(maps, include_maps=bool(paths), **_options(words)))
+        found.append(_call(words)(maps, include_maps=bool(paths), **_options(words)))
         raster = importlib.import_module("rcell").Raster
         return [raster._of(found[0].maps[name]) for name in paths]
 
-    _write_maps(list(paths.values()), made)
+    write_maps(list(paths.values()), made)
     table = getattr(found[0], words.table)
     _put(words, table.columns, table.rows)
 
@@ -287,7 +301,7 @@ def _run(words: argparse.Namespace) -> None:
         outputs.extend(_outputs(words, list(paths)))
         return outputs[len(outputs) - len(paths) :]
 
-    _write_maps(list(paths.values()), made)
+    write_maps(list(paths.values()), made)
     tables = [output.table() for output in outputs if hasattr(output, "table")]
     if tables:
         texts = (table_text(words.format or "csv", table.columns, table.rows) for table in tables)
@@ -335,7 +349,7 @@ def _run_each(words: argparse.Namespace) -> None:
                 with open(path, "w", encoding="utf-8", errors="surrogateescape") as file:
                     file.write(table_text(form, table.columns, table.rows))
             else:
-                _write_map(output, path, ending)
+                write_map(output, path, ending)
         os.mkdir(folder)  # a folder that another process has made meanwhile is an error
         os.rename(room, folder)
         os.chmod(folder, 0o777 & ~_mask())
@@ -363,11 +377,11 @@ def _convert(words: argparse.Namespace) -> None:
             text = converting.converted(words.map, ending == ".asc") if is_plain else None
             if text is None:
                 text = converting.printed_map(_raster(words), ending == ".asc")
-            with _told(words.target), Output(words.target) as output:
+            with told_at(words.target), Output(words.target) as output:
                 for piece in text:
                     write_all(output.stream(), piece)
         return
-    _write_maps([words.target], lambda: [_raster(words)])
+    write_maps([words.target], lambda: [_raster(words)])
 
 
 def _raster(words: argparse.Namespace) -> Any:
@@ -377,6 +391,21 @@ def _raster(words: argparse.Namespace) -> Any:
     if words.like is None:
         return found
     return importlib.import_module("rcell.core.converting").like(found, words.like)
+
+
+def _verify(words: argparse.Namespace) -> int:
+    verify = importlib.import_module("rcell").verify
+    found = [(path, verify(path)) for path in words.tables]
+    lines = [f"{path}: {told}\n" for path, listed in found for told in listed or ["verified"]]
+    emit("".join(lines))
+    return BAD_INPUT if any(listed for _, listed in found) else 0
+
+
+def _report(words: argparse.Namespace) -> None:
+    if words.page is not None:
+        importlib.import_module("rcell").report(words.tables, words.page, words.title)
+        return
+    emit(importlib.import_module("rcell.core.report").page_of(words.tables, words.title))
 
 
 def _explain(words: argparse.Namespace) -> int:
@@ -398,7 +427,10 @@ def _put(words: argparse.Namespace, columns: Sequence[str], rows: Sequence[Seque
     if out is None:
         emit(text)
         return
-    with _told(out), Output(out) as output:
+    if words.__dict__.get("made"):
+        words.made.write(out, importlib.import_module("rcell").__version__)
+        return
+    with told_at(out), Output(out) as output:
         write_all(output.stream(), text.encode("utf-8", "surrogateescape"))
 
 
@@ -415,62 +447,11 @@ def _writing_a_table(path: Optional[str]) -> Iterator[None]:
         yield
 
 
-def _write_maps(targets: Sequence[str], make: Callable[[], list[Any]]) -> None:
-    """Write maps to files, all or none; raise Refused if a file is read too, or its format is not known."""
-    for path in targets:
-        if not path.lower().endswith(MAPS):
-            told = f"{path}: a map is written as .tif, .tiff, .txt, .asc or a picture ({', '.join(PICTURES)})"
-            raise Refused(told, status=COMMAND_LINE)
-    with writing(*targets):
-        maps = make()
-    replacing = importlib.import_module("rcell.core.writing").replacing
-    with contextlib.ExitStack() as files:  # the files get their names at the end
-        parts = [files.enter_context(replacing(path)) for path in targets]
-        for raster, path, part in zip(maps, targets, parts):
-            try:
-                _write_map(raster, part, _map_ending(path))
-            except WriteFailed as error:
-                raise WriteFailed(str(error).replace(part, path)) from None
-
-
-def _map_ending(path: str) -> str:
-    """Return the ending of a map; a cloud optimised GeoTIFF has `.cog.tif`."""
-    stem, ending = os.path.splitext(path.lower())
-    return f".cog{ending}" if stem.endswith(".cog") else ending
-
-
-def _write_map(raster: Any, path: str, ending: str) -> None:
-    """Write a map in the format of an ending, which `path` need not have: links are followed."""
-    if ending in (".txt", ".asc"):
-        converting = importlib.import_module("rcell.core.converting")
-        with _told(path), open(path, "wb") as file:
-            file.writelines(converting.printed_map(raster, ending == ".asc"))
-    elif ending in PICTURES:
-        libraries = importlib.import_module("rcell.core.libraries")
-        libraries.need("matplotlib", "plot", "to draw a map").use("Agg")
-        with _told(path):
-            figure = raster.plot().figure
-            figure.savefig(path, format=ending[1:], bbox_inches="tight", dpi=150)
-    elif hasattr(raster, "percent"):
-        raster._write(path)
-    else:
-        write = importlib.import_module("rcell.geotiff").write_geotiff
-        write(raster, path, ending.startswith(".cog"))
-
-
-def _told(path: str) -> contextlib.AbstractContextManager[None]:
-    """Raise what goes wrong with files as a WriteFailed of a path."""
-    told: contextlib.AbstractContextManager[None] = importlib.import_module(
-        "rcell.core.writing"
-    ).told_of("standard output" if path == "-" else path)
-    return told
-
-
 def emit(text: str) -> None:
     """Write to standard output immediately, so that Python does not try again at exit after an error."""
     sys.stdout.flush()
     shown = _printable(text) if os.isatty(1) else text
-    with _told("-"), Output("-") as output:
+    with told_at("-"), Output("-") as output:
         write_all(output.stream(), shown.encode("utf-8", "surrogateescape"))
 
 
@@ -495,11 +476,13 @@ def script_of(word: str) -> str:
 # The commands, with the words and options that each accepts, and the arguments of options that have another name.
 ARGUMENTS = {"each_zone": "each", "of_classes": "classes", "smallest": "min_cells"}
 NO_ARGUMENTS = {
-    *("band", "format", "legends", "out", "part", "shares", "table"),
+    *("band", "format", "legends", "out", "part", "record", "shares", "table"),
     *("maps_of_years", "of_trajectories"),
 }
+# Commands that take several maps one after another.
+MANY = ("composition", "patches", "zonal", "adjacency", "dominant", "metrics")
 _ZONES = "zones zone_field zone_labels layer"
-_TABLE = "band crs format out"
+_TABLE = "band crs format out record"
 COMMANDS = {
     "composition": Command(
         "MAP...",
@@ -640,6 +623,20 @@ COMMANDS = {
         "map target",
         "band like crs",
         _convert,
+    ),
+    "report": Command(
+        "FILE.csv... --out FILE.html",
+        "a page for people with recorded tables, pictures of their maps, and how to verify them",
+        "tables",
+        "page title",
+        _report,
+    ),
+    "verify": Command(
+        "FILE.csv...",
+        "what differs if the recorded calls of tables are run again",
+        "tables",
+        "",
+        _verify,
     ),
     "explain": Command(
         "SCRIPT NAME=GRID...",

@@ -278,6 +278,13 @@ OPTIONS: dict[str, tuple[str, dict[str, Any]]] = {
         "--each",
         {"metavar": "DIR", "help": "a new folder with a file for each table and map"},
     ),
+    "tables": ("tables", {"metavar": "FILE.csv", "nargs": "+", "help": "tables with records"}),
+    "page": ("--out", {"dest": "page", "metavar": "FILE.html", "help": "the page to write"}),
+    "title": ("--title", {"metavar": "TEXT", "default": "Report", "help": "the title of the page"}),
+    "record": (
+        "--record",
+        {"action": "store_true", "help": "also writes a record, which `verify` checks"},
+    ),
     "format": ("--format", {"choices": FORMATS, "help": "csv if the file does not say otherwise"}),
     "out": ("--out", {"metavar": "FILE", "help": "a file in place of standard output"}),
 }

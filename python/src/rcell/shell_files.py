@@ -1,0 +1,69 @@
+# SPDX-License-Identifier: Apache-2.0 OR GPL-2.0-or-later
+"""The maps that `rcell-gis` writes, all or none."""
+
+from __future__ import annotations
+
+import contextlib
+import importlib
+import os
+from typing import Any, Callable, Sequence
+
+from .core.errors import Refused, WriteFailed
+from .core.files import writing
+
+__all__ = ["map_ending", "told_at", "write_map", "write_maps"]
+
+PICTURES = (".png", ".svg", ".pdf")
+MAPS = (".tif", ".tiff", ".txt", ".asc", *PICTURES)
+_COMMAND_LINE = 2
+
+
+def write_maps(targets: Sequence[str], make: Callable[[], list[Any]]) -> None:
+    """Write maps to files, all or none; raise Refused if a file is read too, or its format is not known."""
+    for path in targets:
+        if not path.lower().endswith(MAPS):
+            told = f"{path}: a map is written as .tif, .tiff, .txt, .asc or a picture ({', '.join(PICTURES)})"
+            raise Refused(told, status=_COMMAND_LINE)
+    with writing(*targets):
+        maps = make()
+    replacing = importlib.import_module("rcell.core.writing").replacing
+    with contextlib.ExitStack() as files:  # the files get their names at the end
+        parts = [files.enter_context(replacing(path)) for path in targets]
+        for raster, path, part in zip(maps, targets, parts):
+            try:
+                write_map(raster, part, map_ending(path))
+            except WriteFailed as error:
+                raise WriteFailed(str(error).replace(part, path)) from None
+
+
+def map_ending(path: str) -> str:
+    """Return the ending of a map; a cloud optimised GeoTIFF has `.cog.tif`."""
+    stem, ending = os.path.splitext(path.lower())
+    return f".cog{ending}" if stem.endswith(".cog") else ending
+
+
+def write_map(raster: Any, path: str, ending: str) -> None:
+    """Write a map in the format of an ending, which `path` need not have: links are followed."""
+    if ending in (".txt", ".asc"):
+        converting = importlib.import_module("rcell.core.converting")
+        with told_at(path), open(path, "wb") as file:
+            file.writelines(converting.printed_map(raster, ending == ".asc"))
+    elif ending in PICTURES:
+        libraries = importlib.import_module("rcell.core.libraries")
+        libraries.need("matplotlib", "plot", "to draw a map").use("Agg")
+        with told_at(path):
+            figure = raster.plot().figure
+            figure.savefig(path, format=ending[1:], bbox_inches="tight", dpi=150)
+    elif hasattr(raster, "percent"):
+        raster._write(path)
+    else:
+        write = importlib.import_module("rcell.geotiff").write_geotiff
+        write(raster, path, ending.startswith(".cog"))
+
+
+def told_at(path: str) -> contextlib.AbstractContextManager[None]:
+    """Raise what goes wrong with files as a WriteFailed of a path."""
+    told: contextlib.AbstractContextManager[None] = importlib.import_module(
+        "rcell.core.writing"
+    ).told_of("standard output" if path == "-" else path)
+    return told
