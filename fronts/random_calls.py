@@ -24,6 +24,7 @@ from typing import Any, Callable, Sequence
 import numpy as np
 import random_answers
 import random_inputs as inputs
+import random_maps
 import reference
 from random_inputs import Made, one_of
 from random_plants import PLANTS
@@ -38,6 +39,8 @@ ROUNDED = 1e-13
 ID_DIGITS = 11
 IDS_OF = ("zone", "class", "patch", "from", "to", "neighbour", "cells", "sides")
 PLANT_CALLS = 600
+# Of so many calls, one is of random_maps.
+MAPS_EACH = 3
 IDS = 2**63 - 1
 ROOM = "/dev/shm" if os.access("/dev/shm", os.W_OK) else None
 GOOD = ("equal", "refused")
@@ -149,15 +152,17 @@ def number_of(text: str) -> float | None:
 class Calls:
     """Makes random calls over files of a folder."""
 
-    def __init__(self, folder: pathlib.Path, seed: int) -> None:
-        self.folder, self.seed = folder, seed
+    def __init__(self, folder: pathlib.Path, seed: int, has_maps: bool = True) -> None:
+        self.folder, self.seed, self.has_maps = folder, seed, has_maps
 
     def trial(self, number: int) -> Trial:
         """The call of a number."""
         found = self.made(number, IDS)
         if self.has_large_ids():
             with tempfile.TemporaryDirectory(dir=ROOM) as folder:
-                in_r = Calls(pathlib.Path(folder), self.seed).made(number, reference.MOST)
+                in_r = Calls(pathlib.Path(folder), self.seed, self.has_maps).made(
+                    number, reference.MOST
+                )
             found.answer_in_r = in_r.answer if in_r.answer != found.answer else None
         return found
 
@@ -169,11 +174,12 @@ class Calls:
         """The call of a number, where whole numbers up to `most` are ids of zones."""
         self.random: Any = np.random.default_rng([self.seed, number])
         self.name, self.most = f"c{self.seed}_{number}", most
-        kind = one_of(self.random, [*MAKERS, *MORE])
+        is_of_maps = self.has_maps and number % MAPS_EACH == 1
+        kind = one_of(self.random, [*random_maps.MAKERS] if is_of_maps else [*MAKERS, *MORE])
         self.frame = inputs.frame_of(self.random)
         self.found = Trial(self.name, {}, [kind])
         try:
-            self.found.answer = MAKERS[kind](self)
+            self.found.answer = {**MAKERS, **random_maps.MAKERS}[kind](self)
         except Refusal as error:
             self.found.reason = str(error)
         for made in self.found.maps.values():
@@ -480,11 +486,13 @@ MORE = ("composition", "composition", "zonal", "change", "patches")
 # Runs
 
 
-def made(folder: pathlib.Path, seed: int, numbers: Sequence[int]) -> list[Trial]:
+def made(
+    folder: pathlib.Path, seed: int, numbers: Sequence[int], has_maps: bool = True
+) -> list[Trial]:
     """Make calls and their files."""
     for name in ("cases", "rasters"):
         (folder / name).mkdir(parents=True)
-    calls = Calls(folder / "rasters", seed)
+    calls = Calls(folder / "rasters", seed, has_maps)
     trials = [calls.trial(number) for number in numbers]
     for trial in trials:
         (folder / "cases" / f"{trial.name}.case").write_text(trial.text(), encoding="utf-8")
@@ -555,7 +563,7 @@ def try_plants(seed: int) -> int:
     """Bring each old mistake back in calls that Python has right, and return how many are not found."""
     missed = 0
     with tempfile.TemporaryDirectory(dir=ROOM) as room:
-        trials = made(pathlib.Path(room, "right"), seed, range(PLANT_CALLS))
+        trials = made(pathlib.Path(room, "right"), seed, range(PLANT_CALLS), False)
         found, _ = found_by("python", pathlib.Path(room, "right"))
         right = [it for it in trials if it.judged("python", found.get(it.name, ["error"])) in GOOD]
         print(f"fronts: {len(right)} of {len(trials)} random calls are right; seed {seed}")

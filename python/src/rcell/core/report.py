@@ -171,7 +171,7 @@ def _picture_of(told: Mapping[str, Any], folder: str) -> Iterator[str]:
     colours = {code: source.colors.get(code) or _colour(at) for at, code in enumerate(classes)}
     picture = base64.b64encode(_png(cells, colours)).decode()
     name = _text(os.path.basename(first["path"]))
-    every = f", each {step}th row and column" if step > 1 else ""
+    every = f", one of {step} rows and columns" if step > 1 else ""
     yield f'<figure>\n<img alt="{name}" src="data:image/png;base64,{picture}">'
     entries = "".join(
         f'<span><i style="background: {colours[code]}"></i>{_text(labels.get(code, code))}</span>'
