@@ -76,13 +76,17 @@ def metrics(calls: Any) -> Lines:
 
 
 def of_each(calls: Any) -> Lines:
-    """A composition by zones one after another."""
-    calls.found.words[0] = "composition"
+    """A composition, or statistics, by zones one after another."""
+    is_zonal = calls.chance(0.4)
+    calls.found.words[0] = "zonal" if is_zonal else "composition"
     calls.raster("lc")
-    zoned = zones_of(calls)
+    zoned = zones_of(calls, is_zonal)
     calls.settled()
     lc = calls.held("lc")
     zones, own = zoned()
+    if is_zonal:
+        plain = {"quantiles": [0.5], "zone_labels": None}
+        return reference_answers.of_each(reference.zonal, lc, zones, own, **plain)
     words = {"area": calls.area(), "nulls": False, "labels": None, "zone_labels": None}
     return reference_answers.of_each(reference.composition, lc, zones, own, **words)
 

@@ -138,7 +138,7 @@ def _no_quantiles(lines: Lines) -> Lines:
     found = [lines[0]]
     for line in lines[1:]:
         row = line.split("|")
-        if int(row[high]) - int(row[low]) > 2147483647:
+        if float(row[high]) - float(row[low]) > 2147483647:
             row = ["*" if title.startswith("q") else text for title, text in zip(titles, row)]
         found.append("|".join(row))
     return found
