@@ -137,6 +137,25 @@ def test_parts_of_results_and_all_kinds_of_arguments_are_recorded(folder: pathli
     assert not (folder / "u.csv").exists()
 
 
+def test_patterns_of_files_and_workers_are_recorded(folder: pathlib.Path, monkeypatch: Any) -> None:
+    (folder / "parts").mkdir()
+    cells = random_map(3, 20, 30, 3, 0)
+    for at in (0, 1):
+        place = (10, 0, 500000 + 300 * at, 0, -10, 5000000)
+        rcell.Raster(cells, place, "EPSG:32633").write(folder / "parts" / f"{at}.tif")
+    monkeypatch.chdir(folder)
+    found = rcell.record("t.csv", rcell.composition, "parts/*.tif", workers=1)
+    assert found["cells"].sum() == 1200
+    assert json.loads(pathlib.Path("t.csv.json").read_text())["call"] == {
+        "name": "composition",
+        "words": [{"path": "parts/*.tif"}],
+        "named": {},
+        "part": None,
+    }
+    monkeypatch.chdir("/")
+    assert rcell.verify(folder / "t.csv") == []
+
+
 @pytest.mark.parametrize(
     ("words", "named", "told"),
     [

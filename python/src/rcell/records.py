@@ -13,6 +13,7 @@ from .core.errors import BadArgument, Refused
 from .core.files import writing
 from .core.record import differences, make, read_record
 from .core.report import page_of
+from .core.tiling import working
 from .core.writing import write_beside
 
 __all__ = ["call_named", "record", "report", "verify"]
@@ -68,7 +69,8 @@ def record(
     name = getattr(call, "__name__", repr(call))
     if call is not getattr(frames, name, None):
         raise BadArgument("call", f"must be a call of rcell, for example composition; got {name}")
-    made = make(os.fspath(path), call_named(name), words, named, table)
+    with working(named.pop("workers", None), named.pop("resume", None)):
+        made = make(os.fspath(path), call_named(name), words, named, table)
     made.write(os.fspath(path), __version__)
     return call.convert(made.found)  # type: ignore[attr-defined]
 

@@ -9,6 +9,7 @@ import inspect
 import json
 import os
 import platform
+import re
 from collections.abc import Callable, Iterator, Mapping, Sequence
 from typing import Any, NamedTuple, Optional
 
@@ -249,7 +250,7 @@ def _plain(title: str, given: Any, folder: str) -> Any:
     if isinstance(given, (str, os.PathLike)):
         text = os.fspath(given)
         file = text.partition("|")[0]
-        if title in _WORDS or not os.path.isfile(file):
+        if title in _WORDS or not (os.path.isfile(file) or _is_pattern(file)):
             return text
         path = {"path": os.path.relpath(os.path.abspath(text), folder)}
         return {**path, "sha256": file_sum(file)} if file.lower().endswith(_TEXTS) else path
@@ -257,6 +258,12 @@ def _plain(title: str, given: Any, folder: str) -> Any:
         return given
     kind = type(given).__name__
     raise BadArgument(title, f"must be a path, a number or a text to be recorded; got a {kind}")
+
+
+def _is_pattern(path: str) -> bool:
+    """Return whether a path is a pattern of files in a folder that exists."""
+    folder, name = os.path.split(path)
+    return bool(re.search("[*?[]", name)) and os.path.isdir(folder or os.curdir)
 
 
 def _placed(told: Any, folder: str) -> Any:
