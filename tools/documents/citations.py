@@ -24,10 +24,11 @@ IN_PARENTHESES = re.compile(r"\(`([a-z_]+)`\)")
 NAME = re.compile(r"[A-Za-z]\w*(?:::\w+)*")
 ROW = re.compile(r"^\|(.*)\|$")
 ROW_OF_CRATE = re.compile(r"^\| `(r?cell\w*)` \|", re.MULTILINE)
-# Names of Rust and of the kit, of commands and options, and words of the language of expressions.
+# Names of Rust, of the kit and of the C functions that it calls, of commands and options, and words of the language of expressions.
 OTHERS = set(
     """if and or run new row col nrows ncols isnull null eval abs min max mode nmin nmax nmode x g a b f
-Err Ok None Some Drop Copy Clone bstr itoa clap thiserror circular_buffer std lines_of without_terminator rcell""".split()
+Err Ok None Some Drop Copy Clone bstr itoa clap thiserror circular_buffer std lines_of without_terminator rcell
+rattle_alloc rattle_realloc rattle_dealloc rattle_arg rattle_errno rattle_set_errno lseek chdir chmod""".split()
 )
 NO_LABELS = {
     "as",

@@ -8,14 +8,14 @@ import sys
 
 # The order of use; what is public and not named here follows under the last heading.
 GROUPS = {
-    "Answers": "composition cross change patches adjacency zonal dominant accuracy sample metrics majority reclass clump align",
+    "Answers": "composition cross change patches adjacency zonal dominant accuracy sample metrics majority within reclass clump sieve align",
     "Scripts": "run table grid",
-    "Maps and results": "Raster MapLike bands Region Accuracy Aligned Change Result",
+    "Maps and results": "Raster MapLike bands Region Accuracy Aligned Change Result Sieved",
     "Errors": "RcellError BadArgument Refused BadMap OtherRegion OtherCrs ReadFailed WriteFailed OutOfMemory Killed "
     "MissingLibrary MissingProgram WrongProgram",
     "Others": "",
 }
-MODULES = ("rcell.tiles", "rcell.xarray")
+MODULES = ("rcell.xarray",)
 UNDERLINED = re.compile(r"^(\w[\w ]*)\n-{3,}$\n?", re.MULTILINE)
 ENTRY = re.compile(r"^(\S[^\n]*)\n((?:[ \t]+[^\n]*\n?|\n)*)", re.MULTILINE)
 
@@ -87,7 +87,7 @@ def python(root):
         it for names in GROUPS.values() for it in names.split()
     }
     for heading, names in GROUPS.items():
-        wanted = names.split() or [it for it in public if it not in grouped | {"tiles"}]
+        wanted = names.split() or [it for it in public if it not in grouped]
         parts.append(f"## {heading}\n")
         parts += [
             described(f"rcell.{it}", getattr(package, it), 3) for it in wanted if it in public
