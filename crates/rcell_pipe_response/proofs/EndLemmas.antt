@@ -170,8 +170,7 @@ rejection form shelf script fault (errors.Script error) end first is = record {
   script = script;
   request = refl;
   first = subst (λ (f : ScriptFault). IsScriptFault shelf.names script f) (sym is.0) first;
-  text = is.1.0;
-  bytes = ap (λ (e : EndValue). response_bytes [] e) (is.1.1 ∙ ap (λ (f : ScriptFault). script_end f is.1.0) (sym is.0));
+  bytes = ap (λ (e : EndValue). response_bytes [] e) (is.1 ∙ ap script_end (sym is.0));
 }
 rejection form shelf script fault errors.Memory end first is = ap (λ (e : EndValue). response_bytes [] e) is
 rejection form shelf script fault (errors.Request error) end first is = absurd is
@@ -302,7 +301,7 @@ pub only_end_of_run : (form : RunForm) (read : Result RunRequestValue RequestErr
     → IsResponse form read response error → IsOnlyEnd response error
 only_end_of_run form read response None is = tt
 only_end_of_run form read response (Some (errors.Request error)) is = is.1
-only_end_of_run form read response (Some (errors.Script error)) is = (is.text, is.bytes)
+only_end_of_run form read response (Some (errors.Script error)) is = is.bytes
 only_end_of_run form read response (Some errors.Memory) is = is
 only_end_of_run form read response (Some (errors.MemoryAt line)) is = tt
 only_end_of_run form read response (Some errors.Write) is = tt

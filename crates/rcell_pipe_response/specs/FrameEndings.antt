@@ -36,9 +36,9 @@ pub record Finished (before : Option (List ℕ)) (start : Faults) (now : Option 
   pub status : outcome.status ≡ end_status_after outcome.error
   pub sent : IsSent sending before start now after text outcome.written
 
--- how a script is rejected: with some text of its error, or for want of memory
+-- how a script is rejected: for its error, or for want of memory
 abbrev pub IsRejection : ScriptFault → PipeError → EndValue → Type 0
-IsRejection fault (errors.Script error) end = (error ≡ fault) × ((text : List ℕ) × (end ≡ script_end fault text))
+IsRejection fault (errors.Script error) end = (error ≡ fault) × (end ≡ script_end fault)
 IsRejection fault errors.Memory end = end ≡ memory_end 0
 IsRejection fault error end = ⊥
 

@@ -10,6 +10,7 @@ use Rattle.rcell_script.specs.declared.statement.Statement.{Statement}
 use Rattle.rcell_script_commands.specs.declared.script_fault.ScriptFault.{ScriptFault}
 use Rattle.rcell_script_commands.specs.declared.script_fault.ScriptKind.{ScriptKind}
 use Rattle.rcell_script_commands.specs.declared.script_fault.ScriptKind.TheVariants as script_kinds
+use Rattle.rcell_script_commands.specs.ScriptTexts.{kind_text as script_text}
 use Rattle.rcell.specs.Output.{IsOutput}
 use Rattle.rcell_pipe_request.specs.declared.error.ErrorKind.{ErrorKind}
 use Rattle.rcell_pipe_request.specs.declared.error.ErrorKind.TheVariants as kinds
@@ -65,9 +66,9 @@ done_end = record { status = 0; source = 0; maps = 0; line = 0; column = 0; text
 abbrev pub request_end : RequestError → EndValue
 request_end error = record { status = request_status error.kind; source = 1; maps = error.maps; line = error.row; column = 0; text = kind_text error.kind }
 
--- the end if the script is rejected, with the text of the error
-abbrev pub script_end : ScriptFault → List ℕ → EndValue
-script_end error text = record { status = 1; source = 2; maps = 0; line = error.line; column = script_column error.kind; text = text }
+-- the end if the script is rejected, with the text that rcell prints for its error
+abbrev pub script_end : ScriptFault → EndValue
+script_end error = record { status = 1; source = 2; maps = 0; line = error.line; column = script_column error.kind; text = script_text error.kind }
 
 -- the end if memory ran out, at a line or before the first
 abbrev pub memory_end : ℕ → EndValue
@@ -104,14 +105,13 @@ pub record IsPipeDone (form : RunForm) (read : Result RunRequestValue RequestErr
   pub accepted : IsPipeAccepted read shelf statements
   pub gives : GivesResponse form shelf statements done_end response
 
--- the script is rejected for its first error: no frame but the end, with some text of the error
+-- the script is rejected for its first error: no frame but the end
 pub record IsScriptRejected (read : Result RunRequestValue RequestError) (response : List ℕ) (error : ScriptFault) : Type 0 where
   pub shelf : ShelfValue
   pub script : List ℕ
   pub request : read ≡ Ok (record { shelf = shelf; script = script })
   pub first : IsScriptFault shelf.names script error
-  pub text : List ℕ
-  pub bytes : response ≡ response_bytes [] (script_end error text)
+  pub bytes : response ≡ response_bytes [] (script_end error)
 
 -- memory runs out at a statement: the response that those before it give
 pub record IsPipeStopped (form : RunForm) (read : Result RunRequestValue RequestError) (response : List ℕ) (line : ℕ) : Type 0 where
@@ -180,7 +180,7 @@ HasUsed error old new = new ≡ after_flush old false
 -- first statement
 abbrev pub only_end : PipeError → List ℕ → Type 0
 only_end (errors.Request error) response = response ≡ response_bytes [] (request_end error)
-only_end (errors.Script error) response = (text : List ℕ) × (response ≡ response_bytes [] (script_end error text))
+only_end (errors.Script error) response = response ≡ response_bytes [] (script_end error)
 only_end errors.Memory response = response ≡ response_bytes [] (memory_end 0)
 only_end (errors.MemoryAt line) response = ⊤
 only_end errors.Write response = ⊤

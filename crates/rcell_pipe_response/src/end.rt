@@ -3,6 +3,7 @@
 ghost use Rattle.std.specs.Prelude.{◌≡◌};
 ghost use Rattle.rcell_pipe_response.specs.RunEnds.{kind_text, request_status, script_column, done_end, request_end, script_end, memory_end, error_status, end_status_after, end_value};
 ghost use Rattle.rcell_pipe_response.specs.parts.ScriptKinds.{is_memory};
+ghost use Rattle.rcell_script_commands.specs.ScriptTexts.{kind_text as script_text};
 
 use rcell_pipe_request::error::{ErrorKind, RequestError};
 use rcell_script::script_fault::{ScriptFault, ScriptKind};
@@ -113,9 +114,10 @@ fn script_column(kind: ScriptKind) -> u32
     }
 }
 
-/// The script was rejected, with this text.
+/// The script was rejected, with the text of its error.
 pub fn script_end<'a>(error: ScriptFault, text: &'a [u8]) -> End<'a>
-    ensures { end_value result ≡ script_end error text.now }
+    requires { text.now ≡ script_text error.kind }
+    ensures { end_value result ≡ script_end error }
 {
     End {
         status: 1,

@@ -1,9 +1,11 @@
 //! A run, from a request to bytes.
 
-ghost use Rattle.std.specs.Prelude.{ℕ, ◌≡◌, List, [], ◌++◌, length, false, Option, Some, Result, Ok};
+ghost use Rattle.std.specs.Prelude.{ℕ, ◌≡◌, List, [], ◌++◌, length, false, Option, Some, Result, Ok, IfOk};
+ghost use Rattle.std.specs.String.{string_bytes};
 ghost use Rattle.cell_core_devices.specs.Device.{Faults, append_known};
 ghost use Rattle.cell_core_devices.specs.Blocks.{capped_count, Appended};
 ghost use Rattle.rcell_script.specs.FittingScripts.{Fits};
+ghost use Rattle.rcell_script_commands.specs.ScriptTexts.{kind_text};
 ghost use Rattle.rcell_pipe_request.specs.declared.error.RequestError.{RequestError};
 ghost use Rattle.rcell_pipe_request.specs.Requests.{RunRequestValue, run_request_value};
 ghost use Rattle.rcell_pipe_response.specs.declared.frame_run.RunForm.TheVariants.{Frames, Text};
@@ -21,10 +23,10 @@ use cell_core::sink::Sink;
 use rcell::execution::{RunStop, execute as execute_as_text};
 use rcell::loading::shelf_names;
 use rcell_pipe_request::request::Request;
-use rcell_script::script_fault::ScriptFault;
+use rcell_script::script_fault::{ScriptFault, ScriptKind};
 use rcell_script::script_parsing::parse_script;
 use rcell_script::statement::Script;
-use std::alloc::Global;
+use std::alloc::{AllocError, Global};
 
 /// What a run responds with.
 #[derive(Clone, Copy, Debug, PartialEq, Eq)]
@@ -139,13 +141,19 @@ pub fn reject<W: Sink>(out: &mut W, error: PipeError, end: &End<'_>) -> PipeOutc
     end_response(out, block, Some(error), end)
 }
 
+// The text of an error of a script.
+fn script_text(alloc: Global, kind: ScriptKind) -> Result<String, AllocError>
+    ensures { IfOk result (λ text. string_bytes text ≡ kind_text kind) }
+{
+    format!(in alloc; "{kind}")
+}
+
 /// Rejects a script, with the text of its error, or for want of memory if there is none for the text.
 pub fn reject_script<W: Sink>(alloc: Global, out: &mut W, error: ScriptFault) -> PipeOutcome
     ensures { Rejected (W.taken out.old) (W.faults out.old) (W.taken out.new) (W.faults out.new)
         error result }
 {
-    let kind = error.kind;
-    match format!(in alloc; "{kind}") {
+    match script_text(alloc, error.kind) {
         Ok(text) => reject(
             out,
             PipeError::Script(error),

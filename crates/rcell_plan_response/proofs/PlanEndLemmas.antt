@@ -102,9 +102,7 @@ plan_rejection names script fault (errors.Script error) end first is = record {
   script = script;
   request = refl;
   first = subst (λ (f : ScriptFault). IsScriptFault names script f) (sym is.0) first;
-  text = is.1.0;
-  bytes = ap (λ (e : EndValue). response_bytes [] e)
-      (is.1.1 ∙ ap (λ (f : ScriptFault). script_end f is.1.0) (sym is.0));
+  bytes = ap (λ (e : EndValue). response_bytes [] e) (is.1 ∙ ap script_end (sym is.0));
 }
 plan_rejection names script fault errors.Memory end first is = ap (λ (e : EndValue). response_bytes [] e) is
 plan_rejection names script fault (errors.Request error) end first is = absurd is
@@ -160,7 +158,7 @@ pub only_end_of_plan : (read : Result PlanRequestValue RequestError) (response :
     → IsPlanResponse read response error → IsOnlyEnd response error
 only_end_of_plan read response None is = tt
 only_end_of_plan read response (Some (errors.Request error)) is = is.1
-only_end_of_plan read response (Some (errors.Script error)) is = (is.text, is.bytes)
+only_end_of_plan read response (Some (errors.Script error)) is = is.bytes
 only_end_of_plan read response (Some errors.Memory) is = is
 only_end_of_plan read response (Some (errors.MemoryAt line)) is = tt
 only_end_of_plan read response (Some errors.Write) is = tt

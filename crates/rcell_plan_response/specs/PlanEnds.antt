@@ -27,15 +27,14 @@ pub record IsPlanDone (read : Result PlanRequestValue RequestError) (response : 
   pub accepted : IsPlanAccepted read names statements
   pub bytes : response ≡ plan_response names (script_lines accepted.script) statements
 
--- the script is rejected for its first error: no frame but the end, with some text of the error
+-- the script is rejected for its first error: no frame but the end
 pub record IsPlanRejected (read : Result PlanRequestValue RequestError) (response : List ℕ)
     (error : ScriptFault) : Type 0 where
   pub names : List (List ℕ)
   pub script : List ℕ
   pub request : read ≡ Ok (record { names = names; script = script })
   pub first : IsScriptFault names script error
-  pub text : List ℕ
-  pub bytes : response ≡ response_bytes [] (script_end error text)
+  pub bytes : response ≡ response_bytes [] (script_end error)
 
 -- the whole response to a plan request, by its error
 abbrev pub IsPlanResponse : Result PlanRequestValue RequestError → List ℕ → Option PipeError → Type 0

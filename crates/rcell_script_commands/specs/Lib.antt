@@ -14,5 +14,6 @@ pub mod ROutAscii
 pub mod CommandSpelling
 pub mod FittingCommands
 pub mod ScriptFaults
+pub mod ScriptTexts
 pub mod Commands
 pub mod parts

@@ -1,53 +1,94 @@
 //! Why a text is no script.
 
+ghost use Rattle.std.specs.Prelude.{◌≡◌};
+ghost use Rattle.rcell_script_commands.specs.ScriptTexts.{calc_words, rule_words, combo_words, kind_words, kind_column};
+
 use crate::option_fault::OptionFault;
 use cell_calc_language::calc_fault::{CalcFault, CalcKind};
 use cell_cats::rules::RuleFault;
 use cell_core::memory::Memory;
 use cell_stats_combinations::combination_text::ComboFault;
-use thiserror::Error;
+use std::error::Error;
+use std::fmt;
 
 /// What is wrong with a script.
-#[derive(Clone, Copy, Debug, PartialEq, Eq, Error)]
+#[derive(Clone, Copy, Debug, PartialEq, Eq)]
 pub enum ScriptKind {
     /// The first word of a line is no command.
-    #[error("unknown command")]
     UnknownCommand,
     /// An unknown flag or key, a word without `=`, a key twice, more than 16 maps, a bad separator or null text, or
     /// flags that do not go together.
-    #[error("bad option")]
     BadOption,
     /// A command without an option that it needs.
-    #[error("missing option")]
     MissingOption,
     /// A map that is not known before the statement that reads it.
-    #[error("unknown map")]
     UnknownMap,
     /// A map that is made and was known before.
-    #[error("map exists")]
     MapExists,
     /// An assignment of r.mapcalc; its column counts within the line of the script.
-    #[error("{0}")]
     Calc(CalcFault),
     /// A rule of r.reclass.
-    #[error("{text}", text = text_of_rule(*.0))]
     Rule(RuleFault),
     /// The combination of `after`.
-    #[error("{text}", text = text_of_combo(*.0))]
     Combo(ComboFault),
     /// The rules of an r.reclass that do not end before the script does.
-    #[error("missing end")]
     MissingEnd,
     /// A line of more than 65,535 bytes.
-    #[error("line too long")]
     LongLine,
     /// An input or output that is no name.
-    #[error("bad name")]
     BadName,
     /// Memory ran out.
-    #[error("no memory")]
     Memory,
 }
+
+impl ScriptKind {
+    // What is wrong, without a column.
+    fn words(self) -> &'static str
+        ensures { result.now ≡ kind_words self }
+    {
+        match self {
+            ScriptKind::UnknownCommand => "unknown command",
+            ScriptKind::BadOption => "bad option",
+            ScriptKind::MissingOption => "missing option",
+            ScriptKind::UnknownMap => "unknown map",
+            ScriptKind::MapExists => "map exists",
+            ScriptKind::Calc(fault) => calc_words(fault.kind),
+            ScriptKind::Rule(fault) => rule_words(fault),
+            ScriptKind::Combo(fault) => combo_words(fault),
+            ScriptKind::MissingEnd => "missing end",
+            ScriptKind::LongLine => "line too long",
+            ScriptKind::BadName => "bad name",
+            ScriptKind::Memory => "no memory",
+        }
+    }
+
+    // The column of an error in an expression.
+    fn column(self) -> Option<u32>
+        ensures { result ≡ kind_column self }
+    {
+        match self {
+            ScriptKind::Calc(fault) => Some(fault.column),
+            _ => None,
+        }
+    }
+}
+
+impl fmt::Display for ScriptKind {
+    ghost use Rattle.std.specs.Prelude.{Some};
+    ghost use Rattle.rcell_script_commands.specs.ScriptTexts.{kind_text};
+
+    ghost output = { λ kind. Some (kind_text kind) };
+
+    fn fmt<W: fmt::Write>(&self, f: &mut fmt::Formatter<W>) -> fmt::Result {
+        let words = self.words();
+        match self.column() {
+            Some(column) => write!(f, "{words} at column {column}"),
+            None => f.write_str(words),
+        }
+    }
+}
+
+impl Error for ScriptKind {}
 
 impl From<OptionFault> for ScriptKind {
     ghost use Rattle.std.specs.Prelude.{◌≡◌};
@@ -119,7 +160,27 @@ impl From<Memory> for ScriptKind {
     }
 }
 
-fn text_of_rule(fault: RuleFault) -> &'static str {
+fn calc_words(kind: CalcKind) -> &'static str
+    ensures { result.now ≡ calc_words kind }
+{
+    match kind {
+        CalcKind::BadByte => "bad byte",
+        CalcKind::BadNumber => "bad number",
+        CalcKind::FloatNumber => "number not whole",
+        CalcKind::Expected => "unexpected token",
+        CalcKind::UnknownFunction => "unknown function",
+        CalcKind::Arguments => "wrong number of arguments",
+        CalcKind::BadOffset => "offset out of range",
+        CalcKind::TooLong => "expression too long",
+        CalcKind::BadName => "bad name",
+        CalcKind::Memory => "no memory",
+        CalcKind::UnknownMap => "unknown map",
+    }
+}
+
+fn rule_words(fault: RuleFault) -> &'static str
+    ensures { result.now ≡ rule_words fault }
+{
     match fault {
         RuleFault::BadRule => "bad rule",
         RuleFault::BadNumber => "bad number in rule",
@@ -127,7 +188,9 @@ fn text_of_rule(fault: RuleFault) -> &'static str {
     }
 }
 
-fn text_of_combo(fault: ComboFault) -> &'static str {
+fn combo_words(fault: ComboFault) -> &'static str
+    ensures { result.now ≡ combo_words fault }
+{
     match fault {
         ComboFault::BadCombo => "bad combination",
         ComboFault::BadWidth => "combination of another width",
@@ -136,7 +199,7 @@ fn text_of_combo(fault: ComboFault) -> &'static str {
 }
 
 /// What is wrong, and the line, counted from 1; 0 if memory ran out.
-#[derive(Clone, Copy, Debug, PartialEq, Eq, Error)]
+#[derive(Clone, Copy, Debug, PartialEq, Eq, thiserror::Error)]
 #[error("{line}: {kind}")]
 pub struct ScriptFault {
     pub kind: ScriptKind,

@@ -4,7 +4,7 @@ use Rattle.rcell_pipe_response.specs.RunEnds.{end_value}
 use Rattle.rcell_pipe_response.proofs.frame_run.reject_script.Goals as goal
 
 pub returns-in-Ok : goal.returns-in-Ok
-returns-in-Ok g c = record { error = errors.Script c.args.error; end = end_value c.script_end.result; rejects = (refl, (_, c.script_end.ensures)); finished = c.reject.ensures }
+returns-in-Ok g c = record { error = errors.Script c.args.error; end = end_value c.script_end.result; rejects = (refl, c.script_end.ensures); finished = c.reject.ensures }
 
 pub returns-in-Err : goal.returns-in-Err
 returns-in-Err g c = record { error = errors.Memory; end = end_value c.memory_end.result; rejects = c.memory_end.ensures; finished = c.reject-in-Err.ensures }
