@@ -16,13 +16,13 @@ json_of <- function(value, indent = "") {
   if (is.character(value) && length(value) == 1L) return(json_text(value))
   if (is.logical(value) && length(value) == 1L) return(if (value) "true" else "false")
   if (is.numeric(value) && length(value) == 1L) return(sub("[.]0$", "", number_text(value)))
-  inner <- paste0(indent, " ")
   keys <- names(value)
+  ends <- if (is.null(keys)) c("[", "]") else c("{", "}")
+  if (!length(value)) return(paste(ends, collapse = ""))
+  inner <- paste0(indent, " ")
   if (!is.null(keys)) value <- value[order(keys, method = "radix")]
   parts <- vapply(as.list(value), json_of, "", inner)
   if (!is.null(keys)) parts <- paste0(json_text(names(value)), ": ", parts)
-  ends <- if (is.null(keys)) c("[", "]") else c("{", "}")
-  if (!length(parts)) return(paste(ends, collapse = ""))
   lines <- paste0("\n", inner, parts, collapse = ",")
   paste0(ends[[1]], lines, "\n", indent, ends[[2]])
 }

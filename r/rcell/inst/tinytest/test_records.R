@@ -53,6 +53,10 @@ expect_identical(verified()[[1]], "legend.csv differs")
 unlink(file("maps/zones.tif"))
 expect_true(any(startsWith(verified(), "the call fails: zones: cannot open")))
 
+# A call without named arguments.
+rcell_record(file("plain.csv"), rcell_composition, file("maps/land.tif"))
+expect_identical(rcell_verify(file("plain.csv")), character())
+
 # Calls of several tables, vectors with names, maps of no file.
 writeRaster(land, file("maps/later.tif"))
 rcell_record(file("change.csv"), "rcell_change", file("maps/land.tif"), file("maps/later.tif"), labels = c("1" = "a", "2" = "b", "3" = "c"), .table = "summary")
