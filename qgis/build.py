@@ -22,6 +22,7 @@ REPOSITORY = HERE.parent
 ENGINE = re.compile(
     r"python/src/rcell/(core/[a-z_]+\.(?:py|json)|readers/(?:__init__|gdal|handles|ogr|osr)\.py)"
 )
+PROGRAMS = ("rcell", "rcell-pipe", "rcell-join")
 KINDS = (".json", ".model3", ".py", ".svg", ".txt")
 
 
@@ -77,7 +78,7 @@ def files(programs: dict[str, pathlib.Path]) -> dict[str, tuple[bytes, int]]:
 
 def main() -> int:
     folder = pathlib.Path(sys.argv[1]) if len(sys.argv) > 1 else REPOSITORY / "dist"
-    programs = {name: REPOSITORY / f"bin/{name}-static" for name in ("rcell", "rcell-pipe")}
+    programs = {name: REPOSITORY / f"bin/{name}-static" for name in PROGRAMS}
     for program in programs.values():
         if not program.is_file():
             print(f"rcell: {program} is missing: run make static first", file=sys.stderr)

@@ -11,11 +11,11 @@ export RCELL="${RCELL_BIN:-$PWD/bin}/rcell" PYTHONDONTWRITEBYTECODE=1 LC_ALL=C.U
 if "$python" -c 'import numpy, osgeo.gdal' 2> /dev/null; then
     add 'programs and files' "$python" qgis/tests/gate.py test_host.py test_files.py
 else
-    skip -n 18 qgis 'GDAL for Python or numpy is not installed' python3-gdal python3-numpy
+    skip -n 19 qgis 'GDAL for Python or numpy is not installed' python3-gdal python3-numpy
 fi
 if "$python" -c 'import qgis.core, numpy, osgeo.gdal' 2> /dev/null; then
     add 'a session' "$python" qgis/tests/gate.py test_session.py
 else
-    skip -n 31 qgis/session 'QGIS is not installed' python3-qgis
+    skip -n 32 qgis/session 'QGIS is not installed' python3-qgis
 fi
 closing

@@ -388,9 +388,9 @@ def test_more_columns_than_one_run_has() -> None:
 # What goes wrong
 
 
-def test_a_bad_cell_has_its_place_in_the_full_map() -> None:
+def test_the_first_bad_cell_has_its_place_in_the_full_map() -> None:
     cells = np.ones((20, 30))
-    cells[17, 22] = 1.5
+    cells[17, 22] = cells[18, 1] = cells[19] = 1.5
     with pytest.raises(rcell.BadMap, match="the cell at row 18, column 23 is 1.5"):
         as_tiles(lambda: rcell.composition(cells), (6, 7))
 

@@ -92,7 +92,7 @@ def test_tables_of_lazy_arrays() -> None:
     lazy = array_of(CELLS, (16, 10), nodata=200)
     script = "r.mapcalc edge = lc != lc[0,1]\nr.stats -c input=edge,lc"
     check_equal(
-        as_tiles(lambda: lazy.rcell.table(script), (16, 20)),
+        as_tiles(lambda: lazy.rcell.table(script, workers=3), (16, 20)),
         rcell.table(script, lc=in_memory(CELLS, nodata=200)),
     )
 

@@ -11,6 +11,7 @@ from typing import Any, Callable
 
 from .engine.core.errors import MissingProgram, RcellError
 from .engine.core.host import Host
+from .engine.core.joiner import find_joiner
 from .engine.core.process import found_on_path
 from .engine.core.programs import find_pipe
 from .engine.core.programs import find_program as find_rcell
@@ -18,6 +19,12 @@ from .engine.core.sources import Source
 
 _FOLDER = os.path.join(os.path.dirname(os.path.abspath(__file__)), "bin")
 _SETTINGS = "Settings > Options > Processing > Providers > rcell"
+# The programs, each with its variable, and the function that tries it once.
+_PROGRAMS = {
+    "rcell-pipe": ("RCELL_PIPE", find_pipe),
+    "rcell-join": ("RCELL_JOIN", find_joiner),
+    "rcell": ("RCELL", find_rcell),
+}
 
 
 class Cancelled(RcellError):
@@ -76,10 +83,10 @@ def _path_of(source: Source) -> str:
 
 
 def find_program(setting: str = "", name: str = "rcell-pipe") -> str:
-    """Return the path of rcell-pipe, or of rcell, which only text grids need.
+    """Return the path of rcell-pipe, of rcell-join, which only patches of large maps need, or of rcell, which only text grids need.
 
-    Looked for in this order: the setting, the variable RCELL_PIPE (or RCELL), next to the program that RCELL names, in the plugin, on
-    the path. The setting may name either program; the other one is next to it.
+    Looked for in this order: the setting, the variable RCELL_PIPE (RCELL_JOIN, RCELL), next to the program that RCELL names, in the
+    plugin, on the path. The setting may name rcell-pipe or rcell; the others are next to it.
 
     Raises
     ------
@@ -89,9 +96,9 @@ def find_program(setting: str = "", name: str = "rcell-pipe") -> str:
         It does not work as this plugin needs it.
     """
     own = os.path.join(_FOLDER, name)
-    variable = "RCELL_PIPE" if name == "rcell-pipe" else "RCELL"
+    variable, known = _PROGRAMS[name]
     path = setting if os.path.basename(setting) != "rcell" else _beside(setting, name)
-    if setting and name == "rcell":
+    if setting and name != "rcell-pipe":
         path = _beside(setting, name) if os.path.isfile(_beside(setting, name)) else ""
     path = path or os.environ.get(variable, "")
     beside = _beside(os.environ["RCELL"], name) if os.environ.get("RCELL") else ""
@@ -108,7 +115,7 @@ def find_program(setting: str = "", name: str = "rcell-pipe") -> str:
             f"the program {path} is not there, or may not be executed: correct the path under {_SETTINGS}, or leave it empty to use "
             "the plugin's own"
         )
-    return find_pipe(path) if name == "rcell-pipe" else find_rcell(path)
+    return known(path)
 
 
 def _beside(path: str, name: str) -> str:

@@ -10,6 +10,7 @@ import tempfile
 import threading
 import time
 import unittest
+from unittest import mock
 
 import made
 import numpy as np
@@ -407,6 +408,22 @@ class RefusalsTest(InSession):
         finally:
             QgsSettings().setValue("Processing/Configuration/RCELL_PROGRAM", "")
             ProcessingConfig.readSettings()
+
+
+class LargeTest(InSession):
+    def results(self) -> tuple[object, object]:
+        table = self.run_(
+            "patches", INPUT=self.cover, MAP=self.path("patches.tif"), OUTPUT="TEMPORARY_OUTPUT"
+        )["OUTPUT"]
+        self.run_("majority", INPUT=self.cover, OUTPUT=self.path("majority.tif"))
+        names = ("patches.tif", "majority.tif")
+        maps = [gdal.Open(self.path(name)).ReadAsArray().tolist() for name in names]
+        return session.rows(table), maps
+
+    def test_large_rasters_are_cut_into_tiles(self) -> None:
+        expected = self.results()
+        with mock.patch.dict(os.environ, {"RCELL_TEST_TILES": "2x2"}):
+            self.assertEqual(self.results(), expected)
 
 
 class MapsTest(InSession):

@@ -34,6 +34,11 @@ __all__ = ["Accessor"]
 _NAME = re.compile(r"[A-Za-z_][A-Za-z0-9_.]{0,63}")
 
 
+def _work_of(named: dict[str, Any]) -> dict[str, Any]:
+    """Return the words about large maps, which are no names of maps, and take them out."""
+    return {word: named.pop(word) for word in ("workers", "resume") if word in named}
+
+
 class Accessor:
     """What `.rcell` of a DataArray or a Dataset is: the calls of rcell, with the array as the first map.
 
@@ -315,7 +320,7 @@ class Accessor:
         crs : any, optional
             The coordinate reference system of the maps that have none.
         **more : DataArray or path
-            Further maps by name.
+            Further maps by name; also `workers` and `resume`, as in `rcell.table`.
 
         Returns
         -------
@@ -331,8 +336,9 @@ class Accessor:
         0       1      1      1
         1       1      2      1
         """
+        work = _work_of(more)
         maps = named_once(self._maps, more)
-        return frames.table(script, maps, area=area, percent=percent, crs=crs)
+        return frames.table(script, maps, area=area, percent=percent, crs=crs, **work)
 
     def grid(self, script: str, *, crs: Any = None, **more: MapLike) -> Any:
         """Return the map that an expression makes.
@@ -344,7 +350,7 @@ class Accessor:
         crs : any, optional
             The coordinate reference system of the maps that have none.
         **more : DataArray or path
-            Further maps by name.
+            Further maps by name; also `workers` and `resume`, as in `rcell.grid`.
 
         Returns
         -------
@@ -358,6 +364,7 @@ class Accessor:
         >>> xarray.DataArray(np.array([[1, 1, 2]]), dims=("y", "x")).rcell.grid("edge = if(map != map[0,1], map, 0)").values.tolist()
         [[0, 1, -2147483648]]
         """
+        work = _work_of(more)
         maps = named_once(self._maps, more)
         is_script = script.lstrip().startswith(("r.", "#"))
         text = script if is_script else f"r.mapcalc {script.strip()}"
@@ -368,7 +375,7 @@ class Accessor:
         is_local = not any(statement.command == "r.clump" for statement in plan)
         if is_local and all(map(is_lazy, maps.values())):
             return self._lazy(f"{text}\nr.out.ascii input={name}", maps, crs)
-        return self._like(frames.grid(text, name, maps, crs=crs))
+        return self._like(frames.grid(text, name, maps, crs=crs, **work))
 
     def _lazy(self, text: str, maps: dict[str, Any], crs: Any) -> Any:
         """Return the map that a script writes, as Dask computes it when it is asked for."""

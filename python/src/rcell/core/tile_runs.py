@@ -7,7 +7,8 @@ the given maps. That tiles give the same is proved in the crate `cell_parts` of 
 
 from __future__ import annotations
 
-from collections.abc import Callable, Mapping, Sequence
+from collections.abc import Callable, Iterator, Mapping, Sequence
+from contextlib import contextmanager
 from dataclasses import dataclass, replace
 from typing import Any
 
@@ -17,7 +18,7 @@ from . import protocol
 from .arrays import NDArray
 from .borders import Watch
 from .crews import Crew
-from .errors import OutOfMemory
+from .errors import BadMap, OutOfMemory
 from .host import host
 from .joiner import check_files, find_joiner
 from .kept import cells_for, fits_memory
@@ -87,7 +88,7 @@ def run_tiles(
     numbered = {clump.made for clump in clumps}
     rest = [each for each in outputs if not _is_map_of(each, numbered)]
     steps = len(places) * (2 * len(clumps) + bool(rest))
-    with Crew(workers, steps) as crew:
+    with _first_bad_cell(maps), Crew(workers, steps) as crew:
         tiles = _Tiles(crew, dict(maps), places, shape)
         for clump in clumps:
             tiles.add_clumps(plan, clump)
@@ -98,6 +99,19 @@ def run_tiles(
         return [
             tiles.clumps(each) if _is_map_of(each, numbered) else next(found) for each in outputs
         ]
+
+
+@contextmanager
+def _first_bad_cell(maps: Mapping[str, Source]) -> Iterator[None]:
+    """If a cell of a map is rejected, raise the error of the first one in reading order, as one run does."""
+    try:
+        yield
+    except BadMap as error:
+        for source in maps.values() if error.row else ():
+            if source.name == error.source:
+                for _ in source.blocks():
+                    pass
+        raise
 
 
 def _is_map_of(output: Statement, names: set[str]) -> bool:

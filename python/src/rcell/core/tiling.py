@@ -193,7 +193,7 @@ def takes_one_run(plan: Sequence[Statement], maps: Mapping[str, Source], demand:
         return True
     shape = next(iter(maps.values())).region.shape
     current = work()
-    if current.size is not None or not fits_one_run(shape):
+    if current.size is not None or current.resume is not None or not fits_one_run(shape):
         return False
     workers = current.workers or processors()
     return workers == 1 and demand.of_tile(*shape) <= free_memory() * SHARE

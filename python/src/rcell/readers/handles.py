@@ -13,6 +13,7 @@ __all__ = ["of_this_thread"]
 MOST_OPEN = 64
 
 _here = threading.local()
+_one_at_a_time = threading.Lock()
 
 
 def of_this_thread(path: str, open_path: Callable[[], Any]) -> Any:
@@ -26,7 +27,9 @@ def of_this_thread(path: str, open_path: Callable[[], Any]) -> Any:
     handles: dict[str, Any] = _here.__dict__.setdefault("handles", {})
     dataset = handles.pop(path, None)
     if dataset is None:
-        dataset = open_path()
+        # Whoever opens a raster may turn off a warning, which Python can't do in one thread alone.
+        with _one_at_a_time:
+            dataset = open_path()
         while len(handles) >= MOST_OPEN:
             del handles[next(iter(handles))]
     handles[path] = dataset
