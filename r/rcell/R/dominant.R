@@ -4,6 +4,7 @@
 rcell_dominant <- function(x, zones, area, labels = NULL, zone_labels = NULL, zone_field = NULL,
                            layer = NULL, each = FALSE, crs = NULL) {
   choice <- area_choice(area, missing(area))
+  if (is.null(zones)) refuse("zones= must be a map or polygons; got NULL", status = 2L)
   sources <- zoned_sources(x, zones, zone_field, layer, crs, each = each)
   area <- unit_of(choice, sources$map)
   labels <- labels_from(labels, sources$map$labels)

@@ -9,6 +9,7 @@ rcell_zonal <- function(values, zones, quantiles = 0.5, scale = NULL, zone_label
   if (length(quantiles) && !is_share) {
     refuse(sprintf("quantiles= are from 0 to 1, not %s", shown(quantiles)), status = 2L)
   }
+  if (is.null(zones)) refuse("zones= must be a map or polygons; got NULL", status = 2L)
   if (!is.null(scale) && (!is_whole(scale) || scale < 1 || scale > CATEGORY_LIMIT)) {
     text <- "scale= must be a whole number from 1 to %.0f; got %s"
     refuse(sprintf(text, CATEGORY_LIMIT, shown(scale)), status = 2L)

@@ -61,6 +61,11 @@ expect_identical(rcell_run(long, lc = lc), structure(list(), names = character()
 too_long <- list(source = "script", text = "script too long")
 expect_identical(refusal(rcell_grid(long, "lc", lc = lc))[c("source", "text")], too_long)
 expect_identical(refusal(rcell_run(paste0(long, strrep("x", 20)), lc = lc))[c("source", "text")], too_long)
+# Zones that are needed.
+for (call in list(rcell_zonal, rcell_dominant)) {
+  expect_identical(refusal(call(matrix(1:4, 2), NULL))$text, "zones= must be a map or polygons; got NULL")
+}
+
 expect_identical(leftovers(), character())
 
 # R completes names of arguments: a map may be called `s` or `n`, and a script is never given by name.
