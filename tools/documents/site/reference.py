@@ -8,9 +8,11 @@ import sys
 
 # The order of use; what is public and not named here follows under the last heading.
 GROUPS = {
-    "Answers": "composition cross change patches adjacency zonal dominant accuracy sample metrics majority within reclass clump sieve align",
+    "Answers": "composition cross change trajectories patches adjacency zonal dominant accuracy sample metrics majority "
+    "within reclass clump sieve aggregate align",
+    "Records": "record verify report",
     "Scripts": "run table grid",
-    "Maps and results": "Raster MapLike bands Region Accuracy Aligned Change Result Sieved",
+    "Maps and results": "Raster MapLike bands Region Accuracy Aggregate Aligned Change Result Shares Sieved Trajectories",
     "Errors": "RcellError BadArgument Refused BadMap OtherRegion OtherCrs ReadFailed WriteFailed OutOfMemory Killed "
     "MissingLibrary MissingProgram WrongProgram",
     "Others": "",
