@@ -15,7 +15,7 @@ FOLDERS = [pathlib.Path(__file__).resolve().parents[up] / "examples" for up in (
 def test_the_study_runs(tmp_path: pathlib.Path, monkeypatch: pytest.MonkeyPatch) -> None:
     nbformat = pytest.importorskip("nbformat")
     preprocessors = pytest.importorskip("nbconvert.preprocessors")
-    for library in ("ipykernel", "rasterio", "pandas", "matplotlib", "distributed"):
+    for library in ("ipykernel", "rasterio", "pandas", "matplotlib"):
         pytest.importorskip(library)
     examples = next(folder for folder in FOLDERS if (folder / "study.ipynb").exists())
     shutil.copytree(examples / "rasters", tmp_path / "rasters")
@@ -34,7 +34,6 @@ def test_the_study_runs(tmp_path: pathlib.Path, monkeypatch: pytest.MonkeyPatch)
         output for cell in notebook.cells if cell.cell_type == "code" for output in cell.outputs
     ]
     said = "".join(output.get("text", "") for output in outputs)
-    assert "the table is the same: True\nthe islands are the same: True\n" in said
     assert "Borneo: 736,512 km² in 3 countries; largest share: Indonesia, 72 %" in said
     pictures = [output for output in outputs if "image/png" in output.get("data", {})]
     assert len(pictures) == 2
