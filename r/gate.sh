@@ -11,6 +11,7 @@ if [ -z "$missing" ]; then
     mkdir "$room/library"
     check 'the package is installed' R CMD INSTALL --no-docs --no-byte-compile --no-test-load --library="$room/library" r/rcell
     export RCELL="${RCELL_BIN:-$PWD/bin}/rcell" R_LIBS="$room/library" LC_ALL=C.UTF-8 PYTHONPATH="$PWD/python/src" PYTHONDONTWRITEBYTECODE=1
+    check 'lines of R code within 100 columns, one statement a line' Rscript --vanilla r/lines.R r/rcell/R/*.R
     add 'tests of the package' Rscript --no-save --no-restore --no-site-file r/gate.R r/rcell/inst/tinytest
 else
     # shellcheck disable=SC2046
