@@ -184,6 +184,8 @@ ANSWERS: dict[str, Callable[[Any, Any, Any], Any]] = {
     "sieve": lambda a, b, zones: rcell.sieve(a, min_cells=4),
     "sieve by corners": lambda a, b, zones: rcell.sieve(b, min_cells=4, connectivity=8),
     "within": lambda a, b, zones: rcell.within(a, [300], [25, 50]),
+    "aggregate": lambda a, b, zones: list(rcell.aggregate(a, factor=3))[::2],
+    "trajectories": lambda a, b, zones: rcell.trajectories([a, b, a], years=[1, 2, 3]),
     "clump": lambda a, b, zones: rcell.clump(a),
     "large clumps": lambda a, b, zones: rcell.clump(b, 8, min_cells=3),
     "clumps of classes": lambda a, b, zones: rcell.clump(b, classes=[2]),
