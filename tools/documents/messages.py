@@ -43,7 +43,7 @@ def messages_of_the_code():
         for it in glob.glob(f"{crate.folder}/src/**/*.rt", recursive=True)
     ]:
         with open(path, encoding="utf-8") as file:
-            texts = re.findall(r'(?:#\[error\(|Fault::\w+ => )"([^"]*)"', file.read())
+            texts = re.findall(r'(?:#\[error\(|(?:Fault|Kind)::\w+ => )"([^"]*)"', file.read())
         found |= {
             re.sub(r"\{written\}", "N", text)
             for text in texts
