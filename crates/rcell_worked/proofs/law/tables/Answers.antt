@@ -95,7 +95,7 @@ returns c = record {
         text = _;
         bytes = refl;
         denoted = script_of c.script_reading_denotes.ensures (codes "land" ∷ codes "zone" ∷ [])
-          (codes "r.stats -c input=zone,land separator=comma null_value=NA\nr.stats -c -n input=zone,land after=7,2\n")
+            (codes "r.stats -c input=zone,land separator=comma null_value=NA\nr.stats -c -n input=zone,land after=7,2\n")
             (codes "r.stats -c input=zone,land separator=comma null_value=NA"
             ∷ codes "r.stats -c -n input=zone,land after=7,2" ∷ []) _ refl
             (_, (_, refl, refl), (_, (_, refl, refl), refl));
