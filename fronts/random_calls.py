@@ -39,8 +39,6 @@ ROUNDED = 1e-13
 ID_DIGITS = 11
 IDS_OF = ("zone", "class", "patch", "from", "to", "neighbour", "cells", "sides")
 PLANT_CALLS = 600
-# Of so many calls, one is of random_maps.
-MAPS_EACH = 3
 IDS = 2**63 - 1
 ROOM = "/dev/shm" if os.access("/dev/shm", os.W_OK) else None
 GOOD = ("equal", "refused")
@@ -152,15 +150,15 @@ def number_of(text: str) -> float | None:
 class Calls:
     """Makes random calls over files of a folder."""
 
-    def __init__(self, folder: pathlib.Path, seed: int, has_maps: bool = True) -> None:
-        self.folder, self.seed, self.has_maps = folder, seed, has_maps
+    def __init__(self, folder: pathlib.Path, seed: int, has_newer: bool = True) -> None:
+        self.folder, self.seed, self.has_newer = folder, seed, has_newer
 
     def trial(self, number: int) -> Trial:
         """The call of a number."""
         found = self.made(number, IDS)
         if self.has_large_ids():
             with tempfile.TemporaryDirectory(dir=ROOM) as folder:
-                in_r = Calls(pathlib.Path(folder), self.seed, self.has_maps).made(
+                in_r = Calls(pathlib.Path(folder), self.seed, self.has_newer).made(
                     number, reference.MOST
                 )
             found.answer_in_r = in_r.answer if in_r.answer != found.answer else None
@@ -174,12 +172,14 @@ class Calls:
         """The call of a number, where whole numbers up to `most` are ids of zones."""
         self.random: Any = np.random.default_rng([self.seed, number])
         self.name, self.most = f"c{self.seed}_{number}", most
-        is_of_maps = self.has_maps and number % MAPS_EACH == 1
-        kind = one_of(self.random, [*random_maps.MAKERS] if is_of_maps else [*MAKERS, *MORE])
+        # In turn a call of this module, of random_maps and of random_answers.
+        kinds = [[*MAKERS, *MORE], [*random_maps.MAKERS], [*random_answers.MAKERS]]
+        kind = one_of(self.random, kinds[number % len(kinds) if self.has_newer else 0])
         self.frame = inputs.frame_of(self.random)
         self.found = Trial(self.name, {}, [kind])
         try:
-            self.found.answer = {**MAKERS, **random_maps.MAKERS}[kind](self)
+            makers = {**MAKERS, **random_maps.MAKERS, **random_answers.MAKERS}
+            self.found.answer = makers[kind](self)
         except Refusal as error:
             self.found.reason = str(error)
         for made in self.found.maps.values():
@@ -476,7 +476,6 @@ MAKERS: dict[str, Callable[[Calls], Lines]] = {
     "reclass": reclass,
     "clump": clump,
     "adjacency": adjacency,
-    **random_answers.MAKERS,
 }
 
 # Calls that are drawn more often: polygons, legends and matrices are where packages differ.
@@ -487,12 +486,12 @@ MORE = ("composition", "composition", "zonal", "change", "patches")
 
 
 def made(
-    folder: pathlib.Path, seed: int, numbers: Sequence[int], has_maps: bool = True
+    folder: pathlib.Path, seed: int, numbers: Sequence[int], has_newer: bool = True
 ) -> list[Trial]:
     """Make calls and their files."""
     for name in ("cases", "rasters"):
         (folder / name).mkdir(parents=True)
-    calls = Calls(folder / "rasters", seed, has_maps)
+    calls = Calls(folder / "rasters", seed, has_newer)
     trials = [calls.trial(number) for number in numbers]
     for trial in trials:
         (folder / "cases" / f"{trial.name}.case").write_text(trial.text(), encoding="utf-8")
