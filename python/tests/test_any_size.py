@@ -576,6 +576,25 @@ def test_results_of_arrays_and_of_other_patches_are_told_apart(tmp_path: pathlib
     assert len(list(tmp_path.iterdir())) == 2 * 2 * 2
 
 
+def test_maps_made_of_one_file_are_told_apart(raster: Write, tmp_path: pathlib.Path) -> None:
+    path = raster(np.random.default_rng(15).integers(0, 5, (20, 20)).astype(np.uint8))
+    for size in (3, 5):
+        made = rcell.majority(path, size)
+        call = lambda **words: rcell.composition(made, **words)  # noqa: E731
+        check_equal(as_tiles(lambda: call(resume=tmp_path / "shelf"), (12, 20)), call())
+
+
+def test_a_file_that_changes_while_it_is_read(raster: Write) -> None:
+    path = raster(np.ones((20, 20), np.uint8))
+
+    def touch(share: float) -> None:
+        os.utime(path, (1, share))
+
+    with serving(Host(progress=touch)):
+        with pytest.raises(rcell.ReadFailed, match="map.tif: has changed while it was read"):
+            as_tiles(lambda: rcell.composition(path), (10, 10))
+
+
 # Files that are written
 
 

@@ -7,7 +7,7 @@ import glob
 import os
 from collections.abc import Iterator, Mapping, Sequence
 from dataclasses import dataclass, replace
-from typing import Any, NamedTuple, Optional
+from typing import Any, ClassVar, NamedTuple, Optional
 
 import numpy as np
 
@@ -134,6 +134,7 @@ class MosaicMap:
     region: Region
     transform: Transform
     crs: Any
+    is_file: ClassVar[bool] = True
 
     def __post_init__(self) -> None:
         corners = [(at.top, at.left, at.top + at.rows, at.left + at.cols) for _, at in self.parts]

@@ -19,7 +19,7 @@ from .rectangles import Rectangle
 from .sources import Block, Source
 from .writing import replacing, told_of
 
-__all__ = ["Shelf"]
+__all__ = ["Shelf", "state_of"]
 
 # What a map is of its files: its band, and what is null.
 _DETAILS = ("layer", "band", "null_ranges", "file_nodata", "scale")
@@ -46,11 +46,11 @@ class Shelf:
             return cls(None, b"")
         with told_of(folder):
             os.makedirs(folder, exist_ok=True)
-        parts = [repr(shape), _state_of(find_pipe())]
+        parts = [repr(shape), state_of(find_pipe())]
         for name, source in maps.items():
             parts += [name, repr(source.region.units), str(source.nodata), str(source.dtype)]
             parts += [repr(getattr(source, what, None)) for what in _DETAILS]
-            parts += map(_state_of, source.files)
+            parts += map(state_of, source.files)
         return cls(folder, "\0".join(parts).encode("utf-8", "surrogateescape"))
 
     def kept(
@@ -88,7 +88,7 @@ class Shelf:
         return made
 
 
-def _state_of(path: str) -> str:
+def state_of(path: str) -> str:
     """Return what changes if a file does."""
     try:
         state = os.stat(path)

@@ -18,7 +18,7 @@ from . import protocol
 from .arrays import NDArray
 from .borders import Watch
 from .crews import Crew
-from .errors import BadMap, OutOfMemory
+from .errors import BadMap, OutOfMemory, ReadFailed
 from .host import host
 from .joiner import check_files, find_joiner
 from .kept import cells_for, fits_memory
@@ -26,7 +26,7 @@ from .programs import find_pipe, program_errors
 from .protocol import NULL, GridFrame, Statement
 from .rectangles import Rectangle, rectangles_of
 from .region import Region
-from .resuming import Shelf
+from .resuming import Shelf, state_of
 from .runs import Output, entries_of
 from .sources import MAX_CATEGORY, ArrayMap, Block, Source
 from .tile_clumps import NO_CLUMP, Joined, border_text, join, renumber
@@ -85,6 +85,11 @@ def run_tiles(
     if clumps:
         find_joiner()  # it is needed at the end, and missed at the beginning
         check_files(len(places))
+    states = {
+        path: state_of(path)
+        for source in maps.values()
+        for path in (source.files if getattr(source, "is_file", False) else ())
+    }
     numbered = {clump.made for clump in clumps}
     rest = [each for each in outputs if not _is_map_of(each, numbered)]
     steps = len(places) * (2 * len(clumps) + bool(rest))
@@ -94,6 +99,9 @@ def run_tiles(
             tiles.add_clumps(plan, clump)
         found = iter(tiles.outputs(plan, rest, fold) if rest else [])
         tiles.finish()
+        for path, state in states.items():
+            if state_of(path) != state:
+                raise ReadFailed(path, "has changed while it was read")
         if fold is not None:
             return []
         return [
@@ -193,7 +201,9 @@ class _Tiles:
         """Return the cells of maps that are in no file, for results that are kept: files are known by their size and time."""
         if self._shelf.folder is None:
             return {}
-        sources: dict[str, Any] = {name: of for name, of in self._maps.items() if not of.files}
+        sources: dict[str, Any] = {
+            name: of for name, of in self._maps.items() if not getattr(of, "is_file", False)
+        }
         return {name: source.window(*outer) for name, source in sources.items()}
 
     def _results(

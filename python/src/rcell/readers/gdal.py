@@ -8,7 +8,7 @@ import math
 import xml.etree.ElementTree as ElementTree
 from collections.abc import Iterator, Mapping, Sequence
 from dataclasses import dataclass, field, replace
-from typing import Any, Optional
+from typing import Any, ClassVar, Optional
 
 import numpy as np
 from osgeo import gdal, gdal_array
@@ -177,6 +177,7 @@ class RasterMap:
     block_shape: tuple[int, int]
     files: tuple[str, ...]
     style_path: str
+    is_file: ClassVar[bool] = True
     legend: Legend = field(default_factory=lambda: Legend({}, {}))
 
     def with_labels(self, labels: Mapping[int, str]) -> RasterMap:

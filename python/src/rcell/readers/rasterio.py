@@ -10,7 +10,7 @@ import threading
 import warnings
 import xml.etree.ElementTree as ElementTree
 from dataclasses import dataclass
-from typing import Any, Iterator, Mapping
+from typing import Any, ClassVar, Iterator, Mapping
 
 import numpy as np
 
@@ -229,6 +229,7 @@ class RasterMap:
     block_shape: tuple[int, int]
     labels_path: str
     thread: int
+    is_file: ClassVar[bool] = True
 
     @classmethod
     def of_dataset(cls, name: str, dataset: Any, band: int | None) -> RasterMap:
