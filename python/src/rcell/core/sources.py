@@ -86,7 +86,7 @@ class Source(Protocol):
     """A map as the program needs it.
 
     Maps that can be read by parts also have `window(row, col, rows, cols)`, which returns a block of them, from any thread; a map
-    that keeps its cells in blocks has their `block_shape`. A map whose cells are those of its files, as they are, has `is_file`.
+    that keeps its cells in blocks has their `block_shape`. A map that has the cells of its files, unchanged, has `is_file`.
     """
 
     @property
