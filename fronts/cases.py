@@ -22,8 +22,6 @@ FACTS = {
     "sieve": ("patches_before", "patches_after", "cells_changed", "patches_below"),
 }
 ANSWERS = (*TABLES, *MAPS)
-# Calls that the package for R does not have yet.
-NOT_IN_R: tuple[str, ...] = ()
 POLYGONS = re.compile(r"\.(geojson|gpkg|shp|fgb)(\|layername=.*)?$")
 # Options of a call that are files; errors of QGIS and of the shell have no kind but in their text.
 FILES = ("labels", "zone_labels", "rules", "areas")
@@ -109,7 +107,6 @@ class Case:
         is_outside = {
             "grass": is_answer,
             "shell": not is_answer,
-            "r": self.call in NOT_IN_R,
         }.get(front, False)
         return front not in self.left_out and not is_outside
 
