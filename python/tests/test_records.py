@@ -156,6 +156,18 @@ def test_patterns_of_files_and_workers_are_recorded(folder: pathlib.Path, monkey
     assert rcell.verify(folder / "t.csv") == []
 
 
+def test_a_record_of_another_call_fails_with_a_line(folder: pathlib.Path) -> None:
+    path, beside = recorded(folder), folder / "t.csv.json"
+    told = json.loads(beside.read_text())
+    for named in ({"zone": 1}, {"zones": {"file": "zones.tif"}}):
+        beside.write_text(json.dumps({**told, "call": {**told["call"], "named": named}}))
+        [differs] = rcell.verify(path)
+        assert differs.startswith("the call fails: ")
+    beside.write_text(json.dumps({**told, "call": {**told["call"], "name": "frame_of"}}))
+    with pytest.raises(rcell.Refused, match="there is no call frame_of"):
+        rcell.verify(path)
+
+
 @pytest.mark.parametrize(
     ("words", "named", "told"),
     [
@@ -182,8 +194,12 @@ def test_paths_that_are_refused(folder: pathlib.Path) -> None:
     legend = folder / "legend.csv"
     with pytest.raises(rcell.Refused, match="the output file is the input file"):
         rcell.record(legend, rcell.composition, folder / "lc.tif", labels=legend)
-    (folder / "t.csv.json").write_text("{}")
-    for text, told in (("{}", "is not a record of this version"), ("{", "is not a record: ")):
+    for text, told in (
+        ("{}", "is not a record of this version"),
+        ("[]", "is not a record of this version"),
+        ('{"rcell_record": 1, "call": {"name": "composition"}}', "is not a record of this version"),
+        ("{", "is not a record: "),
+    ):
         (folder / "t.csv.json").write_text(text)
         with pytest.raises(rcell.Refused, match=told):
             rcell.verify(folder / "t.csv")

@@ -160,9 +160,27 @@ def read_record(path: str) -> dict[str, Any]:
         raise Refused(f"cannot open {beside}: {error.strerror}", "record", status=_FILES) from None
     except ValueError as error:
         raise Refused(f"{beside} is not a record: {error}", "record") from None
-    if not isinstance(told, dict) or told.get("rcell_record") != FORM:
+    if not _is_record(told):
         raise Refused(f"{beside} is not a record of this version of rcell", "record")
     return told
+
+
+def _is_record(told: Any) -> bool:
+    """Return whether an object has what a record has."""
+    try:
+        call, runs = told["call"], told["runs"]
+        texts = [told["program"], told["versions"]["rcell"], told["table"]["sha256"], call["name"]]
+        texts += [run["script"] for run in runs]
+        tables = [call["named"], *(run["maps"] for run in runs)]
+        return (
+            told["rcell_record"] == FORM
+            and isinstance(call["words"], list)
+            and isinstance(call["part"], (str, type(None)))
+            and all(isinstance(text, str) for text in texts)
+            and all(isinstance(table, dict) for table in tables)
+        )
+    except (KeyError, TypeError):
+        return False
 
 
 def differences(path: str, call: Callable[..., Any], version: str) -> Iterator[str]:
@@ -180,7 +198,7 @@ def differences(path: str, call: Callable[..., Any], version: str) -> Iterator[s
         yield f"the program differs: it was of rcell {told['versions']['rcell']}, and this is {version}"
     try:
         made = _made(told["call"], call, folder)
-    except RcellError as error:
+    except (RcellError, KeyError, TypeError) as error:
         yield f"the call fails: {str(error).splitlines()[0]}"
         return
     yield from _other_runs(made.runs, told["runs"], _paths_of(told["call"], call))
