@@ -1,5 +1,6 @@
 //! Tests of the rules of r.reclass: each form of a line, worked maps, and maps by random rules.
 //! Tests of the connected areas of a map: worked maps, shapes, and comparisons with a plain, slow search.
+//! Tests of the patches of a map and their measures: a worked map.
 //! Tests of tables and of their printed text: worked maps, wide picks and a table of very many combinations.
 #![tactic(auto)]
 
@@ -21,6 +22,8 @@ mod growths;
 mod lines;
 #[cfg(test)]
 mod maps;
+#[cfg(test)]
+mod patches_worked;
 #[cfg(test)]
 mod printed;
 #[cfg(test)]

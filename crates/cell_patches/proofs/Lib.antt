@@ -1,0 +1,6 @@
+pub mod InsideLemmas
+pub mod SumLemmas
+pub mod PassLemmas
+pub mod StepLemmas
+pub mod CellLemmas
+pub mod MeasureLemmas

@@ -1,0 +1,74 @@
+//! The measures of a patch.
+
+ghost use Rattle.std.specs.Prelude.{◌≡◌};
+ghost use Rattle.cell_patches.specs.parts.Passes.{unread, with_one_more, HasRoomForCell};
+
+/// The measures of a patch: equal cells, joined by adjacency.
+#[derive(Clone, Copy, Debug, PartialEq, Eq)]
+pub struct Patch {
+    /// The category of its cells.
+    pub class: i32,
+    /// How many cells it has.
+    pub cells: u64,
+    /// North and south sides of its cells that lead out of it.
+    pub ends: u64,
+    /// West and east sides of its cells that lead out of it.
+    pub flanks: u64,
+    /// Cells of which all cells within some steps are of the patch.
+    pub core: u64,
+    /// Its first row, from 0.
+    pub first_row: u32,
+    /// Its last row.
+    pub last_row: u32,
+    /// Its first column, from 0.
+    pub first_col: u32,
+    /// Its last column.
+    pub last_col: u32,
+}
+
+impl Patch {
+    // A patch of which no cell was read.
+    pub(crate) fn unread() -> Patch
+        ensures { result ≡ unread }
+    {
+        Patch {
+            class: 0,
+            cells: 0,
+            ends: 0,
+            flanks: 0,
+            core: 0,
+            first_row: u32::MAX,
+            last_row: 0,
+            first_col: u32::MAX,
+            last_col: 0,
+        }
+    }
+
+    // With a cell more.
+    #[inline(always)]
+    pub(crate) fn add(&mut self, found: Found)
+        requires { HasRoomForCell self.old found }
+        ensures { self.new ≡ with_one_more self.old found }
+    {
+        self.class = found.class;
+        self.cells += 1;
+        self.ends += found.ends;
+        self.flanks += found.flanks;
+        self.core += found.core;
+        self.first_row = self.first_row.min(found.row);
+        self.last_row = self.last_row.max(found.row);
+        self.first_col = self.first_col.min(found.col);
+        self.last_col = self.last_col.max(found.col);
+    }
+}
+
+// What is found at a cell.
+#[derive(Clone, Copy, Debug)]
+pub(crate) struct Found {
+    pub(crate) class: i32,
+    pub(crate) ends: u64,
+    pub(crate) flanks: u64,
+    pub(crate) core: u64,
+    pub(crate) row: u32,
+    pub(crate) col: u32,
+}

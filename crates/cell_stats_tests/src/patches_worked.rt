@@ -1,0 +1,101 @@
+//! The patches of a worked map, whose measures were found by hand.
+
+use crate::assertions::assert_same;
+use crate::maps::filled;
+use cell_cats_areas::clump::Joining;
+use cell_core_test_maps::maps::NULL;
+use cell_patches::measuring::patches_of;
+use cell_patches::patch::Patch;
+use std::alloc::AllocGlobal;
+use std::process::Abort;
+use std::test::Fail;
+
+// Rows of seven columns. By edges, each class has two patches; by edges and corners, only class 3.
+const WORKED: [i32; 42] = [
+    1, 1, 1, 1, 1, 2, 2, //
+    1, 1, 1, 1, 1, NULL, 2, //
+    1, 1, 1, 1, 1, 2, 3, //
+    1, 1, 1, 1, 1, 1, 3, //
+    1, 1, 1, 1, 1, NULL, 1, //
+    NULL, 3, 3, 3, 3, 1, 1, //
+];
+
+// A patch: its class; its cells, ends, flanks and core; its first and last rows and columns.
+fn patch(class: i32, counts: [u64; 4], reach: [u32; 4]) -> Patch {
+    let [cells, ends, flanks, core] = counts;
+    let [first_row, last_row, first_col, last_col] = reach;
+    Patch {
+        class,
+        cells,
+        ends,
+        flanks,
+        core,
+        first_row,
+        last_row,
+        first_col,
+        last_col,
+    }
+}
+
+// The worked map has these patches.
+fn expect_patches<R: Abort + AllocGlobal>(
+    rt: &R,
+    joining: Joining,
+    depth: u32,
+    wanted: &[Patch],
+) -> Result<(), Fail> {
+    if depth == 0 {
+        return Err(Fail::from("no depth"));
+    }
+    let map = filled(rt.alloc(), &WORKED, 7)?;
+    let patches = patches_of(rt.alloc(), &map, joining, depth)?;
+    assert_same!(rt; patches.as_slice(), wanted, "{joining:?} at depth {depth}");
+    Ok(())
+}
+
+#[test]
+fn patches_by_edges(rt: HostRuntime) -> Result<(), Fail> {
+    for (depth, core) in [(1, 10), (2, 1), (3, 0), (u32::MAX, 0)] {
+        let wanted = [
+            patch(1, [26, 12, 10, core], [0, 4, 0, 5]),
+            patch(2, [3, 4, 4, 0], [0, 1, 5, 6]),
+            patch(2, [1, 2, 2, 0], [2, 2, 5, 5]),
+            patch(3, [2, 2, 4, 0], [2, 3, 6, 6]),
+            patch(1, [3, 4, 4, 0], [4, 5, 5, 6]),
+            patch(3, [4, 8, 2, 0], [5, 5, 1, 4]),
+        ];
+        expect_patches(&rt, Joining::Edges, depth, &wanted)?;
+    }
+    Ok(())
+}
+
+#[test]
+fn patches_by_edges_and_corners(rt: HostRuntime) -> Result<(), Fail> {
+    for (depth, core) in [(1, 10), (2, 1)] {
+        let wanted = [
+            patch(1, [29, 16, 14, core], [0, 5, 0, 6]),
+            patch(2, [4, 6, 6, 0], [0, 2, 5, 6]),
+            patch(3, [2, 2, 4, 0], [2, 3, 6, 6]),
+            patch(3, [4, 8, 2, 0], [5, 5, 1, 4]),
+        ];
+        expect_patches(&rt, Joining::EdgesAndCorners, depth, &wanted)?;
+    }
+    Ok(())
+}
+
+#[test]
+fn null_is_of_no_patch(rt: HostRuntime) -> Result<(), Fail> {
+    let map = filled(rt.alloc(), &[NULL; 6], 3)?;
+    let patches = patches_of(rt.alloc(), &map, Joining::Edges, 1)?;
+    assert_same!(rt; patches.len(), 0);
+    Ok(())
+}
+
+#[test]
+fn sides_to_null_are_counted(rt: HostRuntime) -> Result<(), Fail> {
+    let map = filled(rt.alloc(), &[5, 5, 5, 5, NULL, 5], 3)?;
+    let patches = patches_of(rt.alloc(), &map, Joining::Edges, 1)?;
+    let patch = patches.first().ok_or("no patch")?;
+    assert_same!(rt; (patch.cells, patch.ends, patch.flanks), (5, 6, 6));
+    Ok(())
+}
