@@ -24,6 +24,7 @@ def test_a_sieved_map_comes_with_an_account(raster: Write, capfd: Any, tmp_path:
     path, out = raster(LAND, nodata=0), str(tmp_path / "s.tif")
     assert main(["sieve", path, out, "--min-cells", "3"]) == 0
     told = rcell.sieve(path, 3).sieved
+    assert told is not None
     assert capfd.readouterr().out.splitlines() == [",".join(told._fields), ",".join(map(str, told))]
     assert rcell.grid("", "x", x=out).array.tolist() == rcell.sieve(path, 3).array.tolist()
 
