@@ -31,8 +31,8 @@ from rcell.core.tile_clumps import border_text
 
 Write = Callable[..., str]
 
-METRES = {"transform": (10, 0, 500_000, 0, -20, 5_500_000), "crs": "EPSG:32632"}
-DEGREES = {"transform": (0.1, 0, 7, 0, -0.1, 53), "crs": "EPSG:4326"}
+METRES: dict[str, Any] = {"transform": (10, 0, 500_000, 0, -20, 5_500_000), "crs": "EPSG:32632"}
+DEGREES: dict[str, Any] = {"transform": (0.1, 0, 7, 0, -0.1, 53), "crs": "EPSG:4326"}
 NO_CELL = -9
 # A longer run: RCELL_MORE=40 python3 -m pytest tests/test_any_size.py
 MORE = int(os.environ.get("RCELL_MORE", "1"))
@@ -234,7 +234,8 @@ def test_a_summary_is_the_summary_of_the_patches(place: dict[str, Any]) -> None:
         ("mean_ha", grouped.area_ha.mean()),
     ):
         assert found[name].tolist() == pytest.approx(expected.tolist(), rel=1e-12)
-    for words in ({"summary": "all"}, {"summary": "class", "zones": raster}):
+    wrong: tuple[dict[str, Any], ...] = ({"summary": "all"}, {"summary": "class", "zones": raster})
+    for words in wrong:
         with pytest.raises(rcell.BadArgument, match="summary must be"):
             rcell.patches(raster, **words)
 
@@ -290,7 +291,8 @@ SHAPES = {
 def test_shapes_that_are_hard_to_cut(name: str, size: tuple[int, int]) -> None:
     cells = rcell.Raster(SHAPES[name], nodata=NO_CELL)
     for connectivity in (4, 8):
-        for call in (rcell.clump, rcell.patches):
+        calls: tuple[Any, ...] = (rcell.clump, rcell.patches)
+        for call in calls:
             expected = call(cells, connectivity)
             check_equal(as_tiles(lambda: call(cells, connectivity), size), expected)
 
@@ -363,7 +365,8 @@ def test_arrays_of_dask(raster: Write) -> None:
     cells = np.random.default_rng(7).integers(0, 5, (20, 30))
     whole = xarray.DataArray(cells, dims=("y", "x"))
     lazy = whole.chunk({"y": 6, "x": 7})
-    for call in (rcell.composition, rcell.majority, rcell.patches):
+    calls: tuple[Any, ...] = (rcell.composition, rcell.majority, rcell.patches)
+    for call in calls:
         check_equal(as_tiles(lambda: call(lazy), (12, 14)), call(whole))
 
 
@@ -520,7 +523,8 @@ def test_cells_of_large_maps_are_kept_in_a_file(
     monkeypatch.setattr("rcell.core.kept.free_memory", lambda: 100)
     monkeypatch.setenv("TMPDIR", str(tmp_path))
     cells = np.random.default_rng(8).integers(0, 500, (40, 30)).astype(np.int16)
-    for call in (rcell.majority, rcell.clump):
+    calls: tuple[Any, ...] = (rcell.majority, rcell.clump)
+    for call in calls:
         check_equal(as_tiles(lambda: call(cells), (7, 11)), call(cells))
     assert not list(tmp_path.iterdir())
 
@@ -668,7 +672,7 @@ def test_a_list_or_a_pattern_of_files_is_one_map(
     for top, left, rows, cols in places:
         is_null[top : top + rows, left : left + cols] = False
     is_null |= (cells == 0) & (nodata == 0)
-    place = {"transform": (10, 0, 500, 0, -20, 900), "crs": "EPSG:32632"}
+    place: Any = {"transform": (10, 0, 500, 0, -20, 900), "crs": "EPSG:32632"}
     expected = rcell.patches(rcell.Raster(np.ma.masked_array(cells, is_null), **place))
     for files in (paths, tuple(paths), str(tmp_path / "part_*.tif"), tmp_path / "part_?.tif"):
         check_equal(rcell.patches(files), expected)

@@ -301,7 +301,7 @@ def test_majority_keeps_labels_and_checks_its_size() -> None:
     assert (found.labels, found.colors) == (NAMES, {1: "#00ff00"})
     for size in (4, 1, 17, 3.0, "3"):
         with pytest.raises(rcell.BadArgument, match="size must be odd, from 3 to 15; got"):
-            rcell.majority(LAND, size)  # type: ignore[arg-type]
+            rcell.majority(LAND, size)  # type: ignore[call-overload]
 
 
 # Degrees
@@ -520,7 +520,7 @@ def test_align_by_whole_cells(raster: Write) -> None:
     path = raster(big, "big.tif", nodata=0)
     frame = raster(LAND, "frame.tif", (25.0, 0, 500_050.0, 0, -25.0, 5_499_975.0))
     found = rcell.align(path, to=frame)
-    assert found.array.tolist() == big[1:4, 2:6].tolist() and found.aligned == (1, 2, 12, 0, 35)  # type: ignore[union-attr]
+    assert found.array.tolist() == big[1:4, 2:6].tolist() and found.aligned == (1, 2, 12, 0, 35)
     assert len(rcell.cross(a=found, b=frame)) == 12
     back = rcell.align(frame, to=path)
     assert np.ma.filled(back.array, 0)[1:4, 2:6].tolist() == LAND.tolist() and back.aligned == (
@@ -530,7 +530,7 @@ def test_align_by_whole_cells(raster: Write) -> None:
         0,
         0,
     )
-    assert rcell.align(path, to=frame, resample="nearest").array.tolist() == found.array.tolist()  # type: ignore[union-attr]
+    assert rcell.align(path, to=frame, resample="nearest").array.tolist() == found.array.tolist()
     text = path.replace("big.tif", "frame.txt")
     rcell.grid("", "m", m=frame).write(text)
     assert rcell.align(text, to=path, crs=UTM).aligned == (-1, -2, 12, 0, 0)
@@ -546,14 +546,19 @@ def test_align_by_the_nearest_cell() -> None:
     ):
         rcell.align(source, to=finer)
     found = rcell.align(source, to=finer, resample="nearest")
-    assert found.array.tolist() == [[1, 1, 2, 2], [1, 1, 2, 2], [3, 3, None, None], [3, 3, None, None]]  # type: ignore[union-attr]
+    assert found.array.tolist() == [
+        [1, 1, 2, 2],
+        [1, 1, 2, 2],
+        [3, 3, None, None],
+        [3, 3, None, None],
+    ]
     assert found.aligned == (0, 0, 3, 3, 0)
     half = rcell.Raster([[0, 0]], (10, 0, 5, 0, -10, 15), UTM)
     with pytest.raises(
         rcell.OtherRegion, match="shifted by 0.5 rows and 0.5 columns, not by whole cells"
     ):
         rcell.align(source, to=half)
-    assert rcell.align(source, to=half, resample="nearest").array.tolist() == [[None, None]]  # type: ignore[union-attr]
+    assert rcell.align(source, to=half, resample="nearest").array.tolist() == [[None, None]]
     with pytest.raises(
         rcell.BadArgument, match="""resample must be "nearest" or None; got 'cubic'"""
     ):

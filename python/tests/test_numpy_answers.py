@@ -183,7 +183,7 @@ class Runs(unittest.TestCase):
             "r.stats -c input=lc after=600000000\nr.out.ascii input=lc\nr.stats -c input=lc after=640000000\nr.out.ascii input=lc",
             lc=cells,
         )
-        self.assertTrue((result[1].array == cells).all() and (result[3].array == cells).all())  # type: ignore[union-attr]
+        self.assertTrue((result[1].array == cells).all() and (result[3].array == cells).all())
         self.assertEqual(
             [len(table) for table in result.tables],
             [int((cells > 6e8).sum()), int((cells > 6.4e8).sum())],
@@ -196,11 +196,16 @@ class Runs(unittest.TestCase):
             lc=cells,
         )
         self.assertEqual([rows_of(table) for table in result.tables], [[], [(1_234_567_890, 12)]])
-        self.assertEqual(result[0].array.tolist(), result[3].array.tolist())  # type: ignore[union-attr]
+        self.assertEqual(result[0].array.tolist(), result[3].array.tolist())
 
     def test_threads_at_once(self) -> None:
         found: list[Any] = []
-        threads = [threading.Thread(target=lambda: found.append(rows_of(rcell.table("r.stats -c input=lc", lc=LAND)))) for _ in range(8)]  # type: ignore[union-attr]
+        threads = [
+            threading.Thread(
+                target=lambda: found.append(rows_of(rcell.table("r.stats -c input=lc", lc=LAND)))
+            )
+            for _ in range(8)
+        ]
         for thread in threads:
             thread.start()
         for thread in threads:
@@ -400,8 +405,18 @@ class Refusals(unittest.TestCase):
             LAND.tolist(),
         ):
             rcell.run("r.stats -c input=lc", lc=given)
-        self.assertEqual(rows_of(rcell.table("r.stats -c input=lc", lc=np.array([[1, np.nan]]))), [(1, 1), (None, 1)])  # type: ignore[union-attr]
-        self.assertEqual(rows_of(rcell.table("r.stats -c input=lc", lc=rcell.Raster([[1, -(2**31)]], nodata=-(2**31)))), [(1, 1), (None, 1)])  # type: ignore[union-attr]
+        self.assertEqual(
+            rows_of(rcell.table("r.stats -c input=lc", lc=np.array([[1, np.nan]]))),
+            [(1, 1), (None, 1)],
+        )
+        self.assertEqual(
+            rows_of(
+                rcell.table(
+                    "r.stats -c input=lc", lc=rcell.Raster([[1, -(2**31)]], nodata=-(2**31))
+                )
+            ),
+            [(1, 1), (None, 1)],
+        )
         with self.assertWarns(UserWarning):
             rcell.run("", lc=np.array([[2**24 + 2]], np.float32))
 

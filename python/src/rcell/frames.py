@@ -5,8 +5,9 @@ from __future__ import annotations
 
 import functools
 import inspect
+import os
 from collections.abc import Callable, Iterable, Sequence
-from typing import TYPE_CHECKING, Any, ParamSpec, TypeVar, overload
+from typing import TYPE_CHECKING, Any, ParamSpec, Protocol, TypeVar, overload
 
 import numpy as np
 
@@ -69,7 +70,31 @@ __all__ = [
 
 Words = ParamSpec("Words")
 Made = TypeVar("Made")
-Returned = TypeVar("Returned")
+Returned = TypeVar("Returned", covariant=True)
+
+
+class Call(Protocol[Words, Returned]):
+    """A call of the package: with the words of its function, and two more, for which type checkers need a signature each."""
+
+    @overload
+    def __call__(self, *words: Words.args, **named: Words.kwargs) -> Returned:
+        ...
+
+    @overload
+    def __call__(
+        self,
+        *words: Any,
+        workers: int | None,
+        resume: str | os.PathLike[str] | None = None,
+        **named: Any,
+    ) -> Returned:
+        ...
+
+    @overload
+    def __call__(
+        self, *words: Any, resume: str | os.PathLike[str] | None, **named: Any
+    ) -> Returned:
+        ...
 
 
 # What all calls have besides their own parameters, and the place for it in their documentation.
@@ -114,13 +139,13 @@ def _series(column: Column) -> Any:
 
 def _returning(
     kind: str, convert: Callable[[Made], Returned]
-) -> Callable[[Callable[Words, Made]], Callable[Words, Returned]]:
+) -> Callable[[Callable[Words, Made]], Call[Words, Returned]]:
     """Return a decorator: the function returns what `convert` makes of its result, which `help` shows as `kind`.
 
     It also gets the parameters `workers` and `resume`, which say how large maps are worked on.
     """
 
-    def wrap(make: Callable[Words, Made]) -> Callable[Words, Returned]:
+    def wrap(make: Callable[Words, Made]) -> Call[Words, Returned]:
         @functools.wraps(make)
         def call(*words: Words.args, **named: Words.kwargs) -> Returned:
             options: Any = named
@@ -141,7 +166,9 @@ def _returning(
         told = signature.replace(parameters=own + more, return_annotation=kind)
         call.__signature__ = told  # type: ignore[attr-defined]
         call.convert = convert  # type: ignore[attr-defined]
-        return call
+        known: Any = call
+        typed: Call[Words, Returned] = known
+        return typed
 
     return wrap
 
