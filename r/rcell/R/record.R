@@ -1,7 +1,7 @@
 # SPDX-License-Identifier: Apache-2.0 OR GPL-2.0-or-later
 # Tables with a record of what they were made of, which anyone can verify later.
 
-RECORD_FORM <- 1L
+RECORD_FORM <- 1
 # Arguments that are words; other texts are paths if there is such a file.
 WORDS <- c(
   "area", "crs", "zone_field", "field", "layer", "level", "allocation", "other", "resample", "seed"
@@ -49,9 +49,8 @@ rcell_verify <- function(path) {
     refuse(sprintf(text, beside), "record")
   }
   record <- list_of_json(utf8_text(native_path(beside), "record"), wrong)
-  if (!is.list(record) || !identical(as.integer(record$rcell_record), RECORD_FORM)) wrong()
+  if (!is_record(record)) wrong()
   call <- record$call
-  if (!(call$name %in% getNamespaceExports("rcell"))) wrong()
   kept <- utf8_text(native_path(path), "record")
   folder <- normalizePath(dirname(native_path(path)))
   told <- c(
@@ -70,6 +69,16 @@ rcell_verify <- function(path) {
     return(c(told, paste("the call fails:", reason)))
   }
   c(told, other_runs(made$runs, record$runs), other_lines(kept, made$text))
+}
+
+# Whether all parts of a record are there; its call is one of this package.
+is_record <- function(record) {
+  if (!is.list(record) || !identical(record$rcell_record, RECORD_FORM)) return(FALSE)
+  parts <- list(record$call, record$runs, record$table, record$versions)
+  if (!all(vapply(parts, is.list, NA))) return(FALSE)
+  texts <- list(record$program, record$table$sha256, record$versions$rcell, record$call$name)
+  all(vapply(texts, is_path, NA)) && is.list(record$call$words) && is.list(record$call$named) &&
+    record$call$name %in% getNamespaceExports("rcell")
 }
 
 name_of_call <- function(call) {

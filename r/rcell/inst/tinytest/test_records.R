@@ -72,6 +72,10 @@ expect_false(file.exists(file("t.csv")))
 expect_true(startsWith(refusal(rcell_verify(file("maps/none.csv")))$text, "cannot open"))
 writeLines("{\"rcell_record\": 1, \"call\": system(\"true\")}", file("bad.csv.json"))
 expect_true(grepl("is not a record", refusal(rcell_verify(file("bad.csv")))$text))
+for (text in c("{\"rcell_record\": 1}", "[]", "1", "{\"rcell_record\": 1, \"call\": {\"name\": \"sum\"}}", "{\"rcell_record\": 1, \"call\": 7}")) {
+  writeLines(text, file("bad.csv.json"))
+  expect_true(grepl("is not a record", refusal(rcell_verify(file("bad.csv")))$text), info = text)
+}
 
 unlink(room, recursive = TRUE)
 expect_identical(leftovers(), character())
