@@ -322,7 +322,7 @@ def program():
 
 
 def find_front(path):
-    """Finds rcell.core: in the release of the program, in its sources, or installed."""
+    """Find rcell.core: in the release, in the sources, or installed."""
     folder = os.path.dirname(os.path.dirname(os.path.realpath(path)))
     for modules in ("share/rcell", "python/src"):
         if os.path.isdir(os.path.join(folder, modules, "rcell", "core")):
@@ -452,7 +452,7 @@ def look_up_outputs(outputs, made, inputs):
             others = ", ".join(made) or _("none")
             raise Stopped(_("The script makes no map <{}>; it makes {}").format(it.name, others))
         if mapset not in ("", here) or not raster or not gs.legal_name(raster):
-            raise Stopped(_("<{}> is no name for a raster map of this mapset").format(it.map))
+            raise Stopped(_("<{}> is not a name for a raster map of this mapset").format(it.map))
         if raster in [other.map for other in found]:
             raise Stopped(_("Raster map <{}> would be written twice").format(raster))
         if gs.find_file(raster, element="cell", mapset=here)["file"] and not gs.overwrite():

@@ -88,7 +88,7 @@ def test_nodata_of_a_data_array() -> None:
     assert "several nodata values: 1, 2" in str(
         refusal(data_array(values=values, attrs={"_FillValue": 1, "nodata": 2}))
     )
-    assert "a nodata value that is no number: 'x'" in str(
+    assert "a nodata value that is not a number: 'x'" in str(
         refusal(data_array(values=values, attrs={"_FillValue": "x"}))
     )
 
@@ -143,7 +143,7 @@ def test_arrays_of_other_kinds() -> None:
     xarray = pytest.importorskip("xarray")
     dask = pytest.importorskip("dask.array")
     assert cells(dask.from_array(LAND, chunks=2)) == LAND.tolist()
-    assert "several variables: give it alone, or one of them, as dataset['lc']" in str(
+    assert "several variables: give it alone, or one of them, for example dataset['lc']" in str(
         refusal(xarray.Dataset({"lc": data_array()}))
     )
 
@@ -312,7 +312,9 @@ def test_what_is_no_map_is_refused(tmp_path: pathlib.Path, raster: Write) -> Non
     assert "rows of one length" in str(refusal([[1, 2], [3]]))
     with pytest.raises(rcell.BadMap, match="an Affine or six numbers"):
         rcell.Raster([[1]], (1, 2, 3))
-    with pytest.raises(rcell.BadMap, match="rows and columns that are no whole numbers: 1.5 and 1"):
+    with pytest.raises(
+        rcell.BadMap, match="rows and columns that are not whole numbers: 1.5 and 1"
+    ):
         rcell.Region(1, 0, 1, 0, rows=1.5, cols=1)  # type: ignore[arg-type]
     assert "NUL" in str(refusal("a\0b"))
     for name, better in (("a=b", "a_b"), ("a-b", "a_b"), ("1", "m_1"), ("a\0", "a_")):

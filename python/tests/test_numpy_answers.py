@@ -453,11 +453,11 @@ class Refusals(unittest.TestCase):
             ),
             (
                 ("r.out.ascii input=lc", {}),
-                "one table is asked for, and the script has 0 tables and 1 maps: rcell.run returns all outputs",
+                "expected one table, but the script has 0 tables and 1 maps: rcell.run returns all outputs",
             ),
             (
                 ("# nothing", {}),
-                "one table is asked for, and the script has no r.stats: rcell.run returns all outputs",
+                "expected one table, but the script has no r.stats: rcell.run returns all outputs",
             ),
         ):
             with self.subTest(told=told), self.assertRaises(rcell.RcellError) as caught:

@@ -245,7 +245,7 @@ class RefusalsTest(InSession):
         self.refused("2 names for 1 rasters", "script", **common, NAMES="a,b")
         self.refused("'1a' is not a name for a map", "script", **common, NAMES="1a")
         self.refused(
-            "one table is asked for, and the script has r.stats in line 1, r.stats in line 2",
+            "expected one table, but the script has r.stats in line 1, r.stats in line 2",
             "script",
             **common,
             NAMES="lc",
@@ -310,7 +310,7 @@ class RefusalsTest(InSession):
             **common,
         )
         self.refused(
-            "CRS is no coordinate reference system: 'nonsense'",
+            "CRS must be a coordinate reference system; got 'nonsense'",
             "cross",
             INPUT=[bare],
             CRS="nonsense",

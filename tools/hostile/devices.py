@@ -217,7 +217,7 @@ def ran(
 
 
 def file_limited(program: Program, made: Made, limit: int) -> model.Answer:
-    """A run whose output is a file of at most so many bytes, with the signal ignored."""
+    """A run whose output is a file of limited size, with the signal ignored."""
 
     def before():
         signal.signal(signal.SIGXFSZ, signal.SIG_IGN)
@@ -308,7 +308,7 @@ OWN_MOUNTS = (["unshare", "--mount"], ["unshare", "--mount", "--propagation", "u
 
 
 def on_a_full_disk(program: Program, made: Made, size: int) -> Optional[model.Answer]:
-    """A run whose output goes to a file system of so many bytes; None if none may be mounted."""
+    """A run whose output goes to a file system of a given size; None if it cannot be mounted."""
     disk = f"{program.room}/disk"
     os.makedirs(disk, exist_ok=True)
     words = ["sh", "-c", DISK, "sh", str(size), disk, program.path, *made.words]
@@ -462,7 +462,7 @@ LOCAL_MODES = 3
 
 
 def on_a_terminal(program: Program, made: Made, path: str, at: int) -> model.Answer:
-    """A run that reads one of its files from a terminal, which reports an end after so many bytes and then continues."""
+    """A run that reads one of its files from a terminal, which reports an end after some bytes and then continues."""
     ours, theirs = os.openpty()
     try:
         modes = termios.tcgetattr(theirs)

@@ -70,12 +70,12 @@ def answer_of_stopped(made: Made, place: int, stopped) -> model.Answer:
 
 
 def answer_of_failing(made: Made, place: int, taken: int) -> model.Answer:
-    """What the model gives if a file gives so many bytes and then fails."""
+    """What the model gives if reading a file fails after a number of bytes."""
     return answer_of_stopped(made, place, lambda text: Failing(text[:taken]))
 
 
 def answer_of_ending(made: Made, place: int, taken: int) -> model.Answer:
-    """What the model gives if a file gives so many bytes and then ends."""
+    """What the model gives if a file ends after a number of bytes."""
     return answer_of_stopped(made, place, lambda text: text[:taken])
 
 

@@ -161,7 +161,7 @@ def wrong_refusals(case, found):
 
 
 def run_limited(case, folder, size):
-    """Runs the program with a file that takes so many bytes as its standard output, the signal of a full file ignored."""
+    """Run the program with a file of limited size as standard output, and the signal of a full file ignored."""
     soft, hard = resource.getrlimit(resource.RLIMIT_FSIZE)
     with tempfile.TemporaryFile() as output:
         resource.setrlimit(resource.RLIMIT_FSIZE, (size, hard))

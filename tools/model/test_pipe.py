@@ -53,7 +53,7 @@ TAKEN = re.compile(rb"q[0-9]")  # names of the grids that r.reclass reads
 MESSAGE = re.compile(rb"rcell: script:(\d+): (.*?(?: at column (\d+))?)\n")
 MOST_MEMORY = 64 << 20  # of a program that is given a large header and no rows
 LONGEST_WHOLE = 300  # of a request that is cut at each of its bytes
-DAMAGED_IN = 4  # one random request of so many is damaged too
+DAMAGED_IN = 4  # one in so many random requests is also damaged
 MOMENT = 0.3  # seconds in which a program would have written
 SECONDS = 120
 
@@ -328,7 +328,7 @@ def wide_request() -> bytes:
 
 
 def wrong_stop(programs: Programs, data: bytes, taken: int) -> str:
-    """A caller that takes so many bytes of a long response, and stops reading: the program ends."""
+    """The program ends if its caller stops reading after some bytes of a long response."""
     with subprocess.Popen(
         [programs.pipe], stdin=subprocess.PIPE, stdout=subprocess.PIPE, stderr=subprocess.PIPE
     ) as ran:

@@ -27,7 +27,7 @@ LABELS = '1\ttown, old\n2\tbroad: leaved\n3\t"quoted" | piped\n4\tgroß\n'
 
 
 class TestRcell(TestCase):
-    """A million cells of the current projection, in a region whose cells are no finite decimals."""
+    """A million cells of the current projection, in a region whose cells are not finite decimals."""
 
     @classmethod
     def setUpClass(cls):
@@ -267,7 +267,7 @@ class TestRcell(TestCase):
             (dict(maps="cover", output="x=t_1,x=t_1"), "Raster map <t_1> would be written twice"),
             (
                 dict(maps="cover", output="x=t_1@elsewhere"),
-                "is no name for a raster map of this mapset",
+                "is not a name for a raster map of this mapset",
             ),
         ]
         for options, told in wrong:

@@ -23,9 +23,9 @@ if TYPE_CHECKING:
 __all__ = ["profile_of", "smallest_type", "write_geotiff"]
 
 TILE = 256
-# A file with at least so many cells may exceed 4 GB before compression.
+# A file with at least this many cells may exceed 4 GB before compression.
 _BIG_FROM = 1 << 29
-# Files of up to so many cells are made in memory.
+# Files of up to this many cells are made in memory.
 _IN_MEMORY = 1 << 25
 # Cells that are written at a time, and bytes that GDAL may keep of them.
 _BLOCK_CELLS = 1 << 23

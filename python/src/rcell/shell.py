@@ -52,6 +52,7 @@ ENDINGS = {
 # The options of commands that count, and the commands that have none of them.
 _WORK = ("workers", "resume", "dry_run")
 _WITHOUT_WORK = ("convert", "explain", "report")
+_SYNOPSIS = 30  # columns of the help
 BAD_INPUT, COMMAND_LINE, MEMORY, FILES, INTERRUPTED = 1, 2, 3, 4, 130
 LONGEST_NAME = 255  # bytes of the name of a file
 
@@ -123,8 +124,14 @@ def _joined(words: list[str]) -> list[str]:
     return found
 
 
+def _line(synopsis: str, does: str) -> str:
+    """Return the help on a command; a long synopsis has a line of its own."""
+    gap = f"\n  {'':<{_SYNOPSIS}}" if len(synopsis) > _SYNOPSIS else ""
+    return f"  {synopsis:<{_SYNOPSIS}}{gap} {does}"
+
+
 def _parser() -> tuple[_Parser, dict[str, _Parser]]:
-    lines = (f"  {name + ' ' + each.synopsis:<31}{each.does}" for name, each in COMMANDS.items())
+    lines = (_line(f"{name} {each.synopsis}", each.does) for name, each in COMMANDS.items())
     text = "\n".join([DESCRIPTION, "", *lines])
     parser = _Parser(prog=NAME, description=text, epilog=EPILOG, usage=f"{NAME} COMMAND ..")
     parser.add_argument("--version", action="store_true", help="prints the name and the version")

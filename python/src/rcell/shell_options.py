@@ -108,7 +108,7 @@ OPTIONS: dict[str, tuple[str, dict[str, Any]]] = {
     ),
     "min_cells": (
         "--min-cells",
-        {"type": int, "metavar": "N", "help": "only patches of at least so many cells"},
+        {"type": int, "metavar": "N", "help": "only patches of at least N cells"},
     ),
     "of_classes": (
         "--classes",
@@ -241,7 +241,7 @@ OPTIONS: dict[str, tuple[str, dict[str, Any]]] = {
         "--resample",
         {
             "choices": ["nearest"],
-            "help": "takes the nearest cell if grids are apart by less than one",
+            "help": "use the nearest cell if the grids are less than one cell apart",
         },
     ),
     "like": (

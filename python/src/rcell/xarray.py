@@ -35,7 +35,7 @@ _NAME = re.compile(r"[A-Za-z_][A-Za-z0-9_.]{0,63}")
 
 
 def _work_of(named: dict[str, Any]) -> dict[str, Any]:
-    """Return the words about large maps, which are no names of maps, and take them out."""
+    """Return the words about large maps, which are not names of maps, and take them out."""
     return {word: named.pop(word) for word in ("workers", "resume") if word in named}
 
 
@@ -282,7 +282,7 @@ class Accessor:
             4 connects cells that share an edge, 8 also those that share a corner.
         classes : iterable of int, optional
         min_cells : int, optional
-            Only patches of these classes, and with at least so many cells.
+            Only patches of these classes, and with at least this many cells.
         **options
             As in `rcell.clump`.
 

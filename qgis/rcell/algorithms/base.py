@@ -285,7 +285,7 @@ class RcellAlgorithm(QgsProcessingAlgorithm):
         return str(self.parameterAsString(self.given, name, self.context))
 
     def word(self, name: str) -> str:
-        """Return the word that is chosen of several."""
+        """Return the chosen option."""
         return str(self.parameterAsEnumString(self.given, name, self.context))
 
     def flag(self, name: str) -> bool:
@@ -373,7 +373,7 @@ class RcellAlgorithm(QgsProcessingAlgorithm):
         given = self.given.get("CRS")
         wkt = wkt_of(self.parameterAsCrs(self.given, "CRS", self.context))
         if given and not wkt and isinstance(given, str):
-            raise Refused(f"CRS is no coordinate reference system: '{given}'", status=2)
+            raise Refused(f"CRS must be a coordinate reference system; got '{given}'", status=2)
         return wkt or None
 
     def targets(self) -> list[str]:
@@ -498,4 +498,4 @@ def raise_unreadable(value: Any, name: str = "") -> None:
     text = value if isinstance(value, str) else getattr(value, "name", lambda: "raster")()
     title = name or os.path.splitext(os.path.basename(text))[0] or "raster"
     open_dataset(title, text)
-    raise ReadFailed(title, f"cannot open: {text} is no raster")
+    raise ReadFailed(title, f"cannot open: {text} is not a raster")

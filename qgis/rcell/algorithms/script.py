@@ -92,7 +92,7 @@ class ScriptAlgorithm(RcellAlgorithm):
         tables = [each.line for each in plan if each.command == "r.stats"]
         if self.given.get("TABLE") and len(tables) != 1:
             found = ", ".join(f"r.stats in line {line}" for line in tables) or "no r.stats"
-            told = f"one table is asked for, and the script has {found}: a folder has all outputs"
+            told = f"expected one table, but the script has {found}: a folder has all outputs"
             raise Refused(told, "script")
 
     def read(self) -> None:

@@ -47,7 +47,7 @@ no_script <- function() {
 no_table <- function(outputs) {
   grids <- vapply(outputs, function(output) sprintf("r.out.ascii in line %d", output$line), "")
   content <- if (length(grids)) paste(grids, collapse = ", ") else "no r.stats"
-  text <- "a table is asked for, and the script has %s: rcell_run returns all outputs"
+  text <- "expected a table, but the script has %s: rcell_run returns all outputs"
   refuse(sprintf(text, content), "script")
 }
 

@@ -103,7 +103,7 @@ ellipsoid_of <- function(wkt) {
   )
 }
 
-# The areas of so many cells in a unit: divided last, so that they print as short as they are.
+# The areas of counts of cells in a unit: divided last, so that they print as short as they are.
 areas_of <- function(cells, source, unit) cells * cell_sizes(source) / UNITS[[unit]]
 
 # The tables of a script of r.stats -cn, each of some maps, as `measured` has them. In a map in

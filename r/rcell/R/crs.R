@@ -9,7 +9,7 @@ PLACES <- as.matrix(expand.grid(x = seq(-175, 175, by = 5), y = seq(-85, 85, by 
 stated_crs <- function(crs) {
   if (is.null(crs)) return("")
   bad <- function(e) {
-    text <- "crs= is no coordinate reference system: '%s'"
+    text <- "crs= must be a coordinate reference system; got '%s'"
     refuse(sprintf(text, paste(format(crs), collapse = " ")), status = 2L)
   }
   if (!is.character(crs) || length(crs) != 1L || is.na(crs) || !nzchar(crs)) bad()

@@ -1,7 +1,7 @@
 # SPDX-License-Identifier: Apache-2.0 OR GPL-2.0-or-later
 # What goes wrong: conditions, each with a class of its own.
 
-# Of a line with more bytes than this an error shows so many characters.
+# Of a longer line, an error shows this many characters.
 LONGEST_SHOWN <- 300L
 SHOWN <- 100L
 

@@ -10,7 +10,7 @@ POINTS <- list(
   name = "reference", are = "points", kinds = c("POINT", "MULTIPOINT"), type = "wkbMultiPoint"
 )
 CURVED_KINDS <- c("CURVEPOLYGON", "MULTISURFACE")
-# So many ranges of features are named in one query.
+# How many ranges of features one query names.
 RANGES_OF_A_QUERY <- 200L
 SIDECARS_OF_A_LAYER <- c(
   "shx", "dbf", "prj", "cpg", "sbn", "sbx", "qix", "qpj", "qmd", "shp.xml", "tab", "dat", "map",

@@ -52,7 +52,7 @@ write_file <- function(path, fill) {
   is_open <- TRUE
   on.exit(if (is_open) close(to))
   fill(function(numbers) {
-    # What its evaluation ends in is no failure of writing.
+    # An error in evaluating it is not a failure of writing.
     force(numbers)
     tryCatch(writeBin(numbers, to, endian = "little"), error = failed, warning = failed)
     size <<- size + length(numbers) * (if (is.raw(numbers)) 1 else 4)

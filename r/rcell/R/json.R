@@ -10,7 +10,7 @@ TOKENS_OF_R <- c(
   "true" = "TRUE", "false" = "FALSE"
 )
 
-# A list as JSON: names are keys, in alphabetical order; one value is no array.
+# A list as JSON: names are keys, in alphabetical order; one value is not an array.
 json_of <- function(value, indent = "") {
   if (is.null(value)) return("null")
   if (is.character(value) && length(value) == 1L) return(json_text(value))

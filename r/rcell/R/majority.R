@@ -4,7 +4,7 @@
 SIZES <- seq(3, 15, 2)
 # The largest window whose cells fit into one expression.
 SIZE_OF_AN_EXPRESSION <- 9
-# So many classes fit into one expression of their counts.
+# The largest number of classes whose counts fit into one expression.
 CLASSES_OF_AN_EXPRESSION <- 100L
 
 rcell_majority <- function(x, size = 3, fill = FALSE, filename = "", overwrite = FALSE,

@@ -2,11 +2,11 @@
 # Random cells of each class, for a reference sample: the same for ever, and in every package.
 
 ALLOCATIONS <- c("equal", "proportional")
-# So many that a product with the number of cells of a map is exact as a double.
+# Its product with the number of cells of a map is exact as a double.
 POINTS_LIMIT <- 1e6
 # The most cells that one run lists.
 LISTED_LIMIT <- 2^22
-# Numbers are made of so many bits of a hash.
+# Random numbers use this many bits of a hash.
 NUMBERS_OF_A_HASH <- 2^48
 
 rcell_sample <- function(x, n, seed, allocation = "equal", labels = NULL, crs = NULL) {

@@ -15,9 +15,9 @@ utf8_of <- function(text) {
 
 is_ascii_locale <- function() Sys.getlocale("LC_CTYPE") %in% c("C", "POSIX")
 
-# A script as lines. A vector of texts is taken as so many lines.
+# A script as lines. Each text of a vector is a line.
 lines_of <- function(script) {
-  if (!is.character(script) || anyNA(script)) refuse("the script is no text", "script")
+  if (!is.character(script) || anyNA(script)) refuse("the script is not text", "script")
   text <- paste(utf8_of(script), collapse = "\n")
   lines <- strsplit(text, "\n", fixed = TRUE, useBytes = TRUE)[[1]]
   if (length(lines)) lines else ""

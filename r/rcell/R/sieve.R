@@ -139,7 +139,7 @@ account_of <- function(frames, fewest, before) {
   cells <- frames[[1]]$cells
   small <- frames[[1]]$codes[[1]][cells < fewest]
   if (any(small %in% unlist(lapply(frames[-(1:2)], `[[`, "codes")))) {
-    stop("a small patch with a neighbour is left: this is an error of rcell")
+    stop("a small patch with a neighbour is left: this is a bug in rcell")
   }
   is_changed <- frames[[2]]$codes[[1]] == 1L
   data.frame(

@@ -1,7 +1,7 @@
 # SPDX-License-Identifier: Apache-2.0 OR GPL-2.0-or-later
 # What became of cells over many years: each sequence of classes, and maps of when classes changed.
 
-# So many changes fit into one expression.
+# The largest number of changes that fits into one expression.
 CHANGES_OF_AN_EXPRESSION <- 50L
 
 rcell_trajectories <- function(maps, years = NULL, area, labels = NULL, include_maps = FALSE,

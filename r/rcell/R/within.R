@@ -3,7 +3,7 @@
 
 # The largest offset of an expression.
 STEPS_LIMIT <- 255
-# So many cells with offsets fit into one expression.
+# The largest number of cells with offsets that fits into one expression.
 TERMS_OF_AN_EXPRESSION <- 100L
 # Digits of the size of a cell that edges of a map may have blurred.
 DIGITS_OF_SIZES <- 9
@@ -69,7 +69,7 @@ reaches <- function(distance, sizes) {
   }
 }
 
-# Whether cells so many columns and rows apart are within a distance, exactly: the sum of the
+# Whether cells that many columns and rows apart are within a distance, exactly: the sum of the
 # products is computed without rounding.
 is_within <- function(distance, cols, rows, sizes) {
   squares <- lapply(c(distance, sizes), function(size) product(size, size))

@@ -34,7 +34,7 @@ landscapes:
 \item{effective_mesh_ha}{the sum of squared areas by the area of the landscape}
 \item{edge_m, edge_density_m_ha}{the length of sides between two classes, and the length for each hectare of the landscape}
 \item{mean_shape_index}{the mean of a quarter of the perimeter by the root of the area: 1 for squares}
-\item{aggregation_index}{like sides in percent of the most that so many cells can have}
+\item{aggregation_index}{like sides in percent of the most that an area of this size can have}
 \item{cohesion}{the patch cohesion index}
 \item{interspersion_index}{the evenness of borders between pairs of classes, in percent}
 \item{contagion, shannon_diversity, shannon_evenness, simpson_diversity}{of landscapes alone}

@@ -12,7 +12,7 @@ rcell_patches(x, connectivity = 4, area, zones = NULL, classes = NULL,
 \item{connectivity}{4: cells are connected by edges; 8: by edges and corners.}
 \item{area}{as in \code{\link{rcell_composition}}; with \code{NULL}, there is \code{core_cells}.}
 \item{classes}{only patches of these classes have a row.}
-\item{min_cells}{only patches of at least so many cells have a row.}
+\item{min_cells}{only patches of at least this many cells have a row.}
 \item{core_depth}{how many steps a core cell is away from all other patches, 1 to 20.}
 \item{zones, labels, zone_labels, zone_field, layer, each}{as in \code{\link{rcell_composition}}.}
 \item{crs}{as in \code{\link{rcell_run}}.}

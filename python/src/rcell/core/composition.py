@@ -105,7 +105,7 @@ def cross(
     area : {"ha", "km2", "m2"} or None
         The unit of areas, as in `composition`.
     labels : mapping, optional
-        Legends by the names of the maps, each as in `composition`.
+        Legends, keyed by the names of the maps; each as in `composition`.
     include_null : bool
         Whether to add combinations with null.
     crs : any, optional

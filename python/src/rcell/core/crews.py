@@ -18,7 +18,7 @@ from .rectangles import Rectangle
 
 __all__ = ["Crew"]
 
-# So many tiles may wait to be taken, for each that is worked on: their results are in memory.
+# How many finished tiles may wait, for each that is worked on: their results are in memory.
 AHEAD = 2
 
 Made = TypeVar("Made")

@@ -76,7 +76,7 @@ class Crs:
         )
 
     def is_equal(self, other: Crs) -> bool:
-        """Return whether the library holds it equal to another one, whatever the order of their axes."""
+        """Return whether the library considers it equal to another one, whatever the order of their axes."""
         raise NotImplementedError
 
     def points(

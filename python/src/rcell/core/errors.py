@@ -125,7 +125,7 @@ class OutOfMemory(Refused, MemoryError):
 
 
 class BadMap(Refused, ValueError):
-    """A map that is no map of whole numbers, or has no grid of its own.
+    """A map that does not have whole numbers, or has no grid of its own.
 
     Parameters
     ----------

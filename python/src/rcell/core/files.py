@@ -265,7 +265,7 @@ class Output:
 
     def __init__(self, path: str) -> None:
         if "\0" in path or not os.path.basename(path):
-            raise OSError(errno.EINVAL, "is no name of a file", path)
+            raise OSError(errno.EINVAL, "is not a file name", path)
         self._given = path
         self._special = _opened_special(path)
         self._target = os.path.realpath(path)

@@ -38,7 +38,7 @@ OPERATORS = dict(
 )
 
 _MARK = "\0"  # before the place of the error
-_NO_BYTES = re.compile("[\ud800-\udc7f\udd00-\udfff]")  # surrogates that are no escapes of bytes
+_NO_BYTES = re.compile("[\ud800-\udc7f\udd00-\udfff]")  # surrogates that are not escaped bytes
 _COLUMN = re.compile(r" at column (\d+)$")
 _MADE = re.compile(r"\boutput=([\w.]+)|^[ \t]*r\.mapcalc[ \t]+([\w.]+)[ \t]*=", re.MULTILINE)
 _WORD = re.compile(r"[^ \t\r]+")
@@ -159,7 +159,7 @@ class _Error:
         self.at = column - 1 if column else self.bad.start() if self.bad else 0
 
     def bad_word(self) -> Optional[re.Match[str]]:
-        """Return the word that is not an option, or the name that is no map."""
+        """Return the word that is not an option, or the name that is not a map."""
         if self.text == "unknown map":
             values = re.compile(r"(?<=[=,])[A-Za-z_][\w.]*(?=[,\s]|$)", re.ASCII)
             words = values.finditer(self.line) if self.command in OPTIONS else ()

@@ -1,5 +1,5 @@
 # SPDX-License-Identifier: Apache-2.0 OR GPL-2.0-or-later
-"""The program rcell-join: finding it, and letting it join the clumps of tiles.
+"""Find the program rcell-join, and let it join the clumps of tiles.
 
 `rcell-join` is proved from bytes to bytes: the borders of tiles give the numbering of their clumps in the full map.
 """
@@ -61,7 +61,7 @@ def _probe(path: str) -> None:
         is_known = ended[:2] == (0, b"1 1 2 1\n")
     except TimeoutError:
         raise WrongProgram(
-            f"{path} does not end within {PROBE_SECONDS} seconds: it is no program rcell-join"
+            f"{path} does not end within {PROBE_SECONDS} seconds: it is not the program rcell-join"
         ) from None
     if not is_known:
         raise WrongProgram(
@@ -99,7 +99,7 @@ def numbering_of(
 
 
 def check_files(count: int) -> None:
-    """Raise WriteFailed if the system does not let a process open so many texts at once."""
+    """Raise WriteFailed if the system does not let a process open that many files at once."""
     needed, most = FILES_EACH * count + OTHER_FILES, resource.getrlimit(resource.RLIMIT_NOFILE)[1]
     if most != resource.RLIM_INFINITY and most < needed:
         raise WriteFailed(
@@ -153,7 +153,7 @@ _limit_lock = threading.Lock()
 
 @contextmanager
 def _files_allowed(count: int) -> Iterator[None]:
-    """Let this process, and the program that it starts, have so many texts open, as far as the system does."""
+    """Raise the limit of open files for this process and the program that it starts, as far as the system allows."""
     needed, soft = FILES_EACH * count + OTHER_FILES, resource.getrlimit(resource.RLIMIT_NOFILE)[0]
     if soft == resource.RLIM_INFINITY or needed <= soft:
         yield

@@ -34,7 +34,7 @@ def checked_labels(name: str, labels: Any) -> dict[int, str]:
     Raises
     ------
     BadMap
-        A key that is no category, or a label that no file can hold.
+        A key that is not a category, or a label that no file can hold.
 
     Examples
     --------
@@ -54,7 +54,7 @@ def checked_labels(name: str, labels: Any) -> dict[int, str]:
                 f"a label of {category!r}: labels are of whole numbers from -2147483647 to 2147483647, as {{1: 'wood'}}",
             )
         if not isinstance(label, str):
-            raise BadMap(name, f"the label of {category} is {label!r}, which is no text")
+            raise BadMap(name, f"the label of {category} is {label!r}, which is not text")
         bad = _UNWRITABLE.search(label)
         if bad:
             raise BadMap(
@@ -98,7 +98,7 @@ def legend_of_band(band: ElementTree.Element, path: str) -> Legend:
 def _style_beside(path: str) -> Legend:
     beside = os.path.splitext(path)[0] + ".qml"
     if path and os.path.isfile(beside):
-        with contextlib.suppress(RcellError):  # a style of another kind is no legend
+        with contextlib.suppress(RcellError):  # a style of another kind is not a legend
             return legend_of_qml(beside)
     return Legend({}, {})
 

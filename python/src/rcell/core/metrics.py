@@ -213,7 +213,10 @@ def _edges(at: Integers, borders: Floats, size: int, of: Landscapes) -> Floats:
 
 
 def _aggregation(of: Landscapes) -> Floats:
-    """Return the aggregation index of each member (He, DeZonia and Mladenoff 2000): its like sides, of the most that so many cells can have."""
+    """Return the aggregation index of each member (He, DeZonia and Mladenoff 2000).
+
+    It divides the like sides by the most that an area of this size can have.
+    """
     cells = of.by_member(of.cells)
     side = np.sqrt(cells).astype(np.int64)  # exact, since the cells of a map are fewer than 2^31
     rest = cells - side**2
@@ -233,7 +236,10 @@ def _cohesion(at: Integers, of: Landscapes, whole: Integers) -> Floats:
 def _interspersion(
     at: Integers, borders: Floats, edges: Floats, kinds: Integers, others: Integers
 ) -> Floats:
-    """Return the interspersion index: the entropy of borders, by the most that so many kinds have; NaN below three classes or without an edge."""
+    """Return the interspersion index: the entropy of borders, divided by its maximum for this number of classes.
+
+    It is NaN below three classes or without an edge.
+    """
     known = (others >= 2) & (edges > 0)
     most = np.where(known, np.log(np.maximum(kinds, 2)), np.nan)
     return np.asarray(100 * _entropy(at, borders, edges.size) / most)

@@ -38,7 +38,7 @@ def class_summary(
     classes : list of int, optional
         Only patches of these classes.
     fewest : int
-        Only patches with at least so many cells.
+        Only patches with at least this many cells.
     labels : any, optional
         A legend.
     """

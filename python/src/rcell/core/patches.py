@@ -60,9 +60,9 @@ def patches(
     classes : iterable of int, optional
         Lists only patches of these classes. Patches keep their numbers.
     min_cells : int, optional
-        Lists only patches with at least so many cells. Patches keep their numbers.
+        Lists only patches with at least this many cells. Patches keep their numbers.
     core_depth : int
-        A cell is in the core if all cells within so many steps, across edges, are in its patch.
+        A cell is in the core if all cells within this many steps, across edges, are in its patch.
     labels, zone_labels : path, dict, Series or DataFrame, optional
         Legends, as in `composition`.
     zone_field, layer : str, optional
@@ -147,7 +147,7 @@ def clump(
     classes : iterable of int, optional
         Only patches of these classes; other cells become null. Patches keep their numbers.
     min_cells : int, optional
-        Only patches with at least so many cells.
+        Only patches with at least this many cells.
     crs : any, optional
         The reference system of a map that has none.
 
@@ -239,7 +239,7 @@ def _script(
 
 
 class _Patches:
-    """The patches of a map with at least so many cells.
+    """The patches of a map with at least this many cells.
 
     Parameters
     ----------

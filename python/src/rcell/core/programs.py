@@ -102,7 +102,7 @@ def known_after(probe: Callable[[str], None], path: str) -> str:
 
 _UNKNOWN = "{} is not a program {} of a version that this package knows"
 _NOT_STARTED = "the program {} cannot be executed: {}"
-_ENDLESS = "{} does not end within {} seconds: it is no program {}"
+_ENDLESS = "{} does not end within {} seconds: it is not the program {}"
 _PROBE_GRID = b"north: 1\nsouth: 0\neast: 3\nwest: 0\nrows: 1\ncols: 3\nnull: ***\n007 *** 012 "
 _PRINTED = b"north: 1\nsouth: 0\neast: 3\nwest: 0\nrows: 1\ncols: 3\n7 * 12\n"
 

@@ -121,7 +121,7 @@ class Map:
         Raises
         ------
         ValueError
-            The blocks are not so many rows.
+            The blocks have another number of rows.
         """
         yield self._head()
         row_bytes, rows = self.cols * CELL_BYTES[self.type], 0
@@ -190,7 +190,7 @@ def request(maps: Sequence[Map], script: bytes, magic: bytes = b"RCELLQ1\n") -> 
 
 
 def script_bytes(script: str) -> bytes:
-    """Return the bytes of a script; a file may have had bytes that are no text, which `surrogateescape` keeps.
+    """Return the bytes of a script; a file may have had bytes that are not text, which `surrogateescape` keeps.
 
     Raises
     ------

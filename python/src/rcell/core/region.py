@@ -46,7 +46,7 @@ def units_of(edge: float | Fraction) -> int:
 
 
 def fits_one_run(shape: tuple[int, int]) -> bool:
-    """Return whether the program takes a map of so many rows and columns in one run.
+    """Return whether the program accepts a map of this size in one run.
 
     Examples
     --------
@@ -132,7 +132,7 @@ class Region:
         for name in ("north", "south", "east", "west"):
             edge: Any = getattr(self, name)
             if not _is_number(edge):
-                raise BadMap("region", f"an edge that is no number: {name} is {edge!r}")
+                raise BadMap("region", f"an edge that is not a number: {name} is {edge!r}")
             if not math.isfinite(edge) or abs(units_of(edge)) >= EDGE_LIMIT:
                 raise BadMap(
                     "region", f"an edge of more than ten digits: {name} is {float(edge):g}"
@@ -152,7 +152,7 @@ class Region:
         ):
             raise BadMap(
                 "region",
-                f"rows and columns that are no whole numbers: {self.rows!r} and {self.cols!r}",
+                f"rows and columns that are not whole numbers: {self.rows!r} and {self.cols!r}",
             )
         if self.rows < 1 or self.cols < 1:
             raise BadMap("region", f"{self.rows:,} rows and {self.cols:,} columns")

@@ -75,7 +75,7 @@ def execute(
     maps : mapping of str to Source
         By their names; at least one. They all have the region of the first.
     wanted : sequence of str
-        Maps of the script, which has been planned, whose cells are returned after its outputs.
+        Maps of the planned script. Their cells are returned after its outputs.
     program : path, optional
         Of rcell-pipe.
     fold : callable, optional

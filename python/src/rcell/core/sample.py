@@ -23,7 +23,7 @@ from .sources import MapLike
 __all__ = ["drawn", "sample"]
 
 ALLOCATIONS = ("equal", "proportional")
-# So many that a product with the number of cells of a map is exact in the floats of R, which draws the same cells.
+# Its product with the number of cells of a map is exact in the floats of R, which draws the same cells.
 MOST_POINTS = 1_000_000
 # The most cells that one run lists.
 _MOST_LISTED = 1 << 22

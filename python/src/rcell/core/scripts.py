@@ -269,7 +269,7 @@ def table(
     if len(outputs) != 1 or not isinstance(outputs[0], Stats):
         tables = sum(isinstance(output, Stats) for output in outputs)
         met = f"{tables} tables and {len(outputs) - tables} maps" if outputs else "no r.stats"
-        told = f"one table is asked for, and the script has {met}: rcell.run returns all outputs"
+        told = f"expected one table, but the script has {met}: rcell.run returns all outputs"
         raise Refused(told, "script")
     stats = outputs[0]
     return stats.matrix(measure, percent) if pivot else stats.table(measure, percent)

@@ -275,6 +275,6 @@ def _counted(run: Run, fewest: int, before: int) -> Sieved:
     assert sizes.cells is not None and changes.cells is not None
     small = sizes.categories[sizes.cells < fewest, 0]
     if any(np.isin(small, pair.categories).any() for pair in pairs):
-        raise RcellError("a small patch with a neighbour is left: this is an error of rcell")
+        raise RcellError("a small patch with a neighbour is left: this is a bug in rcell")
     counts = dict(zip(changes.categories[:, 0].tolist(), changes.cells.tolist()))
     return Sieved(before, sizes.cells.size, counts.get(1, 0), small.size)

@@ -274,7 +274,7 @@ def checked(
 
 
 def null_cells(cells: Cells, null: Mask | None, nodata: float | None) -> Mask:
-    """Return what is null, with the cells of nodata and those that are no number."""
+    """Return what is null, with the cells of nodata and those that are not numbers."""
     is_null = np.isnan(cells) if cells.dtype.kind == "f" else np.zeros(cells.shape, np.bool_)
     if null is not None:
         is_null = is_null | null
@@ -399,7 +399,7 @@ class ArrayMap:
     Raises
     ------
     BadMap
-        Where the array is no map; a cell that is wrong is found when it is sent.
+        If the array is not a map; a cell that is wrong is found when it is sent.
     """
 
     name: str

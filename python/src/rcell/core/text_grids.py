@@ -112,7 +112,7 @@ def open_path(name: str, path: str | os.PathLike[str]) -> Source:
     """
     text = os.fsdecode(path)
     if "\0" in text:
-        raise ReadFailed(name, f"cannot open: {text!r}: no path has a NUL byte")
+        raise ReadFailed(name, f"cannot open: {text!r}: a path cannot contain a NUL byte")
     if _VIRTUAL.match(text) and not os.path.exists(text):
         return _raster(name, text)
     try:
@@ -136,7 +136,7 @@ def open_path(name: str, path: str | os.PathLike[str]) -> Source:
     stream.close()
     if not is_file:
         raise BadMap(
-            name, f"{text} is no file, and its text is no grid: a raster is read from a file"
+            name, f"{text} is not a file, and its text is not a grid: a raster is read from a file"
         )
     return _raster(name, text)
 

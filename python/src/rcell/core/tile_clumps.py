@@ -29,7 +29,7 @@ LEAST_WIDTH = 4
 """The least columns of a border, whose ninth row has four numbers."""
 
 PIECE = 2**18
-"""So many cells at a time are given their numbers: little memory besides, and within the cache of a processor."""
+"""The number of cells that get their numbers at a time: they need little memory, and fit into the cache of a processor."""
 
 
 @dataclass(frozen=True, eq=False)
@@ -87,7 +87,7 @@ def border_text(
     >>> text.splitlines()[6:8], text.splitlines()[-2:]
     ([b'8 9 * *', b'1 2 * *'], [b'1 2 2 4', b'2 * * *'])
     """
-    # Clumps are numbered by their first cells: so many begin in the first rows as the largest number there.
+    # Clumps are numbered by their first cells: the largest number in the first rows is how many begin there.
     begun = np.maximum.accumulate(numbers.max(axis=1))
     sides = [(slice(0, 1), slice(None)), (slice(-1, None), slice(None))]
     sides += [(slice(None), slice(0, 1)), (slice(None), slice(-1, None))]

@@ -348,7 +348,10 @@ def _counted(table: Integers, halo: int) -> Integers:
 
 @dataclass
 class _Grid:
-    """A map that is put together from tiles: of int32; if these do not fit into memory, of bytes as long as all categories do."""
+    """A map that is put together from tiles.
+
+    It is of int32, or of bytes if int32 needs too much memory and all categories fit into bytes.
+    """
 
     shape: tuple[int, int]
 

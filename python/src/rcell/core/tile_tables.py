@@ -15,7 +15,7 @@ __all__ = ["TableSum", "in_order", "order_of"]
 
 Integers = NDArray[np.int64]
 
-# So many rows of tiles wait before they are added up.
+# How many rows wait before they are added up.
 _WAITING = 1 << 20
 _LIMIT = 2**62
 # Adding up is worth while if so large a part of the rows is left, or a smaller one.
@@ -60,7 +60,7 @@ class TableSum:
     def _sum(self) -> None:
         if len(self._parts) > 1:
             rows = np.concatenate(self._parts)
-            self._parts = []  # so many rows are in memory twice at most
+            self._parts = []  # at most these rows are in memory twice
             self._parts = [_added(rows, self._is_counted)]
         before, self._rows = self._rows, len(self._parts[0])
         # If few combinations are in several tiles, adding them up before the end saves no memory.

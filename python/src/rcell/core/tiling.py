@@ -33,7 +33,7 @@ __all__ = [
 SMALL_CELLS = 10_000_000
 # The sides of tiles: with smaller ones halos and programs cost time, with larger ones memory.
 LEAST_SIDE, USUAL_SIDE, MOST_SIDE = 256, 1_024, 4_096
-# So many tiles for each worker, so that none waits long for the last one.
+# Tiles for each worker: with several, none waits long for the last one.
 TILES_EACH = 4
 # The part of the free memory that tiles may take.
 SHARE = 0.8

@@ -23,7 +23,7 @@ __all__ = ["MAPS", "Trajectories", "trajectories"]
 
 # The maps that are made on request.
 MAPS = ("changes", "first_change", "last_change")
-# So many changes fit into an expression of 1,000 tokens.
+# The largest number of changes that fits into an expression of 1,000 tokens.
 _TERMS = 50
 
 Integers = NDArray[np.int64]

@@ -21,7 +21,7 @@ __all__ = ["within", "within_script"]
 
 # The largest offset of an expression.
 MOST_STEPS = 255
-# So many cells with offsets fit into an expression of 1,000 tokens.
+# The largest number of cells with offsets that fits into an expression of 1,000 tokens.
 _TERMS = 100
 
 

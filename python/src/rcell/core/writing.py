@@ -15,7 +15,7 @@ from .errors import RcellError, WriteFailed
 
 __all__ = ["replacing", "told_of", "write_beside"]
 
-# A disk that has less room than this is full: so little is left where a block did not fit.
+# A disk with less free space than this counts as full: a block did not fit.
 FULL_BELOW = 1 << 18
 
 

@@ -31,7 +31,7 @@ __all__ = ["Feature", "Layer", "Zones", "zones_of"]
 _KINDS = ("Polygon", "MultiPolygon")
 _LARGEST_ID = 2**63 - 1
 _SHOWN = 3
-# Polygons become cells in blocks of so many rows and columns, whatever the tiles of a call are: so the cells are always the same.
+# Polygons become cells in blocks of this size, whatever the tiles of a call are, so the cells are always the same.
 _BLOCK = 2048
 
 

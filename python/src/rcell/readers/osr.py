@@ -41,7 +41,7 @@ class OsrCrs(Crs):
     system: Any
 
     def is_equal(self, other: Crs) -> bool:
-        """Return whether osr holds it equal to another one, whatever the order of their axes."""
+        """Return whether osr considers it equal to another one, whatever the order of their axes."""
         assert isinstance(other, OsrCrs)
         with quiet():
             one, two = (osr.SpatialReference() for _ in range(2))

@@ -22,7 +22,7 @@ class PyprojCrs(Crs):
     system: Any
 
     def is_equal(self, other: Crs) -> bool:
-        """Return whether pyproj holds it equal to another one, whatever the order of their axes."""
+        """Return whether pyproj considers it equal to another one, whatever the order of their axes."""
         assert isinstance(other, PyprojCrs)
         one, two = (pyproj.CRS(eastward(it.system.to_json())) for it in (self, other))
         return bool(one.equals(two, ignore_axis_order=True))

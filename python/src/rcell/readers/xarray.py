@@ -168,7 +168,7 @@ def flat_of(name: str, array: Any) -> Flat:
     if not hasattr(array, "ndim"):
         raise BadMap(
             name,
-            f"a {type(array).__name__} of several variables: give it alone, or one of them, as dataset[{next(iter(array), 'name')!r}]",
+            f"a {type(array).__name__} of several variables: give it alone, or one of them, for example dataset[{next(iter(array), 'name')!r}]",
         )
     if any(size != size for size in array.shape):
         raise BadMap(
@@ -218,7 +218,9 @@ def open_zarr(name: str, path: str) -> DataArrayMap:
 def variables_of(dataset: Any) -> dict[str, Any]:
     """Return the maps of a Dataset by their names: its variables but those that say where the cells are."""
     if not hasattr(dataset, "data_vars"):
-        raise BadMap("maps", "a DataArray that is no map of a name: give it one, as lc=array")
+        raise BadMap(
+            "maps", "the DataArray has no usable name: pass it by keyword, for example lc=array"
+        )
     described = {name: dataset[name] for name in dataset.data_vars}
     places = {
         of.get("grid_mapping")
@@ -372,7 +374,7 @@ def _nodata_of(name: str, array: Any) -> float | None:
     ]
     values = [value.item() for values in told for value in values]
     if not all(isinstance(value, numbers.Real) for value in values):
-        raise BadMap(name, f"a nodata value that is no number: {', '.join(map(repr, values))}")
+        raise BadMap(name, f"a nodata value that is not a number: {', '.join(map(repr, values))}")
     found = {value for value in values if value == value}
     if len(found) > 1:
         raise BadMap(

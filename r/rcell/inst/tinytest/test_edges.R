@@ -88,7 +88,7 @@ expect_identical(nrow(both(bare, bare)), 3L)
 expect_true(same_crs_of(rcell_grid("", "a", a = bare, b = plain, crs = "EPSG:25832"), plain))
 expect_inherits(refusal(both(plain, bare, crs = "EPSG:31467")), "rcell_other_crs")
 expect_identical(refusal(counts(plain, crs = "nonsense"))[c("source", "status", "text")],
-  list(source = "arguments", status = 2L, text = "crs= is no coordinate reference system: 'nonsense'"))
+  list(source = "arguments", status = 2L, text = "crs= must be a coordinate reference system; got 'nonsense'"))
 expect_identical(refusal(counts(plain, crs = 25832))$status, 2L)
 expect_inherits(refusal(rcell_cross(a = plain, b = matrix(1, 2, 2), crs = "EPSG:25832")), "rcell_other_region")
 

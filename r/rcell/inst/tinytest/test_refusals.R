@@ -25,7 +25,7 @@ marked <- refusal(rcell_run(paste0("r.mapcalc x = ", strrep("lc + ", 400), "1.5 
 shown <- strsplit(conditionMessage(marked), "\n")[[1]]
 expect_identical(shown[1:2], c(sprintf("script, line 1: number not whole at column %d", marked$column), "  .. + lc + lc + lc + lc + lc + lc + 1.5 * \u00fc"))
 expect_identical(regexpr("^", shown[[3]], fixed = TRUE)[[1]], regexpr("1.5", shown[[2]], fixed = TRUE)[[1]])
-# R takes bytes that are no text, and so does a comment.
+# R takes bytes that are not text, and so does a comment.
 expect_identical(as_rows(rcell_grid(rawToChar(as.raw(c(0x23, 0xed, 0xa0, 0x80))), "lc", lc = lc)), as_rows(lc))
 
 # A script that ends within rules, also where marks and wanted maps are added.
@@ -40,7 +40,7 @@ expect_identical(refusal(rcell_run("r.stats input=lc", lc))$status, 2L)
 expect_identical(refusal(rcell_run("r.stats input=lc", lc = lc, maps = list(lc = lc)))$text, "the map lc is given twice")
 expect_identical(refusal(rcell_grid("", "lend", lc = lc))$text, "no map lend: there are lc")
 expect_identical(refusal(rcell_run("r.stats input=lc", maps = list("land-use" = lc)))$source, "arguments")
-expect_identical(refusal(rcell_run(NA, lc = lc))$text, "the script is no text")
+expect_identical(refusal(rcell_run(NA, lc = lc))$text, "the script is not text")
 expect_true(grepl("^neither a path nor a SpatRaster", refusal(rcell_run("", lc = 1:3))$text))
 expect_true(grepl("^a matrix of integer64", refusal(rcell_run("", lc = structure(matrix(0, 1, 2), class = "integer64")))$text))
 expect_identical(refusal(rcell_patches(lc, 6))$text, "connectivity= is 4 or 8, and not 6")
