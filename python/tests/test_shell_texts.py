@@ -93,7 +93,7 @@ def test_esri_grids_are_read_without_libraries(room: pathlib.Path, nodata: str, 
         (ESRI.format("0", "").replace("1.0", "1,0"), "cellsize is a number, not '1,0'"),
         (
             "ncols 4\nncols 4\n",
-            "line 2: a line of the header has one key and one value",
+            "line 2: a line of the header must have one key and one value",
         ),
     ],
 )

@@ -521,7 +521,7 @@ COMMANDS = {
     ),
     "accuracy": Command(
         "MAP REFERENCE",
-        "the accuracy of a map, and the areas of its classes as a sample corrects them",
+        "the accuracy of a map, and the areas of its classes corrected by a sample",
         "map reference",
         f"areas part field layer labels area {_TABLE}",
         _accuracy,

@@ -13,7 +13,7 @@ area_choice <- function(area, is_left_out) {
   is_unit <- is.character(area) && length(area) == 1L && area %in% names(UNITS)
   if (!is.null(area) && !is_unit) {
     units <- paste(names(UNITS), collapse = ", ")
-    refuse(sprintf("area= is one of %s, and not %s", units, shown(area)), status = 2L)
+    refuse(sprintf("area= must be one of %s; got %s", units, shown(area)), status = 2L)
   }
   list(unit = area, is_asked_for = TRUE)
 }

@@ -96,12 +96,12 @@ is_whole <- function(x) is.numeric(x) && length(x) == 1L && is.finite(x) && x ==
 
 check_flag <- function(flag, name) {
   if (isTRUE(flag) || isFALSE(flag)) return(invisible())
-  refuse(sprintf("%s= is TRUE or FALSE, and not %s", name, shown(flag)), status = 2L)
+  refuse(sprintf("%s= must be TRUE or FALSE; got %s", name, shown(flag)), status = 2L)
 }
 
 check_one_of <- function(choice, name, known) {
   if (is.character(choice) && length(choice) == 1L && choice %in% known) return(invisible())
-  text <- "%s= is one of %s, and not %s"
+  text <- "%s= must be one of %s; got %s"
   refuse(sprintf(text, name, paste(known, collapse = ", "), shown(choice)), status = 2L)
 }
 

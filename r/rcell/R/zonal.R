@@ -7,7 +7,7 @@ rcell_zonal <- function(values, zones, quantiles = 0.5, scale = NULL, zone_label
                         zone_field = NULL, layer = NULL, each = FALSE, crs = NULL) {
   is_share <- is.numeric(quantiles) && all(quantiles >= 0 & quantiles <= 1) %in% TRUE
   if (length(quantiles) && !is_share) {
-    refuse(sprintf("quantiles= are from 0 to 1, not %s", shown(quantiles)), status = 2L)
+    refuse(sprintf("quantiles= must be from 0 to 1; got %s", shown(quantiles)), status = 2L)
   }
   if (is.null(zones)) refuse("zones= must be a map or polygons; got NULL", status = 2L)
   if (!is.null(scale) && (!is_whole(scale) || scale < 1 || scale > CATEGORY_LIMIT)) {

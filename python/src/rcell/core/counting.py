@@ -63,7 +63,7 @@ class Counts:
         Parameters
         ----------
         groups : int
-            How many first classes make a group.
+            The number of classes, from the first on, that make a group.
         """
         is_null = (self.classes == NULL).any(axis=1)
         counted = np.where(is_null, 0, self.measured())

@@ -60,7 +60,7 @@ class _Header:
                 break
             if words and (len(words) != 2 or words[0].lower() in self.values):
                 raise Refused(
-                    "a line of the header has one key and one value, and no key is there twice",
+                    "a line of the header must have one key and one value, and no key may appear twice",
                     "map",
                     self.line,
                 )

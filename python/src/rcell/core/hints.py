@@ -282,7 +282,7 @@ class _Error:
 def advice(
     program: str, script: bytes, names: Sequence[str], line: int, text: str
 ) -> tuple[Optional[int], Optional[str]]:
-    """Return the column of the word that a message without one is about, and what to write instead; None if unknown.
+    """Return the column of the word that is wrong if the message has none, and what to write instead; None if unknown.
 
     Parameters
     ----------

@@ -105,7 +105,7 @@ def _of_path(path: str) -> Legend:
     if ending in _TEXTS:
         entries = list(_entries_of_file(path))
         if not entries:
-            raise _refused(f"{path} has no class: it has at least one line below its header")
+            raise _refused(f"{path} has no class: it must have at least one line below its header")
         return _of_entries(entries)
     from .sources import source_of
 

@@ -101,7 +101,7 @@ def _checked(rules: Iterable[Rule]) -> Sequence[Rule]:
 
 
 def _joined(listed: Sequence[Rule]) -> Iterator[Rule]:
-    """Yield rules in which consecutive classes with one new class are a range: a script has up to 1 MiB."""
+    """Yield rules with a range for consecutive classes of one new class: a script may have at most 1 MiB."""
     run = listed[0]
     for rule in listed[1:]:
         if (rule.low, rule.new, rule.label) == (run.high + 1, run.new, run.label):

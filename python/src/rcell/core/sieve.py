@@ -250,7 +250,7 @@ class _Merging:
         return found
 
     def _join(self, joined: set[int], fewest: int) -> int:
-        """Make one patch of several and return it; only of small ones the parts are needed later."""
+        """Merge patches into one and return it; the parts are kept only if it is still small."""
         grown = min(joined)
         cells = sum(self._cells[part] for part in joined)
         parts = (self._parts.pop(part, [part]) for part in joined)

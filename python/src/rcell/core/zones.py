@@ -42,7 +42,7 @@ class Feature:
     Attributes
     ----------
     id : any
-        Its own in the layer: the fid, or the index of a GeoDataFrame.
+        Its own id in the layer: the fid, or the index of a GeoDataFrame.
     value : any
         The field's value as Python has it (int, float, str, bool, date, ..); None if it is missing, NaN, or no field is named.
     kind : str

@@ -74,7 +74,7 @@ def open_raster(
     ----------
     name, path, band
     null_ranges : sequence of pairs of float
-        Further values that are null, from and to.
+        Further ranges of values that are null, each from its first to its last value.
     uses_nodata : bool
         Whether the nodata value of the file is null.
     uses_style : bool

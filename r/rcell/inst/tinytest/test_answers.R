@@ -60,7 +60,7 @@ parts <- split(rows(land), rows(zones))
 expect_equal(found$variance, as.vector(sapply(parts, function(x) mean((x - mean(x, na.rm = TRUE))^2, na.rm = TRUE))))
 expect_equal(found$q2_5, as.vector(sapply(parts, quantile, 0.025, na.rm = TRUE)))
 expect_equal(found$q90, as.vector(sapply(parts, quantile, 0.9, na.rm = TRUE)))
-expect_identical(refusal(rcell_zonal(land, zones, quantiles = 1.5))$text, "quantiles= are from 0 to 1, not 1.5")
+expect_identical(refusal(rcell_zonal(land, zones, quantiles = 1.5))$text, "quantiles= must be from 0 to 1; got 1.5")
 
 # Degrees: all cells of the globe are the surface of its ellipsoid, whatever that is; terra's cells have other edges than parallels.
 for (crs in c("EPSG:4326", "EPSG:4267", "+proj=longlat +R=6371000")) {

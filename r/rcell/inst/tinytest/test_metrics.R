@@ -106,7 +106,7 @@ empty <- setValues(maps$noise, NA)
 for (level in c("class", "landscape", "patch")) expect_identical(nrow(rcell_metrics(empty, level)), 0L)
 plain_cells <- rcell_metrics(as_rows(maps$noise))
 expect_true("mean_patch_cells" %in% names(plain_cells) && !any(c("patches_km2", "area_ha") %in% names(plain_cells)) && all(is.na(plain_cells$edge_m)))
-expect_identical(refusal(rcell_metrics(maps$noise, "map"))$text, "level= is one of class, landscape, patch, and not \"map\"")
+expect_identical(refusal(rcell_metrics(maps$noise, "map"))$text, "level= must be one of class, landscape, patch; got \"map\"")
 
 # The majority and the minority of zones; of equally frequent classes the smallest.
 land <- matrix(c(1, 1, 2, 5, 3, 2, 1, 1, 2, NA), 2, byrow = TRUE)

@@ -90,7 +90,7 @@ fault <- function(...) refusal(rcell_sample(...))$text
 expect_true(startsWith(fault(noise, 0, 1), "n= must be a whole number up to 1000000, or one for each class"))
 expect_identical(fault(noise, c("9" = 1), 1), "n= must be for classes that occur; got 9")
 expect_identical(fault(noise, 5, 1.5), "seed= must be a whole number or a text; got 1.5")
-expect_identical(fault(noise, 5, 1, "half"), "allocation= is one of equal, proportional, and not \"half\"")
+expect_identical(fault(noise, 5, 1, "half"), "allocation= must be one of equal, proportional; got \"half\"")
 
 unlink(room, recursive = TRUE)
 expect_identical(leftovers(), character())

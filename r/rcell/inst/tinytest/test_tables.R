@@ -50,7 +50,7 @@ expect_identical(rownames(rcell_table("r.stats -cnl input=lc,zone", lc = rcell_g
 
 # Errors of the call.
 expect_identical(refusal(rcell_table("r.stats input=lc", lc = lc, area = "ha"))$text, "area= needs a table with cells: r.stats -c")
-expect_identical(refusal(rcell_table("r.stats -c input=lc", lc = lc, area = "acre"))$text, "area= is one of m2, ha, km2, and not \"acre\"")
+expect_identical(refusal(rcell_table("r.stats -c input=lc", lc = lc, area = "acre"))$text, "area= must be one of m2, ha, km2; got \"acre\"")
 expect_identical(refusal(rcell_table("r.stats -c input=lc", lc = lc, wide = TRUE))$line, 1L)
 expect_inherits(refusal(rcell_table("r.out.ascii input=lc", lc = lc)), "rcell_refused")
 degrees <- rast(nrows = 2, ncols = 2, vals = 1)
