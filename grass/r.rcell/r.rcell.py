@@ -230,7 +230,7 @@ def label_lines(frame):
 
 
 class Imports:
-    """Raster maps under names of their own, until all are there."""
+    """Raster maps with temporary names until all of them are complete."""
 
     def __init__(self, region):
         self.region, self.names, self.room = (

@@ -164,7 +164,7 @@ def _run(places: NDArray[np.int64]) -> Any:
 def _projected(
     source: Source, like: Source, cells: Cells, null: Mask
 ) -> tuple[Cells, Mask, Aligned]:
-    """Return a map on the grid of another one: with the nearest cells, in another reference system."""
+    """Return a map on a grid with another reference system, with the nearest cells."""
     system, target = known(like.crs), known(source.crs)
     assert system is not None and target is not None
     width, _, west, _, height, north = source.transform

@@ -105,7 +105,7 @@ def check_named_maps(maps: Any, named: Mapping[str, Any], words: Iterable[str]) 
 
 
 def _may_be_map(given: Any) -> bool:
-    """Return whether something may be meant as a map: a name with a dot, a path, or no plain value."""
+    """Return whether something may be meant as a map: a name with a dot, a path, or anything but a plain value."""
     if isinstance(given, str):
         return "." in given or os.sep in given or os.path.exists(given)
     return not (given is None or isinstance(given, (bool, int, float)))

@@ -108,7 +108,7 @@ def close(descriptor: int) -> None:
 
 
 class Started:
-    """A program at work; leaving the block ends it, whatever has happened.
+    """A running program; leaving the block ends it, whatever has happened.
 
     Parameters
     ----------

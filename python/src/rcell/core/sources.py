@@ -99,7 +99,7 @@ class Source(Protocol):
 
     @property
     def transform(self) -> Transform:
-        """Its transform, which results get."""
+        """The transform of the map, which its results also get."""
 
     @property
     def dtype(self) -> np.dtype[Any]:

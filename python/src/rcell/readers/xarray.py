@@ -216,7 +216,7 @@ def open_zarr(name: str, path: str) -> DataArrayMap:
 
 
 def variables_of(dataset: Any) -> dict[str, Any]:
-    """Return the maps of a Dataset by their names: its variables but those that say where the cells are."""
+    """Return the maps of a Dataset by their names: all variables except those that locate the cells."""
     if not hasattr(dataset, "data_vars"):
         raise BadMap(
             "maps", "the DataArray has no usable name: pass it by keyword, for example lc=array"
