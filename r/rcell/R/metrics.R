@@ -209,8 +209,8 @@ whole_measures <- function(found, area) {
   ))
 }
 
-# The sides between cells of a member, in percent of the most that an area of this size can have; NaN for
-# one cell.
+# The sides between cells of a member, in percent of the most that an area of this size can have.
+# NaN for one cell.
 aggregation <- function(found) {
   cells <- summed(found$cells, found$member, length(found$class))
   side <- floor(sqrt(cells))
