@@ -121,7 +121,9 @@ def page(name):
         ]
     version = (ROOT / "VERSION").read_text(encoding="utf-8").strip()
     helpers = [it.stem for it in (ROOT / "helpers").glob("*.1")]
-    others = sorted({*PAGES, "rcell-pipe", *helpers} - {name})
+    others = sorted(
+        {*PAGES, "rcell-pipe", *helpers} - {name}, key=lambda it: (it != "rcell-gis", it)
+    )
     ordered = sorted(grouped, key=lambda it: FIRST.index(it) if it in FIRST else len(FIRST))
     return "\n".join(
         [

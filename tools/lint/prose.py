@@ -88,17 +88,28 @@ def tracked():
 
 
 def documents():
-    """The documents for users: Markdown pages, manual pages and pages of R."""
+    """The documents for users: Markdown pages, manual pages, pages of R, the page of r.rcell and notebooks."""
     return [
         name
         for name in tracked()
-        if re.search(r"\.(md|1|Rd)$", name) and name not in FOR_DEVELOPERS
+        if re.search(r"\.(md|1|Rd|ipynb)$|/r\.rcell\.html$", name) and name not in FOR_DEVELOPERS
     ]
 
 
+def text_cells(notebook):
+    """The cells of a notebook that are prose, on lines of their own."""
+    cells = json.loads(notebook)["cells"]
+    return "\n\n".join("".join(it["source"]) for it in cells if it["cell_type"] == "markdown")
+
+
 def plain(name):
-    """The prose of a document on its lines: code, links and markup are blanked out."""
+    """The prose of a document on its lines, but for notebooks: code, links and markup are blanked out."""
     text = (ROOT / name).read_text(encoding="utf-8")
+    if name.endswith(".ipynb"):
+        return re.sub(r"`[^`\n]*`", "CODE", text_cells(text))
+    if name.endswith(".html"):
+        text = re.sub(r"<pre>.*?</pre>", lambda it: "\n" * it[0].count("\n"), text, flags=re.DOTALL)
+        return re.sub(r"<[^>]*>", "", re.sub(r"<code>.*?</code>", "CODE", text))
     if name.endswith(".md"):
         text = FENCED.sub(lambda found: "\n" * found[0].count("\n"), text)
         text = re.sub(
