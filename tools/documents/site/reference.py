@@ -8,7 +8,7 @@ import sys
 
 # The order of use; what is public and not named here follows under the last heading.
 GROUPS = {
-    "Answers": "composition cross change trajectories patches adjacency zonal dominant accuracy sample metrics majority "
+    "Calls": "composition cross change trajectories patches adjacency zonal dominant accuracy sample metrics majority "
     "within reclass clump sieve aggregate align",
     "Records": "record verify report",
     "Scripts": "run table grid",
