@@ -36,6 +36,8 @@ BATCH = 500
 EXACT = 1e-9
 # What sums of rounded numbers leave of 0.
 ROUNDED = 1e-13
+# The logarithm of an area of almost 1 m2, by which it is divided, has fewer digits than the area.
+FEWER_DIGITS = {"fractal_dimension": 1e-6}
 ID_DIGITS = 11
 IDS_OF = ("zone", "class", "patch", "from", "to", "neighbour", "cells", "sides")
 PLANT_CALLS = 600
@@ -118,13 +120,14 @@ def are_near(title: str, column: Sequence[tuple[str, str]]) -> bool:
         return all(one == other for one, other in column)
     numbers = [(number_of(one), number_of(other)) for one, other in column]
     largest = max((abs(one) for one, _ in numbers if one is not None), default=0.0)
+    near = FEWER_DIGITS.get(title, EXACT)
     return all(
         texts[0] == texts[1]
         or (
             one is not None
             and other is not None
             and not (is_id(texts[0]) and is_id(texts[1]))
-            and math.isclose(one, other, rel_tol=EXACT, abs_tol=max(EXACT * largest, ROUNDED))
+            and math.isclose(one, other, rel_tol=near, abs_tol=max(near * largest, ROUNDED))
         )
         for texts, (one, other) in zip(column, numbers)
     )

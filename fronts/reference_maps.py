@@ -96,8 +96,10 @@ def aggregate(lc: Raster, *, factor: int, min_percent: float, is_shares: bool) -
     if not is_shares:
         return grid(majority, null)
     lines = []
-    for code, layer in zip(classes, shares.tolist()):
-        lines.append(lc.labels.get(code) or str(code))
+    plain = [lc.labels.get(code) or str(code) for code in classes]
+    for code, name, layer in zip(classes, plain, shares.tolist()):
+        is_shared = plain.count(name) > 1 and lc.labels.get(code)
+        lines.append(f"{name} ({code})" if is_shared else name)
         lines += [" ".join(map(shown, row)) for row in layer]
     return lines
 

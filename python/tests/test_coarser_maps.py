@@ -42,6 +42,11 @@ def test_a_coarser_map_keeps_its_corner_labels_and_system() -> None:
     assert rcell.composition(found.majority, area="m2")["area_m2"].tolist() == [1200.0, 1200.0]
 
 
+def test_shares_of_two_classes_with_one_label_are_told_apart() -> None:
+    land = rcell.Raster([[1, 2], [3, 3]], labels={1: "wood", 2: "wood", 3: "town"})
+    assert rcell.aggregate(land, 2).shares.names == ["wood (1)", "wood (2)", "town"]
+
+
 def test_shares_are_written_as_bands(tmp_path: pathlib.Path) -> None:
     rasterio = pytest.importorskip("rasterio")
     land = random_map(5, 20, 30, 3, 0.4, 4)

@@ -13,6 +13,7 @@ import numpy as np
 
 from .arguments import MAX_CATEGORY, whole_number_of
 from .arrays import NDArray
+from .columns import distinct_names
 from .counting import Maps, places_of
 from .errors import BadArgument
 from .protocol import NULL
@@ -74,8 +75,9 @@ class BlockShares:
 
     @property
     def names(self) -> list[str]:
-        """The label of each class, or its number."""
-        return [self.blocks.labels.get(code, str(code)) for code in self.classes]
+        """The label of each class, or its number; a label of two classes is followed by the number."""
+        [names] = distinct_names([(np.array(self.classes, np.int64), self.blocks.labels)])
+        return names
 
     @cached_property
     def percent(self) -> NDArray[np.float64]:
