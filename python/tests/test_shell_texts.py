@@ -311,6 +311,8 @@ def test_an_error_of_a_script_starts_at_most_two_processes(
 def test_misspelt_words(capfd: Any) -> None:
     for words, told in (
         (["compostion", "a.tif"], "no command compostion: did you mean composition?"),
+        (["record", "a.csv"], "no command record: add --record and --out FILE.csv to the"),
+        (["within", "a.tif"], "; see rcell-gis within --help"),
         (
             ["composition", "a.tif", "--lables", "x"],
             "--lables is not expected: did you mean --labels?",

@@ -55,6 +55,7 @@ _WITHOUT_WORK = ("convert", "explain", "report")
 _SYNOPSIS = 30  # columns of the help
 BAD_INPUT, COMMAND_LINE, MEMORY, FILES, INTERRUPTED = 1, 2, 3, 4, 130
 LONGEST_NAME = 255  # bytes of the name of a file
+RECORD_IS_AN_OPTION = "add --record and --out FILE.csv to the command that makes the table"
 
 
 class _Parser(argparse.ArgumentParser):
@@ -101,6 +102,7 @@ def _parsed(words: list[str]) -> argparse.Namespace:
     parser, commands = _parser()
     if words and not words[0].startswith("-") and words[0] not in commands:
         close = [f"did you mean {name}?" for name in near(words[0], commands)]
+        close = [RECORD_IS_AN_OPTION] if words[0] == "record" else close
         parser.error(": ".join([f"no command {words[0]}", *close]))
     settings, rest = parser.parse_known_args(_joined(words))
     if settings.command is None:
@@ -136,7 +138,7 @@ def _parser() -> tuple[_Parser, dict[str, _Parser]]:
     parser = _Parser(prog=NAME, description=text, epilog=EPILOG, usage=f"{NAME} COMMAND ..")
     parser.add_argument("--version", action="store_true", help="prints the name and the version")
     commands = parser.add_subparsers(
-        dest="command", metavar="COMMAND", parser_class=_Parser, help=argparse.SUPPRESS
+        prog=NAME, dest="command", metavar="COMMAND", parser_class=_Parser, help=argparse.SUPPRESS
     )
     found = {}
     for name, command in COMMANDS.items():
