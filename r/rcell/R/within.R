@@ -5,7 +5,9 @@
 STEPS_LIMIT <- 255
 # The largest number of cells with offsets that fits into one expression.
 TERMS_OF_AN_EXPRESSION <- 100L
-# Digits of the size of a cell that edges of a map may have blurred.
+# The parts of fractions, and the digits of decimals, that are sizes of cells.
+MOST_PARTS <- 12
+SECONDS_OF_ARC <- c(60, 120, 240, 360, 1200, 3600, 10800)
 DIGITS_OF_SIZES <- 9
 # Splits a double into halves of 26 bits.
 HALVES <- 2^27 + 1
@@ -40,13 +42,22 @@ check_distances <- function(distances) {
   refuse(sprintf(text, shown(distances)), status = 2L)
 }
 
-# The sizes of cells as the file has them: terra computes them from the edges of the map.
+# The sizes of cells as the file has them: terra computes them from the edges of the map, which
+# blurs their last digits.
 exact_sizes <- function(template) {
-  size <- res(template)
-  short <- signif(size, DIGITS_OF_SIZES)
   blur <- 4 * .Machine$double.eps * max(abs(as.vector(ext(template)))) /
     c(ncol(template), nrow(template))
-  ifelse(abs(size - short) <= blur, short, size)
+  mapply(simplest_near, res(template), blur)
+}
+
+# The simplest number so near to a size: a fraction of few parts, else a short decimal, else a
+# fraction of seconds of arc.
+simplest_near <- function(size, blur) {
+  parts <- c(seq_len(MOST_PARTS), SECONDS_OF_ARC)
+  fractions <- round(size * parts) / parts
+  decimal <- signif(size, DIGITS_OF_SIZES)
+  found <- c(fractions[seq_len(MOST_PARTS)], decimal, fractions[-seq_len(MOST_PARTS)], size)
+  found[abs(found - size) <= blur][[1]]
 }
 
 # For 0, 1, 2, .. columns how many rows away a cell may be.
