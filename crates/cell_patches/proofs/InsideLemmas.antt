@@ -13,11 +13,11 @@ of_from numbers n r c e = (cell_eq-Decides (cell_at numbers r c) (Some (pos n)))
 pub of_to : (numbers : Grid) (n r c : ℕ) → is_in_patch numbers n r c ≡ true → cell_at numbers r c ≡ Some (pos n)
 of_to numbers n r c e = (cell_eq-Decides (cell_at numbers r c) (Some (pos n))).0 e
 
--- at most so many steps across edges from one cell to another
+-- at most k steps across edges from one cell to another
 abbrev pub IsNear : ℕ → ℕ → ℕ → ℕ → ℕ → Type 0
 IsNear k r c a b = (a - r) + (r - a) + ((b - c) + (c - b)) ≤ k
 
--- all cells within so many steps are of the patch, and on the map
+-- all cells within k steps are in the patch, and on the map
 pub record IsWithin (numbers : Grid) (n k r c : ℕ) : Type 0 where
   pub up : k ≤ r
   pub left : k ≤ c
@@ -204,7 +204,7 @@ steps_more numbers n r c w e nn steps here above west east north is = record {
       λ h. smaller k center (omega arith) h,
     )
 
--- a cell so many steps inside is of the patch, and so is the cell so many rows further south
+-- if a cell is k steps inside a patch, the cell k rows further south is in the patch
 pub inside_south : (numbers : Grid) (n k r c : ℕ) → is_inside numbers n k r c ≡ true
     → is_in_patch numbers n (r + k) c ≡ true
 inside_south numbers n k r c h = (within_from numbers n k r c h).all (r + k) c (omega arith)

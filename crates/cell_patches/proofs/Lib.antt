@@ -4,3 +4,5 @@ pub mod PassLemmas
 pub mod StepLemmas
 pub mod CellLemmas
 pub mod MeasureLemmas
+pub mod LeadLemmas
+pub mod ZoneLemmas

@@ -1,3 +1,4 @@
--- The patches of a map and their measures; in parts, what private functions and proofs speak of.
+-- The patches of a map, their measures and their main zones; in parts, what private functions and proofs use.
 pub mod Patches
+pub mod Zones
 pub mod parts

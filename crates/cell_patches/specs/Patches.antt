@@ -1,4 +1,4 @@
--- The measures of the patches of a map, of a map that has the number of each cell's patch (r.clump).
+-- The measures of the patches of a map, given the map of patch numbers (r.clump).
 use Rattle.std.specs.Prelude.{ℕ, zero, suc, pos, ◌+◌, ◌≤◌, ◌≡◌, Bool, true, false, ◌&&◌, List, length, Some, None}
 use Rattle.std.specs.Prelude.{slice_get, if◌then◌else◌}
 use Rattle.cell_core_values.specs.Cell.{cell_eq}
@@ -6,7 +6,7 @@ use Rattle.cell_core_values.specs.Region.{RegionValue}
 use Rattle.cell_core.specs.Grid.{Grid, CellValue, cell_at}
 use Rattle.cell_patches.specs.declared.patch.Patch.{Patch}
 
--- whether a cell is of the patch with a number
+-- whether a cell is in the patch with a number
 abbrev pub is_in_patch : Grid → ℕ → ℕ → ℕ → Bool
 is_in_patch numbers n r c = cell_eq (cell_at numbers r c) (Some (pos n))
 
@@ -23,7 +23,7 @@ west_of numbers r (suc c) = cell_at numbers r c
 abbrev pub leads_out : ℕ → CellValue → ℕ
 leads_out n beyond = if cell_eq beyond (Some (pos n)) then 0 else 1
 
--- what a cell has for a patch: nothing if it is not of the patch
+-- what a cell adds to a patch: nothing if it is not in the patch
 abbrev pub if_in_patch : Grid → ℕ → ℕ → ℕ → ℕ → ℕ
 if_in_patch numbers n r c many = if is_in_patch numbers n r c then many else 0
 
@@ -36,7 +36,7 @@ abbrev pub flanks_at : Grid → ℕ → ℕ → ℕ → ℕ
 flanks_at numbers n r c =
     if_in_patch numbers n r c (leads_out n (west_of numbers r c) + leads_out n (cell_at numbers r (c + 1)))
 
--- all cells within so many steps across edges are of the patch, and none is off the map
+-- all cells within the given number of steps across edges are in the patch, and none is off the map
 unfoldable pub is_inside : Grid → ℕ → ℕ → ℕ → ℕ → Bool
 is_inside numbers n zero r c = is_in_patch numbers n r c
 is_inside numbers n (suc steps) zero c = false
@@ -59,7 +59,7 @@ over_rows f cols (suc r) = over_rows f cols r + over_cols (f r) cols
 abbrev pub over_cells : RegionValue → (ℕ → ℕ → ℕ) → ℕ
 over_cells region f = over_rows f region.cols region.rows
 
--- how many cells of a map are so
+-- how many cells of a map pass a test
 abbrev pub how_many : RegionValue → (ℕ → ℕ → Bool) → ℕ
 how_many region test = over_cells region (λ r c. if test r c then 1 else 0)
 
@@ -79,8 +79,8 @@ HasRow numbers n r = (c : ℕ) × (is_in_patch numbers n r c ≡ true)
 abbrev pub HasCol : Grid → ℕ → ℕ → Type 0
 HasCol numbers n c = (r : ℕ) × (is_in_patch numbers n r c ≡ true)
 
--- the measures of the patch with a number: the category of its cells, how many they are, its ends and flanks, how many
--- cells are so many steps inside it, and the rows and columns that it reaches
+-- the measures of patch number n: the category and number of its cells, its ends and flanks, how many of its cells are
+-- depth steps inside it, and the rows and columns that it reaches
 pub record IsMeasured (m numbers : Grid) (depth n : ℕ) (patch : Patch) : Type 0 where
   pub class : (r c : ℕ) → is_in_patch numbers n r c ≡ true → cell_at m r c ≡ Some patch.class
   pub cells : patch.cells ≡ how_many numbers.region (is_in_patch numbers n)

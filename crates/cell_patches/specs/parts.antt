@@ -1,2 +1,3 @@
--- What only private functions and proofs cite.
+-- Definitions that only private functions and proofs use.
 pub mod Passes
+pub mod Leads

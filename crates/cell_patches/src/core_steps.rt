@@ -1,6 +1,6 @@
-//! How far inside their patches cells are. A diamond has all cells within some steps of its centre.
-//! The largest one within a patch whose lowest cell is a given cell follows from the largest ones
-//! whose lowest cells are in the two rows above.
+//! How far inside their patches cells are. A diamond has all cells within a number of steps of its centre. The largest
+//! diamond within a patch whose lowest cell is a given cell follows from the largest ones whose lowest cells are in the
+//! two rows above.
 
 ghost use Rattle.std.specs.Prelude.{◌≡◌, ℕ, ◌+◌, ◌<◌, ◌≤◌, length, min, slice_index_or, nat_le, if◌then◌else◌, IfOk};
 ghost use Rattle.cell_patches.specs.parts.Passes.{is_pure, GivesSteps, GivesAllSteps};
@@ -20,7 +20,7 @@ pub(crate) fn steps_in(steps: &[u32], col: usize) -> u32
     }
 }
 
-// Whether the cell to the right of a column is equal to the next ones to the north.
+// Whether the cell to the right of a column equals the next ones to the north.
 #[inline(always)]
 fn is_pure(lines: &NearRows<'_>, west: usize) -> bool
     requires { west + 2 < 18446744073709551616 }
@@ -76,7 +76,7 @@ pub(crate) fn steps_of(
     Ok(steps)
 }
 
-// 1 if a diamond has so many steps, and 0 otherwise: its centre is so many steps inside.
+// 1 if a diamond has at least `depth` steps, and 0 otherwise: its centre is then `depth` steps inside.
 #[inline(always)]
 pub(crate) fn core_of(depth: u32, steps: u32) -> u64
     ensures { result ≡ (if nat_le depth steps then 1 else 0) }

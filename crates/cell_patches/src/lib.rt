@@ -3,16 +3,19 @@
 //!
 //! - `measuring`: `patches_of`, the measures of all patches of a map
 //! - `patch`: `Patch`, class, cells, ends and flanks, core, first and last rows and columns
-//! - specs/Patches.antt: what the measures are
+//! - `zones`: `zones_of`, the main zone of each patch, by a second map whose categories are zones
+//! - specs/Patches.antt: what the measures are; specs/Zones.antt: what main zones are
 //! - private, in the order of work: `near_rows`, rows of numbers with those above and below;
-//!   `core_steps`, how far inside its patch a cell is; `read_rows`, all cells, row by row
+//!   `core_steps`, how far inside its patch a cell is; `read_rows`, the cells of a row;
+//!   `zone_counts`, how many cells of patches are in zones
 //!
 //! The perimeter of a patch is its ends times the width of a cell, and its flanks times the height
 //! of a cell. Categories 5 5 5 over 5 null 5 are one patch:
 //!
 //! ```
 //! let map = filled(rt.alloc(), &[5, 5, 5, 5, NULL, 5], 3)?;
-//! let patches = patches_of(rt.alloc(), &map, Joining::Edges, 1)?;
+//! let numbers = clump_with(rt.alloc(), &map, Joining::Edges)?;
+//! let patches = patches_of(rt.alloc(), &map, &numbers, Joining::Edges, 1)?;
 //! let patch = patches.first().ok_or("no patch")?;
 //! assert_same!(rt; (patch.cells, patch.ends, patch.flanks), (5, 6, 6));
 //! ```
@@ -23,3 +26,5 @@ pub mod measuring;
 mod near_rows;
 pub mod patch;
 mod read_rows;
+mod zone_counts;
+pub mod zones;

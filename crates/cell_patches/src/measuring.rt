@@ -1,35 +1,55 @@
 //! The patches of a map.
 
 ghost use Rattle.std.specs.Prelude.{◌<◌, IfOk};
-ghost use Rattle.cell_core.specs.Grid.{Grid};
 ghost use Rattle.cell_cats_areas.specs.Areas.{IsClumping};
 ghost use Rattle.cell_patches.specs.Patches.{AreMeasured};
 
 use crate::patch::Patch;
-use crate::read_rows::measure;
-use cell_cats_areas::clump::{Joining, clump_with};
+use crate::read_rows::measure_row;
+use cell_cats_areas::clump::Joining;
+use cell_cats_areas::law::no_number_is_left_out;
 use cell_core::map::CellMap;
 use cell_core::memory::Memory;
 use std::alloc::Global;
 
-/// The measures of a map's patches, in the order of their numbers in the map that `clump_with`
-/// returns, from 1 on. The core of a patch is its cells that are at least `depth` steps inside it.
+/// The measures of a map's patches, in the order of their numbers from 1 on. `numbers` is the map of
+/// these numbers, which `clump_with` returns. The core of a patch is its cells that are at least
+/// `depth` steps inside it.
 ///
-/// Besides that map and the result, it needs the memory of a few rows.
+/// Besides the result, it needs the memory of a few rows.
 ///
 /// # Errors
 ///
-/// [`Memory`] when out of memory.
+/// [`Memory`] if memory runs out.
 pub fn patches_of(
     alloc: Global,
     map: &CellMap,
+    numbers: &CellMap,
     joining: Joining,
     depth: u32,
 ) -> Result<Vec<Patch>, Memory>
-    requires { 0 < depth }
-    ensures { IfOk result (λ patches. (numbers : Grid) × (IsClumping joining map.now numbers
-        × AreMeasured map.now numbers depth patches.items)) }
+    requires clumping { IsClumping joining map.now numbers.now }
+    requires depth { 0 < depth }
+    ensures { IfOk result (λ patches. AreMeasured map.now numbers.now depth patches.items) }
 {
-    let numbers = clump_with(alloc, map, joining)?;
-    measure(alloc, map, &numbers, joining, depth)
+    no_number_is_left_out();
+    let region = numbers.region();
+    let mut patches = Vec::new(alloc);
+    let mut above = Vec::new(alloc);
+    let mut second_above = Vec::new(alloc);
+    for row in 0..region.rows() {
+        let steps = measure_row(
+            alloc,
+            map,
+            numbers,
+            &mut patches,
+            &above,
+            &second_above,
+            depth,
+            row,
+        )?;
+        second_above = above;
+        above = steps;
+    }
+    Ok(patches)
 }

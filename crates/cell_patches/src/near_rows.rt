@@ -25,7 +25,7 @@ fn clear(cells: &mut [Cell])
     }
 }
 
-// Copies the row so many rows above a row, null off the map.
+// Copies the row `steps` rows above `row`, null off the map.
 pub(crate) fn copy_above(numbers: &CellMap, row: u32, steps: u32, cells: &mut [Cell])
     requires row { row < numbers.now.region.rows }
     requires wide { length cells.old ≡ numbers.now.region.cols }
@@ -72,7 +72,7 @@ fn leads_from(cell: Cell, beyond: Cell) -> u64
     if beyond == cell { 0 } else { 1 }
 }
 
-// What is on the west side of a cell of a row.
+// The cell to the west; null in the first column.
 #[inline(always)]
 fn west_in(line: &[Cell], col: usize) -> Cell
     ensures { result ≡ west_in line.now col }

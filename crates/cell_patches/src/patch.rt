@@ -14,7 +14,7 @@ pub struct Patch {
     pub ends: u64,
     /// West and east sides of its cells that lead out of it.
     pub flanks: u64,
-    /// Cells of which all cells within some steps are of the patch.
+    /// The number of cells that are a given number of steps inside the patch.
     pub core: u64,
     /// Its first row, from 0.
     pub first_row: u32,
@@ -27,7 +27,7 @@ pub struct Patch {
 }
 
 impl Patch {
-    // A patch of which no cell was read.
+    // A patch of which no cell was read yet.
     pub(crate) fn unread() -> Patch
         ensures { result ≡ unread }
     {
@@ -44,7 +44,7 @@ impl Patch {
         }
     }
 
-    // With a cell more.
+    // The measures with one more cell.
     #[inline(always)]
     pub(crate) fn add(&mut self, found: Found)
         requires { HasRoomForCell self.old found }

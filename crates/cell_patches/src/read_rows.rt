@@ -1,23 +1,19 @@
-//! The measures of patches, of all cells of a map.
+//! The measures of patches, added up over the cells of a row.
 
 ghost use Rattle.std.specs.Prelude.{◌≡◌, ℕ, ℤ, pos, Some, None, slice_index_or, ◌+◌, ◌-◌, ◌<◌, ◌≤◌, length, max, OnOk, IfOk};
 ghost use Rattle.std.specs.Option.{is_none};
 ghost use Rattle.cell_core.specs.Grid.{cell_at, row_at};
-ghost use Rattle.cell_cats_areas.specs.Areas.{IsClumping};
-ghost use Rattle.cell_patches.specs.Patches.{AreMeasured};
 ghost use Rattle.cell_patches.specs.parts.Passes.{patch_in, HasRoomForCell, IsAdded, ArePatchesRead, IsFoundIn, IsCellReady, IsRowReady, IsRowsReady, IsRowsNext, MapPair, above_by};
 
 use crate::core_steps::{core_of, steps_in, steps_of};
 use crate::near_rows::{NearRows, cell_in, copy_above, copy_below, ends_of, flanks_of};
 use crate::patch::{Found, Patch};
-use cell_cats_areas::clump::Joining;
-use cell_cats_areas::law::no_number_is_left_out;
 use cell_core::cell::Cell;
 use cell_core::map::CellMap;
 use cell_core::memory::Memory;
 use std::alloc::Global;
 
-// Makes room for so many patches.
+// Makes room for `count` patches.
 #[inline(always)]
 fn make_room(patches: &mut Vec<Patch>, count: usize) -> Result<(), Memory>
     ensures same { OnOk result ((k : ℕ)
@@ -100,7 +96,7 @@ fn found_at(
     }
 }
 
-// Adds a cell to its patch, if it is of one.
+// Adds a cell to its patch, if it is in one.
 #[inline(always)]
 fn add_cell(
     patches: &mut Vec<Patch>,
@@ -156,7 +152,7 @@ fn add_row(
 }
 
 // A row of a map.
-fn line_of(alloc: Global, map: &CellMap, row: u32) -> Result<Vec<Cell>, Memory>
+pub(crate) fn line_of(alloc: Global, map: &CellMap, row: u32) -> Result<Vec<Cell>, Memory>
     requires { row < map.now.region.rows }
     ensures line { IfOk result (λ line. line.items ≡ row_at map.now row) }
     ensures wide { IfOk result (λ line. length line.items ≡ map.now.region.cols) }
@@ -166,7 +162,7 @@ fn line_of(alloc: Global, map: &CellMap, row: u32) -> Result<Vec<Cell>, Memory>
     Ok(line)
 }
 
-// The row so many rows above a row, null off the map.
+// The row `steps` rows above `row`, null off the map.
 fn line_above(alloc: Global, numbers: &CellMap, row: u32, steps: u32) -> Result<Vec<Cell>, Memory>
     requires { row < numbers.now.region.rows }
     ensures { IfOk result (λ line. (c : ℕ)
@@ -189,7 +185,7 @@ fn line_below(alloc: Global, numbers: &CellMap, row: u32) -> Result<Vec<Cell>, M
 }
 
 // Adds the cells of a row of a map. Returns the steps of its cells, of the steps of the two rows above.
-fn measure_row(
+pub(crate) fn measure_row(
     alloc: Global,
     map: &CellMap,
     numbers: &CellMap,
@@ -218,38 +214,4 @@ fn measure_row(
     let steps = steps_of(alloc, &lines, above, second_above)?;
     add_row(patches, &lines, &classes, &steps, depth, row)?;
     Ok(steps)
-}
-
-// The measures of the patches of a map, by their numbers.
-pub(crate) fn measure(
-    alloc: Global,
-    map: &CellMap,
-    numbers: &CellMap,
-    joining: Joining,
-    depth: u32,
-) -> Result<Vec<Patch>, Memory>
-    requires clumping { IsClumping joining map.now numbers.now }
-    requires depth { 0 < depth }
-    ensures { IfOk result (λ patches. AreMeasured map.now numbers.now depth patches.items) }
-{
-    no_number_is_left_out();
-    let region = numbers.region();
-    let mut patches = Vec::new(alloc);
-    let mut above = Vec::new(alloc);
-    let mut second_above = Vec::new(alloc);
-    for row in 0..region.rows() {
-        let steps = measure_row(
-            alloc,
-            map,
-            numbers,
-            &mut patches,
-            &above,
-            &second_above,
-            depth,
-            row,
-        )?;
-        second_above = above;
-        above = steps;
-    }
-    Ok(patches)
 }

@@ -1,4 +1,4 @@
--- What is known of patches while the cells of a map are read, row by row.
+-- What is known about patches while the cells of a map are read, row by row.
 use Rattle.std.specs.Prelude.{ℕ, ℤ, zero, suc, pos, ◌&&◌, ◌+◌, ◌-◌, ◌<◌, ◌≤◌, ◌≡◌, ◌≢◌, ◌⊎◌, ◌↔◌, Bool, true, nat_le}
 use Rattle.std.specs.Prelude.{List, length, Some, None, min, max, slice_index_or, if◌then◌else◌}
 use Rattle.cell_core_values.specs.Cell.{cell_eq}
@@ -8,7 +8,7 @@ use Rattle.cell_patches.specs.declared.patch.Found.{Found}
 use Rattle.cell_patches.specs.declared.near_rows.NearRows.{NearRows}
 use Rattle.cell_patches.specs.Patches.{is_in_patch, ends_at, flanks_at, is_inside, over_cols, over_rows, HasRow, HasCol}
 
--- a patch of which no cell was read
+-- a patch of which no cell was read yet
 abbrev pub unread : Patch
 unread = record {
   class = pos 0;
@@ -22,7 +22,7 @@ unread = record {
   last_col = 0;
 }
 
--- with a cell more
+-- the measures with one more cell
 abbrev pub with_one_more : Patch → Found → Patch
 with_one_more p f = record {
   class = f.class;
@@ -36,7 +36,7 @@ with_one_more p f = record {
   last_col = max p.last_col f.col;
 }
 
--- there is room for it
+-- there is room for one more cell
 pub record HasRoomForCell (p : Patch) (f : Found) : Type 0 where
   pub cells : p.cells + 1 < 18446744073709551616
   pub ends : p.ends + f.ends < 18446744073709551616
@@ -47,7 +47,7 @@ pub record HasRoomForCell (p : Patch) (f : Found) : Type 0 where
 abbrev pub patch_in : List Patch → ℕ → Patch
 patch_in patches k = slice_index_or patches k unread
 
--- the patch in a place has a cell more, and all others are as before
+-- the patch in a place has one more cell, and all others are unchanged
 pub record IsAdded (old new : List Patch) (place : ℕ) (found : Found) : Type 0 where
   pub here : patch_in new place ≡ with_one_more (patch_in old place) found
   pub others : (k : ℕ) → k ≢ place → patch_in new k ≡ patch_in old k
@@ -61,18 +61,18 @@ ComesBefore a b r c = (a < r) ⊎ ((a ≡ r) × (b < c))
 abbrev pub over_earlier : ℕ → (ℕ → ℕ → ℕ) → ℕ → ℕ → ℕ
 over_earlier cols f r c = over_rows f cols r + over_cols (f r) c
 
--- 1 for a cell of a patch, and for a cell so many steps inside it
+-- 1 for a cell of a patch, and 1 for a cell depth steps inside it
 abbrev pub one_of : Grid → ℕ → ℕ → ℕ → ℕ
 one_of numbers n r c = if is_in_patch numbers n r c then 1 else 0
 
 abbrev pub core_at : Grid → ℕ → ℕ → ℕ → ℕ → ℕ
 core_at numbers depth n r c = if is_inside numbers n depth r c then 1 else 0
 
--- what is found so many rows further south
+-- what is found the given number of rows further south
 unfoldable pub delayed : ℕ → (ℕ → ℕ → ℕ) → ℕ → ℕ → ℕ
 delayed rows f r c = if nat_le rows r then f (r - rows) c else 0
 
--- what is known of a patch once the cells before one were read
+-- what is known about a patch after the cells before a given one were read
 pub record IsPatchRead (m numbers : Grid) (depth n r c : ℕ) (patch : Patch) : Type 0 where
   pub class : (a b : ℕ) → ComesBefore a b r c → is_in_patch numbers n a b ≡ true → cell_at m a b ≡ Some patch.class
   pub cells : patch.cells ≡ over_earlier numbers.region.cols (one_of numbers n) r c
@@ -88,7 +88,7 @@ pub record IsPatchRead (m numbers : Grid) (depth n r c : ℕ) (patch : Patch) : 
   pub first_col : patch.first_col < 4294967295 → HasCol numbers n patch.first_col
   pub last_col : 0 < patch.last_col → HasCol numbers n patch.last_col
 
--- what is known of all patches
+-- what is known about all patches
 pub record ArePatchesRead (m numbers : Grid) (depth r c : ℕ) (patches : List Patch) : Type 0 where
   pub each : (k : ℕ) → IsPatchRead m numbers depth (k + 1) r c (patch_in patches k)
   -- no number is larger than the last one, and the last one occurs
@@ -104,7 +104,7 @@ pub record IsFound (m numbers : Grid) (depth n r c : ℕ) (found : Found) : Type
   pub row : found.row ≡ r
   pub col : found.col ≡ c
 
--- the cell so many rows above one, null off the map
+-- the cell that is steps rows above another one, null off the map
 abbrev pub above_by : ℕ → Grid → ℕ → ℕ → CellValue
 above_by steps numbers r c = if nat_le steps r then cell_at numbers (r - steps) c else None
 
@@ -115,8 +115,8 @@ pub record AreLines (numbers : Grid) (r : ℕ) (lines : NearRows) : Type 0 where
   pub here : lines.here.now ≡ row_at numbers r
   pub below : (c : ℕ) → slice_index_or lines.below.now c None ≡ cell_at numbers (r + 1) c
 
--- the most steps from its centre that a diamond within a patch has, if a cell is its lowest: all with at most so many
--- steps are within the patch, and no other is
+-- the number of steps of the largest diamond within a patch whose lowest cell this is: diamonds with at most this many
+-- steps are within the patch, and no others are
 pub record HasSteps (numbers : Grid) (n r c steps : ℕ) : Type 0 where
   pub within : steps ≤ r
   pub exactly : (k center : ℕ) → center + k ≡ r → (k ≤ steps) ↔ (is_inside numbers n k center c ≡ true)
@@ -126,7 +126,7 @@ abbrev pub AreSteps : Grid → ℕ → List ℕ → Type 0
 AreSteps numbers r steps =
     (c n : ℕ) → cell_at numbers r c ≡ Some (pos n) → HasSteps numbers n r c (slice_index_or steps c 0)
 
--- the steps of the cells of the row so many rows above
+-- the steps of the cells of the row that is the given number of rows above
 abbrev pub AreStepsAbove : ℕ → Grid → ℕ → List ℕ → Type 0
 AreStepsAbove rows numbers r steps = (a : ℕ) → a + rows ≡ r → AreSteps numbers a steps
 
@@ -138,7 +138,7 @@ abbrev pub west_in : List CellValue → ℕ → CellValue
 west_in line zero = None
 west_in line (suc c) = slice_index_or line c None
 
--- the cell to the right of a column is equal to the next ones to the north
+-- the cell to the right of a column equals the next ones to the north
 abbrev pub is_pure : NearRows → ℕ → Bool
 is_pure lines west =
     let cell = slice_index_or lines.here.now (west + 1) None in

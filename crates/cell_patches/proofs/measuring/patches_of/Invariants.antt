@@ -1,5 +1,5 @@
 use Rattle.cell_patches.specs.parts.Passes.{ArePatchesRead, AreStepsAbove}
-use Rattle.cell_patches.proofs.read_rows.measure.Given as goal
+use Rattle.cell_patches.proofs.measuring.patches_of.Given as goal
 
 abbrev pub ghost-measure_row : goal.ghost-measure_row
 ghost-measure_row a = record { map = a.map.now; numbers = a.numbers.now }

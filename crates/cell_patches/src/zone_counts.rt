@@ -1,0 +1,171 @@
+//! Counts of the cells that patches have in zones, and the zone that leads in each patch.
+
+ghost use Rattle.std.specs.Prelude.{◌≡◌, ℕ, ℤ, ◌+◌, ◌<◌, ◌≤◌, length, MatchBool, OnOk, IfOk, if◌then◌else◌};
+ghost use Rattle.cell_patches.specs.parts.Leads.{AreLeads, IsOvertaken, HasRoomFor, LeadsAfter, RaisesLeads, StaysAhead, cells_in_table, counted, no_lead, one_pair, same_pair};
+
+use cell_core::cell::Cell;
+use cell_core::memory::Memory;
+use std::alloc::Global;
+use std::collections::HashMap;
+
+// The zone that leads in a patch so far, and how many cells of the patch are in it.
+#[derive(Clone, Copy)]
+pub(crate) struct Lead {
+    pub(crate) zone: Option<i32>,
+    pub(crate) cells: u64,
+}
+
+impl Lead {
+    // Whether the leading zone, `first`, stays ahead of a zone with `cells` cells: it has more cells, or equally many
+    // and a smaller or equal number.
+    fn stays_ahead(&self, first: i32, zone: i32, cells: u64) -> bool
+        ensures { MatchBool result (StaysAhead self.now.cells first zone cells)
+            (IsOvertaken self.now.cells first zone cells) }
+    {
+        cells < self.cells || (cells == self.cells && first <= zone)
+    }
+
+    // Gives the lead to a zone with `cells` cells, unless the leading zone stays ahead.
+    fn meet(&mut self, zone: i32, cells: u64)
+        requires { 0 < cells }
+        ensures { LeadsAfter self.old zone cells self.new }
+    {
+        if let Some(first) = self.zone {
+            if self.stays_ahead(first, zone, cells) {
+                return;
+            }
+        }
+        self.zone = Some(zone);
+        self.cells = cells;
+    }
+}
+
+// Gives the lead in the patch of a pair, if its number is one of a patch, to the zone of the pair, which has `cells`
+// cells there, unless the leading zone stays ahead.
+fn raise(leads: &mut Vec<Lead>, pair: (i32, i32), cells: u64)
+    requires { 0 < cells }
+    ensures { RaisesLeads leads.old.items pair cells leads.new.items }
+{
+    let (number, zone) = pair;
+    if number < 1 {
+        return;
+    }
+    let place = number.unsigned_abs() as usize - 1;
+    if place < leads.len() {
+        leads[place].meet(zone, cells);
+    }
+}
+
+// Adds `cells` cells of a pair to a table, and returns the pair's new count.
+fn add_cells(
+    table: &mut HashMap<(i32, i32), u64>,
+    pair: (i32, i32),
+    cells: u64,
+) -> Result<u64, Memory>
+    requires { cells_in_table table.old pair + cells < 18446744073709551616 }
+    ensures more { OnOk result ((q : ℤ × ℤ) → cells_in_table table.new q
+        ≡ cells_in_table table.old q + (if same_pair pair q then cells else 0)) }
+    ensures total { IfOk result (λ total. total ≡ cells_in_table table.old pair + cells) }
+{
+    let count = table.get(&pair).copied().unwrap_or(0) + cells;
+    table.insert(pair, count)?;
+    Ok(count)
+}
+
+// How many cells there are of each pair of a number and a zone: those in the table, and a run of equal
+// pairs that is still to be added to it. Most cells are like the one before, so they need no look-up.
+#[derive(Drop)]
+pub(crate) struct ZoneCounts {
+    pub(crate) table: HashMap<(i32, i32), u64>,
+    pub(crate) leads: Vec<Lead>,
+    pub(crate) pair: (i32, i32),
+    pub(crate) run: u64,
+}
+
+impl ZoneCounts {
+    // Empty counts for `patches` patches.
+    pub(crate) fn new(alloc: Global, patches: usize) -> Result<ZoneCounts, Memory>
+        ensures none { IfOk result (λ counts. (v z : ℤ) → counted counts v z ≡ 0) }
+        ensures leads { IfOk result AreLeads }
+        ensures long { IfOk result (λ counts. length counts.leads.items ≡ patches) }
+    {
+        let none = Lead {
+            zone: None,
+            cells: 0,
+        };
+        Ok(ZoneCounts {
+            table: HashMap::new(alloc),
+            leads: vec![in alloc; none; patches]?,
+            pair: (0, 0),
+            run: 0,
+        })
+    }
+
+    // Adds the run to the table.
+    #[inline(never)]
+    pub(crate) fn close(&mut self) -> Result<(), Memory>
+        requires leads { AreLeads self.old }
+        requires room { HasRoomFor 0 self.old }
+        ensures leads { OnOk result (AreLeads self.new) }
+        ensures same { OnOk result ((v z : ℤ) → counted self.new v z ≡ counted self.old v z) }
+        ensures long { OnOk result (length self.new.leads.items ≡ length self.old.leads.items) }
+        ensures closed { OnOk result (self.new.run ≡ 0) }
+    {
+        if self.run == 0 {
+            return Ok(());
+        }
+        let cells = add_cells(&mut self.table, self.pair, self.run)?;
+        raise(&mut self.leads, self.pair, cells);
+        self.run = 0;
+        Ok(())
+    }
+
+    // Begins a run of a pair, unless the run is of this pair already.
+    #[inline(always)]
+    fn turn_to(&mut self, pair: (i32, i32)) -> Result<(), Memory>
+        requires leads { AreLeads self.old }
+        requires room { HasRoomFor 0 self.old }
+        ensures leads { OnOk result (AreLeads self.new) }
+        ensures same { OnOk result ((v z : ℤ) → counted self.new v z ≡ counted self.old v z) }
+        ensures long { OnOk result (length self.new.leads.items ≡ length self.old.leads.items) }
+        ensures pair { OnOk result (self.new.pair ≡ pair) }
+    {
+        if self.pair == pair {
+            return Ok(());
+        }
+        self.close()?;
+        self.pair = pair;
+        Ok(())
+    }
+
+    // Counts a cell of a pair.
+    #[inline(always)]
+    fn add_pair(&mut self, pair: (i32, i32)) -> Result<(), Memory>
+        requires leads { AreLeads self.old }
+        requires room { HasRoomFor 1 self.old }
+        ensures leads { OnOk result (AreLeads self.new) }
+        ensures more { OnOk result ((v z : ℤ) → counted self.new v z
+            ≡ counted self.old v z + (if same_pair pair (v, z) then 1 else 0)) }
+        ensures long { OnOk result (length self.new.leads.items ≡ length self.old.leads.items) }
+    {
+        self.turn_to(pair)?;
+        self.run += 1;
+        Ok(())
+    }
+
+    // Counts a cell, if it has a number and a zone.
+    #[inline(always)]
+    pub(crate) fn add_cell(&mut self, number: Cell, zone: Cell) -> Result<(), Memory>
+        requires leads { AreLeads self.old }
+        requires room { HasRoomFor 1 self.old }
+        ensures leads { OnOk result (AreLeads self.new) }
+        ensures more { OnOk result ((v z : ℤ) → counted self.new v z
+            ≡ counted self.old v z + one_pair number zone v z) }
+        ensures long { OnOk result (length self.new.leads.items ≡ length self.old.leads.items) }
+    {
+        match (number.get(), zone.get()) {
+            (Some(number), Some(zone)) => self.add_pair((number, zone)),
+            _ => Ok(()),
+        }
+    }
+}
