@@ -4,7 +4,9 @@ from __future__ import annotations
 import re
 import struct
 from dataclasses import dataclass, field
-from typing import Any, Callable, Iterable, Optional
+from typing import Any, Callable, Iterable, Optional, Sequence
+
+from patch_model import Patch
 
 NULL = -(2**31)
 # The letter of `struct`, the smallest and the largest number, by the code of the type.
@@ -48,11 +50,26 @@ class Raster:
         ]
 
 
+@dataclass(frozen=True)
+class Question:
+    """A question for the patches of a map."""
+
+    map: bytes
+    connectivity: int = 4
+    depth: int = 1
+    zones: bytes = b""
+    kind: int = 1
+
+    def data(self) -> bytes:
+        numbers = struct.pack("<BI", self.connectivity, self.depth)
+        return bytes([self.kind]) + short(self.map) + numbers + short(self.zones)
+
+
 def short(text: bytes) -> bytes:
     return bytes([len(text)]) + text
 
 
-def request(maps: list[Raster], script: bytes) -> bytes:
+def request(maps: list[Raster], script: bytes, questions: Sequence[Question] = ()) -> bytes:
     """Return the bytes of a request."""
     out = b"RCELLQ1\n" + struct.pack("<I", len(maps))
     for it in maps:
@@ -68,11 +85,12 @@ def request(maps: list[Raster], script: bytes) -> bytes:
         for place, row in enumerate(it.rows):
             out += struct.pack(f"<{len(row)}{TYPES[it.type][0]}", *row)
             out += bytes(it.mask[place]) if it.mask is not None else b""
-    return out + struct.pack("<I", len(script)) + script
+    asked = struct.pack("<I", len(questions)) + b"".join(it.data() for it in questions)
+    return out + struct.pack("<I", len(script)) + script + asked
 
 
 class Rejected(Exception):
-    """The first error of a request: its text, the number of complete maps before it, and its row, 0 outside of rows."""
+    """The first error of a request: its text, the number of complete maps before it, and its row or question, 0 outside of these."""
 
     def __init__(self, text: str, maps: int = 0, row: int = 0):
         super().__init__(text, maps, row)
@@ -167,8 +185,19 @@ class Reader:
         self.row = 0
         return found
 
-    def run(self) -> tuple[list[Raster], bytes]:
-        """Return the maps and the script, or raise the first error."""
+    def question(self) -> Question:
+        self.need(self.number("B") == 1, "bad question")
+        name = self.take(self.number("B"))
+        connectivity = self.number("B")
+        self.need(connectivity in (4, 8), "bad connectivity")
+        depth = self.number("I")
+        self.need(depth >= 1, "bad depth")
+        zones = self.take(self.number("B"))
+        self.need(not zones or NAME.fullmatch(zones), "bad zones")
+        return Question(name, connectivity, depth, zones)
+
+    def run(self) -> tuple[list[Raster], bytes, list[Question]]:
+        """Return the maps, the script and the questions, or raise the first error."""
         self.need(self.take(8) == b"RCELLQ1\n", "bad magic")
         count, maps = self.number("I"), []
         self.need(1 <= count <= MOST_MAPS, "bad number of maps")
@@ -177,9 +206,12 @@ class Reader:
         self.maps = count
         size = self.number("I")
         self.need(size <= MOST_SCRIPT, "script too long")
-        script = self.take(size)
+        script, asked = self.take(size), []
+        for self.row in range(1, self.number("I") + 1):
+            asked.append(self.question())
+        self.row = 0
         self.need(self.at == len(self.data), "bytes after the request")
-        return maps, script
+        return maps, script, asked
 
 
 Frame = dict[str, Any]
@@ -229,6 +261,22 @@ class Response:
         ]
         return frame
 
+    def patches(self) -> Frame:
+        question, connectivity, depth, has_zones = struct.unpack("<QBIB", self.take(14))
+        found = []
+        zones: list[Optional[int]] = []
+        for _ in range(self.numbers(1)[0]):
+            found.append(Patch(*self.numbers(1, "i"), *self.numbers(8)))
+            for zone in self.numbers(has_zones, "i"):
+                zones.append(None if zone == NULL else zone)
+        return {
+            "question": question,
+            "connectivity": connectivity,
+            "depth": depth,
+            "patches": found,
+            "zones": zones if has_zones else None,
+        }
+
     def done(self) -> Frame:
         return {
             **dict(zip(("status", "source", "maps", "line", "column"), self.numbers(5))),
@@ -243,6 +291,7 @@ class Response:
             b"TABL": self.table,
             b"CELL": self.table,
             b"GRID": self.grid,
+            b"PTCH": self.patches,
             b"DONE": self.done,
         }
         found: list[Frame] = []
@@ -269,7 +318,9 @@ def header(edges: Iterable[bytes], rows: int, cols: int) -> bytes:
 
 
 def printed(frame: Frame) -> bytes:
-    """Return the text that `rcell` prints for a frame."""
+    """Return the text that `rcell` prints for a frame, nothing for a question."""
+    if frame["kind"] == b"PTCH":
+        return b""
     if frame["kind"] == b"GRID":
         null = b"" if frame["null"] == b"*" else b"null: " + frame["null"] + b"\n"
         rows = (

@@ -28,12 +28,15 @@ from typing import Iterator, Optional
 import cases
 from fuzz import damaged_bytes
 from made_cases import NAMES, ScriptMaker
+from model import Refused, ScriptReader
+from patch_model import main_zones, patches
 from pipe_model import (
     NULL,
     TYPES,
     UNITS,
     Edges,
     Frame,
+    Question,
     Raster,
     Reader,
     Rejected,
@@ -161,13 +164,44 @@ def coordinate(choice: random.Random, units: int) -> bytes:
     return f"{sign}{whole}{'.' if decimals else ''}{decimals}".encode()
 
 
-def random_request(choice: random.Random) -> tuple[list[Raster], bytes]:
+def known_names(names: list[bytes], script: bytes) -> set[bytes]:
+    """The names of all maps at the end of a script, or up to its first error."""
+    reader = ScriptReader(script, names)
+    try:
+        reader.read()
+    except Refused:
+        pass
+    return reader.known
+
+
+def random_questions(
+    choice: random.Random, names: list[bytes], script: bytes, badness: float
+) -> list[Question]:
+    known = sorted(known_names(names, script))
+
+    def name(others: list[bytes]) -> bytes:
+        return choice.choice(others if choice.random() < badness else known)
+
+    return [
+        Question(
+            name([b"", b"nowhere"]),
+            choice.choice([4, 8]),
+            choice.choice([1, 1, 2, 3, 40, 2**32 - 1]),
+            choice.choice([b"", name([b"nowhere", b"2", b"a" * 65])]),
+        )
+        for _ in range(choice.choice([0, 0, 1, 1, 2, 4]))
+    ]
+
+
+def random_request(choice: random.Random) -> tuple[list[Raster], bytes, list[Question]]:
     rows, cols = choice.choice(SIZES)
     names = choice.sample(NAMES, choice.choice([1, 1, 2, 3]))
     maker = ScriptMaker(choice)
     maker.badness = choice.choice([0, 0, 0, 0.02, 0.1])
     edges = random_edges(choice)
-    return [random_raster(choice, name, edges, rows, cols) for name in names], maker.script(names)
+    maps = [random_raster(choice, name, edges, rows, cols) for name in names]
+    script = maker.script(names)
+    return maps, script, random_questions(choice, names, script, maker.badness)
 
 
 # What is wrong, or ''
@@ -178,7 +212,72 @@ def as_text(data: bytes) -> bytes:
     return b"RCELLT1\n" + data[8:] if data.startswith(b"RCELLQ1\n") else data
 
 
-def wrong_run(programs: Programs, maps: list[Raster], script: bytes) -> str:
+def rejected_question(maps: list[Raster], script: bytes, questions: list[Question]) -> int:
+    """The number of the first question about a map that is not there, or with such zones, or 0."""
+    known = known_names([it.name for it in maps], script)
+    return next(
+        (at for at, it in enumerate(questions, 1) if not {it.map, it.zones or it.map} <= known), 0
+    )
+
+
+def wrong_rejection(end: Frame, frames: list[Frame], number: int, text: bytes) -> str:
+    """Whether a question is rejected by a response."""
+    got = [end[key] for key in ("status", "source", "maps", "line", "column", "text")]
+    wanted = [STATUS_REJECTED, 3, 0, number, 0, text]
+    return "" if got == wanted and not frames else f"{got} is not {wanted}"
+
+
+def wrong_answers(
+    programs: Programs,
+    maps: list[Raster],
+    script: bytes,
+    questions: list[Question],
+    answers: list[Frame],
+) -> str:
+    """Whether frames of questions equal the plain model, over the maps that the program prints."""
+    names = sorted({name for it in questions for name in (it.map, it.zones) if name})
+    printing = b"".join(b"\nr.out.ascii input=%s\n" % name for name in names)
+    shown = programs.frames(request(maps, script + printing))[-len(names) - 1 : -1]
+    cells = {name: grid["rows"] for name, grid in zip(names, shown)}
+    for place, it in enumerate(questions):
+        wanted = {
+            "kind": b"PTCH",
+            "question": place,
+            "connectivity": it.connectivity,
+            "depth": it.depth,
+            "patches": patches(cells[it.map], it.connectivity, it.depth),
+            "zones": main_zones(cells[it.map], it.connectivity, cells[it.zones])
+            if it.zones
+            else None,
+        }
+        if answers[place] != wanted:
+            return f"{script!r}, {it}: {answers[place]} is not {wanted}"
+    return ""
+
+
+def wrong_questions(
+    programs: Programs, maps: list[Raster], script: bytes, questions: list[Question]
+) -> str:
+    """Whether questions get their frames or are rejected after a script that is accepted."""
+    data = request(maps, script, questions)
+    *frames, end = programs.frames(data)
+    *of_text, end_of_text = programs.frames(as_text(data))
+    found = wrong_rejection(end_of_text, of_text, 1, b"question for a text")
+    if found:
+        return f"as text: {found}"
+    number = rejected_question(maps, script, questions)
+    if number:
+        return wrong_rejection(end, frames, number, b"unknown map")
+    *before, end_before = programs.frames(request(maps, script))
+    answers = frames[len(before) :]
+    if frames[: len(before)] != before or len(answers) != len(questions) or end != end_before:
+        return f"{script!r}: {frames}, {end} and not {before} with answers to {questions}"
+    return wrong_answers(programs, maps, script, questions, answers)
+
+
+def wrong_run(
+    programs: Programs, maps: list[Raster], script: bytes, questions: list[Question]
+) -> str:
     """Whether an accepted request gives what rcell gives."""
     data = request(maps, script)
     *frames, end = programs.frames(data)
@@ -188,6 +287,14 @@ def wrong_run(programs: Programs, maps: list[Raster], script: bytes) -> str:
     as_rcell = (status, output) if status == STATUS_DONE else programs.run(data)
     if programs.run(as_text(data)) != as_rcell:
         return f"{script!r}: as text {programs.run(as_text(data))} is not {as_rcell}"
+    if questions:
+        wrong = (
+            wrong_questions(programs, maps, script, questions)
+            if status == STATUS_DONE
+            else wrong_script(programs, maps, script, questions)
+        )
+        if wrong:
+            return wrong
     if status == STATUS_DONE:
         text = b"".join(map(printed, frames))
         return "" if text == output else f"{script!r}: {text!r} is not {output!r}"
@@ -203,12 +310,20 @@ def wrong_run(programs: Programs, maps: list[Raster], script: bytes) -> str:
     )
 
 
+def wrong_script(
+    programs: Programs, maps: list[Raster], script: bytes, questions: list[Question]
+) -> str:
+    """Whether an error of the script is reported before an error of a question."""
+    found, wanted = (programs.run(request(maps, script, asked)) for asked in (questions, ()))
+    return "" if found == wanted else f"{script!r} with {questions}: {found} is not {wanted}"
+
+
 def wrong_reading(programs: Programs, data: bytes) -> str:
     """Whether any bytes are read as the plain reader does, to the same first error."""
     if data.startswith((b"RCELLP1\n", b"RCELLT1\n")):
         return ""  # damage made another form of it
     try:
-        maps, script = Reader(data).run()
+        maps, script, questions = Reader(data).run()
     except Rejected as error:
         *frames, end = programs.frames(data)
         got = (
@@ -226,7 +341,7 @@ def wrong_reading(programs: Programs, data: bytes) -> str:
     if not all(is_plain(it) for it in maps):
         programs.frames(data)
         return ""
-    return wrong_run(programs, maps, script)
+    return wrong_run(programs, maps, script, questions)
 
 
 def is_plain(raster: Raster) -> bool:
@@ -279,9 +394,30 @@ def named_errors() -> Iterator[tuple[str, bytes]]:
         [land, replace(zone, type=7, rows=[[1, 1, 2], [2, 2**31, 3]], nodata=None)], script
     )
     yield "script too long", request([land], b"#" * 1048577)
+    yield from named_errors_of_questions([land, zone], script)
     yield "bytes after the request", good + b"\n"
     yield "bytes after the request", good + good
     yield "request too short", b""
+
+
+def named_errors_of_questions(maps: list[Raster], script: bytes) -> Iterator[tuple[str, bytes]]:
+    """A request for each error of a question."""
+    first = Question(b"land")
+    yield "bad question", request(maps, script, [replace(first, kind=0)])
+    yield "bad question", request(maps, script, [first, replace(first, kind=2)])
+    yield "bad connectivity", request(maps, script, [replace(first, connectivity=6)])
+    yield "bad depth", request(maps, script, [first, first, replace(first, depth=0)])
+    yield "bad zones", request(maps, script, [replace(first, map=b"lan", zones=b"2")])
+    yield "bad zones", request(maps, script, [first, replace(first, zones=b"a" * 65)])
+    yield "bad depth", request(maps, script, [replace(first, depth=0, zones=b"2")])
+    yield "unknown map", request(maps, script, [first, replace(first, zones=b"lan")])
+    yield "unknown map", request(maps, script, [first, replace(first, map=b"lan")])
+    yield "unknown map", request(maps, script, [replace(first, map=b"")])
+    yield "unknown map", request(maps, script, [replace(first, map=b"made")])
+    yield "question for a text", as_text(request(maps, script, [replace(first, map=b"lan")]))
+    yield "request too short", request(maps, script)[:-4] + struct.pack("<I", 2**32 - 1)
+    yield "request too short", request(maps, script, [first, first])[:-1]
+    yield "bytes after the request", request(maps, script, [first]) + b"\0"
 
 
 def check_errors(programs: Programs, count: cases.Count) -> None:
@@ -294,8 +430,7 @@ def check_errors(programs: Programs, count: cases.Count) -> None:
 def check_damage(programs: Programs, count: cases.Count, choice: random.Random, runs: int) -> None:
     """Each truncation of ten requests, and some random ones with a few bytes changed."""
     for number in range(10):
-        maps, script = random_request(choice)
-        data = request(maps, script)
+        data = request(*random_request(choice))
         places = (
             range(len(data))
             if len(data) < LONGEST_WHOLE
@@ -312,8 +447,7 @@ def check_damage(programs: Programs, count: cases.Count, choice: random.Random, 
 
 def check_random(programs: Programs, count: cases.Count, choice: random.Random, runs: int) -> None:
     for number in range(runs):
-        maps, script = random_request(choice)
-        count.add(f"request {number}", wrong_reading(programs, request(maps, script)))
+        count.add(f"request {number}", wrong_reading(programs, request(*random_request(choice))))
 
 
 # What the system does
@@ -389,6 +523,16 @@ def wrong_order(programs: Programs) -> str:
 
 
 def few_bytes() -> bytes:
+    first = Question(b"b", 8, 2, zones=b"land")
+    return request(*few_maps(), [first, Question(b"land"), Question(b"k", zones=b"k")])
+
+
+def text_bytes() -> bytes:
+    """The same for text, without questions."""
+    return as_text(request(*few_maps()))
+
+
+def few_maps() -> tuple[list[Raster], bytes]:
     land = Raster(
         b"land",
         (b"2", b"0", b"3", b"0"),
@@ -400,7 +544,7 @@ def few_bytes() -> bytes:
     )
     script = b"r.mapcalc b = land + 1\nr.clump input=b output=k\nr.stats -cl input=land,k\nr.stats -1 input=land\n"
     script += b"r.stats -1nl input=land,k\nr.out.ascii input=b\n"
-    return request([land, replace(land, name=b"zone", type=4)], script)
+    return [land, replace(land, name=b"zone", type=4)], script
 
 
 def wrong_growths(programs: Programs, shim: str) -> str:
@@ -426,14 +570,14 @@ def wrong_growths(programs: Programs, shim: str) -> str:
 
 def wrong_text_growths(programs: Programs, shim: str) -> str:
     """Each growth of memory denied in turn: the text is whole, or the text of the first statements, or the request is rejected."""
-    data, counter = few_bytes(), os.path.join(programs.room, "count")
-    texts = [printed(frame) for frame in programs.frames(data)[:-1]]
+    data, counter = text_bytes(), os.path.join(programs.room, "count")
+    texts = [printed(frame) for frame in programs.frames(few_bytes())[:-1]]
     starts = [b"".join(texts[:count]) for count in range(len(texts) + 1)]
     at, asked = 0, 1
     while at < asked:
         at += 1
         status, output = programs.run(
-            as_text(data), LD_PRELOAD=shim, REFUSE_AT=str(at), REFUSE_COUNT=counter
+            data, LD_PRELOAD=shim, REFUSE_AT=str(at), REFUSE_COUNT=counter
         )
         with open(counter, encoding="ascii") as file:
             asked = int(file.read())
@@ -452,9 +596,7 @@ def wrong_text_growths(programs: Programs, shim: str) -> str:
 
 def wrong_devices(programs: Programs, shim: str) -> str:
     """The system fails for a request of either form."""
-    return wrong_device(programs, shim, few_bytes()) or wrong_device(
-        programs, shim, as_text(few_bytes())
-    )
+    return wrong_device(programs, shim, few_bytes()) or wrong_device(programs, shim, text_bytes())
 
 
 def wrong_device(programs: Programs, shim: str, data: bytes) -> str:

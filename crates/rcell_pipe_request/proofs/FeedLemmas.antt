@@ -2,7 +2,7 @@
 use Rattle.std.proofs.Common.{◌≡◌, ℕ, ◌<◌, true, false, List, [], ◌++◌, length, take, drop, Ok, Err, refl, sym, ap, ◌∙◌, append_assoc, arith, ltb}
 use Rattle.std.proofs.lemmas.List.{take-append-drop, take_at, drop_at, length-append}
 use Rattle.std.proofs.lemmas.Bool.{le-ltb, lt-ltb}
-use Rattle.cell_core_devices.specs.Device.{Coming}
+use Rattle.cell_core_devices.specs.Device.{Coming, after_bytes}
 use Rattle.rcell_pipe_request.specs.RequestFields.{ending, bytes_at}
 use Rattle.rcell_pipe_request.specs.Feeds.{FeedValue, left, after}
 
@@ -16,11 +16,15 @@ after-pass front unread n rest =
     ap (λ (bs : List ℕ). record { bytes = bs; fails = rest.fails }) bytes
 
 -- after one block more
-pub read_more : (old one two three : FeedValue) (front more : List ℕ) (n : ℕ) → left old ≡ after front (left one) → left two ≡ left one → three ≡ record two { unread = drop n two.unread } → more ≡ front ++ take n two.unread → left old ≡ after more (left three)
-read_more old one two three front more n before same passed grown =
-    before ∙ ap (after front) (sym same) ∙ after-pass front two.unread n two.rest
-    ∙ ap (λ (xs : List ℕ). after xs (after (drop n two.unread) two.rest)) (sym grown)
-    ∙ ap (λ (f : FeedValue). after more (left f)) (sym passed)
+pub read_more : (w : Coming) (old one two three : FeedValue) (front more : List ℕ) (n : ℕ)
+    → left w old ≡ after front (left w one) → left w two ≡ left w one
+    → three ≡ record two { unread = drop n two.unread } → more ≡ front ++ take n two.unread
+    → left w old ≡ after more (left w three)
+read_more w old one two three front more n before same passed grown =
+    let rest = after_bytes w (length two.gave) in
+    before ∙ ap (after front) (sym same) ∙ after-pass front two.unread n rest
+    ∙ ap (λ (xs : List ℕ). after xs (after (drop n two.unread) rest)) (sym grown)
+    ∙ ap (λ (f : FeedValue). after more (left w f)) (sym passed)
 
 -- the bytes that were read
 pub bytes_at-all : (n : ℕ) (front : List ℕ) (c rest : Coming) → c ≡ after front rest → length front ≡ n → bytes_at n c ≡ Ok (front, rest)

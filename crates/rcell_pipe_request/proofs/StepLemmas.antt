@@ -8,7 +8,7 @@ use Rattle.rcell_pipe_request.specs.declared.error.FieldStop.TheVariants as fiel
 use Rattle.rcell_pipe_request.specs.declared.error.RequestStop.{RequestStop}
 use Rattle.rcell_pipe_request.specs.declared.error.RequestStop.TheVariants as request_stops
 use Rattle.rcell_pipe_request.specs.RequestFields.{FieldReading, steps}
-use Rattle.rcell_pipe_request.specs.Feeds.{FieldFails, PlacedFails}
+use Rattle.rcell_pipe_request.specs.Feeds.{FeedValue, FieldFails, PlacedFails, Continues, fits, left}
 
 -- after one more step
 pub steps-on : {S E : Type 0} (step : S → Coming → Result (S × Coming) E) (so_far next : S) (count i : ℕ) (c rest : Coming) (all : Result (S × Coming) E)
@@ -37,11 +37,21 @@ steps-done step so_far count i c all past before =
     let same : steps step so_far (count - i) c ≡ Ok (so_far, c) = rw left refl in
     sym before ∙ same
 
--- what was known stays known, and an error of one step is the error of all
-pub FieldFails-of : {X Y : Type 0} (stop : FieldStop) (now first : Bool) (one : FieldReading X) (all : FieldReading Y) → now ≡ first → (first ≡ true → (kind : ErrorKind) → one ≡ Err kind → all ≡ Err kind) → FieldFails stop now one → FieldFails stop first all
-FieldFails-of field_stops.Memory now first one all same on fails = tt
-FieldFails-of (field_stops.Error kind) now first one all same on fails = λ known. on known kind (fails (same ∙ known))
+-- the error of a step is the error of all, if what the source may hold after it was to come before
+pub FieldFails-of : {X Y : Type 0} (stop : FieldStop) (first old new : FeedValue) (one : Coming → FieldReading X)
+    (all : Coming → FieldReading Y) → Continues first old
+    → ((c : Coming) → fits c old ≡ true → (kind : ErrorKind) → one (left c old) ≡ Err kind → all (left c first) ≡ Err kind)
+    → FieldFails stop old new one → FieldFails stop first new all
+FieldFails-of field_stops.Memory first old new one all before on fails = λ c is. before c (fails c is)
+FieldFails-of (field_stops.Error kind) first old new one all before on fails = λ c is.
+    let at = fails c is in (before c at.0, on c at.0 kind at.1)
 
-pub PlacedFails-of : {X Y : Type 0} (stop : RequestStop) (now first : Bool) (one : Result X RequestError) (all : Result Y RequestError) → now ≡ first → (first ≡ true → (error : RequestError) → one ≡ Err error → all ≡ Err error) → PlacedFails stop now one → PlacedFails stop first all
-PlacedFails-of request_stops.Memory now first one all same on fails = tt
-PlacedFails-of (request_stops.Error error) now first one all same on fails = λ known. on known error (fails (same ∙ known))
+pub PlacedFails-of : {X Y : Type 0} (stop : RequestStop) (first old new : FeedValue)
+    (one : Coming → Result (X × Coming) RequestError) (all : Coming → Result (Y × Coming) RequestError)
+    → Continues first old
+    → ((c : Coming) → fits c old ≡ true → (error : RequestError) → one (left c old) ≡ Err error
+    → all (left c first) ≡ Err error)
+    → PlacedFails stop old new one → PlacedFails stop first new all
+PlacedFails-of request_stops.Memory first old new one all before on fails = λ c is. before c (fails c is)
+PlacedFails-of (request_stops.Error error) first old new one all before on fails = λ c is.
+    let at = fails c is in (before c at.0, on c at.0 error at.1)

@@ -1,6 +1,6 @@
--- What is still to come of a source that is read in blocks, and how far it was asked.
-use Rattle.std.specs.Prelude.{ℕ, ◌≡◌, ⊤, Bool, true, false, List, [], ◌++◌, Result, Ok, Err}
-use Rattle.cell_core_devices.specs.Device.{Coming}
+-- What a source that is read in blocks gave, what may still be to come, and how far it was asked.
+use Rattle.std.specs.Prelude.{ℕ, ◌≡◌, Bool, true, List, ◌++◌, length, Result, Ok, Err}
+use Rattle.cell_core_devices.specs.Device.{Coming, after_bytes}
 use Rattle.cell_core_devices.specs.declared.source.Asked.{Asked}
 use Rattle.cell_core_devices.specs.declared.source.Asked.TheVariants.{Going, Ended, Failed}
 use Rattle.rcell_pipe_request.specs.declared.error.ErrorKind.{ErrorKind}
@@ -10,27 +10,26 @@ use Rattle.rcell_pipe_request.specs.declared.error.FieldStop.TheVariants as fiel
 use Rattle.rcell_pipe_request.specs.declared.error.RequestStop.{RequestStop}
 use Rattle.rcell_pipe_request.specs.declared.error.RequestStop.TheVariants as request_stops
 use Rattle.rcell_pipe_request.specs.RequestFields.{FieldReading}
+use Rattle.rcell_pipe_request.specs.Supposed.{may_hold}
 use Rattle.rcell_pipe_request.specs.declared.error.RequestError.{RequestError}
 
--- nothing, and no failure
-abbrev pub nothing : Coming
-nothing = record { bytes = []; fails = false }
-
--- the bytes of a block that are not yet read, whether it is known what the source still gives, this, and how far the
--- source was asked
+-- the bytes of a block that are not yet read, all bytes that the source gave, and how far it was asked
 pub record FeedValue : Type 0 where
   pub unread : List ℕ
-  pub known : Bool
-  pub rest : Coming
+  pub gave : List ℕ
   pub asked : Asked
+
+-- the source may hold this
+abbrev pub fits : Coming → FeedValue → Bool
+fits c f = may_hold f.gave f.asked c
 
 -- what is to come after bytes
 abbrev pub after : List ℕ → Coming → Coming
 after bytes c = record { bytes = bytes ++ c.bytes; fails = c.fails }
 
--- what is still to come: the bytes of the block come first
-abbrev pub left : FeedValue → Coming
-left f = after f.unread f.rest
+-- what is still to come if the source holds this: the bytes of the block come first
+abbrev pub left : Coming → FeedValue → Coming
+left c f = after f.unread (after_bytes c (length f.gave))
 
 -- how far a source was asked that is reported to have ended or failed, or else still gives bytes
 abbrev pub asked_at : ErrorKind → Asked
@@ -55,19 +54,32 @@ abbrev pub AsksOnce : Result Unit ErrorKind → FeedValue → FeedValue → Type
 AsksOnce (Ok done) old new = AsksTo Going old new
 AsksOnce (Err kind) old new = AsksTo (asked_at kind) old new
 
--- an error is the reading's, if it is known what was to come; memory may run out at any time
-abbrev pub FieldFails : {Y : Type 0} → FieldStop → Bool → FieldReading Y → Type 0
-FieldFails field_stops.Memory known reading = ⊤
-FieldFails (field_stops.Error kind) known reading = known ≡ true → reading ≡ Err kind
+-- whatever the source may hold: the reading of what was to come gives this, and what is to come is what it leaves
+abbrev pub ReadsAs : {Y E : Type 0} → FeedValue → Y → FeedValue → (Coming → Result (Y × Coming) E) → Type 0
+ReadsAs old y new reading =
+    (c : Coming) → fits c new ≡ true → (fits c old ≡ true) × (reading (left c old) ≡ Ok (y, left c new))
+
+-- whatever the source may hold: the reading has this error
+abbrev pub FailsWith : {Y E : Type 0} → FeedValue → E → FeedValue → (Coming → Result (Y × Coming) E) → Type 0
+FailsWith old error new reading =
+    (c : Coming) → fits c new ≡ true → (fits c old ≡ true) × (reading (left c old) ≡ Err error)
+
+-- what the source may hold after calls, it might hold before
+abbrev pub Continues : FeedValue → FeedValue → Type 0
+Continues old new = (c : Coming) → fits c new ≡ true → fits c old ≡ true
+
+-- an error is the reading's; memory may run out at any time
+abbrev pub FieldFails : {Y : Type 0} → FieldStop → FeedValue → FeedValue → (Coming → FieldReading Y) → Type 0
+FieldFails field_stops.Memory old new reading = Continues old new
+FieldFails (field_stops.Error kind) old new reading = FailsWith old kind new reading
 
 -- what is returned, seen by `view`, is what the reading gives of what was to come, and what is to come is what it
 -- leaves; the source was asked so far, or up to its end or its `Err` if this is the error
 abbrev pub ReadsAsFar : Asked → {X Y : Type 0} → (X → Y) → FeedValue → Result X FieldStop → FeedValue →
     (Coming → FieldReading Y) → Type 0
-ReadsAsFar asked view old (Ok x) new reading =
-    (new.known ≡ old.known) × (old.known ≡ true → reading (left old) ≡ Ok (view x, left new)) × AsksTo asked old new
-ReadsAsFar asked view old (Err stop) new reading = FieldFails stop old.known (reading (left old)) × AsksTo
-    (asked_at_field stop) old new
+ReadsAsFar asked view old (Ok x) new reading = ReadsAs old (view x) new reading × AsksTo asked old new
+ReadsAsFar asked view old (Err stop) new reading = FieldFails stop old new reading × AsksTo (asked_at_field stop) old
+    new
 
 -- a field, after which the source continues; or what ends at the end of the source
 abbrev pub ReadsField : {X Y : Type 0} → (X → Y) → FeedValue → Result X FieldStop → FeedValue → (Coming → FieldReading Y) → Type 0
@@ -78,15 +90,15 @@ abbrev pub ReadsToEnd : {X Y : Type 0} → (X → Y) → FeedValue → Result X 
 ReadsToEnd view old result new reading = ReadsAsFar Ended view old result new reading
 
 -- the same for errors with their places
-abbrev pub PlacedFails : {Y : Type 0} → RequestStop → Bool → Result Y RequestError → Type 0
-PlacedFails request_stops.Memory known reading = ⊤
-PlacedFails (request_stops.Error error) known reading = known ≡ true → reading ≡ Err error
+abbrev pub PlacedFails : {Y : Type 0} → RequestStop → FeedValue → FeedValue → (Coming → Result (Y × Coming) RequestError)
+    → Type 0
+PlacedFails request_stops.Memory old new reading = Continues old new
+PlacedFails (request_stops.Error error) old new reading = FailsWith old error new reading
 
 abbrev pub ReadsPlacedAsFar : Asked → {X Y : Type 0} → (X → Y) → FeedValue → Result X RequestStop → FeedValue →
     (Coming → Result (Y × Coming) RequestError) → Type 0
-ReadsPlacedAsFar asked view old (Ok x) new reading =
-    (new.known ≡ old.known) × (old.known ≡ true → reading (left old) ≡ Ok (view x, left new)) × AsksTo asked old new
-ReadsPlacedAsFar asked view old (Err stop) new reading = PlacedFails stop old.known (reading (left old)) × AsksTo
+ReadsPlacedAsFar asked view old (Ok x) new reading = ReadsAs old (view x) new reading × AsksTo asked old new
+ReadsPlacedAsFar asked view old (Err stop) new reading = PlacedFails stop old new reading × AsksTo
     (asked_at_request stop) old new
 
 abbrev pub ReadsPlaced : {X Y : Type 0} → (X → Y) → FeedValue → Result X RequestStop → FeedValue → (Coming → Result (Y × Coming) RequestError) → Type 0

@@ -125,7 +125,7 @@ pub record LabelValue : Type 0 where
 abbrev pub has_feed : List ℕ → Bool
 has_feed text = list_any (λ b. b == 10) text
 
--- whether a label is bad: its number is -2^31, which is no category, or its text has a line feed
+-- whether a label is bad: its number is -2^31, which is not a category, or its text has a line feed
 abbrev pub is_bad_label : ℤ → List ℕ → Bool
 is_bad_label category text = int_eq category (negsuc 2147483647) || has_feed text
 

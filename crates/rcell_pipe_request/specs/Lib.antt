@@ -6,6 +6,8 @@ pub mod PackedRows
 pub mod RequestFields
 pub mod Heads
 pub mod Rows
+pub mod Questions
 pub mod Requests
+pub mod Supposed
 pub mod Feeds
 pub mod parts

@@ -32,7 +32,7 @@ is_signed U32 = false
 is_signed I32 = true
 is_signed I64 = true
 
--- the number of as many bytes
+-- the number that these bytes spell
 abbrev pub number_of_bytes : CellType → List ℕ → ℤ
 number_of_bytes kind bytes = if is_signed kind then cast_signed (width_of kind) (from_le_bytes (width_of kind) bytes) else pos (from_le_bytes (width_of kind) bytes)
 

@@ -34,7 +34,7 @@ raw_cell kind nodata mask bytes place = if is_hiding (slice_get mask place) then
 abbrev pub is_raw_outside : CellType → Option ℤ → List ℕ → List ℕ → ℕ → Bool
 is_raw_outside kind nodata mask bytes place = not (is_hiding (slice_get mask place)) && is_outside nodata (raw_number kind bytes place)
 
--- the places of a row of so many cells
+-- the places of a row of cols cells
 abbrev pub places : ℕ → List ℕ
 places cols = range_with_len 0 cols
 
@@ -54,7 +54,7 @@ is_bad_mask mask = list_any (nat_lt 1) mask
 abbrev pub row_error : CellType → Option ℤ → List ℕ → List ℕ → ℕ → Option RowError
 row_error kind nodata mask bytes cols = if is_bad_mask mask then Some BadMask else (if has_outside kind nodata mask bytes cols then Some OutOfRange else None)
 
--- the error of a result, if it is one
+-- the error of a result, if it is an error
 abbrev pub error_of : {X : Type 0} → Result X RowError → Option RowError
 error_of (Ok done) = None
 error_of (Err error) = Some error

@@ -1,4 +1,5 @@
--- What the bytes of a request denote: maps of one region under distinct names, and the bytes of a script (profile).
+-- What the bytes of a request denote: maps of one region under distinct names, the bytes of a script, and questions
+-- (profile).
 use Rattle.std.specs.Prelude.{ℕ, ◌+◌, ◌-◌, ◌&&◌, nat_le, List, [], ◌∷◌, ◌++◌, length, Option, Some, None, Result, Ok, Err, ◌==◌, if◌then◌else◌}
 use Rattle.std.specs.FinMap as finmap
 use Rattle.std.specs.Ordering.{int_cmp}
@@ -16,7 +17,8 @@ use Rattle.rcell_pipe_request.specs.declared.error.RequestStop.TheVariants as re
 use Rattle.rcell_pipe_request.specs.declared.named_map.NamedMap.{NamedMap}
 use Rattle.rcell_pipe_request.specs.declared.request.Request.{Request}
 use Rattle.cell_core_values.specs.Answers.{◌>>=◌}
-use Rattle.rcell_pipe_request.specs.RequestFields.{FieldReading, bytes_at, number_at, steps}
+use Rattle.rcell_pipe_request.specs.RequestFields.{FieldReading, Placed, error_at, bytes_at, number_at, end_at, steps}
+use Rattle.rcell_pipe_request.specs.Questions.{QuestionValue, last_questions_at, question_values}
 use Rattle.rcell_pipe_request.specs.Heads.{LabelValue, head_at}
 use Rattle.rcell_pipe_request.specs.Rows.{cells_at}
 use Rattle.rcell_pipe_request.specs.declared.head.RawFormat.{RawFormat}
@@ -25,14 +27,6 @@ use Rattle.rcell_pipe_request.specs.declared.head.RawFormat.{RawFormat}
 abbrev pub stop_at : ℕ → ℕ → FieldStop → RequestStop
 stop_at maps row field_stops.Memory = request_stops.Memory
 stop_at maps row (field_stops.Error kind) = request_stops.Error (record { kind = kind; maps = maps; row = row })
-
--- a reading whose error has its place: how many maps are before it, and the number of the row, 0 outside of rows
-abbrev pub Placed : Type 0 → Type 0
-Placed X = Result (X × Coming) RequestError
-
-abbrev pub error_at : {X : Type 0} → ℕ → ℕ → Result X ErrorKind → Result X RequestError
-error_at maps row (Ok x) = Ok x
-error_at maps row (Err kind) = Err (record { kind = kind; maps = maps; row = row })
 
 -- the rows so far, and one more
 unfoldable pub one_more_row : ℕ → RawFormat → ℕ → List (List CellValue) → Coming → Placed (List (List CellValue))
@@ -57,14 +51,14 @@ map_at maps shelf c = do
   rows ← steps (one_more_row maps head.0.format head.0.region.cols) [] head.0.region.rows head.1
   Ok (record { name = head.0.name; grid = record { region = head.0.region; rows = rows.0; labels = with_labels no_labels head.0.labels } }, rows.1)
 
--- the shelf of a map, and a shelf with one map more
+-- the shelf of a map, and a shelf with one more map
 abbrev pub first_shelf : NamedGrid → ShelfValue
 first_shelf named = record { region = named.grid.region; names = named.name ∷ []; maps = named.grid ∷ [] }
 
 abbrev pub shelf_with : ShelfValue → NamedGrid → ShelfValue
 shelf_with shelf named = record shelf { names = shelf.names ++ named.name ∷ []; maps = shelf.maps ++ named.grid ∷ [] }
 
--- the shelf so far, and one map more
+-- the shelf so far, with one more map
 unfoldable pub one_more_map : ShelfValue → Coming → Placed ShelfValue
 one_more_map shelf c = do
   named ← map_at (length shelf.names) (Some shelf) c
@@ -82,21 +76,18 @@ script_at c = do
   size ← number_at w32 c
   if nat_le size.0 1048576 then bytes_at size.0 size.1 else Err kinds.ScriptSize
 
--- nothing comes after the request
-unfoldable pub end_at : Coming → FieldReading Unit
-end_at c = if length c.bytes == 0 then (if c.fails then Err kinds.ReadFailed else Ok (tt, c)) else Err kinds.Trailing
-
--- the bytes of the script, which end the request
+-- the bytes of the script, which end a request without questions
 unfoldable pub last_script_at : Coming → FieldReading (List ℕ)
 last_script_at c = do
   script ← script_at c
   end ← end_at script.1
   Ok (script.0, end.1)
 
--- maps and a script
+-- maps, a script, and questions about the maps at its end
 pub record RunRequestValue : Type 0 where
   pub shelf : ShelfValue
   pub script : List ℕ
+  pub questions : List QuestionValue
 
 -- how many maps there are, and the first of them
 unfoldable pub first_map_at : Coming → Placed (ℕ × ShelfValue)
@@ -105,16 +96,21 @@ first_map_at c = do
   first ← map_at 0 None count.1
   Ok ((count.0, first_shelf first.0), first.1)
 
--- the maps and the script
+-- the maps, the script and the questions
 unfoldable pub run_at : Coming → Placed RunRequestValue
 run_at c = do
   first ← first_map_at c
   shelf ← steps one_more_map first.0.1 (first.0.0 - 1) first.1
-  script ← error_at first.0.0 0 (last_script_at shelf.1)
-  Ok (record { shelf = shelf.0; script = script.0 }, script.1)
+  script ← error_at first.0.0 0 (script_at shelf.1)
+  questions ← last_questions_at first.0.0 script.1
+  Ok (record { shelf = shelf.0; script = script.0; questions = questions.0 }, questions.1)
 
 abbrev pub named_value : NamedMap → NamedGrid
 named_value named = record { name = named.name; grid = named.map }
 
 abbrev pub run_request_value : Request → RunRequestValue
-run_request_value request = record { shelf = request.shelf; script = request.script.items }
+run_request_value request = record {
+  shelf = request.shelf;
+  script = request.script.items;
+  questions = question_values request.questions.items;
+}

@@ -26,7 +26,7 @@ abbrev pub cells_or_error : Option RowError → List CellValue → Coming → Fi
 cells_or_error None cells rest = Ok (cells, rest)
 cells_or_error (Some error) cells rest = Err (kind_of_row error)
 
--- a row of so many cells
+-- a row of cells
 unfoldable pub cells_at : RawFormat → ℕ → Coming → FieldReading (List CellValue)
 cells_at format cols c = do
   bytes ← bytes_at (cols * byte_size format.kind) c

@@ -1,4 +1,4 @@
--- What only private functions and proofs speak of.
--- What only private functions and proofs cite.
+-- Definitions that only private functions and proofs use.
 pub mod PackedBytes
 pub mod Edges
+pub mod NarrowNumbers

@@ -1,4 +1,4 @@
-//! Why bytes are no request.
+//! Why bytes are not a request.
 
 ghost use Rattle.std.specs.Prelude.{◌≡◌};
 ghost use Rattle.rcell_pipe_request.specs.declared.error.FieldStop.TheVariants as field_stops;
@@ -28,9 +28,9 @@ pub enum ErrorKind {
     BadRegion,
     /// The region is not the first map's.
     OtherRegion,
-    /// There is no such type of cells.
+    /// The type of cells is unknown.
     BadType,
-    /// There are no such flags.
+    /// The flags are unknown.
     BadFlags,
     /// The type does not have the nodata value, or it is not 0 without flag 1.
     BadNodata,
@@ -42,11 +42,19 @@ pub enum ErrorKind {
     CellRange,
     /// The script has more than 1048576 bytes.
     ScriptSize,
+    /// There are no such questions.
+    BadQuestion,
+    /// The connectivity of a question is neither 4 nor 8.
+    BadConnectivity,
+    /// The depth of a question is 0.
+    BadDepth,
+    /// The zones of a question are not the name of a map.
+    BadZones,
     /// There are bytes after the request.
     Trailing,
 }
 
-/// What is wrong, with the number of maps before it and the number of the row, 0 if it belongs to none.
+/// What is wrong, with the number of maps before it and the number of the row or the question, 0 if it belongs to none.
 #[derive(Clone, Copy, Debug, PartialEq, Eq)]
 pub struct RequestError {
     pub kind: ErrorKind,

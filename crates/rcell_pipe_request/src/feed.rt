@@ -1,76 +1,89 @@
 //! The fields of a request, read from a source in blocks. No memory is taken for bytes that have not come.
 
-ghost use Rattle.std.specs.Prelude.{◌≡◌, ◌<◌, ◌≤◌, ◌+◌, List, [], true, length, take, drop, ◌++◌, unwrap_or, IfOk, IfErr, OnOk};
-ghost use Rattle.std.specs.Option.{is_some};
+ghost use Rattle.std.specs.Prelude.{◌≡◌, ◌<◌, ◌≤◌, ◌+◌, List, [], true, length, take, drop, ◌++◌, IfOk, IfErr, OnOk};
 ghost use Rattle.std.specs.Int.{w8, w16, w32, w64};
 ghost use Rattle.cell_core_devices.specs.Device.{Coming};
-ghost use Rattle.rcell_pipe_request.specs.RequestFields.{ending, bytes_at, number_at, signed_at, text_at};
-ghost use Rattle.rcell_pipe_request.specs.Requests.{end_at};
-ghost use Rattle.rcell_pipe_request.specs.Feeds.{FeedValue, nothing, left, AsksOnce, ReadsField, ReadsToEnd};
+ghost use Rattle.rcell_pipe_request.specs.RequestFields.{ending, bytes_at, number_at, signed_at, text_at, end_at};
+ghost use Rattle.rcell_pipe_request.specs.Feeds.{FeedValue, fits, left, AsksOnce, ReadsField, ReadsToEnd};
 
 use crate::error::{ErrorKind, FieldStop};
-use cell_core::source::Source;
+use cell_core::source::{ReadSource, Source};
 use std::alloc::{AllocError, Global};
+use std::io::Read;
 use std::marker::Model;
 
 // How many bytes are asked for at once.
 const BLOCK: usize = 65536;
 
+/// The memory of a block.
+pub fn new_block(alloc: Global) -> Result<Vec<u8>, AllocError>
+    ensures { IfOk result (λ block. 0 < length block.items) }
+{
+    vec![in alloc; 0u8; BLOCK]
+}
+
 /// A source that is read in blocks.
 #[derive(Drop)]
-pub struct Feed<R: Source> {
-    source: R,
+pub struct Feed<R: Read> {
+    source: ReadSource<R>,
     block: Vec<u8>,
     at: usize,
     end: usize,
 }
 
-impl<R: Source> Model for Feed<R> {
-    ghost use Rattle.std.specs.Prelude.{take, drop, length, unwrap_or, ◌<◌, ◌≤◌};
-    ghost use Rattle.std.specs.Option.{is_some};
-    ghost use Rattle.rcell_pipe_request.specs.Requests.{end_at};
-    ghost use Rattle.rcell_pipe_request.specs.Feeds.{FeedValue, nothing};
+impl<R: Read> Model for Feed<R> {
+    ghost use Rattle.std.specs.Prelude.{take, drop, length, ◌<◌, ◌≤◌};
+    ghost use Rattle.rcell_pipe_request.specs.Feeds.{FeedValue};
 
     ghost Value = { FeedValue };
 
     ghost view = { λ f. record {
       unread = drop f.at (take f.end f.block.items);
-      known = is_some (R.coming f.source);
-      rest = unwrap_or (R.coming f.source) nothing;
-      asked = R.asked f.source;
+      gave = f.source.0.1;
+      asked = f.source.1;
     } };
 
     ghost invariant = { λ f. (f.at ≤ f.end) × (f.end ≤ length f.block.items) × (0 < length f.block.items) };
 }
 
-impl<R: Source> Feed<R> {
-    /// A source of which nothing was read. It takes the memory of a block.
-    pub fn new(alloc: Global, source: R) -> Result<Feed<R>, AllocError>
-    where
-        R: Drop,
-        ensures { IfOk result (λ f. f ≡ record {
-          unread = [];
-          known = is_some (R.coming source);
-          rest = unwrap_or (R.coming source) nothing;
-          asked = R.asked source;
-        }) }
+impl<R: Read> Feed<R> {
+    /// A source that is read in such blocks.
+    pub fn new(block: Vec<u8>, source: ReadSource<R>) -> Feed<R>
+        requires { 0 < length block.items }
+        ensures { result ≡ record { unread = []; gave = source.0.1; asked = source.1 } }
     {
-        let block = vec![in alloc; 0u8; BLOCK]?;
-        Ok(Feed {
+        Feed {
             source,
             block,
             at: 0,
             end: 0,
-        })
+        }
+    }
+
+    /// The source, as far as it was asked.
+    pub fn into_source(self) -> ReadSource<R>
+    where
+        R: Drop,
+        ensures gave { result.0.1 ≡ self.gave }
+        ensures asked { result.1 ≡ self.asked }
+    {
+        let Feed {
+            source,
+            block: _,
+            at: _,
+            end: _,
+        } = self;
+        source
     }
 
     // Reads the next block if the last one is used up.
     fn refill(&mut self) -> Result<(), ErrorKind>
-        ensures known { self.new.known ≡ self.old.known }
-        ensures same { self.old.known ≡ true → left self.new ≡ left self.old }
+        // Whatever the source may hold after the call, it might hold before, with the same bytes to come.
+        ensures same { (c : Coming) → fits c self.new ≡ true
+            → (fits c self.old ≡ true) × (left c self.new ≡ left c self.old) }
         ensures some { OnOk result (0 < length self.new.unread) }
-        ensures end { IfErr result (λ kind. self.old.known ≡ true
-            → ((left self.old).bytes ≡ []) × (kind ≡ ending (left self.old).fails)) }
+        ensures end { IfErr result (λ kind. (c : Coming) → fits c self.new ≡ true
+            → ((left c self.old).bytes ≡ []) × (kind ≡ ending (left c self.old).fails)) }
         // Its end and an `Err` are reported as such, and no reader asks again after them.
         ensures asked { AsksOnce result self.old self.new }
     {
@@ -114,7 +127,7 @@ fn copy_at(out: &mut [u8], at: usize, bytes: &[u8])
 }
 
 /// Fills a slice with the next bytes.
-pub fn read_into<R: Source>(feed: &mut Feed<R>, out: &mut [u8]) -> Result<(), FieldStop>
+pub fn read_into<R: Read>(feed: &mut Feed<R>, out: &mut [u8]) -> Result<(), FieldStop>
     ensures width { length out.new ≡ length out.old }
     ensures bytes { ReadsField (λ _. out.new) feed.old result feed.new (bytes_at (length out.old)) }
 {
@@ -134,7 +147,7 @@ pub fn read_into<R: Source>(feed: &mut Feed<R>, out: &mut [u8]) -> Result<(), Fi
 }
 
 /// So many bytes. Memory grows with those that have come.
-pub fn read_bytes<R: Source>(
+pub fn read_bytes<R: Read>(
     alloc: Global,
     feed: &mut Feed<R>,
     len: usize,
@@ -157,7 +170,7 @@ pub fn read_bytes<R: Source>(
 
 /// A number of 8 bits.
 #[tactic(auto, unfolding(crate::specs::RequestFields::number_at))]
-pub fn read_u8<R: Source>(feed: &mut Feed<R>) -> Result<u8, FieldStop>
+pub fn read_u8<R: Read>(feed: &mut Feed<R>) -> Result<u8, FieldStop>
     ensures { ReadsField (λ n. n) feed.old result feed.new (number_at w8) }
 {
     let mut bytes = [0u8; 1];
@@ -167,7 +180,7 @@ pub fn read_u8<R: Source>(feed: &mut Feed<R>) -> Result<u8, FieldStop>
 
 /// A number of 16 bits.
 #[tactic(auto, unfolding(crate::specs::RequestFields::number_at))]
-pub fn read_u16<R: Source>(feed: &mut Feed<R>) -> Result<u16, FieldStop>
+pub fn read_u16<R: Read>(feed: &mut Feed<R>) -> Result<u16, FieldStop>
     ensures { ReadsField (λ n. n) feed.old result feed.new (number_at w16) }
 {
     let mut bytes = [0u8; 2];
@@ -177,7 +190,7 @@ pub fn read_u16<R: Source>(feed: &mut Feed<R>) -> Result<u16, FieldStop>
 
 /// A number of 32 bits.
 #[tactic(auto, unfolding(crate::specs::RequestFields::number_at))]
-pub fn read_u32<R: Source>(feed: &mut Feed<R>) -> Result<u32, FieldStop>
+pub fn read_u32<R: Read>(feed: &mut Feed<R>) -> Result<u32, FieldStop>
     ensures { ReadsField (λ n. n) feed.old result feed.new (number_at w32) }
 {
     let mut bytes = [0u8; 4];
@@ -187,7 +200,7 @@ pub fn read_u32<R: Source>(feed: &mut Feed<R>) -> Result<u32, FieldStop>
 
 /// A number of 32 bits with a sign.
 #[tactic(auto, unfolding(crate::specs::RequestFields::number_at, crate::specs::RequestFields::signed_at))]
-pub fn read_i32<R: Source>(feed: &mut Feed<R>) -> Result<i32, FieldStop>
+pub fn read_i32<R: Read>(feed: &mut Feed<R>) -> Result<i32, FieldStop>
     ensures { ReadsField (λ n. n) feed.old result feed.new (signed_at w32) }
 {
     let mut bytes = [0u8; 4];
@@ -197,7 +210,7 @@ pub fn read_i32<R: Source>(feed: &mut Feed<R>) -> Result<i32, FieldStop>
 
 /// A number of 64 bits with a sign.
 #[tactic(auto, unfolding(crate::specs::RequestFields::number_at, crate::specs::RequestFields::signed_at))]
-pub fn read_i64<R: Source>(feed: &mut Feed<R>) -> Result<i64, FieldStop>
+pub fn read_i64<R: Read>(feed: &mut Feed<R>) -> Result<i64, FieldStop>
     ensures { ReadsField (λ n. n) feed.old result feed.new (signed_at w64) }
 {
     let mut bytes = [0u8; 8];
@@ -207,7 +220,7 @@ pub fn read_i64<R: Source>(feed: &mut Feed<R>) -> Result<i64, FieldStop>
 
 /// A text after its length of 8 bits.
 #[tactic(auto, unfolding(crate::specs::RequestFields::text_at))]
-pub fn read_short_text<R: Source>(alloc: Global, feed: &mut Feed<R>) -> Result<Vec<u8>, FieldStop>
+pub fn read_short_text<R: Read>(alloc: Global, feed: &mut Feed<R>) -> Result<Vec<u8>, FieldStop>
     ensures { ReadsField (λ text. text.items) feed.old result feed.new (text_at w8) }
 {
     let len = read_u8(feed)?;
@@ -216,7 +229,7 @@ pub fn read_short_text<R: Source>(alloc: Global, feed: &mut Feed<R>) -> Result<V
 
 /// A text after its length of 16 bits.
 #[tactic(auto, unfolding(crate::specs::RequestFields::text_at))]
-pub fn read_text<R: Source>(alloc: Global, feed: &mut Feed<R>) -> Result<Vec<u8>, FieldStop>
+pub fn read_text<R: Read>(alloc: Global, feed: &mut Feed<R>) -> Result<Vec<u8>, FieldStop>
     ensures { ReadsField (λ text. text.items) feed.old result feed.new (text_at w16) }
 {
     let len = read_u16(feed)?;
@@ -224,8 +237,8 @@ pub fn read_text<R: Source>(alloc: Global, feed: &mut Feed<R>) -> Result<Vec<u8>
 }
 
 /// Nothing comes after what was read.
-#[tactic(auto, unfolding(crate::specs::Requests::end_at))]
-pub fn read_end<R: Source>(feed: &mut Feed<R>) -> Result<(), FieldStop>
+#[tactic(auto, unfolding(crate::specs::RequestFields::end_at))]
+pub fn read_end<R: Read>(feed: &mut Feed<R>) -> Result<(), FieldStop>
     ensures { ReadsToEnd (λ done. done) feed.old result feed.new end_at }
 {
     match feed.refill() {

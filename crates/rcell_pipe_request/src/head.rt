@@ -15,8 +15,8 @@ use cell_ascii_reading::number::coordinate;
 use cell_core::name::{Name, NameFault};
 use cell_core::region::{Region, RegionFault};
 use cell_core::shelf::Shelf;
-use cell_core::source::Source;
 use std::alloc::Global;
+use std::io::Read;
 
 /// How the rows of a map are kept: the type of the numbers, the number for null, and whether each row has a mask.
 #[derive(Clone, Copy, Debug)]
@@ -53,7 +53,7 @@ pub struct MapHead {
 
 // A coordinate, as the header of a grid text has it.
 #[tactic(auto, unfolding(crate::specs::Heads::coordinate_at))]
-fn read_coordinate<R: Source>(alloc: Global, feed: &mut Feed<R>) -> Result<i64, FieldStop>
+fn read_coordinate<R: Read>(alloc: Global, feed: &mut Feed<R>) -> Result<i64, FieldStop>
     ensures { ReadsField (λ n. n) feed.old result feed.new coordinate_at }
 {
     let text = read_short_text(alloc, feed)?;
@@ -65,7 +65,7 @@ fn read_coordinate<R: Source>(alloc: Global, feed: &mut Feed<R>) -> Result<i64, 
 
 // Four coordinates.
 #[tactic(auto, unfolding(crate::specs::Heads::edges_at))]
-fn read_edges<R: Source>(alloc: Global, feed: &mut Feed<R>) -> Result<Edges, FieldStop>
+fn read_edges<R: Read>(alloc: Global, feed: &mut Feed<R>) -> Result<Edges, FieldStop>
     ensures { ReadsField edges_value feed.old result feed.new edges_at }
 {
     let north = read_coordinate(alloc, feed)?;
@@ -89,7 +89,7 @@ fn region_of(edges: Edges, rows: u32, cols: u32) -> Result<Region, RegionFault>
 
 // Four coordinates and two numbers, if they are a region.
 #[tactic(auto, unfolding(crate::specs::Heads::region_at))]
-fn read_region<R: Source>(alloc: Global, feed: &mut Feed<R>) -> Result<Region, FieldStop>
+fn read_region<R: Read>(alloc: Global, feed: &mut Feed<R>) -> Result<Region, FieldStop>
     ensures { ReadsField (λ region. region) feed.old result feed.new region_at }
 {
     let edges = read_edges(alloc, feed)?;
@@ -123,7 +123,7 @@ fn is_of_shelf(shelf: Option<&Shelf>, region: Region) -> bool
 
 /// A name.
 #[tactic(auto, unfolding(crate::specs::Heads::map_name_at))]
-pub fn read_name<R: Source>(alloc: Global, feed: &mut Feed<R>) -> Result<Name, FieldStop>
+pub fn read_name<R: Read>(alloc: Global, feed: &mut Feed<R>) -> Result<Name, FieldStop>
     ensures { ReadsField (λ name. name) feed.old result feed.new map_name_at }
 {
     let text = read_short_text(alloc, feed)?;
@@ -136,7 +136,7 @@ pub fn read_name<R: Source>(alloc: Global, feed: &mut Feed<R>) -> Result<Name, F
 
 // A name that no map before has.
 #[tactic(auto, unfolding(crate::specs::Heads::new_name_at))]
-fn read_new_name<R: Source>(
+fn read_new_name<R: Read>(
     alloc: Global,
     feed: &mut Feed<R>,
     shelf: Option<&Shelf>,
@@ -153,7 +153,7 @@ fn read_new_name<R: Source>(
 
 // The region of the maps before.
 #[tactic(auto, unfolding(crate::specs::Heads::same_region_at))]
-fn read_same_region<R: Source>(
+fn read_same_region<R: Read>(
     alloc: Global,
     feed: &mut Feed<R>,
     shelf: Option<&Shelf>,
@@ -183,7 +183,7 @@ fn nodata_of(kind: CellType, flags: u8, number: i64) -> Option<Option<i64>>
 }
 
 #[tactic(auto, unfolding(crate::specs::Heads::type_at))]
-fn read_type<R: Source>(feed: &mut Feed<R>) -> Result<CellType, FieldStop>
+fn read_type<R: Read>(feed: &mut Feed<R>) -> Result<CellType, FieldStop>
     ensures { ReadsField (λ kind. kind) feed.old result feed.new type_at }
 {
     let code = read_u8(feed)?;
@@ -194,7 +194,7 @@ fn read_type<R: Source>(feed: &mut Feed<R>) -> Result<CellType, FieldStop>
 }
 
 #[tactic(auto, unfolding(crate::specs::Heads::flags_at))]
-fn read_flags<R: Source>(feed: &mut Feed<R>) -> Result<u8, FieldStop>
+fn read_flags<R: Read>(feed: &mut Feed<R>) -> Result<u8, FieldStop>
     ensures { ReadsField (λ flags. flags) feed.old result feed.new flags_at }
 {
     let flags = read_u8(feed)?;
@@ -205,7 +205,7 @@ fn read_flags<R: Source>(feed: &mut Feed<R>) -> Result<u8, FieldStop>
 }
 
 #[tactic(auto, unfolding(crate::specs::Heads::format_at))]
-fn read_format<R: Source>(feed: &mut Feed<R>) -> Result<RawFormat, FieldStop>
+fn read_format<R: Read>(feed: &mut Feed<R>) -> Result<RawFormat, FieldStop>
     ensures { ReadsField (λ format. format) feed.old result feed.new format_at }
 {
     let kind = read_type(feed)?;
@@ -236,7 +236,7 @@ fn is_bad_label(category: i32, text: &[u8]) -> bool
 }
 
 #[tactic(auto, unfolding(crate::specs::Heads::label_at))]
-fn read_label<R: Source>(alloc: Global, feed: &mut Feed<R>) -> Result<Label, FieldStop>
+fn read_label<R: Read>(alloc: Global, feed: &mut Feed<R>) -> Result<Label, FieldStop>
     ensures reads { ReadsField label_value feed.old result feed.new label_at }
     ensures good { IfOk result IsGoodLabel }
 {
@@ -250,7 +250,7 @@ fn read_label<R: Source>(alloc: Global, feed: &mut Feed<R>) -> Result<Label, Fie
 
 // Reads one label more.
 #[tactic(auto, unfolding(crate::specs::Heads::one_more_label))]
-fn push_label<R: Source>(
+fn push_label<R: Read>(
     alloc: Global,
     feed: &mut Feed<R>,
     labels: &mut Vec<Label>,
@@ -265,7 +265,7 @@ fn push_label<R: Source>(
 }
 
 // So many labels.
-fn read_so_many_labels<R: Source>(
+fn read_so_many_labels<R: Read>(
     alloc: Global,
     feed: &mut Feed<R>,
     count: u32,
@@ -285,7 +285,7 @@ fn read_so_many_labels<R: Source>(
 }
 
 #[tactic(auto, unfolding(crate::specs::Heads::labels_at))]
-fn read_labels<R: Source>(alloc: Global, feed: &mut Feed<R>) -> Result<Vec<Label>, FieldStop>
+fn read_labels<R: Read>(alloc: Global, feed: &mut Feed<R>) -> Result<Vec<Label>, FieldStop>
     ensures reads { ReadsField (λ labels. label_values labels.items) feed.old result feed.new
         labels_at }
     ensures good { IfOk result (λ labels. All IsGoodLabel labels.items) }
@@ -296,7 +296,7 @@ fn read_labels<R: Source>(alloc: Global, feed: &mut Feed<R>) -> Result<Vec<Label
 
 /// What precedes the rows of a map, if the maps before are on this shelf.
 #[tactic(auto, unfolding(crate::specs::Heads::head_at))]
-pub fn read_head<R: Source>(
+pub fn read_head<R: Read>(
     alloc: Global,
     feed: &mut Feed<R>,
     shelf: Option<&Shelf>,

@@ -1,7 +1,8 @@
 //! The types of numbers.
 
-ghost use Rattle.std.specs.Prelude.{◌≡◌, ◌+◌, ◌*◌, ◌<◌, ◌≤◌, length, take, drop};
+ghost use Rattle.std.specs.Prelude.{◌≡◌, ◌+◌, ◌*◌, ◌<◌, ◌≤◌, length, take, drop, true};
 ghost use Rattle.rcell_pipe_request.specs.Numbers.{type_of_code, byte_size, raw_number, has_number};
+ghost use Rattle.rcell_pipe_request.specs.parts.NarrowNumbers.{is_narrow};
 
 /// How a number is kept as bytes: its size in bits and whether it has a sign.
 #[derive(Clone, Copy, Debug, PartialEq, Eq)]
@@ -112,5 +113,22 @@ pub fn raw_number(kind: CellType, bytes: &[u8], place: usize) -> i64
         CellType::U32 => i64::from(u32::from_le_bytes(four(bytes, 4 * place))),
         CellType::I32 => i64::from(i32::from_le_bytes(four(bytes, 4 * place))),
         CellType::I64 => i64::from_le_bytes(eight(bytes, 8 * place)),
+    }
+}
+
+/// The number in a place of a row, if an `i32` holds each number of the type. A vector holds more numbers of 32 bits than of 64.
+#[inline(always)]
+pub(crate) fn narrow_number(kind: CellType, bytes: &[u8], place: usize) -> i32
+    requires size { (place + 1) * byte_size kind ≤ length bytes.now }
+    requires narrow { is_narrow kind ≡ true }
+    ensures { result ≡ raw_number kind bytes.now place }
+{
+    match kind {
+        CellType::U8 => i32::from(bytes[place]),
+        CellType::I8 => i32::from(i8::from_le_bytes([bytes[place]])),
+        CellType::U16 => i32::from(u16::from_le_bytes(two(bytes, 2 * place))),
+        CellType::I16 => i32::from(i16::from_le_bytes(two(bytes, 2 * place))),
+        CellType::I32 => i32::from_le_bytes(four(bytes, 4 * place)),
+        CellType::U32 | CellType::I64 => 0,
     }
 }

@@ -1,7 +1,8 @@
-//! Requests of `rcell-pipe`: from bytes to maps and a script, or their first error. docs/pipe.md
-//! defines the bytes (profile).
+//! Requests of `rcell-pipe`: from bytes to maps, a script and questions, or their first error.
+//! docs/pipe.md defines the bytes (profile).
 //!
-//! - `request`: `read_run`, a `Request`: maps of one region, and a script
+//! - `request`: `read_run`, a `Request`: maps of one region, a script, and questions
+//! - `question`: `Question`, about the patches of a map; private `questions`: from bytes
 //! - `error`: `RequestError`, the first error, after how many maps and in which row
 //! - `feed`: `Feed`, a source in blocks; numbers with their lowest byte first, texts
 //! - `head`: `read_head`, what precedes the rows of a map; private `named_map`: the map
@@ -21,5 +22,7 @@ pub mod head;
 pub mod kind;
 mod named_map;
 pub mod packed_row;
+pub mod question;
+mod questions;
 pub mod raw_row;
 pub mod request;

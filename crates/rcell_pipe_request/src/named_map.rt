@@ -24,8 +24,8 @@ use cell_core::memory::Memory;
 use cell_core::name::Name;
 use cell_core::region::Region;
 use cell_core::shelf::Shelf;
-use cell_core::source::Source;
 use std::alloc::Global;
+use std::io::Read;
 
 /// A map under its name.
 #[derive(Debug, Drop)]
@@ -45,7 +45,7 @@ fn kind_of_row(error: RowError) -> ErrorKind
 
 // Reads a row, by a slice for its bytes and one for its mask: packed into its bytes, or else into a slice of cells.
 #[tactic(auto, unfolding(crate::specs::Rows::cells_at))]
-fn read_cells<R: Source>(
+fn read_cells<R: Read>(
     feed: &mut Feed<R>,
     format: RawFormat,
     bytes: &mut [u8],
@@ -69,9 +69,9 @@ fn read_cells<R: Source>(
     }
 }
 
-// Reads one row more.
+// Reads one more row.
 #[tactic(auto, unfolding(crate::specs::Requests::one_more_row))]
-fn push_row<R: Source>(
+fn push_row<R: Read>(
     feed: &mut Feed<R>,
     maps: u32,
     format: RawFormat,
@@ -106,7 +106,7 @@ fn push_row<R: Source>(
 }
 
 // Reads all rows.
-fn push_rows<R: Source>(
+fn push_rows<R: Read>(
     feed: &mut Feed<R>,
     maps: u32,
     format: RawFormat,
@@ -136,7 +136,7 @@ fn push_rows<R: Source>(
 }
 
 // The map of the rows, without labels.
-fn read_rows<R: Source>(
+fn read_rows<R: Read>(
     alloc: Global,
     feed: &mut Feed<R>,
     maps: u32,
@@ -195,7 +195,7 @@ fn set_labels(map: &mut CellMap, labels: &[Label]) -> Result<(), Memory>
 
 /// A map under its name, if the maps before are on this shelf.
 #[tactic(auto, unfolding(crate::specs::Requests::map_at))]
-pub fn read_named_map<R: Source>(
+pub fn read_named_map<R: Read>(
     alloc: Global,
     feed: &mut Feed<R>,
     maps: u32,

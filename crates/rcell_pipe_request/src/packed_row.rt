@@ -113,7 +113,7 @@ pub fn pack_row(nodata: Option<i64>, mask: &[u8], bytes: &mut [u8]) -> bool
 ///
 /// # Errors
 ///
-/// The first [`RowError`] in the order that its variants have.
+/// The first [`RowError`] in the order of its variants.
 pub fn read_or_pack_row(
     kind: CellType,
     nodata: Option<i64>,

@@ -1,14 +1,15 @@
 //! Rows of bytes are read as rows of cells.
 
-ghost use Rattle.std.specs.Prelude.{◌≡◌, ◌≤◌, ◌+◌, ◌*◌, length, slice_get, OnOk};
+ghost use Rattle.std.specs.Prelude.{◌≡◌, ◌≤◌, ◌+◌, ◌*◌, ◌&&◌, not, true, ℤ, Option, length, slice_get, OnOk};
 ghost use Rattle.cell_core_values.specs.Cell.{is_category};
 ghost use Rattle.rcell_pipe_request.specs.Numbers.{byte_size, raw_number};
+ghost use Rattle.rcell_pipe_request.specs.parts.NarrowNumbers.{is_narrow, IsNullNumber};
 ghost use Rattle.rcell_pipe_request.specs.RawRows.{is_hiding, is_nodata, is_outside, cell_of_raw, raw_cell, is_raw_outside, raw_cells, has_outside, is_bad_mask, row_error, error_of};
 
-use crate::kind::{CellType, raw_number};
+use crate::kind::{CellType, narrow_number, raw_number};
 use cell_core_values::cell::Cell;
 
-/// Why a row of bytes is no row of cells: the first reason in this order.
+/// Why a row of bytes is not a row of cells: the first reason in this order.
 #[derive(Clone, Copy, Debug, PartialEq, Eq)]
 pub enum RowError {
     /// A byte of the mask is neither 0 nor 1.
@@ -47,7 +48,7 @@ fn is_category(number: i64) -> bool
     -2147483647 <= number && number <= 2147483647
 }
 
-// The cell of a number; null for one that is no category.
+// The cell of a number; null for one that is not a category.
 #[inline(always)]
 fn cell_of_raw(nodata: Option<i64>, number: i64) -> Cell
     ensures { result ≡ cell_of_raw nodata number }
@@ -99,7 +100,7 @@ fn is_raw_outside(
     !is_hidden(mask, place) && is_outside(nodata, raw_number(kind, bytes, place))
 }
 
-// The cells of a row, and whether a number is none of a cell.
+// Fills a row. Returns whether any number is not a valid cell.
 #[inline(always)]
 fn fill_row(
     kind: CellType,
@@ -143,6 +144,108 @@ fn fill_row_of(
     }
 }
 
+// The 32-bit number that stands for null; if there is none, the smallest, which is not a category.
+fn null_number(nodata: Option<i64>) -> i32
+    ensures { IsNullNumber nodata result }
+{
+    match nodata {
+        Some(number) => {
+            if is_category(number) {
+                number as i32
+            } else {
+                i32::MIN
+            }
+        }
+        None => i32::MIN,
+    }
+}
+
+// The cell of a number that an `i32` holds.
+#[inline(always)]
+fn narrow_cell(null: i32, number: i32) -> Cell
+    ensures { (nodata : Option ℤ) → IsNullNumber nodata null → result ≡ cell_of_raw nodata number }
+{
+    if number == null {
+        return Cell::null();
+    }
+    match Cell::value(number) {
+        Some(cell) => cell,
+        None => Cell::null(),
+    }
+}
+
+// The cell at a place in a row of numbers that fit in an `i32`.
+#[inline(always)]
+fn raw_narrow_cell(kind: CellType, null: i32, mask: &[u8], bytes: &[u8], place: usize) -> Cell
+    requires size { (place + 1) * byte_size kind ≤ length bytes.now }
+    requires narrow { is_narrow kind ≡ true }
+    ensures { (nodata : Option ℤ) → IsNullNumber nodata null
+        → result ≡ raw_cell kind nodata mask.now bytes.now place }
+{
+    // The number is read whether it is hidden or not, so that a vector takes several at a time.
+    let cell = narrow_cell(null, narrow_number(kind, bytes, place));
+    if !is_hidden(mask, place) {
+        return cell;
+    }
+    Cell::null()
+}
+
+// Whether the number in a place of a row of numbers that an `i32` holds is none of a cell, if the smallest is not null.
+#[inline(always)]
+fn is_narrow_outside(kind: CellType, mask: &[u8], bytes: &[u8], place: usize) -> bool
+    requires size { (place + 1) * byte_size kind ≤ length bytes.now }
+    requires narrow { is_narrow kind ≡ true }
+    ensures { (nodata : Option ℤ) → (result && not (is_nodata nodata i32.MIN))
+        ≡ is_raw_outside kind nodata mask.now bytes.now place }
+{
+    let number = narrow_number(kind, bytes, place);
+    !is_hidden(mask, place) & (number == i32::MIN)
+}
+
+// The same as fill_row for numbers that an `i32` holds.
+#[inline(always)]
+fn fill_narrow(
+    kind: CellType,
+    nodata: Option<i64>,
+    mask: &[u8],
+    bytes: &[u8],
+    cells: &mut [Cell],
+) -> bool
+    requires size { length cells.old * byte_size kind ≤ length bytes.now }
+    requires narrow { is_narrow kind ≡ true }
+    ensures cells { cells.new ≡ raw_cells kind nodata mask.now bytes.now (length cells.old) }
+    ensures outside { result ≡ has_outside kind nodata mask.now bytes.now (length cells.old) }
+{
+    let null = null_number(nodata);
+    let mut found = false;
+    for i in 0..cells.len() {
+        found = found | is_narrow_outside(kind, mask, bytes, i);
+        cells[i] = raw_narrow_cell(kind, null, mask, bytes, i);
+    }
+    found && !is_nodata(nodata, i64::from(i32::MIN))
+}
+
+// The same as fill_row_of, for a mask that hides nothing or has a byte for each number, which the compiler may know.
+#[inline(always)]
+fn fill_fast(
+    kind: CellType,
+    nodata: Option<i64>,
+    mask: &[u8],
+    bytes: &[u8],
+    cells: &mut [Cell],
+) -> bool
+    requires { length cells.old * byte_size kind ≤ length bytes.now }
+    ensures cells { cells.new ≡ raw_cells kind nodata mask.now bytes.now (length cells.old) }
+    ensures outside { result ≡ has_outside kind nodata mask.now bytes.now (length cells.old) }
+{
+    match kind {
+        CellType::U16 => fill_narrow(CellType::U16, nodata, mask, bytes, cells),
+        CellType::I16 => fill_narrow(CellType::I16, nodata, mask, bytes, cells),
+        CellType::I32 => fill_narrow(CellType::I32, nodata, mask, bytes, cells),
+        _ => fill_row_of(kind, nodata, mask, bytes, cells),
+    }
+}
+
 // Whether a mask has a byte other than 0 and 1.
 pub(crate) fn is_bad_mask(mask: &[u8]) -> bool
     ensures { result ≡ is_bad_mask mask.now }
@@ -155,11 +258,11 @@ pub(crate) fn is_bad_mask(mask: &[u8]) -> bool
     found
 }
 
-/// Reads a row of numbers into a slice of as many cells. An empty mask hides nothing.
+/// Reads a row of numbers into a slice of the same length. An empty mask hides nothing.
 ///
 /// # Errors
 ///
-/// The first [`RowError`] in the order that its variants have.
+/// The first [`RowError`] in the order of its variants.
 pub fn read_row(
     kind: CellType,
     nodata: Option<i64>,
@@ -178,7 +281,10 @@ pub fn read_row(
         return Err(RowError::BadMask);
     }
     let outside = if mask.is_empty() {
-        fill_row_of(kind, nodata, &[], bytes, cells)
+        fill_fast(kind, nodata, &[], bytes, cells)
+    } else if mask.len() == cells.len() {
+        // Here the compiler knows that each number has a byte of the mask, and takes several at a time.
+        fill_fast(kind, nodata, mask, bytes, cells)
     } else {
         fill_row_of(kind, nodata, mask, bytes, cells)
     };

@@ -8,20 +8,23 @@ ghost use Rattle.rcell_pipe_request.specs.Requests.{first_shelf, shelf_with, cou
 use crate::error::{ErrorKind, FieldStop, RequestStop};
 use crate::feed::{Feed, read_bytes, read_end, read_u32};
 use crate::named_map::{NamedMap, read_named_map};
+use crate::question::Question;
+use crate::questions::read_last_questions;
 use cell_core::shelf::Shelf;
-use cell_core::source::Source;
 use std::alloc::Global;
+use std::io::Read;
 
-/// Maps and a script.
+/// Maps, a script, and questions about the maps at its end.
 #[derive(Debug, Drop)]
 pub struct Request {
     pub shelf: Shelf,
     pub script: Vec<u8>,
+    pub questions: Vec<Question>,
 }
 
 // The number of maps.
 #[tactic(auto, unfolding(crate::specs::Requests::count_at))]
-fn read_count<R: Source>(feed: &mut Feed<R>) -> Result<u32, FieldStop>
+fn read_count<R: Read>(feed: &mut Feed<R>) -> Result<u32, FieldStop>
     ensures reads { ReadsField (λ n. n) feed.old result feed.new count_at }
     ensures within { IfOk result (λ n. (1 ≤ n) × (n ≤ 65535)) }
 {
@@ -34,7 +37,7 @@ fn read_count<R: Source>(feed: &mut Feed<R>) -> Result<u32, FieldStop>
 
 // The bytes of the script.
 #[tactic(auto, unfolding(crate::specs::Requests::script_at))]
-fn read_script<R: Source>(alloc: Global, feed: &mut Feed<R>) -> Result<Vec<u8>, FieldStop>
+fn read_script<R: Read>(alloc: Global, feed: &mut Feed<R>) -> Result<Vec<u8>, FieldStop>
     ensures { ReadsField (λ text. text.items) feed.old result feed.new script_at }
 {
     let size = read_u32(feed)?;
@@ -44,9 +47,9 @@ fn read_script<R: Source>(alloc: Global, feed: &mut Feed<R>) -> Result<Vec<u8>, 
     read_bytes(alloc, feed, size as usize)
 }
 
-/// The bytes of the script, which end the request.
+/// The bytes of the script, which end a request without questions.
 #[tactic(auto, unfolding(crate::specs::Requests::last_script_at))]
-pub fn read_last_script<R: Source>(alloc: Global, feed: &mut Feed<R>) -> Result<Vec<u8>, FieldStop>
+pub fn read_last_script<R: Read>(alloc: Global, feed: &mut Feed<R>) -> Result<Vec<u8>, FieldStop>
     ensures { ReadsToEnd (λ text. text.items) feed.old result feed.new last_script_at }
 {
     let script = read_script(alloc, feed)?;
@@ -82,7 +85,7 @@ fn put_map(shelf: &mut Shelf, named: NamedMap) -> Result<(), RequestStop>
 
 // Reads one map more.
 #[tactic(auto, unfolding(crate::specs::Requests::one_more_map))]
-fn push_map<R: Source>(
+fn push_map<R: Read>(
     alloc: Global,
     feed: &mut Feed<R>,
     shelf: &mut Shelf,
@@ -100,7 +103,7 @@ fn push_map<R: Source>(
 }
 
 // Reads so many maps more.
-fn push_maps<R: Source>(
+fn push_maps<R: Read>(
     alloc: Global,
     feed: &mut Feed<R>,
     shelf: &mut Shelf,
@@ -127,7 +130,7 @@ struct FirstMap {
 }
 
 #[tactic(auto, unfolding(crate::specs::Requests::first_map_at))]
-fn read_first_map<R: Source>(alloc: Global, feed: &mut Feed<R>) -> Result<FirstMap, RequestStop>
+fn read_first_map<R: Read>(alloc: Global, feed: &mut Feed<R>) -> Result<FirstMap, RequestStop>
     ensures reads { ReadsPlaced (λ first. (first.count, first.shelf)) feed.old result feed.new
         first_map_at }
     ensures count { IfOk result (λ first. (1 ≤ first.count) × (first.count ≤ 65535)) }
@@ -147,13 +150,13 @@ fn read_first_map<R: Source>(alloc: Global, feed: &mut Feed<R>) -> Result<FirstM
     }
 }
 
-/// Reads the maps and the script of a run, to the end of its source. Memory grows with the bytes that have come.
+/// Reads the maps, the script and the questions of a run, to the end of its source. Memory grows with the bytes that have come.
 ///
 /// # Errors
 ///
 /// The first error of the bytes, or [`RequestStop::Memory`] if memory ran out.
 #[tactic(auto, unfolding(crate::specs::Requests::run_at))]
-pub fn read_run<R: Source>(alloc: Global, feed: &mut Feed<R>) -> Result<Request, RequestStop>
+pub fn read_run<R: Read>(alloc: Global, feed: &mut Feed<R>) -> Result<Request, RequestStop>
     ensures { ReadsPlacedToEnd run_request_value feed.old result feed.new run_at }
 {
     let first = match read_first_map(alloc, feed) {
@@ -165,8 +168,16 @@ pub fn read_run<R: Source>(alloc: Global, feed: &mut Feed<R>) -> Result<Request,
         Ok(()) => {}
         Err(stop) => return Err(stop),
     }
-    match read_last_script(alloc, feed) {
-        Ok(script) => Ok(Request { shelf, script }),
-        Err(stop) => Err(stop.at(count, 0)),
+    let script = match read_script(alloc, feed) {
+        Ok(script) => script,
+        Err(stop) => return Err(stop.at(count, 0)),
+    };
+    match read_last_questions(alloc, feed, count) {
+        Ok(questions) => Ok(Request {
+            shelf,
+            script,
+            questions,
+        }),
+        Err(stop) => Err(stop),
     }
 }

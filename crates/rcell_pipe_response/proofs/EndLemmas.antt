@@ -1,6 +1,6 @@
 -- The ends of a run.
 use Rattle.std.proofs.Common.{◌≡◌, ◌≢◌, ◌∙◌, ℕ, Bool, true, false, not, List, [], ◌++◌, length, Option, Some, None}
-use Rattle.std.proofs.Common.{Result, Ok, ◌∷◌, refl, sym, ap, subst, append_assoc, append-nil, ◌||◌}
+use Rattle.std.proofs.Common.{Result, Ok, ◌∷◌, ◌⊎◌, inr, refl, sym, ap, subst, append_assoc, append-nil, ◌||◌}
 use Rattle.cell_core_devices.specs.Device.{Faults, append_known, after_put, after_flush, has_failed}
 use Rattle.cell_core_devices.specs.Blocks.{capped_count, BlockValue, Appended, Appends}
 use Rattle.cell_core.specs.Shelf.{ShelfValue}
@@ -12,6 +12,7 @@ use Rattle.rcell_pipe_response.specs.parts.ScriptKinds.{is_memory}
 use Rattle.rcell_script.specs.declared.statement.Statement.{Statement}
 use Rattle.cell_ascii_writer.proofs.PutLemmas.{appended_put}
 use Rattle.rcell_pipe_request.specs.declared.error.RequestError.{RequestError}
+use Rattle.rcell_pipe_request.specs.Questions.{QuestionValue}
 use Rattle.rcell_pipe_request.specs.Requests.{RunRequestValue}
 use Rattle.rcell_pipe_response.specs.declared.end.PipeError.{PipeError}
 use Rattle.rcell_pipe_response.specs.declared.end.PipeError.TheVariants as errors
@@ -99,25 +100,38 @@ ends_as says {before} {now} {start} {after} reported {text} {outcome} is fine fi
 
 -- a run whose sink failed in a statement
 pub end_broken : (form : RunForm) (read : Result RunRequestValue RequestError) {before now : Option (List ℕ)}
-    {start after : Faults} {outcome : PipeOutcome} (shelf : ShelfValue) (first others : List Statement) (text : List ℕ)
+    {start after : Faults} {outcome : PipeOutcome} (shelf : ShelfValue) (first others : List Statement)
+    (answered unanswered : List QuestionValue) (text : List ℕ)
     → outcome.reported ≡ Some errors.Write → outcome.error ≡ Some errors.Write
     → outcome.status ≡ end_status_after outcome.error
-    → IsPipeAccepted read shelf (first ++ others) → GivesFirst form shelf first text
+    → IsPipeAccepted form read shelf (first ++ others) (answered ++ unanswered)
+    → (others ≡ []) ⊎ (answered ≡ []) → GivesFirst form shelf first answered text
     → after ≡ after_put start true → IsCut before now text outcome.written
     → EndsAs (IsResponse form read) before start now after outcome
-end_broken form read shelf first others text reported error status accepted gives failed cut = record {
-  text = text;
-  is = subst (IsResponse form read text) (sym reported)
-      (record { shelf = shelf; first = first; others = others; accepted = accepted; gives = gives });
-  finished = record { sending = Refused; reported_is = refl; error_is = error; status = status; sent = (failed, cut) };
-  settled = λ write. refl;
-}
+end_broken form read shelf first others answered unanswered text reported error status accepted order gives failed
+    cut = record {
+      text = text;
+      is = subst (IsResponse form read text) (sym reported)
+          (record {
+            shelf = shelf;
+            first = first;
+            others = others;
+            answered = answered;
+            unanswered = unanswered;
+            accepted = accepted;
+            in_order = order;
+            gives = gives;
+          });
+      finished = record { sending = Refused; reported_is = refl; error_is = error; status = status; sent = (failed, cut) };
+      settled = λ write. refl;
+    }
 
 -- a run that writes text: done, out of memory at a statement, or cut by the sink
 module _ (read : Result RunRequestValue RequestError) (shelf : ShelfValue) (statements : List Statement)
-    (accepted : IsPipeAccepted read shelf statements) (written : ℕ) where
-  accepted_parts : (parts : List Statement) → parts ≡ statements → IsPipeAccepted read shelf parts
-  accepted_parts parts whole = subst (λ (s : List Statement). IsPipeAccepted read shelf s) (sym whole) accepted
+    (questions : List QuestionValue) (accepted : IsPipeAccepted Text read shelf statements questions) (written : ℕ) where
+  accepted_parts : (parts : List Statement) → parts ≡ statements → IsPipeAccepted Text read shelf parts questions
+  accepted_parts parts whole =
+      subst (λ (s : List Statement). IsPipeAccepted Text read shelf s questions) (sym whole) accepted
 
   pub text_done : {before between now : Option (List ℕ)} {start middle after : Faults} {outcome : PipeOutcome}
       (done : IsDone shelf statements before between written) → middle ≡ start
@@ -125,7 +139,13 @@ module _ (read : Result RunRequestValue RequestError) (shelf : ShelfValue) (stat
       → EndsAs (IsResponse Text read) before start now after outcome
   text_done {before} {between} {now} {start} {middle} {after} {outcome} done same finished =
       ends_as (IsResponse Text read) None
-      (record { shelf = shelf; statements = statements; accepted = accepted; gives = done.output }) (λ write. cc)
+      (record {
+        shelf = shelf;
+        statements = statements;
+        questions = questions;
+        accepted = accepted;
+        gives = done.output;
+      }) (λ write. cc)
       (subst (λ (f : Faults). Finished before f now after None done.text outcome) same finished)
 
   pub text_stopped : {before between now : Option (List ℕ)} {start middle after : Faults} {outcome : PipeOutcome}
@@ -139,6 +159,7 @@ module _ (read : Result RunRequestValue RequestError) (shelf : ShelfValue) (stat
         first = s.first;
         statement = s.statement;
         others = s.others;
+        questions = questions;
         accepted = accepted_parts (s.first ++ s.statement ∷ s.others) s.whole;
         line_is = s.line_is;
         gives = (s.after, s.executed);
@@ -151,38 +172,46 @@ module _ (read : Result RunRequestValue RequestError) (shelf : ShelfValue) (stat
       → outcome.reported ≡ Some errors.Write → outcome.error ≡ Some errors.Write
       → outcome.status ≡ end_status_after outcome.error
       → outcome.written ≡ written → EndsAs (IsResponse Text read) before start now after outcome
-  text_failed w failed reported error status count = end_broken Text read shelf w.first w.others (w.prefix ++ w.rest)
-      reported error status (accepted_parts (w.first ++ w.others) w.whole) (w.after, w.executed) failed
+  text_failed w failed reported error status count = end_broken Text read shelf w.first w.others [] questions
+      (w.prefix ++ w.rest) reported error status (accepted_parts (w.first ++ w.others) w.whole) (inr refl)
+      (w.after, w.executed) failed
       (record { front = w.prefix; rest = w.rest; whole = refl; taken = w.taken; count = count ∙ w.count })
 
--- what is no want of memory
+-- an end that is not lack of memory
 pub not_memory : (kind : ScriptKind) → is_memory kind ≡ false → kind ≢ script_kinds.Memory
 not_memory kind not same = absurd (cc (not, ap is_memory same))
 
-abbrev pub of_run : ShelfValue → List ℕ → RunRequestValue
-of_run shelf script = record { shelf = shelf; script = script }
+abbrev pub of_run : ShelfValue → List ℕ → List QuestionValue → RunRequestValue
+of_run shelf script questions = record { shelf = shelf; script = script; questions = questions }
 
 -- a rejected script has its response
-pub rejection : (form : RunForm) (shelf : ShelfValue) (script : List ℕ) (fault : ScriptFault) (error : PipeError) (end : EndValue) → IsScriptFault shelf.names script fault → IsRejection fault error end
-    → IsResponse form (Ok (of_run shelf script)) (response_bytes [] end) (Some error)
-rejection form shelf script fault (errors.Script error) end first is = record {
+pub rejection : (form : RunForm) (shelf : ShelfValue) (script : List ℕ) (questions : List QuestionValue)
+    (fault : ScriptFault) (error : PipeError) (end : EndValue)
+    → IsScriptFault shelf.names script fault → IsRejection fault error end
+    → IsResponse form (Ok (of_run shelf script questions)) (response_bytes [] end) (Some error)
+rejection form shelf script questions fault (errors.Script error) end first is = record {
   shelf = shelf;
   script = script;
+  questions = questions;
   request = refl;
   first = subst (λ (f : ScriptFault). IsScriptFault shelf.names script f) (sym is.0) first;
   bytes = ap (λ (e : EndValue). response_bytes [] e) (is.1 ∙ ap script_end (sym is.0));
 }
-rejection form shelf script fault errors.Memory end first is = ap (λ (e : EndValue). response_bytes [] e) is
-rejection form shelf script fault (errors.Request error) end first is = absurd is
-rejection form shelf script fault (errors.MemoryAt line) end first is = absurd is
-rejection form shelf script fault errors.Write end first is = absurd is
+rejection form shelf script questions fault errors.Memory end first is = ap (λ (e : EndValue). response_bytes [] e) is
+rejection form shelf script questions fault (errors.Request error) end first is = absurd is
+rejection form shelf script questions fault (errors.Question error) end first is = absurd is
+rejection form shelf script questions fault (errors.MemoryAt line) end first is = absurd is
+rejection form shelf script questions fault errors.MemoryAtQuestion end first is = absurd is
+rejection form shelf script questions fault errors.Write end first is = absurd is
 
 -- nor is a rejection a failed write
 pub not_write : (fault : ScriptFault) (error : PipeError) (end : EndValue) → IsRejection fault error end → Some error ≡ Some errors.Write → ⊥
 not_write fault (errors.Script error) end is same = cc
 not_write fault errors.Memory end is same = cc
 not_write fault (errors.Request error) end is same = is
+not_write fault (errors.Question error) end is same = is
 not_write fault (errors.MemoryAt line) end is same = is
+not_write fault errors.MemoryAtQuestion end is same = is
 not_write fault errors.Write end is same = is
 
 -- ---- what became of a response, from how it ended
@@ -195,8 +224,10 @@ taken_whole : (error : Option PipeError) (before : Option (List ℕ)) (text : Li
 taken_whole None before text fine all count = (all, count)
 taken_whole (Some (errors.Request error)) before text fine all count = (all, count)
 taken_whole (Some (errors.Script error)) before text fine all count = (all, count)
+taken_whole (Some (errors.Question error)) before text fine all count = (all, count)
 taken_whole (Some errors.Memory) before text fine all count = (all, count)
 taken_whole (Some (errors.MemoryAt line)) before text fine all count = (all, count)
+taken_whole (Some errors.MemoryAtQuestion) before text fine all count = (all, count)
 taken_whole (Some errors.Write) before text fine all count = absurd (fine refl)
 
 used_well : (error : Option PipeError) (start : Faults) {after : Faults} → (error ≡ Some errors.Write → ⊥)
@@ -205,8 +236,10 @@ used_well : (error : Option PipeError) (start : Faults) {after : Faults} → (er
 used_well None start fine flushed = flushed
 used_well (Some (errors.Request error)) start fine flushed = flushed
 used_well (Some (errors.Script error)) start fine flushed = flushed
+used_well (Some (errors.Question error)) start fine flushed = flushed
 used_well (Some errors.Memory) start fine flushed = flushed
 used_well (Some (errors.MemoryAt line)) start fine flushed = flushed
+used_well (Some errors.MemoryAtQuestion) start fine flushed = flushed
 used_well (Some errors.Write) start fine flushed = absurd (fine refl)
 
 module _ (says : List ℕ → Option PipeError → Type 0) {before now : Option (List ℕ)} {start after : Faults}
@@ -302,6 +335,8 @@ pub only_end_of_run : (form : RunForm) (read : Result RunRequestValue RequestErr
 only_end_of_run form read response None is = tt
 only_end_of_run form read response (Some (errors.Request error)) is = is.1
 only_end_of_run form read response (Some (errors.Script error)) is = is.bytes
+only_end_of_run form read response (Some (errors.Question error)) is = is.bytes
 only_end_of_run form read response (Some errors.Memory) is = is
 only_end_of_run form read response (Some (errors.MemoryAt line)) is = tt
+only_end_of_run form read response (Some errors.MemoryAtQuestion) is = tt
 only_end_of_run form read response (Some errors.Write) is = tt

@@ -6,3 +6,6 @@ pub mod EndLemmas
 pub mod ListingLemmas
 pub mod TableLemmas
 pub mod StatsLemmas
+pub mod SmallLemmas
+pub mod QuestionLemmas
+pub mod AppendLemmas

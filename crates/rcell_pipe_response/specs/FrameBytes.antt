@@ -1,12 +1,16 @@
 -- The bytes of a response: a magic line, the frames, and a frame that says how the run ended (profile).
-use Rattle.std.specs.Prelude.{ℕ, pos, negsuc, Bool, true, false, List, [], ◌∷◌, ◌++◌, length, map, flat_map, codes, Some, None, if◌then◌else◌, nat_le}
-use Rattle.std.specs.List.{list_all}
+use Rattle.std.specs.Prelude.{ℕ, pos, negsuc, Bool, true, false, List, [], ◌∷◌, ◌++◌, length, map, flat_map, codes, Option, Some, None, if◌then◌else◌, nat_le}
+use Rattle.std.specs.List.{list_all, zip}
+use Rattle.std.specs.Option.{is_some}
 use Rattle.std.specs.Int.{w32, w64, to_le_bytes, cast_unsigned}
 use Rattle.cell_core_values.specs.Cell.{pattern_of_cell}
 use Rattle.cell_core.specs.Grid.{CellValue}
+use Rattle.cell_cats_areas.specs.declared.clump.Joining.{Joining}
+use Rattle.cell_cats_areas.specs.declared.clump.Joining.TheVariants.{Edges, EdgesAndCorners}
+use Rattle.cell_patches.specs.declared.patch.Patch.{Patch}
 use Rattle.cell_stats.specs.CategoryTables.{Pairs}
 use Rattle.cell_stats.specs.TableText.{FormatValue}
-use Rattle.rcell_pipe_response.specs.Frames.{TableFrame, GridFrame, OutputFrame, Table, Cells, Map}
+use Rattle.rcell_pipe_response.specs.Frames.{TableFrame, GridFrame, PatchFrame, OutputFrame, Table, Cells, Map, Patches}
 
 -- a number in eight bytes, the lowest first
 abbrev pub number_bytes : ℕ → List ℕ
@@ -20,7 +24,7 @@ text_bytes text = number_bytes (length text) ++ text
 abbrev pub wide_bytes : CellValue → List ℕ
 wide_bytes cell = to_le_bytes w32 (cast_unsigned w32 (pattern_of_cell cell))
 
--- 1 if it is so
+-- 1 for true, 0 for false
 abbrev pub flag : Bool → ℕ
 flag true = 1
 flag false = 0
@@ -78,17 +82,46 @@ abbrev pub grid_bytes : GridFrame → List ℕ
 grid_bytes g =
     grid_head g.line g.null_text g.name ++ edges_bytes g.north g.south g.east g.west ++ (number_bytes g.rows ++ number_bytes g.cols) ++ rows_bytes g.cells
 
+-- the number of a connectivity
+abbrev pub joining_code : Joining → ℕ
+joining_code Edges = 4
+joining_code EdgesAndCorners = 8
+
+-- a patch in 68 bytes: the category in four, each count, row and column in eight
+abbrev pub patch_bytes : Patch → List ℕ
+patch_bytes p =
+    wide_bytes (Some p.class) ++ number_bytes p.cells ++ number_bytes p.ends ++ number_bytes p.flanks ++ number_bytes p.core
+    ++ number_bytes p.first_row ++ number_bytes p.last_row ++ number_bytes p.first_col ++ number_bytes p.last_col
+
+-- a patch, and its zone in four bytes
+abbrev pub zoned_bytes : Patch × CellValue → List ℕ
+zoned_bytes row = patch_bytes row.0 ++ wide_bytes row.1
+
+-- each patch, with its zone if there are zones
+abbrev pub patch_rows_bytes : List Patch → Option (List CellValue) → List ℕ
+patch_rows_bytes patches None = flat_map patch_bytes patches
+patch_rows_bytes patches (Some zones) = flat_map zoned_bytes (zip patches zones)
+
+-- the patches of a map: the place of the question, the connectivity, the depth, whether there are zones, how many
+-- patches there are, and each
+abbrev pub patches_bytes : PatchFrame → List ℕ
+patches_bytes p =
+    codes "PTCH" ++ number_bytes p.question ++ joining_code p.joining ∷ (to_le_bytes w32 p.depth
+    ++ flag (is_some p.zones) ∷ (number_bytes (length p.patches) ++ patch_rows_bytes p.patches p.zones))
+
 -- the bytes of a frame
 abbrev pub frame_bytes : OutputFrame → List ℕ
 frame_bytes (Table t) = table_bytes (codes "TABL") t
 frame_bytes (Cells t) = table_bytes (codes "CELL") t
 frame_bytes (Map g) = grid_bytes g
+frame_bytes (Patches p) = patches_bytes p
 
 -- the bytes of frames
 abbrev pub frames_bytes : List OutputFrame → List ℕ
 frames_bytes frames = flat_map frame_bytes frames
 
--- how a run ended: its status, where its error is (0 nowhere, 1 in the request, 2 in the script), after how many maps, in which line or row and column, and the text of the error
+-- how a run ended: its status, where its error is (0 nowhere, 1 in the request, 2 in the script, 3 in a question), after
+-- how many maps, in which line, row or question and column, and the text of the error
 pub record EndValue : Type 0 where
   pub status : ℕ
   pub source : ℕ
@@ -105,6 +138,6 @@ end_bytes e = codes "DONE" ++ number_bytes e.status ++ number_bytes e.source ++ 
 abbrev pub response_magic : List ℕ
 response_magic = codes "RCELLA1\n"
 
--- a whole response
+-- a complete response
 abbrev pub response_bytes : List OutputFrame → EndValue → List ℕ
 response_bytes frames end = response_magic ++ frames_bytes frames ++ end_bytes end

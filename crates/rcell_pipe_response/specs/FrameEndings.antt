@@ -36,7 +36,7 @@ pub record Finished (before : Option (List ℕ)) (start : Faults) (now : Option 
   pub status : outcome.status ≡ end_status_after outcome.error
   pub sent : IsSent sending before start now after text outcome.written
 
--- how a script is rejected: for its error, or for want of memory
+-- how a script is rejected: for its error, or for lack of memory
 abbrev pub IsRejection : ScriptFault → PipeError → EndValue → Type 0
 IsRejection fault (errors.Script error) end = (error ≡ fault) × (end ≡ script_end fault)
 IsRejection fault errors.Memory end = end ≡ memory_end 0

@@ -1,9 +1,12 @@
--- The frames of a response: one for each statement that writes, in order, with all that it writes (r.stats and r.out.ascii manuals; profile).
+-- The frames of a response: one for each statement that writes, in order, with all that it writes (r.stats and
+-- r.out.ascii manuals; profile); QuestionFrames.antt has the frames of questions, which come after them.
 use Rattle.std.specs.Prelude.{ℕ, ◌≡◌, false, List, [], ◌∷◌, ◌++◌, map, flat_map, slice_get, unwrap_or, codes, decimal, Option, Some, None, if◌then◌else◌}
 use Rattle.std.specs.List.{zip}
 use Rattle.cell_core.specs.Grid.{Grid, CellValue}
 use Rattle.cell_core.specs.Shelf.{ShelfValue}
 use Rattle.cell_core.specs.Text.{cell_text}
+use Rattle.cell_cats_areas.specs.declared.clump.Joining.{Joining}
+use Rattle.cell_patches.specs.declared.patch.Patch.{Patch}
 use Rattle.cell_ascii_meaning.specs.Writing.{coordinate_text, line_of_key, null_line, row_text}
 use Rattle.cell_stats_combinations.specs.Combinations.{Combination}
 use Rattle.cell_stats.specs.CategoryTables.{Pairs, table_of}
@@ -37,11 +40,21 @@ pub record GridFrame : Type 0 where
   pub cols : ℕ
   pub cells : List (List CellValue)
 
--- the result of a statement that writes
+-- the patches of a map: the place of the question among all, from 0, which cells are adjacent, how many steps inside
+-- its patch a cell of its core is, the patches in the order of their numbers, and their zones if the question has zones
+pub record PatchFrame : Type 0 where
+  pub question : ℕ
+  pub joining : Joining
+  pub depth : ℕ
+  pub patches : List Patch
+  pub zones : Option (List CellValue)
+
+-- the result of a statement that writes, or of a question
 pub data OutputFrame : Type 0 where
   Table : TableFrame → OutputFrame
   Cells : TableFrame → OutputFrame
   Map : GridFrame → OutputFrame
+  Patches : PatchFrame → OutputFrame
 
 -- a cell and its label as they are printed
 abbrev pub printed_fields : FormatValue → CellValue × List ℕ → List (List ℕ)
@@ -65,11 +78,12 @@ frame_header g =
     ++ line_of_key (codes "rows") (decimal g.rows)
     ++ line_of_key (codes "cols") (decimal g.cols)
 
--- the text that rcell writes for a frame
+-- the text that rcell writes for a frame: it has no questions
 abbrev pub frame_text : OutputFrame → List ℕ
 frame_text (Table t) = printed_lines t
 frame_text (Cells t) = printed_lines t
 frame_text (Map g) = frame_header g ++ null_line g.null_text ++ flat_map (row_text g.null_text) g.cells
+frame_text (Patches p) = []
 
 -- the name of the map in a place, or nothing if there is no map
 abbrev pub name_in : ShelfValue → ℕ → List ℕ

@@ -1,5 +1,5 @@
 -- What a run of `rcell-pipe` has written when it ends (profile).
-use Rattle.std.specs.Prelude.{ℕ, ◌≡◌, ◌++◌, ⊤, Bool, true, false, List, [], ◌∷◌, length, codes, Option, Some, None}
+use Rattle.std.specs.Prelude.{ℕ, ◌≡◌, ◌⊎◌, ◌++◌, ⊤, Bool, true, false, List, [], ◌∷◌, length, codes, Option, Some, None}
 use Rattle.std.specs.Prelude.{Result, Ok, Err, if◌then◌else◌}
 use Rattle.cell_core_devices.specs.Device.{Faults, append_known, after_put, after_flush}
 use Rattle.cell_core_devices.specs.Blocks.{capped_count}
@@ -15,6 +15,7 @@ use Rattle.rcell.specs.Output.{IsOutput}
 use Rattle.rcell_pipe_request.specs.declared.error.ErrorKind.{ErrorKind}
 use Rattle.rcell_pipe_request.specs.declared.error.ErrorKind.TheVariants as kinds
 use Rattle.rcell_pipe_request.specs.declared.error.RequestError.{RequestError}
+use Rattle.rcell_pipe_request.specs.Questions.{QuestionValue}
 use Rattle.rcell_pipe_request.specs.Requests.{RunRequestValue}
 use Rattle.rcell_pipe_response.specs.declared.end.End.{End}
 use Rattle.rcell_pipe_response.specs.declared.end.PipeError.{PipeError}
@@ -23,6 +24,10 @@ use Rattle.rcell_pipe_response.specs.declared.frame_run.RunForm.{RunForm}
 use Rattle.rcell_pipe_response.specs.declared.frame_run.RunForm.TheVariants.{Frames, Text}
 use Rattle.rcell_pipe_response.specs.Frames.{OutputFrame, GivesFrames}
 use Rattle.rcell_pipe_response.specs.FrameBytes.{EndValue, response_magic, frames_bytes, response_bytes}
+use Rattle.rcell_pipe_response.specs.declared.question_error.QuestionKind.{QuestionKind}
+use Rattle.rcell_pipe_response.specs.declared.question_error.QuestionKind.TheVariants as question_kinds
+use Rattle.rcell_pipe_response.specs.declared.question_error.QuestionError.{QuestionError}
+use Rattle.rcell_pipe_response.specs.QuestionFrames.{all_names, first_fault, AreAnswers}
 
 -- an end without the place of its text in memory
 abbrev pub end_value : End → EndValue
@@ -46,6 +51,10 @@ kind_text kinds.BadLabel = codes "bad label"
 kind_text kinds.BadMask = codes "bad mask"
 kind_text kinds.CellRange = codes "cell out of range"
 kind_text kinds.ScriptSize = codes "script too long"
+kind_text kinds.BadQuestion = codes "bad question"
+kind_text kinds.BadConnectivity = codes "bad connectivity"
+kind_text kinds.BadDepth = codes "bad depth"
+kind_text kinds.BadZones = codes "bad zones"
 kind_text kinds.Trailing = codes "bytes after the request"
 
 -- 4 if a read failed, 1 for what is wrong with the bytes
@@ -62,7 +71,7 @@ script_column kind = 0
 abbrev pub done_end : EndValue
 done_end = record { status = 0; source = 0; maps = 0; line = 0; column = 0; text = [] }
 
--- the end if the bytes are no request
+-- the end if the bytes are not a request
 abbrev pub request_end : RequestError → EndValue
 request_end error = record { status = request_status error.kind; source = 1; maps = error.maps; line = error.row; column = 0; text = kind_text error.kind }
 
@@ -70,7 +79,16 @@ request_end error = record { status = request_status error.kind; source = 1; map
 abbrev pub script_end : ScriptFault → EndValue
 script_end error = record { status = 1; source = 2; maps = 0; line = error.line; column = script_column error.kind; text = script_text error.kind }
 
--- the end if memory ran out, at a line or before the first
+-- the text of an error of a question
+abbrev pub question_text : QuestionKind → List ℕ
+question_text question_kinds.UnknownMap = codes "unknown map"
+question_text question_kinds.OfText = codes "question for a text"
+
+-- the end if a question is rejected
+abbrev pub question_end : QuestionError → EndValue
+question_end error = record { status = 1; source = 3; maps = 0; line = error.number; column = 0; text = question_text error.kind }
+
+-- the end if memory ran out, at a line, or at line 0 before the first or after the last
 abbrev pub memory_end : ℕ → EndValue
 memory_end line = record { status = 3; source = 0; maps = 0; line = line; column = 0; text = codes "no memory" }
 
@@ -78,40 +96,68 @@ memory_end line = record { status = 3; source = 0; maps = 0; line = line; column
 abbrev pub error_status : PipeError → ℕ
 error_status (errors.Request error) = request_status error.kind
 error_status (errors.Script error) = 1
+error_status (errors.Question error) = 1
 error_status errors.Memory = 3
 error_status (errors.MemoryAt line) = 3
+error_status errors.MemoryAtQuestion = 3
 error_status errors.Write = 4
 
 abbrev pub end_status_after : Option PipeError → ℕ
 end_status_after None = 0
 end_status_after (Some error) = error_status error
 
--- the bytes are a request, and its script denotes statements over its maps
-pub record IsPipeAccepted (read : Result RunRequestValue RequestError) (shelf : ShelfValue) (statements : List Statement) : Type 0 where
+-- the bytes are a request, its script denotes statements over its maps, and no question is rejected
+pub record IsPipeAccepted (form : RunForm) (read : Result RunRequestValue RequestError) (shelf : ShelfValue)
+    (statements : List Statement) (questions : List QuestionValue) : Type 0 where
   pub script : List ℕ
-  pub request : read ≡ Ok (record { shelf = shelf; script = script })
+  pub request : read ≡ Ok (record { shelf = shelf; script = script; questions = questions })
   pub denoted : IsScript shelf.names script statements
+  pub known : first_fault form (all_names shelf.names statements) questions ≡ None
 
--- what statements over a shelf give: their frames and an end, or the text that rcell writes for them
-abbrev pub GivesResponse : RunForm → ShelfValue → List Statement → EndValue → List ℕ → Type 0
-GivesResponse Frames shelf statements end response =
-    (frames : List OutputFrame) × ((after : ShelfValue) × (GivesFrames shelf statements frames after × (response ≡ response_bytes frames end)))
-GivesResponse Text shelf statements end response = IsOutput shelf statements response
+-- the frames of statements over a shelf, and of questions about the maps that they leave
+pub record GivesAll (shelf : ShelfValue) (statements : List Statement) (questions : List QuestionValue)
+    (all : List OutputFrame) : Type 0 where
+  pub frames : List OutputFrame
+  pub after : ShelfValue
+  pub given : GivesFrames shelf statements frames after
+  pub answers : List OutputFrame
+  pub answered : AreAnswers after 0 questions answers
+  pub both : all ≡ frames ++ answers
 
--- the response that the statements of an accepted script give
+-- what statements over a shelf and questions give: their frames and an end, or the text that rcell writes for them
+abbrev pub GivesResponse : RunForm → ShelfValue → List Statement → List QuestionValue → EndValue → List ℕ → Type 0
+GivesResponse Frames shelf statements questions end response =
+    (frames : List OutputFrame) × (GivesAll shelf statements questions frames × (response ≡ response_bytes frames end))
+GivesResponse Text shelf statements questions end response = IsOutput shelf statements response
+
+-- the response that the statements of an accepted script and the questions give
 pub record IsPipeDone (form : RunForm) (read : Result RunRequestValue RequestError) (response : List ℕ) : Type 0 where
   pub shelf : ShelfValue
   pub statements : List Statement
-  pub accepted : IsPipeAccepted read shelf statements
-  pub gives : GivesResponse form shelf statements done_end response
+  pub questions : List QuestionValue
+  pub accepted : IsPipeAccepted form read shelf statements questions
+  pub gives : GivesResponse form shelf statements questions done_end response
 
 -- the script is rejected for its first error: no frame but the end
 pub record IsScriptRejected (read : Result RunRequestValue RequestError) (response : List ℕ) (error : ScriptFault) : Type 0 where
   pub shelf : ShelfValue
   pub script : List ℕ
-  pub request : read ≡ Ok (record { shelf = shelf; script = script })
+  pub questions : List QuestionValue
+  pub request : read ≡ Ok (record { shelf = shelf; script = script; questions = questions })
   pub first : IsScriptFault shelf.names script error
   pub bytes : response ≡ response_bytes [] (script_end error)
+
+-- the first question that is rejected: no frame but the end
+pub record IsQuestionRejected (form : RunForm) (read : Result RunRequestValue RequestError) (response : List ℕ)
+    (error : QuestionError) : Type 0 where
+  pub shelf : ShelfValue
+  pub script : List ℕ
+  pub questions : List QuestionValue
+  pub request : read ≡ Ok (record { shelf = shelf; script = script; questions = questions })
+  pub statements : List Statement
+  pub denoted : IsScript shelf.names script statements
+  pub first : first_fault form (all_names shelf.names statements) questions ≡ Some error
+  pub bytes : response ≡ response_bytes [] (question_end error)
 
 -- memory runs out at a statement: the response that those before it give
 pub record IsPipeStopped (form : RunForm) (read : Result RunRequestValue RequestError) (response : List ℕ) (line : ℕ) : Type 0 where
@@ -119,33 +165,49 @@ pub record IsPipeStopped (form : RunForm) (read : Result RunRequestValue Request
   pub first : List Statement
   pub statement : Statement
   pub others : List Statement
-  pub accepted : IsPipeAccepted read shelf (first ++ statement ∷ others)
+  pub questions : List QuestionValue
+  pub accepted : IsPipeAccepted form read shelf (first ++ statement ∷ others) questions
   pub line_is : line ≡ statement.line
-  pub gives : GivesResponse form shelf first (memory_end line) response
+  pub gives : GivesResponse form shelf first [] (memory_end line) response
 
--- what the first statements give before the end: their frames, or their text
-abbrev pub GivesFirst : RunForm → ShelfValue → List Statement → List ℕ → Type 0
-GivesFirst Frames shelf first text =
-    (frames : List OutputFrame) × ((after : ShelfValue) ×
-    (GivesFrames shelf first frames after × (text ≡ response_magic ++ frames_bytes frames)))
-GivesFirst Text shelf first text = IsOutput shelf first text
+-- memory runs out at a question: the response that the statements and the questions before it give
+pub record IsAnswerStopped (form : RunForm) (read : Result RunRequestValue RequestError) (response : List ℕ) : Type 0 where
+  pub shelf : ShelfValue
+  pub statements : List Statement
+  pub first : List QuestionValue
+  pub others : List QuestionValue
+  pub accepted : IsPipeAccepted form read shelf statements (first ++ others)
+  pub gives : GivesResponse form shelf statements first (memory_end 0) response
 
--- a write failed in a statement: what the statements up to it give
+-- what the first statements, or all of them and the first questions, give before the end: their frames, or their text
+abbrev pub GivesFirst : RunForm → ShelfValue → List Statement → List QuestionValue → List ℕ → Type 0
+GivesFirst Frames shelf first answered text =
+    (frames : List OutputFrame) ×
+    (GivesAll shelf first answered frames × (text ≡ response_magic ++ frames_bytes frames))
+GivesFirst Text shelf first answered text = IsOutput shelf first text
+
+-- a write failed in a statement or a question: what those up to it give; questions come after all statements
+-- are executed
 pub record IsPipeBroken (form : RunForm) (read : Result RunRequestValue RequestError) (text : List ℕ) : Type 0 where
   pub shelf : ShelfValue
   pub first : List Statement
   pub others : List Statement
-  pub accepted : IsPipeAccepted read shelf (first ++ others)
-  pub gives : GivesFirst form shelf first text
+  pub answered : List QuestionValue
+  pub unanswered : List QuestionValue
+  pub accepted : IsPipeAccepted form read shelf (first ++ others) (answered ++ unanswered)
+  pub in_order : (others ≡ []) ⊎ (answered ≡ [])
+  pub gives : GivesFirst form shelf first answered text
 
--- the whole response of a run, by the error that it reports; or, if a write failed in a statement, the response up to
--- it
+-- the whole response of a run, by the error that it reports; or, if a write failed in a statement or a question, the
+-- response up to it
 abbrev pub IsResponse : RunForm → Result RunRequestValue RequestError → List ℕ → Option PipeError → Type 0
 IsResponse form read response None = IsPipeDone form read response
 IsResponse form read response (Some (errors.Request error)) = (read ≡ Err error) × (response ≡ response_bytes [] (request_end error))
 IsResponse form read response (Some (errors.Script error)) = IsScriptRejected read response error
+IsResponse form read response (Some (errors.Question error)) = IsQuestionRejected form read response error
 IsResponse form read response (Some errors.Memory) = response ≡ response_bytes [] (memory_end 0)
 IsResponse form read response (Some (errors.MemoryAt line)) = IsPipeStopped form read response line
+IsResponse form read response (Some errors.MemoryAtQuestion) = IsAnswerStopped form read response
 IsResponse form read response (Some errors.Write) = IsPipeBroken form read response
 
 -- the sink took the first bytes of a text, and their number is reported
@@ -176,13 +238,15 @@ abbrev pub HasUsed : Option PipeError → Faults → Faults → Type 0
 HasUsed (Some errors.Write) old new = (put : Bool) × (new ≡ (if put then after_put old true else after_flush old true))
 HasUsed error old new = new ≡ after_flush old false
 
--- the only frame of a response that reports an error of the request or of its script, or want of memory before the
--- first statement
+-- the only frame of a response that reports an error of the request, of its script or of a question, or want of memory
+-- before the first statement
 abbrev pub only_end : PipeError → List ℕ → Type 0
 only_end (errors.Request error) response = response ≡ response_bytes [] (request_end error)
 only_end (errors.Script error) response = response ≡ response_bytes [] (script_end error)
+only_end (errors.Question error) response = response ≡ response_bytes [] (question_end error)
 only_end errors.Memory response = response ≡ response_bytes [] (memory_end 0)
 only_end (errors.MemoryAt line) response = ⊤
+only_end errors.MemoryAtQuestion response = ⊤
 only_end errors.Write response = ⊤
 
 abbrev pub IsOnlyEnd : List ℕ → Option PipeError → Type 0

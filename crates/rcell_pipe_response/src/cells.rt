@@ -1,7 +1,10 @@
 //! The cells of maps as bytes.
 
-ghost use Rattle.std.specs.Prelude.{◌≡◌, length, map, flat_map, ◌∷◌};
+ghost use Rattle.std.specs.Prelude.{◌≡◌, ◌<◌, ◌≤◌, ◌+◌, ◌++◌, ◌∷◌, length, map, flat_map, take, drop, replicate};
 ghost use Rattle.std.specs.List.{list_all};
+ghost use Rattle.cell_core_values.specs.SmallCells.{cells_of_bytes};
+ghost use Rattle.cell_core.specs.Grid.{row_at};
+ghost use Rattle.cell_core.specs.Runs.{AreRuns, written_out};
 ghost use Rattle.cell_core_devices.specs.Blocks.{Appends};
 ghost use Rattle.rcell_pipe_response.specs.FrameBytes.{is_small_cell, are_small, byte_of_cell, wide_bytes, rows_bytes};
 
@@ -9,6 +12,7 @@ use crate::bytes::push_cells;
 use cell_core::block::OutputBlock;
 use cell_core::cell::Cell;
 use cell_core::map::CellMap;
+use cell_core::runs::Runs;
 use cell_core::sink::Sink;
 
 // Whether a cell fits a byte.
@@ -34,15 +38,48 @@ fn is_small_row(cells: &[Cell]) -> bool
     all
 }
 
-// Whether each cell of a map fits a byte. Rows of the map are copied into the slice.
-fn are_small(grid: &CellMap, cells: &mut [Cell]) -> bool
-    requires { length cells.old ≡ grid.now.region.cols }
-    ensures value { result ≡ are_small grid.now.rows }
-    ensures width { length cells.new ≡ length cells.old }
+// Whether the cell of each run fits a byte.
+fn are_small_runs(runs: Runs<'_>) -> bool
+    requires { AreRuns runs }
+    ensures { result ≡ list_all is_small_cell (written_out runs.entry) }
+{
+    for (cell, _) in runs {
+        if !is_small_cell(cell) {
+            return false;
+        }
+    }
+    true
+}
+
+// Whether each cell that a byte stands for fits one: it does.
+fn are_small_bytes(bytes: &[u8]) -> bool
+    ensures { result ≡ list_all is_small_cell (cells_of_bytes bytes.now) }
+{
+    // The proof looks at each byte.
+    let _ = bytes;
+    true
+}
+
+// Whether each cell of a row of a map fits a byte.
+fn has_small_row(grid: &CellMap, row: u32) -> bool
+    requires { row < grid.now.region.rows }
+    ensures { result ≡ list_all is_small_cell (row_at grid.now row) }
+{
+    if let Some(bytes) = grid.bytes(row) {
+        return are_small_bytes(bytes);
+    }
+    match grid.cells(row) {
+        Some(cells) => is_small_row(cells),
+        None => are_small_runs(grid.runs(row)),
+    }
+}
+
+// Whether each cell of a map fits a byte.
+fn are_small(grid: &CellMap) -> bool
+    ensures { result ≡ are_small grid.now.rows }
 {
     for row in 0..grid.region().rows() {
-        grid.copy_row(row, cells);
-        if !is_small_row(cells) {
+        if !has_small_row(grid, row) {
             return false;
         }
     }
@@ -66,33 +103,68 @@ fn byte_of_cell(cell: Cell) -> u8
     }
 }
 
-// The bytes of the cells of a row.
-fn to_bytes(cells: &[Cell], bytes: &mut [u8])
-    requires { length bytes.old ≡ length cells.now }
-    ensures { bytes.new ≡ map byte_of_cell cells.now }
+// Writes a byte `count` times, from column `at` on.
+#[inline(always)]
+fn fill_bytes(bytes: &mut [u8], at: usize, count: u32, byte: u8)
+    requires { at + count ≤ length bytes.old }
+    ensures width { length bytes.new ≡ length bytes.old }
+    ensures value { bytes.new
+        ≡ take at bytes.old ++ replicate count byte ++ drop (at + count) bytes.old }
 {
-    for i in 0..cells.len() {
-        bytes[i] = byte_of_cell(cells[i]);
+    bytes[at..at + count as usize].fill(byte);
+}
+
+// Writes the bytes of the cells that runs make.
+fn write_runs(runs: Runs<'_>, bytes: &mut [u8])
+    requires { length bytes.old ≡ length (written_out runs) }
+    ensures width { length bytes.new ≡ length bytes.old }
+    ensures value { bytes.new ≡ map byte_of_cell (written_out runs.entry) }
+{
+    let mut at = 0;
+    for (cell, count) in runs {
+        fill_bytes(bytes, at, count, byte_of_cell(cell));
+        at += count as usize;
     }
 }
 
-// The rows of a map in a byte a cell.
-fn push_small_rows<W: Sink>(
+// Appends a row that is kept as bytes: they are also the bytes of its cells.
+fn push_kept<W: Sink>(out: &mut W, block: &mut OutputBlock, kept: &[u8])
+    ensures { Appends W.taken W.faults out.old block.old
+        (map byte_of_cell (cells_of_bytes kept.now)) out.new block.new }
+{
+    block.push(out, kept);
+}
+
+// A row of a map in a byte a cell.
+fn push_small_row<W: Sink>(
     out: &mut W,
     block: &mut OutputBlock,
     grid: &CellMap,
-    cells: &mut [Cell],
+    row: u32,
     bytes: &mut [u8],
 )
-    requires cells { length cells.old ≡ grid.now.region.cols }
+    requires row { row < grid.now.region.rows }
     requires bytes { length bytes.old ≡ grid.now.region.cols }
+    ensures pushed { Appends W.taken W.faults out.old block.old
+        (map byte_of_cell (row_at grid.now row)) out.new block.new }
+    ensures width { length bytes.new ≡ length bytes.old }
+{
+    if let Some(kept) = grid.bytes(row) {
+        push_kept(out, block, kept);
+        return;
+    }
+    write_runs(grid.runs(row), bytes);
+    block.push(out, bytes);
+}
+
+// The rows of a map in a byte a cell.
+fn push_small_rows<W: Sink>(out: &mut W, block: &mut OutputBlock, grid: &CellMap, bytes: &mut [u8])
+    requires { length bytes.old ≡ grid.now.region.cols }
     ensures { Appends W.taken W.faults out.old block.old
         (flat_map (map byte_of_cell) grid.now.rows) out.new block.new }
 {
     for row in 0..grid.region().rows() {
-        grid.copy_row(row, cells);
-        to_bytes(cells, bytes);
-        block.push(out, bytes);
+        push_small_row(out, block, grid, row, bytes);
     }
 }
 
@@ -121,9 +193,9 @@ pub(crate) fn push_rows<W: Sink>(
     ensures { Appends W.taken W.faults out.old block.old
         (rows_bytes grid.now.rows) out.new block.new }
 {
-    if are_small(grid, cells) {
+    if are_small(grid) {
         block.push(out, &[1]);
-        push_small_rows(out, block, grid, cells, bytes);
+        push_small_rows(out, block, grid, bytes);
         return;
     }
     block.push(out, &[6]);

@@ -1,24 +1,29 @@
 //! How a run ends.
 
 ghost use Rattle.std.specs.Prelude.{◌≡◌};
-ghost use Rattle.rcell_pipe_response.specs.RunEnds.{kind_text, request_status, script_column, done_end, request_end, script_end, memory_end, error_status, end_status_after, end_value};
+ghost use Rattle.rcell_pipe_response.specs.RunEnds.{kind_text, request_status, script_column, done_end, request_end, script_end, question_text, question_end, memory_end, error_status, end_status_after, end_value};
 ghost use Rattle.rcell_pipe_response.specs.parts.ScriptKinds.{is_memory};
 ghost use Rattle.rcell_script_commands.specs.ScriptTexts.{kind_text as script_text};
 
+use crate::question_error::{QuestionError, QuestionKind};
 use rcell_pipe_request::error::{ErrorKind, RequestError};
 use rcell_script::script_fault::{ScriptFault, ScriptKind};
 
-/// Why a run of `rcell-pipe` did not do its work.
+/// Why a run of `rcell-pipe` failed.
 #[derive(Clone, Copy, Debug, PartialEq, Eq)]
 pub enum PipeError {
-    /// The bytes are no request.
+    /// The bytes are not a request.
     Request(RequestError),
     /// The script was rejected.
     Script(ScriptFault),
+    /// A question was rejected.
+    Question(QuestionError),
     /// Memory ran out before the script was accepted.
     Memory,
     /// Memory ran out at the statement of this line.
     MemoryAt { line: u64 },
+    /// Memory ran out at a question.
+    MemoryAtQuestion,
     /// A write failed.
     Write,
 }
@@ -54,6 +59,10 @@ fn kind_text(kind: ErrorKind) -> &'static [u8]
         ErrorKind::BadMask => b"bad mask",
         ErrorKind::CellRange => b"cell out of range",
         ErrorKind::ScriptSize => b"script too long",
+        ErrorKind::BadQuestion => b"bad question",
+        ErrorKind::BadConnectivity => b"bad connectivity",
+        ErrorKind::BadDepth => b"bad depth",
+        ErrorKind::BadZones => b"bad zones",
         ErrorKind::Trailing => b"bytes after the request",
     }
 }
@@ -81,7 +90,7 @@ pub fn done_end() -> End<'static>
     }
 }
 
-/// The bytes are no request.
+/// The bytes are not a request.
 pub fn request_end(error: RequestError) -> End<'static>
     ensures { end_value result ≡ request_end error }
 {
@@ -95,7 +104,7 @@ pub fn request_end(error: RequestError) -> End<'static>
     }
 }
 
-/// Whether a script was not read for want of memory.
+/// Whether a script was not read for lack of memory.
 pub(crate) fn is_memory(kind: ScriptKind) -> bool
     ensures { result ≡ is_memory kind }
 {
@@ -129,7 +138,30 @@ pub fn script_end<'a>(error: ScriptFault, text: &'a [u8]) -> End<'a>
     }
 }
 
-/// Memory ran out at a line.
+fn question_text(kind: QuestionKind) -> &'static [u8]
+    ensures { result.now ≡ question_text kind }
+{
+    match kind {
+        QuestionKind::UnknownMap => b"unknown map",
+        QuestionKind::OfText => b"question for a text",
+    }
+}
+
+/// A question was rejected.
+pub(crate) fn question_end(error: QuestionError) -> End<'static>
+    ensures { end_value result ≡ question_end error }
+{
+    End {
+        status: 1,
+        source: 3,
+        maps: 0,
+        line: error.number as u64,
+        column: 0,
+        text: question_text(error.kind),
+    }
+}
+
+/// Memory ran out at a line, or at line 0 before the first or after the last.
 pub fn memory_end(line: u64) -> End<'static>
     ensures { end_value result ≡ memory_end line }
 {
@@ -150,8 +182,10 @@ fn error_status(error: PipeError) -> u8
     match error {
         PipeError::Request(error) => request_status(error.kind),
         PipeError::Script(_) => 1,
+        PipeError::Question(_) => 1,
         PipeError::Memory => 3,
         PipeError::MemoryAt { .. } => 3,
+        PipeError::MemoryAtQuestion => 3,
         PipeError::Write => 4,
     }
 }

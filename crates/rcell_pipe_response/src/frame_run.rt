@@ -1,27 +1,40 @@
 //! A run, from a request to bytes.
 
-ghost use Rattle.std.specs.Prelude.{ℕ, ◌≡◌, List, [], ◌++◌, length, false, Option, Some, Result, Ok, IfOk};
+ghost use Rattle.std.specs.Prelude.{ℕ, ◌≡◌, List, [], ◌++◌, length, false, Option, Some, None, Result, Ok, IfOk};
 ghost use Rattle.std.specs.String.{string_bytes};
 ghost use Rattle.cell_core_devices.specs.Device.{Faults, append_known};
 ghost use Rattle.cell_core_devices.specs.Blocks.{capped_count, Appended};
+ghost use Rattle.cell_core.specs.Shelf.{ShelfValue};
 ghost use Rattle.rcell_script.specs.FittingScripts.{Fits};
+ghost use Rattle.rcell_script.specs.Scripts.{IsScript};
+ghost use Rattle.rcell_script.specs.declared.statement.Statement.{Statement};
 ghost use Rattle.rcell_script_commands.specs.ScriptTexts.{kind_text};
 ghost use Rattle.rcell_pipe_request.specs.declared.error.RequestError.{RequestError};
 ghost use Rattle.rcell_pipe_request.specs.Requests.{RunRequestValue, run_request_value};
+ghost use Rattle.rcell_pipe_request.specs.Questions.{QuestionValue, question_values};
 ghost use Rattle.rcell_pipe_response.specs.declared.frame_run.RunForm.TheVariants.{Frames, Text};
-ghost use Rattle.rcell_pipe_response.specs.FrameBytes.{response_magic, response_bytes, end_bytes};
+ghost use Rattle.rcell_pipe_response.specs.Frames.{OutputFrame, GivesFrames};
+ghost use Rattle.rcell_pipe_response.specs.FrameBytes.{response_magic, frames_bytes, response_bytes, end_bytes};
+ghost use Rattle.rcell_pipe_response.specs.QuestionFrames.{all_names, first_fault};
 ghost use Rattle.rcell_pipe_response.specs.RunEnds.{end_status_after, IsPipeAccepted, IsResponse, end_value};
 ghost use Rattle.rcell_pipe_response.specs.FrameEndings.{error_after, Finished, Rejected, EndsAs};
 ghost use Rattle.rcell_pipe_response.specs.parts.Flushed.{IsFlushed};
 
-use crate::end::{End, PipeError, done_end, end_status_after, is_memory, memory_end, script_end};
+use crate::answers::{AnswerStop, answer_all};
+use crate::end::{
+    End, PipeError, done_end, end_status_after, is_memory, memory_end, question_end, script_end,
+};
 use crate::frame_execution::{PipeStop, execute};
 use crate::frames::push_end;
+use crate::made_names::all_names;
+use crate::question_error::first_fault;
 use cell_core::block::OutputBlock;
+use cell_core::name::Names;
 use cell_core::shelf::Shelf;
 use cell_core::sink::Sink;
 use rcell::execution::{RunStop, execute as execute_as_text};
 use rcell::loading::shelf_names;
+use rcell_pipe_request::question::Question;
 use rcell_pipe_request::request::Request;
 use rcell_script::script_fault::{ScriptFault, ScriptKind};
 use rcell_script::script_parsing::parse_script;
@@ -31,13 +44,13 @@ use std::alloc::{AllocError, Global};
 /// What a run responds with.
 #[derive(Clone, Copy, Debug, PartialEq, Eq)]
 pub enum RunForm {
-    /// A frame for each statement that writes, and a last frame.
+    /// A frame for each statement that writes and for each question, and a last frame.
     Frames,
     /// The text that `rcell` writes for the same maps and script.
     Text,
 }
 
-/// What a run did.
+/// The outcome of a run.
 #[derive(Clone, Copy, Debug, PartialEq, Eq)]
 pub struct PipeOutcome {
     /// 0 if it is done, 1 if the request or the script was rejected, 3 if memory ran out, 4 if a read or a write failed.
@@ -50,7 +63,7 @@ pub struct PipeOutcome {
     pub written: u64,
 }
 
-/// What became of a response.
+/// The state of the sink after a response.
 #[derive(Clone, Copy, Debug, PartialEq, Eq)]
 pub enum Sending {
     /// The sink took it, and was flushed.
@@ -102,6 +115,16 @@ fn outcome_of(reported: Option<PipeError>, sending: Sending, written: u64) -> Pi
     }
 }
 
+// The outcome of a response of which a write failed, after so many bytes.
+fn cut_short(written: u64) -> PipeOutcome
+    ensures reported { result.reported ≡ Some PipeError.Write }
+    ensures error { result.error ≡ Some PipeError.Write }
+    ensures status { result.status ≡ end_status_after result.error }
+    ensures written { result.written ≡ written }
+{
+    outcome_of(Some(PipeError::Write), Sending::Refused, written)
+}
+
 /// Puts the last frame, and flushes the sink unless a put failed.
 pub fn end_response<W: Sink>(
     out: &mut W,
@@ -148,7 +171,7 @@ fn script_text(alloc: Global, kind: ScriptKind) -> Result<String, AllocError>
     format!(in alloc; "{kind}")
 }
 
-/// Rejects a script, with the text of its error, or for want of memory if there is none for the text.
+/// Rejects a script, with the text of its error, or for lack of memory if there is none for the text.
 pub fn reject_script<W: Sink>(alloc: Global, out: &mut W, error: ScriptFault) -> PipeOutcome
     ensures { Rejected (W.taken out.old) (W.faults out.old) (W.taken out.new) (W.faults out.new)
         error result }
@@ -163,21 +186,57 @@ pub fn reject_script<W: Sink>(alloc: Global, out: &mut W, error: ScriptFault) ->
     }
 }
 
-// Writes the frames of statements over the maps on a shelf.
+// Answers questions about the maps that statements left on a shelf, after their frames.
+fn answer_questions<W: Sink>(
+    alloc: Global,
+    shelf: &Shelf,
+    questions: &[Question],
+    mut block: OutputBlock,
+    out: &mut W,
+) -> PipeOutcome
+    requires { first_fault Frames shelf.now.names (question_values questions.now) ≡ None }
+    ensures { (before : Option (List ℕ)) (start : Faults)
+        (read : Result RunRequestValue RequestError)
+        (given : ShelfValue) (statements : List Statement) (frames : List OutputFrame)
+        → IsPipeAccepted Frames read given statements (question_values questions.now)
+        → GivesFrames given statements frames shelf.now
+        → Appended before start (response_magic ++ frames_bytes frames) (W.taken out.old)
+        (W.faults out.old) block
+        → EndsAs (IsResponse Frames read) before start (W.taken out.new) (W.faults out.new) result }
+{
+    match answer_all(alloc, shelf, questions, &mut block, out) {
+        Ok(()) => end_response(out, block, None, &done_end()),
+        Err(stop) => match stop {
+            AnswerStop::Memory => end_response(
+                out,
+                block,
+                Some(PipeError::MemoryAtQuestion),
+                &memory_end(0),
+            ),
+            AnswerStop::Write => cut_short(block.written()),
+        },
+    }
+}
+
+// Writes the frames of statements over the maps on a shelf, and of questions about the maps after them.
 fn run_statements<W: Sink>(
     alloc: Global,
     mut shelf: Shelf,
     script: &Script,
+    questions: &[Question],
     out: &mut W,
 ) -> PipeOutcome
-    requires { Fits shelf.names script.now }
-    ensures { (read : Result RunRequestValue RequestError) → IsPipeAccepted read shelf script.now
+    requires fits { Fits shelf.names script.now }
+    requires known { first_fault Frames (all_names shelf.names script.now)
+        (question_values questions.now) ≡ None }
+    ensures { (read : Result RunRequestValue RequestError)
+        → IsPipeAccepted Frames read shelf script.now (question_values questions.now)
         → EndsAs (IsResponse Frames read) (W.taken out.old) (W.faults out.old) (W.taken out.new)
         (W.faults out.new) result }
 {
     let mut block = begin_response(out);
     match execute(alloc, &mut shelf, script.statements(), &mut block, out) {
-        Ok(()) => end_response(out, block, None, &done_end()),
+        Ok(()) => answer_questions(alloc, &shelf, questions, block, out),
         Err(stop) => match stop {
             PipeStop::Memory { line } => end_response(
                 out,
@@ -185,14 +244,12 @@ fn run_statements<W: Sink>(
                 Some(PipeError::MemoryAt { line }),
                 &memory_end(line),
             ),
-            PipeStop::Write => {
-                outcome_of(Some(PipeError::Write), Sending::Refused, block.written())
-            }
+            PipeStop::Write => cut_short(block.written()),
         },
     }
 }
 
-// Flushes the sink after a text of so many bytes.
+// Flushes the sink after a text of `written` bytes.
 fn end_text<W: Sink>(out: &mut W, reported: Option<PipeError>, written: u64) -> PipeOutcome
     ensures { (before : Option (List ℕ)) (text : List ℕ)
         → W.taken out.old ≡ append_known before text → written ≡ capped_count (length text)
@@ -202,7 +259,7 @@ fn end_text<W: Sink>(out: &mut W, reported: Option<PipeError>, written: u64) -> 
     outcome_of(reported, flush_sink(out), written)
 }
 
-// Writes the text of statements over the maps on a shelf, and nothing else.
+// Writes the text of statements over the maps on a shelf, and nothing else: there are no questions.
 fn print_statements<W: Sink>(
     alloc: Global,
     mut shelf: Shelf,
@@ -210,7 +267,8 @@ fn print_statements<W: Sink>(
     out: &mut W,
 ) -> PipeOutcome
     requires { Fits shelf.names script.now }
-    ensures { (read : Result RunRequestValue RequestError) → IsPipeAccepted read shelf script.now
+    ensures { (read : Result RunRequestValue RequestError) (questions : List QuestionValue)
+        → IsPipeAccepted Text read shelf script.now questions
         → EndsAs (IsResponse Text read) (W.taken out.old) (W.faults out.old) (W.taken out.new)
         (W.faults out.new) result }
 {
@@ -220,14 +278,43 @@ fn print_statements<W: Sink>(
             RunStop::Memory { line } => {
                 end_text(out, Some(PipeError::MemoryAt { line }), stopped.written)
             }
-            RunStop::Write => {
-                outcome_of(Some(PipeError::Write), Sending::Refused, stopped.written)
-            }
+            RunStop::Write => cut_short(stopped.written),
         },
     }
 }
 
-/// Runs the script of a request over its maps.
+// Runs the statements of a script over the maps on a shelf, unless a question is rejected.
+fn run_script<W: Sink>(
+    alloc: Global,
+    shelf: Shelf,
+    names: Names,
+    script: &Script,
+    questions: &[Question],
+    form: RunForm,
+    out: &mut W,
+) -> PipeOutcome
+    requires same { names ≡ shelf.names }
+    requires fits { Fits names script.now }
+    ensures { (text : List ℕ) → IsScript shelf.names text script.now
+        → EndsAs (IsResponse form (Ok (record {
+          shelf = shelf;
+          script = text;
+          questions = question_values questions.now;
+        }))) (W.taken out.old) (W.faults out.old) (W.taken out.new) (W.faults out.new) result }
+{
+    let Ok(all) = all_names(alloc, names, script.statements()) else {
+        return reject(out, PipeError::Memory, &memory_end(0));
+    };
+    match first_fault(form, &all, questions) {
+        Some(error) => reject(out, PipeError::Question(error), &question_end(error)),
+        None => match form {
+            RunForm::Frames => run_statements(alloc, shelf, script, questions, out),
+            RunForm::Text => print_statements(alloc, shelf, script, out),
+        },
+    }
+}
+
+/// Runs the script of a request over its maps, and then writes the frames of its questions.
 pub fn run_request<W: Sink>(
     alloc: Global,
     request: Request,
@@ -237,15 +324,24 @@ pub fn run_request<W: Sink>(
     ensures { EndsAs (IsResponse form (Ok (run_request_value request))) (W.taken out.old)
         (W.faults out.old) (W.taken out.new) (W.faults out.new) result }
 {
-    let Request { shelf, script } = request;
+    let Request {
+        shelf,
+        script,
+        questions,
+    } = request;
     let Ok(names) = shelf_names(alloc, &shelf) else {
         return reject(out, PipeError::Memory, &memory_end(0));
     };
     match parse_script(alloc, &script, &names) {
-        Ok(statements) => match form {
-            RunForm::Frames => run_statements(alloc, shelf, &statements, out),
-            RunForm::Text => print_statements(alloc, shelf, &statements, out),
-        },
+        Ok(statements) => run_script(
+            alloc,
+            shelf,
+            names,
+            &statements,
+            questions.as_slice(),
+            form,
+            out,
+        ),
         Err(error) => {
             if is_memory(error.kind) {
                 reject(out, PipeError::Memory, &memory_end(0))

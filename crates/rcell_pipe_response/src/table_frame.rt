@@ -93,7 +93,7 @@ pub(crate) fn push_cell_labels<W: Sink>(
     }
 }
 
-// The names of maps.
+// Writes the names of maps.
 fn push_names<W: Sink>(out: &mut W, block: &mut OutputBlock, shelf: &Shelf, places: &[usize])
     requires { All (λ place. place < length shelf.now.maps) places.now }
     ensures { Appends W.taken W.faults out.old block.old

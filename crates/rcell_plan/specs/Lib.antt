@@ -1,4 +1,4 @@
--- What statements read, what they need of the maps that are given, and that they need no more.
+-- What statements read, what they need from the given maps, and that they need no more.
 pub mod Needs
 pub mod NeedsLaw
 pub mod Plans

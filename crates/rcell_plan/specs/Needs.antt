@@ -4,7 +4,7 @@ use Rattle.cell_calc_language.specs.Grammatical.{up_by, down_by}
 use Rattle.rcell_plan.specs.declared.needs.Margin.{Margin}
 use Rattle.rcell_plan.specs.declared.needs.Need.{Need}
 
--- the cell alone
+-- only the cell itself
 abbrev pub no_margin : Margin
 no_margin = record { up = 0; down = 0; left = 0; right = 0 }
 
@@ -12,7 +12,7 @@ no_margin = record { up = 0; down = 0; left = 0; right = 0 }
 abbrev pub margin_of : (down right : ℤ) → Margin
 margin_of down right = record { up = up_by down; down = down_by down; left = up_by right; right = down_by right }
 
--- the margin that holds two others
+-- the smallest margin that contains two others
 abbrev pub margin_of_both : Margin → Margin → Margin
 margin_of_both a b = record {
   up = max a.up b.up;
@@ -26,19 +26,19 @@ margin_of_both a b = record {
 abbrev pub added : Margin → Margin → Margin
 added a b = record { up = a.up + b.up; down = a.down + b.down; left = a.left + b.left; right = a.right + b.right }
 
--- the map at a place, at the cell alone
+-- the map at a place, only at the cell itself
 abbrev pub own : ℕ → Need
 own i = record { place = i; margin = no_margin; whole = false }
 
--- two needs of one map
+-- two needs for one map
 abbrev pub joined : Need → Need → Need
 joined a b = record { place = a.place; margin = margin_of_both a.margin b.margin; whole = a.whole || b.whole }
 
--- a need that each cell within a margin has
+-- a need that holds for each cell within a margin
 abbrev pub moved : Margin → Need → Need
 moved margin n = record { place = n.place; margin = added margin n.margin; whole = n.whole }
 
--- all of the map
+-- the full map
 abbrev pub wholly : Need → Need
 wholly n = record { place = n.place; margin = n.margin; whole = true }
 

@@ -1,4 +1,4 @@
--- What statements read, and how far they depend on the maps that are given, through all maps made before (profile).
+-- What statements read, and how far they depend on the given maps, through all maps made earlier (profile).
 use Rattle.std.specs.Prelude.{ℕ, zero, suc, ◌+◌, Bool, true, false, List, [], ◌∷◌, ◌++◌, map, flat_map, length}
 use Rattle.std.specs.Prelude.{slice_get, unwrap_or, Option, Some, None, if◌then◌else◌}
 use Rattle.cell_calc_binding.specs.Formula.{Formula}
@@ -35,19 +35,19 @@ command_reads (Clump place target joining) = own place ∷ []
 command_reads (Stats places options) = with_needs [] (map own places)
 command_reads (OutAscii place null_text) = own place ∷ []
 
--- what the map at a place needs of the maps that are given
+-- what the map at a place needs from the given maps
 abbrev pub needs_at : List (List Need) → ℕ → List Need
 needs_at known place = unwrap_or (slice_get known place) []
 
--- what a read needs of them
+-- what a read needs from them
 abbrev pub needs_of_read : List (List Need) → Need → List Need
 needs_of_read known read = map (moved read.margin) (needs_at known read.place)
 
--- what reads need of them
+-- what reads need from them
 abbrev pub needs_of_reads : List (List Need) → List Need → List Need
 needs_of_reads known reads = with_needs [] (flat_map (needs_of_read known) reads)
 
--- what a command needs of them: r.clump numbers the clumps of the full map
+-- what a command needs from them: r.clump numbers the clumps of the full map
 abbrev pub command_needs : List (List Need) → Command → List Need
 command_needs known (Mapcalc target bound) = needs_of_reads known (expression_reads bound)
 command_needs known (Reclass place target rules) = needs_at known place
@@ -67,7 +67,7 @@ makes_map (OutAscii place null_text) = false
 abbrev pub needs_after : List (List Need) → Command → List (List Need)
 needs_after known command = if makes_map command then known ++ command_needs known command ∷ [] else known
 
--- the maps that are given, from a place on: each needs itself
+-- the given maps, from a place on: each needs itself
 abbrev pub given_from : ℕ → ℕ → List (List Need)
 given_from first zero = []
 given_from first (suc n) = (own first ∷ []) ∷ given_from (first + 1) n

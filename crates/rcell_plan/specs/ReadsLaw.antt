@@ -1,4 +1,4 @@
--- What reads and flags say of an expression.
+-- What reads and flags say about an expression.
 use Rattle.std.specs.Prelude.{ℕ, ◌≡◌, ◌<◌, List, [], ◌∷◌, All}
 use Rattle.cell_core.specs.Grid.{Grid}
 use Rattle.cell_calc_binding.specs.Applied.{GridPosition}
@@ -15,16 +15,16 @@ use Rattle.rcell_plan.specs.Plans.{expression_reads, plans_of, given_needs, posi
 abbrev pub reach_at : Formula → ℕ → Margin
 reach_at f i = record { up = up_of i f; down = down_of i f; left = left_of i f; right = right_of i f }
 
--- among the reads of an expression, each map has the reach of the expression in it, and no more
+-- the reads of an expression list each map with the expression's reach in it, and no further
 abbrev pub ReadsAreReach : Type 0
 ReadsAreReach = (f : Formula) → All (λ n. n.margin ≡ reach_at f n.place) (expression_reads f)
 
--- places ascend, from past one on
+-- places ascend, starting after a given one
 abbrev pub AscendPast : ℕ → List Need → Type 0
 AscendPast place [] = Unit {0}
 AscendPast place (n ∷ ns) = (place < n.place) × AscendPast n.place ns
 
--- places ascend, so that each map occurs once
+-- places ascend, so each map occurs once
 abbrev pub Ascend : List Need → Type 0
 Ascend [] = Unit {0}
 Ascend (n ∷ ns) = AscendPast n.place ns
@@ -34,7 +34,7 @@ abbrev pub PlansAscend : Type 0
 PlansAscend = (count : ℕ) (statements : List Statement)
     → All (λ p. Ascend p.reads × Ascend p.needs) (plans_of (given_needs count) statements)
 
--- without the flag of the position an expression has one value, whatever spot row() and its like are reported of
+-- without the position flag, an expression has one value, whatever position row() and similar functions report
 abbrev pub NoFlagNoPosition : Type 0
 NoFlagNoPosition = (f : Formula) → position_flag f ≡ 0 → (maps : List Grid) (here reported : GridPosition)
     → value_seen_from f maps here reported ≡ value f maps here

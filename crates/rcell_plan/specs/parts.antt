@@ -1,3 +1,3 @@
--- What only bodies and proofs speak of.
+-- Definitions that only bodies and proofs use.
 pub mod Places
 pub mod PositionSteps

@@ -1,4 +1,4 @@
-//! The kind of a statement, in numbers.
+//! The kind of a statement, as numbers.
 
 ghost use Rattle.std.specs.Prelude.{◌≡◌};
 ghost use Rattle.std.specs.List.{list_any};
@@ -45,7 +45,8 @@ fn position_flag(bound: &Bound) -> u8
     if steps_ask(bound.steps()) { 8 } else { 0 }
 }
 
-/// 1 if a command writes, 2 if it prints labels, 4 if it needs the full map, 8 if it depends on the position: their sum.
+/// The sum of: 1 if a command writes, 2 if it prints labels, 4 if it needs the full map, 8 if it depends on the
+/// position.
 pub fn command_flags(command: &Command) -> u8
     ensures { result ≡ command_flags command.now }
 {

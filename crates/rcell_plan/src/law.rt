@@ -3,13 +3,13 @@
 ghost use Rattle.rcell_plan.specs.NeedsLaw.{NeedsAreEnough};
 ghost use Rattle.rcell_plan.specs.ReadsLaw.{NoFlagNoPosition, PlansAscend, ReadsAreReach};
 
-/// Over two shelves of maps of one region the same statements give a map the same value at a cell, if the shelves are alike in
-/// what the map needs around the cell: within the margins, and in whole maps where r.clump lies between.
+/// Over two shelves of maps with one region, the same statements give a map the same value at a cell, if the shelves
+/// agree in what the map needs around the cell: within the margins, and in full maps if there is an r.clump in between.
 pub fn needs_are_enough()
     ensures { NeedsAreEnough }
 {}
 
-/// Among the reads of an expression, each map has the reach of the expression in it, and no more.
+/// The reads of an expression list each map with the expression's reach in it, and no further.
 pub fn reads_are_reach()
     ensures { ReadsAreReach }
 {}
@@ -19,7 +19,7 @@ pub fn plans_ascend()
     ensures { PlansAscend }
 {}
 
-/// The values of an expression whose flag of the position is not set go by what it reads alone.
+/// An expression whose position flag is not set has values that depend only on what it reads.
 pub fn no_flag_no_position()
     ensures { NoFlagNoPosition }
 {}

@@ -8,7 +8,7 @@ use cell_core::memory::Memory;
 use std::alloc::Global;
 use std::marker::Model;
 
-/// How many rows above and below a cell, and how many columns to its left and right.
+/// The number of rows above and below a cell, and of columns to its left and right.
 #[derive(Clone, Copy, Debug, PartialEq, Eq)]
 pub struct Margin {
     pub up: u64,
@@ -17,12 +17,12 @@ pub struct Margin {
     pub right: u64,
 }
 
-/// The map at a place, as far as it is needed around a cell.
+/// The map at a place, and how far it is needed around a cell.
 #[derive(Clone, Copy, Debug, PartialEq, Eq)]
 pub struct Need {
     pub place: usize,
     pub margin: Margin,
-    /// Whether the full map is needed, because r.clump lies between.
+    /// Whether the full map is needed, because there is an r.clump in between.
     pub whole: bool,
 }
 
@@ -52,7 +52,7 @@ fn margin_of_both(a: Margin, b: Margin) -> Margin
     }
 }
 
-// A margin that does not fit takes a script that no memory holds.
+// Only a script that fits in no memory has a margin that overflows.
 fn sum(a: u64, b: u64) -> Result<u64, Memory>
     ensures { IfOk result (λ n. n ≡ a + b) }
 {
@@ -98,7 +98,7 @@ fn moved(margin: Margin, need: Need) -> Result<Need, Memory>
     })
 }
 
-// The place of a need among others, or where it would be put.
+// The place of a need among others, or where it would be inserted.
 fn place_among(needs: &[Need], place: usize) -> usize
     ensures { result ≡ place_among place needs.now }
 {
@@ -110,7 +110,7 @@ fn place_among(needs: &[Need], place: usize) -> usize
     needs.len()
 }
 
-// Puts a need at its place.
+// Inserts a need at its place.
 fn put_need(needs: &mut Vec<Need>, at: usize, need: Need) -> Result<(), Memory>
     ensures { OnOk result (needs.new.items ≡ put_need needs.old.items at need) }
 {
@@ -144,7 +144,7 @@ impl Needs {
         &self.list
     }
 
-    /// Adds a need: one of the same map is made as wide as both.
+    /// Adds a need. A need for the same map is widened to contain both.
     ///
     /// # Errors
     ///
@@ -157,7 +157,7 @@ impl Needs {
         put_need(&mut self.list, at, need)
     }
 
-    /// Adds needs that are met within a margin of the cell.
+    /// Adds the needs of a map that is read within a margin of the cell.
     ///
     /// # Errors
     ///
@@ -184,7 +184,7 @@ impl Needs {
         Ok(Needs { list })
     }
 
-    /// The same maps, each of them whole.
+    /// The same maps, with each needed in full.
     ///
     /// # Errors
     ///

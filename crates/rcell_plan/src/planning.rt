@@ -17,17 +17,17 @@ pub struct Plan {
     pub line: u64,
     /// The number of its command.
     pub code: u8,
-    /// What kind of statement it is.
+    /// The kind of the statement.
     pub flags: u8,
     /// The place of the map that it makes.
     pub made: Option<usize>,
-    /// The maps that it reads, by their places on the shelf before it.
+    /// The maps that it reads, as places on the shelf before it.
     pub reads: Needs,
-    /// The maps given to the script that it depends on, directly or through maps made before.
+    /// The given maps that it depends on, directly or through maps made earlier.
     pub needs: Needs,
 }
 
-// What the map at a place needs of the maps that are given.
+// What the map at a place needs from the given maps.
 fn needs_at<'a>(known: &'a [Needs], place: usize) -> &'a [Need]
     ensures { result.now ≡ needs_at known.now place }
 {
@@ -121,7 +121,7 @@ fn add_known(
     Ok(())
 }
 
-// The maps that are given: each needs itself.
+// The given maps: each needs itself.
 fn given_needs(alloc: Global, count: usize) -> Result<Vec<Needs>, Memory>
     ensures { IfOk result (λ known. known.items ≡ given_needs count) }
 {
@@ -133,7 +133,7 @@ fn given_needs(alloc: Global, count: usize) -> Result<Vec<Needs>, Memory>
     Ok(known)
 }
 
-/// The plans of statements over so many maps that are given.
+/// The plans of statements over `count` given maps.
 ///
 /// # Errors
 ///

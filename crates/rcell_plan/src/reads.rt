@@ -39,7 +39,7 @@ fn margin_of(down: i32, right: i32) -> Margin
     }
 }
 
-/// The map at a place, at the cell alone.
+/// The map at a place, read only at the cell itself.
 pub(crate) fn own(place: usize) -> Need
     ensures { result ≡ own place }
 {
@@ -56,7 +56,7 @@ pub(crate) fn own(place: usize) -> Need
     }
 }
 
-/// The map at a place alone, at the cell alone.
+/// Only the map at a place, read only at the cell itself.
 pub(crate) fn own_alone(alloc: Global, place: usize) -> Result<Needs, Memory>
     ensures { IfOk result (λ needs. needs ≡ own place ∷ []) }
 {

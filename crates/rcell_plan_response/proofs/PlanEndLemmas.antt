@@ -1,11 +1,12 @@
 -- How responses end.
 use Rattle.std.proofs.Common.{◌≡◌, ◌∙◌, ℕ, suc, Bool, true, false, List, [], ◌∷◌, ◌++◌, Option, Some, None}
 use Rattle.std.proofs.Common.{Result, Ok, Err, refl, sym, ap, subst, append_assoc, map}
-use Rattle.std.specs.Prelude.{◌≢◌, IfSome, length, unwrap_or}
+use Rattle.std.specs.Prelude.{◌≢◌, length}
 use Rattle.cell_core_devices.specs.declared.source.Asked.{Asked}
 use Rattle.cell_core_devices.specs.declared.source.Asked.TheVariants.{Ended}
 use Rattle.std.specs.Option.{IsNone, is_some}
-use Rattle.cell_core_devices.specs.Device.{Faults, Coming, has_failed, append_known}
+use Rattle.cell_core_devices.specs.Device.{Faults, Coming, after_bytes, has_failed, append_known}
+use Rattle.cell_core_values.specs.Answers.{◌>>=◌}
 use Rattle.cell_core.specs.Shelf.{ShelfValue}
 use Rattle.rcell_script.specs.Scripts.{IsScript}
 use Rattle.rcell_script.specs.ReadScripts.{IsScriptFault}
@@ -18,19 +19,21 @@ use Rattle.rcell_pipe_request.specs.declared.error.RequestStop.{RequestStop}
 use Rattle.rcell_pipe_request.specs.declared.error.RequestStop.TheVariants as stops
 use Rattle.rcell_pipe_request.specs.declared.error.RequestError.{RequestError}
 use Rattle.rcell_pipe_request.specs.RequestFields.{FieldReading}
-use Rattle.rcell_pipe_request.specs.Feeds.{FieldFails, PlacedFails, FeedValue, nothing, left, asked_at_field}
+use Rattle.rcell_pipe_request.specs.Feeds.{FieldFails, PlacedFails, FeedValue, fits, left, asked_at_field}
 use Rattle.rcell_pipe_request.specs.Feeds.{asked_at_request}
-use Rattle.rcell_pipe_request.specs.Requests.{RunRequestValue, stop_at}
+use Rattle.rcell_pipe_request.specs.Supposed.{may_hold}
+use Rattle.rcell_pipe_request.specs.Questions.{QuestionValue}
+use Rattle.rcell_pipe_request.specs.Requests.{RunRequestValue, stop_at, run_at}
 use Rattle.rcell_pipe_response.specs.declared.end.PipeError.{PipeError}
 use Rattle.rcell_pipe_response.specs.declared.end.PipeError.TheVariants as errors
 use Rattle.rcell_pipe_response.specs.declared.frame_run.PipeOutcome.{PipeOutcome}
 use Rattle.rcell_pipe_response.specs.FrameBytes.{EndValue, response_magic, response_bytes, end_bytes}
 use Rattle.rcell_pipe_response.specs.RunEnds.{end_status_after, done_end, script_end, memory_end, IsResponse}
-use Rattle.rcell_pipe_response.specs.RunEnds.{IsPipeDone, IsTaken, IsOnlyEnd}
+use Rattle.rcell_pipe_response.specs.RunEnds.{IsPipeDone, IsTaken, IsOnlyEnd, GivesAll}
 use Rattle.rcell_pipe_response.specs.FrameEndings.{Finished, IsRejection, EndsAs}
-use Rattle.rcell_pipe_response.specs.Frames.{GivesFrames}
+use Rattle.rcell_pipe_response.specs.QuestionFrames.{all_names, first_fault}
 use Rattle.rcell_pipe_response.specs.declared.frame_run.RunForm.TheVariants.{Frames}
-use Rattle.rcell_pipe_response.proofs.EndLemmas.{ended_failed, ended_reported, ended_taken}
+use Rattle.rcell_pipe_response.proofs.EndLemmas.{ended_failed, ended_reported, ended_taken, of_run}
 use Rattle.rcell_pipe_response.specs.declared.frame_run.RunForm.{RunForm}
 use Rattle.rcell_plan_response.specs.declared.responding.RequestForm.{RequestForm}
 use Rattle.rcell_plan_response.specs.declared.responding.RequestForm.TheVariants as form
@@ -38,13 +41,13 @@ use Rattle.rcell_plan.specs.declared.planning.Plan.{Plan}
 use Rattle.rcell_plan.specs.Plans.{plans_of, given_needs, needs_after}
 use Rattle.rcell_plan.specs.declared.needs.Need.{Need}
 use Rattle.rcell_plan_response.specs.PlanDetails.{StatementDetails, statement_details}
-use Rattle.rcell_plan_response.specs.PlanRequests.{PlanRequestValue}
-use Rattle.rcell_plan_response.specs.PlanFrames.{plans_bytes, all_names, plan_response}
+use Rattle.rcell_plan_response.specs.PlanRequests.{PlanRequestValue, plan_at}
+use Rattle.rcell_plan_response.specs.PlanFrames.{plans_bytes, plan_response}
 use Rattle.rcell_plan_response.specs.PlanEnds.{IsPlanResponse}
-use Rattle.rcell_plan_response.specs.Responses.{form_at, run_request_of, IsResponseTo, IsRequestAccepted, AsksForFrames}
-use Rattle.rcell_plan_response.specs.Responses.{WritesFrames}
+use Rattle.rcell_plan_response.specs.Responses.{form_at, run_request_of, plan_request_of, IsResponseTo, IsRequestAccepted, AsksForFrames}
+use Rattle.rcell_plan_response.specs.Responses.{IsAskedBy, WritesFrames}
 use Rattle.rcell_plan_response.specs.parts.RequestStops.{error_of_stop, end_of_stop}
-use Rattle.rcell_plan_response.specs.parts.Answered.{IsAskedBy, IsOfSource}
+use Rattle.rcell_plan_response.specs.parts.Answered.{IsOfFeed, IsOfSource}
 
 -- ---- what was written
 
@@ -106,30 +109,31 @@ plan_rejection names script fault (errors.Script error) end first is = record {
 }
 plan_rejection names script fault errors.Memory end first is = ap (λ (e : EndValue). response_bytes [] e) is
 plan_rejection names script fault (errors.Request error) end first is = absurd is
+plan_rejection names script fault (errors.Question error) end first is = absurd is
 plan_rejection names script fault (errors.MemoryAt line) end first is = absurd is
+plan_rejection names script fault errors.MemoryAtQuestion end first is = absurd is
 plan_rejection names script fault errors.Write end first is = absurd is
 
 -- ---- requests that were not read
 
--- a stop is no failed write
+-- a stop is not a failed write
 pub stop_fine : (stop : RequestStop) → Some (error_of_stop stop) ≡ Some errors.Write → ⊥
 stop_fine stops.Memory is = cc
 stop_fine (stops.Error error) is = cc
 
-pub stopped_run : (form : RunForm) (read : Result (RunRequestValue × Coming) RequestError) (stop : RequestStop)
-    (known : Bool)
-    → PlacedFails stop known read → known ≡ true → (all : Result RunRequestValue RequestError)
-    → ((error : RequestError) → read ≡ Err error → all ≡ Err error)
-    → IsResponse form all (response_bytes [] (end_of_stop stop)) (Some (error_of_stop stop))
-stopped_run form read stops.Memory known fails is all on = refl
-stopped_run form read (stops.Error error) known fails is all on = (on error (fails is), refl)
+pub stopped_run : (form : RunForm) (stop : RequestStop) (old new : FeedValue) → PlacedFails stop old new run_at
+    → (c : Coming) → fits c new ≡ true → (fits c old ≡ true)
+    × IsResponse form (run_request_of (left c old)) (response_bytes [] (end_of_stop stop)) (Some (error_of_stop stop))
+stopped_run form stops.Memory old new fails c is = (fails c is, refl)
+stopped_run form (stops.Error error) old new fails c is =
+    let at = fails c is in (at.0, (ap (λ r. r >>= λ run. Ok run.0) at.1, refl))
 
-pub stopped_plan : (read : Result (PlanRequestValue × Coming) RequestError) (stop : RequestStop) (known : Bool)
-    → PlacedFails stop known read → known ≡ true → (all : Result PlanRequestValue RequestError)
-    → ((error : RequestError) → read ≡ Err error → all ≡ Err error)
-    → IsPlanResponse all (response_bytes [] (end_of_stop stop)) (Some (error_of_stop stop))
-stopped_plan read stops.Memory known fails is all on = refl
-stopped_plan read (stops.Error error) known fails is all on = (on error (fails is), refl)
+pub stopped_plan : (stop : RequestStop) (old new : FeedValue) → PlacedFails stop old new plan_at
+    → (c : Coming) → fits c new ≡ true → (fits c old ≡ true)
+    × IsPlanResponse (plan_request_of (left c old)) (response_bytes [] (end_of_stop stop)) (Some (error_of_stop stop))
+stopped_plan stops.Memory old new fails c is = (fails c is, refl)
+stopped_plan (stops.Error error) old new fails c is =
+    let at = fails c is in (at.0, (ap (λ r. r >>= λ plan. Ok plan.0) at.1, refl))
 
 -- whatever the form, if memory ran out
 pub memory_form : (form : FieldReading RequestForm)
@@ -139,14 +143,16 @@ memory_form (Ok (form.Run run, rest)) = refl
 memory_form (Ok (form.Plan, rest)) = refl
 
 -- the first eight bytes were not read
-pub stopped_form : (form : FieldReading RequestForm) (stop : FieldStop) (known : Bool)
-    → FieldFails stop known form → known ≡ true
-    → IsResponseTo form (response_bytes [] (end_of_stop (stop_at 0 0 stop))) (Some (error_of_stop (stop_at 0 0 stop)))
-stopped_form form field_stops.Memory known fails is = memory_form form
-stopped_form form (field_stops.Error kind) known fails is =
+pub stopped_form : (stop : FieldStop) (old new : FeedValue) → FieldFails stop old new form_at
+    → (c : Coming) → fits c new ≡ true → (fits c old ≡ true)
+    × IsResponseTo (form_at (left c old)) (response_bytes [] (end_of_stop (stop_at 0 0 stop)))
+    (Some (error_of_stop (stop_at 0 0 stop)))
+stopped_form field_stops.Memory old new fails c is = (fails c is, memory_form (form_at (left c old)))
+stopped_form (field_stops.Error kind) old new fails c is =
     let response = response_bytes [] (end_of_stop (stop_at 0 0 (field_stops.Error kind))) in
     let error = Some (error_of_stop (stop_at 0 0 (field_stops.Error kind))) in
-    subst (λ (f : FieldReading RequestForm). IsResponseTo f response error) (sym (fails is)) (refl, refl)
+    let at = fails c is in
+    (at.0, subst (λ (f : FieldReading RequestForm). IsResponseTo f response error) (sym at.1) (refl, refl))
 
 -- the last frame of a stop is all of the response
 pub only_stop : (stop : RequestStop) → IsOnlyEnd (response_bytes [] (end_of_stop stop)) (Some (error_of_stop stop))
@@ -159,8 +165,10 @@ pub only_end_of_plan : (read : Result PlanRequestValue RequestError) (response :
 only_end_of_plan read response None is = tt
 only_end_of_plan read response (Some (errors.Request error)) is = is.1
 only_end_of_plan read response (Some (errors.Script error)) is = is.bytes
+only_end_of_plan read response (Some (errors.Question error)) is = absurd is
 only_end_of_plan read response (Some errors.Memory) is = is
 only_end_of_plan read response (Some (errors.MemoryAt line)) is = tt
+only_end_of_plan read response (Some errors.MemoryAtQuestion) is = tt
 only_end_of_plan read response (Some errors.Write) is = tt
 
 -- ---- how far the source was asked
@@ -172,8 +180,10 @@ pub asked_of_run : (form : RunForm) (request : RunRequestValue) (response : List
 asked_of_run form request response None is end = end
 asked_of_run form request response (Some (errors.Request error)) is end = cc is.0
 asked_of_run form request response (Some (errors.Script error)) is end = end
+asked_of_run form request response (Some (errors.Question error)) is end = end
 asked_of_run form request response (Some errors.Memory) is end = λ again. cc
 asked_of_run form request response (Some (errors.MemoryAt line)) is end = end
+asked_of_run form request response (Some errors.MemoryAtQuestion) is end = end
 asked_of_run form request response (Some errors.Write) is end = end
 
 pub asked_of_plan : (request : PlanRequestValue) (response : List ℕ) (error : Option PipeError) {asked : Asked}
@@ -181,8 +191,10 @@ pub asked_of_plan : (request : PlanRequestValue) (response : List ℕ) (error : 
 asked_of_plan request response None is end = end
 asked_of_plan request response (Some (errors.Request error)) is end = cc is.0
 asked_of_plan request response (Some (errors.Script error)) is end = end
+asked_of_plan request response (Some (errors.Question error)) is end = end
 asked_of_plan request response (Some errors.Memory) is end = λ again. cc
 asked_of_plan request response (Some (errors.MemoryAt line)) is end = end
+asked_of_plan request response (Some errors.MemoryAtQuestion) is end = end
 asked_of_plan request response (Some errors.Write) is end = end
 
 -- of a request that was not, up to its error
@@ -202,70 +214,85 @@ asked_of_field (field_stops.Error kind) placed error at is far =
 
 -- ---- from a feed to its source
 
--- what is known of a feed is known of its source
-pub of_source : (found : Option Coming) (feed : FeedValue) (P : Coming → Type 0)
-    → (asked : Asked) → feed ≡ record
-    { unread = []; known = is_some found; rest = unwrap_or found nothing; asked = asked }
-    → (feed.known ≡ true → P (left feed)) → IfSome found P
-of_source None feed P asked is h = tt
-of_source (Some c) feed P asked is h = subst (λ (f : FeedValue). f.known ≡ true → P (left f)) is h refl
+-- what is said of a feed is said of its source
+pub of_source : (gave now : List ℕ) (asked at : Asked) (old new : FeedValue)
+    → old ≡ record { unread = []; gave = gave; asked = asked } → now ≡ new.gave → at ≡ new.asked
+    → (response : List ℕ) (error : Option PipeError)
+    → IsOfFeed old new (λ c. IsResponseTo (form_at c)) response error → IsOfSource gave now at response error
+of_source gave now asked at old new first gave_is asked_is response error is = (
+  is.0,
+  λ c fit.
+      let known : fits c new ≡ true = subst (λ (a : Asked). may_hold new.gave a c ≡ true) asked_is
+      (subst (λ (g : List ℕ). may_hold g at c ≡ true) gave_is fit) in
+      subst (λ (f : FeedValue). IsResponseTo (form_at (left c f)) response error) first (is.1 c known).1,
+)
 
-pub if_any : {X : Type 0} (P : X → Type 0) (found : Option X) → ((x : X) → P x) → IfSome found P
-if_any P None all = tt
-if_any P (Some x) all = all x
-
--- of a response to what a source gives, if that is known
-pub if_known : (found : Option Coming) (P : Coming → Type 0) {before now : Option (List ℕ)} {start after : Faults}
-    {outcome : PipeOutcome}
-    → EndsAs (IsOfSource found) before start now after outcome
-    → ((c : Coming) → EndsAs (IsResponseTo (form_at c)) before start now after outcome → P c) → IfSome found P
-if_known None P ended on = tt
-if_known (Some c) P ended on =
-    on c (ends_more (IsOfSource (Some c)) (IsResponseTo (form_at c)) (λ response error is. is.1) ended)
+-- of a response to what a source gave: whatever it may hold
+pub held : (before gave : List ℕ) (asked : Asked) {taken now : Option (List ℕ)} {start after : Faults}
+    {outcome : PipeOutcome} (c : Coming) → may_hold gave asked c ≡ true
+    → EndsAs (IsOfSource before gave asked) taken start now after outcome
+    → EndsAs (IsResponseTo (form_at (after_bytes c (length before)))) taken start now after outcome
+held before gave asked c fit ended =
+    ends_more (IsOfSource before gave asked) (IsResponseTo (form_at (after_bytes c (length before))))
+    (λ response error is. is.1 c fit) ended
 
 -- ---- accepted scripts
 
 abbrev of_plan : List (List ℕ) → List ℕ → PlanRequestValue
 of_plan names script = record { names = names; script = script }
 
-abbrev of_run : ShelfValue → List ℕ → RunRequestValue
-of_run shelf script = record { shelf = shelf; script = script }
-
--- with another error than want of memory or a failed write, the script of a request was not accepted
-refused : NoFaultOfAScript → (form : FieldReading RequestForm) → IsRequestAccepted form
+-- with another error than want of memory or a failed write, a request was not accepted
+refused : NoFaultOfAScript → OneScript → (form : FieldReading RequestForm) → IsRequestAccepted form
     → (response : List ℕ) (error : PipeError)
     → end_status_after (Some error) ≢ 3 → (error ≡ errors.Write → ⊥) → IsResponseTo form response (Some error) → ⊥
-refused law (Err kind) accepted response error lasts fine is = accepted
-refused law (Ok (form.Run run, rest)) accepted response (errors.Request e) lasts fine is =
-    cc (is.0, accepted.1.1.request)
-refused law (Ok (form.Run run, rest)) accepted response (errors.Script fault) lasts fine is =
-    let same : of_run accepted.0 accepted.1.1.script ≡ of_run is.shelf is.script = cc
-    (is.request, accepted.1.1.request) in
+refused law one (Err kind) accepted response error lasts fine is = accepted
+refused law one (Ok (form.Run run, rest)) accepted response (errors.Request e) lasts fine is =
+    cc (is.0, accepted.1.1.1.request)
+refused law one (Ok (form.Run run, rest)) accepted response (errors.Script fault) lasts fine is =
+    let given = accepted.1.1.1 in
+    let same : of_run accepted.0 given.script accepted.1.1.0 ≡ of_run is.shelf is.script is.questions = cc
+    (is.request, given.request) in
     law is.shelf.names is.script accepted.1.0 fault
-    (subst (λ (r : RunRequestValue). IsScript r.shelf.names r.script accepted.1.0) same accepted.1.1.denoted) is.first
-refused law (Ok (form.Plan, rest)) accepted response (errors.Request e) lasts fine is = cc (is.0, accepted.1.1.request)
-refused law (Ok (form.Plan, rest)) accepted response (errors.Script fault) lasts fine is =
+    (subst (λ (r : RunRequestValue). IsScript r.shelf.names r.script accepted.1.0) same given.denoted) is.first
+refused law one (Ok (form.Run run, rest)) accepted response (errors.Question error) lasts fine is =
+    let given = accepted.1.1.1 in
+    let same : of_run accepted.0 given.script accepted.1.1.0 ≡ of_run is.shelf is.script is.questions = cc
+    (is.request, given.request) in
+    let statements : accepted.1.0 ≡ is.statements =
+    one is.shelf.names is.script accepted.1.0 is.statements
+    (subst (λ (r : RunRequestValue). IsScript r.shelf.names r.script accepted.1.0) same given.denoted) is.denoted in
+    let known : first_fault run (all_names is.shelf.names accepted.1.0) is.questions ≡ None =
+    subst (λ (r : RunRequestValue). first_fault run (all_names r.shelf.names accepted.1.0) r.questions ≡ None) same
+    given.known in
+    let none : first_fault run (all_names is.shelf.names is.statements) is.questions ≡ None =
+    subst (λ (l : List Statement). first_fault run (all_names is.shelf.names l) is.questions ≡ None) statements known in
+    cc (is.first, none)
+refused law one (Ok (form.Plan, rest)) accepted response (errors.Request e) lasts fine is =
+    cc (is.0, accepted.1.1.request)
+refused law one (Ok (form.Plan, rest)) accepted response (errors.Script fault) lasts fine is =
     let same : of_plan accepted.0 accepted.1.1.script ≡ of_plan is.names is.script = cc
     (is.request, accepted.1.1.request) in
     law is.names is.script accepted.1.0 fault
     (subst (λ (r : PlanRequestValue). IsScript r.names r.script accepted.1.0) same accepted.1.1.denoted) is.first
-refused law form accepted response errors.Memory lasts fine is = lasts refl
-refused law form accepted response (errors.MemoryAt line) lasts fine is = lasts refl
-refused law form accepted response errors.Write lasts fine is = fine refl
+refused law one (Ok (form.Plan, rest)) accepted response (errors.Question error) lasts fine is = is
+refused law one form accepted response errors.Memory lasts fine is = lasts refl
+refused law one form accepted response (errors.MemoryAt line) lasts fine is = lasts refl
+refused law one form accepted response errors.MemoryAtQuestion lasts fine is = lasts refl
+refused law one form accepted response errors.Write lasts fine is = fine refl
 
 -- a request whose script is accepted is done, if memory lasts and the sink takes everything
-pub all_is_done : NoFaultOfAScript → (form : FieldReading RequestForm) {before now : Option (List ℕ)}
+pub all_is_done : NoFaultOfAScript → OneScript → (form : FieldReading RequestForm) {before now : Option (List ℕ)}
     {start after : Faults}
     {outcome : PipeOutcome} → EndsAs (IsResponseTo form) before start now after outcome
     → IsRequestAccepted form → outcome.status ≢ 3 → has_failed after ≡ false → IsNone outcome.error
-all_is_done law form {outcome = outcome} h accepted lasts good = by outcome.error refl
+all_is_done law one form {outcome = outcome} h accepted lasts good = by outcome.error refl
   where
     not_written : outcome.error ≡ Some errors.Write → ⊥
     not_written write = cc (ended_failed (IsResponseTo form) h write, good)
 
     by : (error : Option PipeError) → outcome.error ≡ error → IsNone outcome.error
     by None is = ap is_some is
-    by (Some error) is = absurd (refused law form accepted h.text error
+    by (Some error) is = absurd (refused law one form accepted h.text error
         (λ three. lasts (h.finished.status ∙ ap end_status_after is ∙ three))
         (λ write. not_written (is ∙ ap (λ e. Some e) write))
         (subst (IsResponseTo form h.text) (sym (ended_reported (IsResponseTo form) h not_written) ∙ is) h.is))
@@ -277,38 +304,32 @@ no_error (Some error) none = cc
 -- of a run whose script is accepted exactly the frames are written
 pub headline_of : NoFaultOfAScript → OneScript → (c : Coming) {before now : Option (List ℕ)} {start after : Faults}
     {outcome : PipeOutcome} → EndsAs (IsResponseTo (form_at c)) before start now after outcome
-    → (shelf : ShelfValue) (statements : List Statement) → AsksForFrames c shelf statements
-    → WritesFrames shelf statements before now (has_failed after) outcome
-headline_of law one c {before} {now} {outcome = outcome} h shelf statements is lasts good =
+    → (shelf : ShelfValue) (statements : List Statement) (questions : List QuestionValue)
+    → AsksForFrames c shelf statements questions
+    → WritesFrames shelf statements questions before now (has_failed after) outcome
+headline_of law one c {before} {now} {outcome = outcome} h shelf statements questions is lasts good =
     let accepted : IsRequestAccepted (form_at c) = subst IsRequestAccepted (sym is.form)
-    (shelf, (statements, is.accepted)) in
-    let none : outcome.error ≡ None = no_error outcome.error (all_is_done law (form_at c) h accepted lasts good) in
+    (shelf, (statements, (questions, is.accepted))) in
+    let none : outcome.error ≡ None = no_error outcome.error
+    (all_is_done law one (form_at c) h accepted lasts good) in
     let reported : outcome.reported ≡ None = sym
     (ended_reported (IsResponseTo (form_at c)) h (λ write. cc (write, none))) ∙ none in
     let done : IsPipeDone Frames (run_request_of is.rest) h.text =
     subst (λ (f : FieldReading RequestForm). IsResponseTo f h.text None) is.form
     (subst (IsResponseTo (form_at c) h.text) reported h.is) in
-    let same : of_run done.shelf done.accepted.script ≡ of_run shelf is.accepted.script = cc
+    let same : of_run done.shelf done.accepted.script done.questions ≡ of_run shelf is.accepted.script questions = cc
     (done.accepted.request, is.accepted.request) in
-    let shelf_is : done.shelf ≡ shelf = ap (λ (r : RunRequestValue). r.shelf) same in
     let statements_are : done.statements ≡ statements =
     one shelf.names is.accepted.script done.statements statements
     (subst (λ (r : RunRequestValue). IsScript r.shelf.names r.script done.statements) same done.accepted.denoted)
     is.accepted.denoted in
+    let given : GivesAll shelf statements questions done.gives.0 =
+    subst (λ (r : RunRequestValue). GivesAll r.shelf statements r.questions done.gives.0) same
+    (subst (λ (ss : List Statement). GivesAll done.shelf ss done.questions done.gives.0) statements_are
+    done.gives.1.0) in
     let taken = subst (λ (e : Option PipeError). IsTaken h.text before now e outcome.written) none
     (ended_taken (IsResponseTo (form_at c)) h) in (
       h.finished.status ∙ ap end_status_after none,
       none,
-      (
-        done.gives.0,
-        (
-          done.gives.1.0,
-          (
-            subst (λ (s : ShelfValue). GivesFrames s statements done.gives.0 done.gives.1.0) shelf_is
-                (subst (λ (ss : List Statement). GivesFrames done.shelf ss done.gives.0 done.gives.1.0) statements_are
-                done.gives.1.1.0),
-            taken.0 ∙ ap (append_known before) done.gives.1.1.1,
-          ),
-        ),
-      ),
+      (done.gives.0, (given, taken.0 ∙ ap (append_known before) done.gives.1.1)),
     )

@@ -2,9 +2,9 @@
 use Rattle.std.specs.Prelude.{ℕ, ℤ, List, [], ◌∷◌, ◌++◌, length, map, flat_map, codes, Option, Some, None}
 use Rattle.std.specs.Int.{w32, to_le_bytes, cast_unsigned}
 use Rattle.std.specs.List.{zip}
-use Rattle.rcell_script.specs.KnownMaps.{known_after}
 use Rattle.rcell_script.specs.declared.statement.Statement.{Statement}
 use Rattle.rcell_pipe_response.specs.FrameBytes.{number_bytes, text_bytes, flag, response_magic, end_bytes}
+use Rattle.rcell_pipe_response.specs.QuestionFrames.{all_names}
 use Rattle.rcell_pipe_response.specs.RunEnds.{done_end}
 use Rattle.rcell_plan.specs.declared.needs.Margin.{Margin}
 use Rattle.rcell_plan.specs.declared.needs.Need.{Need}
@@ -75,11 +75,6 @@ plan_bytes names p =
 -- the frames of statements
 abbrev pub plans_bytes : List (List ℕ) → List Plan → List Statement → List StatementDetails → List ℕ
 plans_bytes names plans statements details = flat_map (plan_bytes names) (zip (zip plans statements) details)
-
--- the names of all maps: of those that are given, and of those that statements make
-abbrev pub all_names : List (List ℕ) → List Statement → List (List ℕ)
-all_names names [] = names
-all_names names (s ∷ ss) = all_names (known_after names s.command) ss
 
 -- the response to a plan request whose script has these lines and denotes the statements
 abbrev pub plan_response : List (List ℕ) → List (List ℕ) → List Statement → List ℕ

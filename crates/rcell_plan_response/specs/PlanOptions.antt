@@ -1,4 +1,4 @@
--- What a plan says of the options of a statement (profile).
+-- What a plan says about the options of a statement (profile).
 use Rattle.std.specs.Prelude.{ℕ, ◌+◌, ◌*◌, List, [], ◌∷◌, ◌++◌, length, flat_map, Option, Some, None}
 use Rattle.cell_stats_combinations.specs.Combinations.{Combination}
 use Rattle.cell_stats_combinations.specs.declared.skip.Skip.{Skip}

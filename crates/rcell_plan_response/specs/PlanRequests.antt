@@ -6,9 +6,9 @@ use Rattle.cell_core_devices.specs.Device.{Coming}
 use Rattle.cell_core_values.specs.Answers.{◌>>=◌}
 use Rattle.cell_core_values.specs.Name.{place_of}
 use Rattle.rcell_pipe_request.specs.declared.error.ErrorKind.TheVariants as kinds
-use Rattle.rcell_pipe_request.specs.RequestFields.{FieldReading, number_at, steps}
+use Rattle.rcell_pipe_request.specs.RequestFields.{FieldReading, Placed, error_at, number_at, steps}
 use Rattle.rcell_pipe_request.specs.Heads.{map_name_at}
-use Rattle.rcell_pipe_request.specs.Requests.{Placed, error_at, last_script_at}
+use Rattle.rcell_pipe_request.specs.Requests.{last_script_at}
 use Rattle.rcell_plan_response.specs.declared.plan_request.PlanRequest.{PlanRequest}
 
 -- how many names there are

@@ -1,7 +1,10 @@
 -- What is written in response to a request of any form (profile).
-use Rattle.std.specs.Prelude.{ℕ, ◌≡◌, ◌≢◌, Bool, false, List, Option, Some, None, Result, Ok, Err, if◌then◌else◌, codes}
+use Rattle.std.specs.Prelude.{ℕ, ◌≡◌, ◌≢◌, Bool, true, false, List, length, Option, Some, None}
+use Rattle.std.specs.Prelude.{Result, Ok, Err, if◌then◌else◌, codes}
 use Rattle.std.specs.Prelude.{bytes_eq}
-use Rattle.cell_core_devices.specs.Device.{Coming, append_known}
+use Rattle.cell_core_devices.specs.Device.{Coming, after_bytes, append_known}
+use Rattle.cell_core_devices.specs.declared.source.Asked.{Asked}
+use Rattle.cell_core_devices.specs.declared.source.Asked.TheVariants.{Ended, Again}
 use Rattle.cell_core_values.specs.Answers.{◌>>=◌}
 use Rattle.cell_core.specs.Shelf.{ShelfValue}
 use Rattle.rcell_script.specs.declared.statement.Statement.{Statement}
@@ -9,12 +12,16 @@ use Rattle.rcell_pipe_request.specs.declared.error.ErrorKind.TheVariants as kind
 use Rattle.rcell_pipe_request.specs.declared.error.RequestError.{RequestError}
 use Rattle.rcell_pipe_request.specs.RequestFields.{FieldReading, bytes_at}
 use Rattle.rcell_pipe_request.specs.Heads.{wanted}
+use Rattle.rcell_pipe_request.specs.Supposed.{may_hold}
+use Rattle.rcell_pipe_request.specs.Feeds.{asked_at}
+use Rattle.rcell_pipe_request.specs.Questions.{QuestionValue}
 use Rattle.rcell_pipe_request.specs.Requests.{RunRequestValue, run_at}
 use Rattle.rcell_pipe_response.specs.declared.end.PipeError.{PipeError}
+use Rattle.rcell_pipe_response.specs.declared.end.PipeError.TheVariants as errors
 use Rattle.rcell_pipe_response.specs.declared.frame_run.PipeOutcome.{PipeOutcome}
-use Rattle.rcell_pipe_response.specs.Frames.{OutputFrame, GivesFrames}
+use Rattle.rcell_pipe_response.specs.Frames.{OutputFrame}
 use Rattle.rcell_pipe_response.specs.FrameBytes.{response_bytes}
-use Rattle.rcell_pipe_response.specs.RunEnds.{done_end, IsResponse, IsPipeAccepted}
+use Rattle.rcell_pipe_response.specs.RunEnds.{done_end, IsResponse, IsPipeAccepted, GivesAll}
 use Rattle.rcell_plan_response.specs.declared.responding.RequestForm.{RequestForm}
 use Rattle.rcell_plan_response.specs.declared.responding.RequestForm.TheVariants.{Run, Plan}
 use Rattle.rcell_pipe_response.specs.declared.frame_run.RunForm.TheVariants.{Frames, Text}
@@ -33,7 +40,7 @@ form_at c = do
   magic ← bytes_at 8 c
   wanted kinds.BadMagic magic.1 (form_of magic.0)
 
--- the maps and the script of a run, or the first error
+-- the maps, the script and the questions of a run, or the first error
 abbrev pub run_request_of : Coming → Result RunRequestValue RequestError
 run_request_of c = run_at c >>= λ run. Ok run.0
 
@@ -41,32 +48,55 @@ run_request_of c = run_at c >>= λ run. Ok run.0
 abbrev pub plan_request_of : Coming → Result PlanRequestValue RequestError
 plan_request_of c = plan_at c >>= λ plan. Ok plan.0
 
--- the whole response to a request, by its form and by the error that it reports; or, if a write failed in a statement,
--- the response up to it
+-- the whole response to a request, by its form and by the error that it reports; or, if a write failed in a statement
+-- or a question, the response up to it
 abbrev pub IsResponseTo : FieldReading RequestForm → List ℕ → Option PipeError → Type 0
 IsResponseTo (Err kind) response error = IsResponse Frames (Err (record { kind = kind; maps = 0; row = 0 })) response error
 IsResponseTo (Ok (Run form, rest)) response error = IsResponse form (run_request_of rest) response error
 IsResponseTo (Ok (Plan, rest)) response error = IsPlanResponse (plan_request_of rest) response error
 
--- the bytes are a request, and its script denotes statements
+-- the response to what a source gave in this call, by the error that it reports: it is the response to whatever the
+-- source may hold, of which it gave the first bytes before the call, and so much after it; if it has ended or failed,
+-- that is all
+abbrev pub IsResponseToGiven : (before gave : List ℕ) → Asked → List ℕ → Option PipeError → Type 0
+IsResponseToGiven before gave asked response error =
+    (c : Coming) → may_hold gave asked c ≡ true
+    → IsResponseTo (form_at (after_bytes c (length before))) response error
+
+-- how far the source was asked, by the error that the response reports: to the end of the request, which is complete,
+-- or up to its first error; if memory ran out before the first statement, no further than its end
+abbrev pub IsAskedBy : Option PipeError → Asked → Type 0
+IsAskedBy None asked = asked ≡ Ended
+IsAskedBy (Some (errors.Request error)) asked = asked ≡ asked_at error.kind
+IsAskedBy (Some (errors.Script error)) asked = asked ≡ Ended
+IsAskedBy (Some (errors.Question error)) asked = asked ≡ Ended
+IsAskedBy (Some errors.Memory) asked = asked ≢ Again
+IsAskedBy (Some (errors.MemoryAt line)) asked = asked ≡ Ended
+IsAskedBy (Some errors.MemoryAtQuestion) asked = asked ≡ Ended
+IsAskedBy (Some errors.Write) asked = asked ≡ Ended
+
+-- the bytes are a request, its script denotes statements, and no question is rejected
 abbrev pub IsRequestAccepted : FieldReading RequestForm → Type 0
 IsRequestAccepted (Err kind) = ⊥
 IsRequestAccepted (Ok (Run form, rest)) = (shelf : ShelfValue) ×
-    ((statements : List Statement) × IsPipeAccepted (run_request_of rest) shelf statements)
+    ((statements : List Statement) × ((questions : List QuestionValue)
+    × IsPipeAccepted form (run_request_of rest) shelf statements questions))
 IsRequestAccepted (Ok (Plan, rest)) = (names : List (List ℕ)) ×
     ((statements : List Statement) × IsPlanAccepted (plan_request_of rest) names statements)
 
--- the bytes ask for the frames of a script over maps: its statements over these maps are these
-pub record AsksForFrames (c : Coming) (shelf : ShelfValue) (statements : List Statement) : Type 0 where
+-- the bytes ask for the frames of a script over maps and of questions: its statements over these maps are these
+pub record AsksForFrames (c : Coming) (shelf : ShelfValue) (statements : List Statement)
+    (questions : List QuestionValue) : Type 0 where
   pub rest : Coming
   pub form : form_at c ≡ Ok (Run Frames, rest)
-  pub accepted : IsPipeAccepted (run_request_of rest) shelf statements
+  pub accepted : IsPipeAccepted Frames (run_request_of rest) shelf statements questions
 
 -- unless memory runs out (status 3) or the sink fails: status 0, no error, and exactly the frames of the statements and
--- the end are written
-abbrev pub WritesFrames : ShelfValue → List Statement → Option (List ℕ) → Option (List ℕ) → Bool → PipeOutcome → Type 0
-WritesFrames shelf statements before now failed outcome =
+-- of the questions and the end are written
+abbrev pub WritesFrames : ShelfValue → List Statement → List QuestionValue → Option (List ℕ) → Option (List ℕ) → Bool
+    → PipeOutcome → Type 0
+WritesFrames shelf statements questions before now failed outcome =
     outcome.status ≢ 3 → failed ≡ false
     → (outcome.status ≡ 0) × (outcome.error ≡ None) ×
-    ((frames : List OutputFrame) × ((after : ShelfValue) × (GivesFrames shelf statements frames after
-    × (now ≡ append_known before (response_bytes frames done_end)))))
+    ((frames : List OutputFrame) × (GivesAll shelf statements questions frames
+    × (now ≡ append_known before (response_bytes frames done_end))))

@@ -1,4 +1,4 @@
--- What only private functions and proofs cite.
+-- Definitions that only private functions and proofs use.
 pub mod DetailValues
 pub mod RequestStops
 pub mod Answered

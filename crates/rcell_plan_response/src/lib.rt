@@ -5,11 +5,10 @@
 //! - `plan_request`: `read_plan`, names of maps and a script, or their first error
 //! - `plan_response`: `plan_request`, the plan of each statement, as `rcell_plan` makes it
 //! - specs/Responses.antt: the response of every request
-//! - private: `plan_frames`, `plan_options`: a plan as bytes; `made_names`: the names of all maps;
-//!   `plan_details`: the calls of `position_calls` in a statement and the labels of its rules
+//! - private: `plan_frames`, `plan_options`: a plan as bytes; `plan_details`: the calls of
+//!   `position_calls` in a statement and the labels of its rules
 #![tactic(auto)]
 
-mod made_names;
 mod plan_details;
 mod plan_frames;
 mod plan_options;

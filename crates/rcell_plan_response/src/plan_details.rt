@@ -1,4 +1,4 @@
-//! What a plan says of the text of statements.
+//! What a plan says about the text of statements.
 
 ghost use Rattle.std.specs.Prelude.{◌≡◌, ◌≤◌, All, IfOk, length, map};
 ghost use Rattle.std.specs.List.{filter_map};

@@ -1,4 +1,4 @@
-//! What a plan says of the options of a statement, as bytes.
+//! What a plan says about the options of a statement, as bytes.
 
 ghost use Rattle.std.specs.Prelude.{◌≡◌, ◌≤◌, [], ◌∷◌, flat_map};
 ghost use Rattle.cell_core_devices.specs.Blocks.{Appends};

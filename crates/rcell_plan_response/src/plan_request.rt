@@ -7,12 +7,12 @@ ghost use Rattle.rcell_pipe_request.specs.Feeds.{ReadsField, ReadsPlaced, ReadsP
 ghost use Rattle.rcell_plan_response.specs.PlanRequests.{name_count_at, unused_name_at, one_more_name, plan_at, plan_request_value};
 
 use cell_core::name::{Name, Names};
-use cell_core::source::Source;
 use rcell_pipe_request::error::{ErrorKind, FieldStop, RequestStop};
 use rcell_pipe_request::feed::{Feed, read_u32};
 use rcell_pipe_request::head::read_name;
 use rcell_pipe_request::request::read_last_script;
 use std::alloc::Global;
+use std::io::Read;
 
 /// Names of maps and a script.
 #[derive(Debug, Drop)]
@@ -23,7 +23,7 @@ pub struct PlanRequest {
 
 // The number of names.
 #[tactic(auto, unfolding(crate::specs::PlanRequests::name_count_at))]
-fn read_name_count<R: Source>(feed: &mut Feed<R>) -> Result<u32, FieldStop>
+fn read_name_count<R: Read>(feed: &mut Feed<R>) -> Result<u32, FieldStop>
     ensures reads { ReadsField (λ n. n) feed.old result feed.new name_count_at }
     ensures within { IfOk result (λ n. n ≤ 65535) }
 {
@@ -36,7 +36,7 @@ fn read_name_count<R: Source>(feed: &mut Feed<R>) -> Result<u32, FieldStop>
 
 // A name that is none of those before it.
 #[tactic(auto, unfolding(crate::specs::PlanRequests::unused_name_at))]
-fn read_unused_name<R: Source>(
+fn read_unused_name<R: Read>(
     alloc: Global,
     feed: &mut Feed<R>,
     names: &Names,
@@ -53,7 +53,7 @@ fn read_unused_name<R: Source>(
 
 // Reads one name more.
 #[tactic(auto, unfolding(crate::specs::PlanRequests::one_more_name))]
-fn push_name<R: Source>(
+fn push_name<R: Read>(
     alloc: Global,
     feed: &mut Feed<R>,
     names: &mut Names,
@@ -74,8 +74,8 @@ fn push_name<R: Source>(
     }
 }
 
-// Reads so many names more.
-fn push_names<R: Source>(
+// Reads `count` more names.
+fn push_names<R: Read>(
     alloc: Global,
     feed: &mut Feed<R>,
     names: &mut Names,
@@ -100,7 +100,7 @@ fn push_names<R: Source>(
 ///
 /// The first error of the bytes, or [`RequestStop::Memory`] if memory ran out.
 #[tactic(auto, unfolding(crate::specs::PlanRequests::plan_at))]
-pub fn read_plan<R: Source>(alloc: Global, feed: &mut Feed<R>) -> Result<PlanRequest, RequestStop>
+pub fn read_plan<R: Read>(alloc: Global, feed: &mut Feed<R>) -> Result<PlanRequest, RequestStop>
     ensures { ReadsPlacedToEnd plan_request_value feed.old result feed.new plan_at }
 {
     let count = match read_name_count(feed) {

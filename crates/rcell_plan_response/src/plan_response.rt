@@ -12,7 +12,6 @@ ghost use Rattle.rcell_plan_response.specs.PlanFrames.{plans_bytes};
 ghost use Rattle.rcell_plan_response.specs.PlanEnds.{IsPlanResponse};
 ghost use Rattle.rcell_plan_response.specs.parts.DetailValues.{details_value};
 
-use crate::made_names::all_names;
 use crate::plan_details::{Details, details_of, lines_of};
 use crate::plan_frames::push_plans;
 use crate::plan_request::PlanRequest;
@@ -22,6 +21,7 @@ use rcell_pipe_response::end::{PipeError, done_end, memory_end};
 use rcell_pipe_response::frame_run::{
     PipeOutcome, begin_response, end_response, reject, reject_script,
 };
+use rcell_pipe_response::made_names::all_names;
 use rcell_plan::planning::{Plan, plans_of};
 use rcell_script::script_fault::ScriptKind;
 use rcell_script::script_parsing::parse_script;

@@ -1,37 +1,40 @@
 //! Responses to requests, from bytes to bytes.
 
-ghost use Rattle.std.specs.Prelude.{◌≡◌, ◌≢◌, List, [], true, false, Some, None, Ok, IfSome, bytes_eq, codes};
+ghost use Rattle.std.specs.Prelude.{◌≡◌, ◌≢◌, List, [], true, false, length, Some, None, bytes_eq, codes};
 ghost use Rattle.std.specs.Option.{IsNone};
-ghost use Rattle.cell_core_devices.specs.Device.{has_failed, after_flush};
+ghost use Rattle.cell_core_devices.specs.Device.{Coming, after_bytes, has_failed, after_flush};
 ghost use Rattle.cell_core.specs.Shelf.{ShelfValue};
 ghost use Rattle.rcell_script.specs.declared.statement.Statement.{Statement};
-ghost use Rattle.rcell_pipe_request.specs.Feeds.{left, ReadsField};
+ghost use Rattle.rcell_pipe_request.specs.Feeds.{ReadsField};
+ghost use Rattle.rcell_pipe_request.specs.Supposed.{may_hold};
+ghost use Rattle.rcell_pipe_request.specs.Questions.{QuestionValue};
 ghost use Rattle.rcell_pipe_response.specs.FrameBytes.{response_bytes};
 ghost use Rattle.rcell_pipe_response.specs.RunEnds.{end_status_after, IsResponse, HasResponded, HasUsed, IsOnlyEnd};
 ghost use Rattle.rcell_pipe_response.specs.FrameEndings.{Finished, EndsAs};
 ghost use Rattle.rcell_plan_response.specs.PlanEnds.{IsPlanResponse};
-ghost use Rattle.rcell_plan_response.specs.Responses.{form_of, form_at, run_request_of, plan_request_of, IsResponseTo, IsRequestAccepted, AsksForFrames, WritesFrames};
+ghost use Rattle.rcell_plan_response.specs.Responses.{form_of, form_at, IsAskedBy, run_request_of, plan_request_of, IsResponseTo, IsResponseToGiven, IsRequestAccepted, AsksForFrames, WritesFrames};
 ghost use Rattle.rcell_plan_response.specs.parts.RequestStops.{error_of_stop, end_of_stop};
-ghost use Rattle.rcell_plan_response.specs.parts.Answered.{IsAskedBy, IsOfFeed, IsOfSource};
+ghost use Rattle.rcell_plan_response.specs.parts.Answered.{IsOfFeed, IsOfSource};
 
 use crate::plan_request::read_plan;
 use crate::plan_response::plan_request;
 use cell_core::sink::Sink;
-use cell_core::source::{Asked, Source};
+use cell_core::source::{Asked, ReadSource};
 use rcell_pipe_request::error::{ErrorKind, FieldStop, RequestStop};
-use rcell_pipe_request::feed::{Feed, read_into};
+use rcell_pipe_request::feed::{Feed, new_block, read_into};
 use rcell_pipe_request::request::read_run;
 use rcell_pipe_response::end::{PipeError, memory_end, request_end};
 use rcell_pipe_response::frame_run::{PipeOutcome, RunForm, reject, run_request};
 use rcell_script::law::{no_fault_of_a_script, one_script};
 use std::alloc::Global;
+use std::io::Read;
 
 /// What a request asks for.
 #[derive(Clone, Copy, Debug, PartialEq, Eq)]
 pub enum RequestForm {
     /// To run a script over maps.
     Run(RunForm),
-    /// To say what the statements of a script read, make and write.
+    /// To report what the statements of a script read, make and write.
     Plan,
 }
 
@@ -70,7 +73,7 @@ fn form_of(magic: &[u8]) -> Option<RequestForm>
 
 // The first eight bytes.
 #[tactic(auto, unfolding(crate::specs::Responses::form_at))]
-fn read_form<R: Source>(feed: &mut Feed<R>) -> Result<RequestForm, FieldStop>
+fn read_form<R: Read>(feed: &mut Feed<R>) -> Result<RequestForm, FieldStop>
     ensures { ReadsField (λ form. form) feed.old result feed.new form_at }
 {
     let mut magic = [0u8; 8];
@@ -93,14 +96,14 @@ fn reject_stop<W: Sink>(out: &mut W, stop: RequestStop) -> PipeOutcome
 }
 
 // Reads what follows the first eight bytes of a run, and responds to it.
-fn respond_to_run<R: Source, W: Sink>(
+fn respond_to_run<R: Read, W: Sink>(
     alloc: Global,
     feed: &mut Feed<R>,
     form: RunForm,
     out: &mut W,
 ) -> PipeOutcome
     ensures end { EndsAs
-        (IsOfFeed feed.old (IsResponse form (run_request_of (left feed.old))))
+        (IsOfFeed feed.old feed.new (λ c. IsResponse form (run_request_of c)))
         (W.taken out.old) (W.faults out.old) (W.taken out.new) (W.faults out.new) result }
     ensures asked { feed.old.asked ≡ Asked.Going → IsAskedBy result.reported feed.new.asked }
 {
@@ -111,13 +114,9 @@ fn respond_to_run<R: Source, W: Sink>(
 }
 
 // Reads what follows the first eight bytes of a plan, and responds to it.
-fn respond_to_plan<R: Source, W: Sink>(
-    alloc: Global,
-    feed: &mut Feed<R>,
-    out: &mut W,
-) -> PipeOutcome
+fn respond_to_plan<R: Read, W: Sink>(alloc: Global, feed: &mut Feed<R>, out: &mut W) -> PipeOutcome
     ensures end { EndsAs
-        (IsOfFeed feed.old (IsPlanResponse (plan_request_of (left feed.old))))
+        (IsOfFeed feed.old feed.new (λ c. IsPlanResponse (plan_request_of c)))
         (W.taken out.old) (W.faults out.old) (W.taken out.new) (W.faults out.new) result }
     ensures asked { feed.old.asked ≡ Asked.Going → IsAskedBy result.reported feed.new.asked }
 {
@@ -128,9 +127,9 @@ fn respond_to_plan<R: Source, W: Sink>(
 }
 
 // Reads a request of any form, and responds to it.
-fn respond_to<R: Source, W: Sink>(alloc: Global, feed: &mut Feed<R>, out: &mut W) -> PipeOutcome
+fn respond_to<R: Read, W: Sink>(alloc: Global, feed: &mut Feed<R>, out: &mut W) -> PipeOutcome
     ensures end { EndsAs
-        (IsOfFeed feed.old (IsResponseTo (form_at (left feed.old))))
+        (IsOfFeed feed.old feed.new (λ c. IsResponseTo (form_at c)))
         (W.taken out.old) (W.faults out.old) (W.taken out.new) (W.faults out.new) result }
     // The source is not asked again after its end or an `Err`. Unless the response is one last frame, the source has
     // reported its end, so the request is complete.
@@ -145,52 +144,95 @@ fn respond_to<R: Source, W: Sink>(alloc: Global, feed: &mut Feed<R>, out: &mut W
     }
 }
 
+/// A response to a request, and the source of the request, as far as it was asked.
+#[derive(Drop)]
+pub struct Responded<R> {
+    /// What was written.
+    pub outcome: PipeOutcome,
+    /// The source.
+    pub source: ReadSource<R>,
+}
+
 // Reads a request of any form from its source, and responds to it.
-fn respond_whole<R: Source + Drop, W: Sink>(alloc: Global, source: R, out: &mut W) -> PipeOutcome
-    ensures { EndsAs (IsOfSource (R.coming source)) (W.taken out.old) (W.faults out.old)
-        (W.taken out.new) (W.faults out.new) result }
+fn respond_whole<R: Read + Drop, W: Sink>(
+    alloc: Global,
+    source: ReadSource<R>,
+    out: &mut W,
+) -> Responded<R>
+    ensures end { EndsAs
+        (IsOfSource source.0.1 result.source.0.1 result.source.1)
+        (W.taken out.old) (W.faults out.old) (W.taken out.new) (W.faults out.new) result.outcome }
+    ensures asked { source.1 ≡ Asked.Going
+        → IsAskedBy result.outcome.reported result.source.1 }
 {
-    match Feed::new(alloc, source) {
-        Ok(mut feed) => respond_to(alloc, &mut feed, out),
-        Err(_) => reject(out, PipeError::Memory, &memory_end(0)),
+    match new_block(alloc) {
+        Ok(block) => {
+            let mut feed = Feed::new(block, source);
+            let outcome = respond_to(alloc, &mut feed, out);
+            let source = feed.into_source();
+            Responded { outcome, source }
+        }
+        Err(_) => {
+            let outcome = reject(out, PipeError::Memory, &memory_end(0));
+            Responded { outcome, source }
+        }
     }
 }
 
 /// Reads a request, runs or plans its script, and writes the response.
 ///
-/// The request is read whole before the first statement is executed. Each statement of a run has all that it needs of memory
-/// before its first byte is written, and a plan before the first byte of its response.
-pub fn respond<R: Source + Drop, W: Sink>(alloc: Global, source: R, out: &mut W) -> PipeOutcome
+/// The request is read whole before the first statement is executed. Each statement and each question of a run has all that
+/// it needs of memory before its first byte is written, and a plan before the first byte of its response.
+pub fn respond<R: Read + Drop, W: Sink>(
+    alloc: Global,
+    source: ReadSource<R>,
+    out: &mut W,
+) -> Responded<R>
     // What was written, by the error that the response reports: the frames of the statements, or their plans, and the
     // end; or the text that `rcell` writes. With an error: the end with the first error of the request or of its script,
     // or the frames, or the text, of the statements before memory ran out. If a write failed: the first bytes of this.
-    ensures end { IfSome (R.coming source) (λ c. HasResponded (IsResponseTo (form_at c))
-        (W.taken out.old) (W.taken out.new) result.reported result.error result.written) }
+    // All that is known of the source is what its reads gave, and whether it has ended or failed.
+    ensures end { HasResponded
+        (IsResponseToGiven source.0.1 result.source.0.1 result.source.1)
+        (W.taken out.old) (W.taken out.new) result.outcome.reported result.outcome.error
+        result.outcome.written }
+    // The source is not asked again after its end or an `Err`. Unless the response is one last frame, the source has
+    // reported its end, so the request is complete.
+    ensures asked { source.1 ≡ Asked.Going
+        → IsAskedBy result.outcome.reported result.source.1 }
     // Whatever the source gives: a response that reports an error of the request or of its script is its last frame.
-    ensures rejected { HasResponded IsOnlyEnd (W.taken out.old) (W.taken out.new) result.reported
-        result.error result.written }
-    ensures status { result.status ≡ end_status_after result.error }
+    ensures rejected { HasResponded IsOnlyEnd (W.taken out.old) (W.taken out.new)
+        result.outcome.reported result.outcome.error result.outcome.written }
+    ensures status { result.outcome.status ≡ end_status_after result.outcome.error }
+    // Unless a write failed, the run has the error that the response reports, or none.
+    ensures same { result.outcome.error ≢ Some PipeError.Write
+        → result.outcome.error ≡ result.outcome.reported }
     // The sink is flushed once, after the last byte, unless a put failed. Write comes only if a put or the flush
     // failed.
-    ensures first { HasUsed result.error (W.faults out.old) (W.faults out.new) }
-    ensures write { result.error ≡ Some PipeError.Write → has_failed (W.faults out.new) ≡ true }
-    ensures flushed { result.error ≢ Some PipeError.Write
+    ensures first { HasUsed result.outcome.error (W.faults out.old) (W.faults out.new) }
+    ensures write { result.outcome.error ≡ Some PipeError.Write
+        → has_failed (W.faults out.new) ≡ true }
+    ensures flushed { result.outcome.error ≢ Some PipeError.Write
         → W.faults out.new ≡ after_flush (W.faults out.old) false }
     // If Write is reported and no put failed, only the flush did: the sink took the whole response.
-    ensures whole { IfSome (R.coming source)
-        (λ c. result.error ≡ Some PipeError.Write → (W.faults out.new).refused ≡ false
-        → (result.reported ≢ Some PipeError.Write) × HasResponded (IsResponseTo (form_at c))
-        (W.taken out.old) (W.taken out.new) result.reported None result.written) }
-    // For every request for the frames of a script that is accepted, if memory lasts and the sink takes everything,
-    // exactly these frames and the end are written.
-    ensures headline { IfSome (R.coming source)
-        (λ c. (shelf : ShelfValue) (statements : List Statement) → AsksForFrames c shelf statements
-        → WritesFrames shelf statements (W.taken out.old) (W.taken out.new)
-        (has_failed (W.faults out.new)) result) }
+    ensures whole { result.outcome.error ≡ Some PipeError.Write
+        → (W.faults out.new).refused ≡ false
+        → (result.outcome.reported ≢ Some PipeError.Write) × HasResponded
+        (IsResponseToGiven source.0.1 result.source.0.1 result.source.1)
+        (W.taken out.old) (W.taken out.new) result.outcome.reported None result.outcome.written }
+    // For every request for the frames of a script and of questions that is accepted, if memory lasts and the sink takes
+    // everything, exactly these frames and the end are written.
+    ensures headline { (c : Coming) (shelf : ShelfValue) (statements : List Statement)
+        (questions : List QuestionValue)
+        → may_hold result.source.0.1 result.source.1 c ≡ true
+        → AsksForFrames (after_bytes c (length source.0.1)) shelf statements questions
+        → WritesFrames shelf statements questions (W.taken out.old) (W.taken out.new)
+        (has_failed (W.faults out.new)) result.outcome }
     // If the script of a request of any form is accepted, memory lasts and the sink takes everything, all is done.
-    ensures complete { IfSome (R.coming source)
-        (λ c. IsRequestAccepted (form_at c) → result.status ≢ 3
-        → has_failed (W.faults out.new) ≡ false → IsNone result.error) }
+    ensures complete { (c : Coming) → may_hold result.source.0.1 result.source.1 c ≡ true
+        → IsRequestAccepted (form_at (after_bytes c (length source.0.1)))
+        → result.outcome.status ≢ 3
+        → has_failed (W.faults out.new) ≡ false → IsNone result.outcome.error }
 {
     no_fault_of_a_script();
     one_script();

@@ -13,10 +13,11 @@ unfolding region_at
 region_of_parts c c1 c2 c3 edges rows cols region a b d is = rw (a, b, d, is) refl
 
 pub returns-in-Ok : goal.returns-in-Ok
-returns-in-Ok g c =
-    let k1 = c.in_ok-edges.ensures.0 in
-    let k2 = c.in_ok-rows.ensures.0 ∙ k1 in (
-      c.in_ok-cols.ensures.0 ∙ k2,
-      λ known. region_of_parts _ _ _ _ _ _ _ _ (c.in_ok-edges.ensures.1 known) (c.in_ok-rows.ensures.1 (k1 ∙ known)) (c.in_ok-cols.ensures.1 (k2 ∙ known)) (sym c.region_of.ensures ∙ c.in-Ok.is),
-      λ going. c.in_ok-cols.ensures.2 (c.in_ok-rows.ensures.2 (c.in_ok-edges.ensures.2 going)),
-    )
+returns-in-Ok g c = (
+  λ w is.
+      let cols = c.in_ok-cols.ensures.0 w is in
+      let rows = c.in_ok-rows.ensures.0 w cols.0 in
+      let edges = c.in_ok-edges.ensures.0 w rows.0 in
+      (edges.0, region_of_parts _ _ _ _ _ _ _ _ edges.1 rows.1 cols.1 (sym c.region_of.ensures ∙ c.in-Ok.is)),
+  λ going. c.in_ok-cols.ensures.1 (c.in_ok-rows.ensures.1 (c.in_ok-edges.ensures.1 going)),
+)

@@ -9,36 +9,45 @@ pub returns-in-Err-clause-reads : goal.returns-in-Err-clause-reads
 returns-in-Err-clause-reads g c =
     let rows = c.loop-i.builder.rows in
     let cols = length c.args.cells.now in (
-      PlacedFails-of c.in-Err.stop c.loop-i.feed.known c.args.feed.now.known
-          (one_more_row c.args.maps c.args.format (length c.loop-i.cells) rows (left c.loop-i.feed))
-          (steps (one_more_row c.args.maps c.args.format cols) [] c.args.rows
-          (left c.args.feed.now)) c.loop-i.invariant.0
-          (λ known error one. steps-end (one_more_row c.args.maps c.args.format cols) rows c.args.rows c.loop-i.i
-          (left c.loop-i.feed) error _ (omega arith)
+      PlacedFails-of c.in-Err.stop c.args.feed.now c.loop-i.feed c.push_row.new.feed
+          (one_more_row c.args.maps c.args.format (length c.loop-i.cells) rows)
+          (steps (one_more_row c.args.maps c.args.format cols) [] c.args.rows) (λ w is. (c.loop-i.invariant.0 w is).0)
+          (λ w is error one. steps-end (one_more_row c.args.maps c.args.format cols) rows c.args.rows c.loop-i.i
+          (left w c.loop-i.feed) error _ (omega arith)
           (sym (ap (λ (n : ℕ). one_more_row c.args.maps c.args.format n rows
-          (left c.loop-i.feed)) c.loop-i.auto.cells) ∙ one) (c.loop-i.invariant.1 known))
+          (left w c.loop-i.feed)) c.loop-i.auto.cells) ∙ one) (c.loop-i.invariant.0 w is).1)
           c.in-Err.ensures.reads.0,
-      λ going. c.in-Err.ensures.reads.1 (c.loop-i.invariant.7 going),
+      λ going. c.in-Err.ensures.reads.1 (c.loop-i.invariant.6 going),
     )
 
 pub loop-i-preserved : goal.loop-i-preserved
 loop-i-preserved g c =
     let rows = c.loop-i.builder.rows in
     let cols = length c.args.cells.now in (
-      c.in-Ok.ensures.reads.0 ∙ c.loop-i.invariant.0,
-      λ known. steps-on (one_more_row c.args.maps c.args.format cols) rows c.push_row.new.builder.rows c.args.rows c.loop-i.i (left c.loop-i.feed) (left c.push_row.new.feed) _ (omega arith)
-          (sym (ap (λ (n : ℕ). one_more_row c.args.maps c.args.format n rows (left c.loop-i.feed)) c.loop-i.auto.cells) ∙ c.in-Ok.ensures.reads.1 (c.loop-i.invariant.0 ∙ known)) (c.loop-i.invariant.1 known),
-      c.in-Ok.ensures.count ∙ ap (λ (n : ℕ). n + 1) c.loop-i.invariant.2,
-      c.push_row.ensures.region ∙ c.loop-i.invariant.3,
+      λ w is.
+          let one = c.in-Ok.ensures.reads.0 w is in
+          let before = c.loop-i.invariant.0 w one.0 in (
+            before.0,
+            steps-on (one_more_row c.args.maps c.args.format cols) rows c.push_row.new.builder.rows c.args.rows
+                c.loop-i.i (left w c.loop-i.feed) (left w c.push_row.new.feed) _ (omega arith)
+                (sym (ap (λ (n : ℕ). one_more_row c.args.maps c.args.format n rows (left w c.loop-i.feed))
+                c.loop-i.auto.cells) ∙ one.1) before.1,
+          ),
+      c.in-Ok.ensures.count ∙ ap (λ (n : ℕ). n + 1) c.loop-i.invariant.1,
+      c.push_row.ensures.region ∙ c.loop-i.invariant.2,
       c.push_row.ensures.width ∙ c.loop-i.auto.cells,
       c.push_row.ensures.bytes ∙ c.loop-i.auto.bytes,
       c.push_row.ensures.mask ∙ c.loop-i.auto.mask,
-      λ going. c.in-Ok.ensures.reads.2 (c.loop-i.invariant.7 going),
+      λ going. c.in-Ok.ensures.reads.1 (c.loop-i.invariant.6 going),
     )
 
 pub returns-clause-reads : goal.returns-clause-reads
 returns-clause-reads g c = (
-  c.loop-i.invariant.0,
-  λ known. steps-done (one_more_row c.args.maps c.args.format (length c.args.cells.now)) c.loop-i.builder.rows c.args.rows c.loop-i.i (left c.loop-i.feed) _ (omega arith) (c.loop-i.invariant.1 known),
-  c.loop-i.invariant.7,
+  λ w is.
+      let before = c.loop-i.invariant.0 w is in (
+        before.0,
+        steps-done (one_more_row c.args.maps c.args.format (length c.args.cells.now)) c.loop-i.builder.rows
+            c.args.rows c.loop-i.i (left w c.loop-i.feed) _ (omega arith) before.1,
+      ),
+  c.loop-i.invariant.6,
 )

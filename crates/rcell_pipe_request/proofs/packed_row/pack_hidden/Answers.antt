@@ -32,7 +32,7 @@ number bytes k within =
 is_byte : (b : ℕ) → b < 256 → is_category (pos b) ≡ true
 is_byte b few = search (rules, few)
 
--- the cell of a number that is no category 255
+-- a byte, or 255 in place of nodata, denotes the cell of its number
 visible : (nodata : Option ℤ) (null b : ℕ) → b < 256 → ((n : ℕ) → n < 255 → eqb n null ≡ is_nodata nodata (pos n))
     → (b ≡ 255 → is_nodata nodata (pos 255) ≡ true)
     → byte_cell (if eqb b null then 255 else b) ≡ cell_of_raw nodata (pos b)

@@ -1,4 +1,4 @@
-use Rattle.std.proofs.Common.{◌∙◌, arith}
+use Rattle.std.proofs.Common.{arith}
 use Rattle.rcell_pipe_request.specs.RequestFields.{steps}
 use Rattle.rcell_pipe_request.specs.Feeds.{left}
 use Rattle.rcell_pipe_request.specs.Requests.{one_more_map}
@@ -7,26 +7,33 @@ use Rattle.rcell_pipe_request.proofs.request.push_maps.Goals as goal
 
 pub returns-in-Err : goal.returns-in-Err
 returns-in-Err g c = (
-  PlacedFails-of c.in-Err.stop c.loop-i.feed.known c.args.feed.now.known
-      (one_more_map c.loop-i.shelf (left c.loop-i.feed))
-      (steps one_more_map c.args.shelf.now c.args.count (left c.args.feed.now)) c.loop-i.invariant.0
-      (λ known error one. steps-end one_more_map c.loop-i.shelf c.args.count c.loop-i.i (left c.loop-i.feed) error _
-      (omega arith) one (c.loop-i.invariant.1 known))
+  PlacedFails-of c.in-Err.stop c.args.feed.now c.loop-i.feed c.push_map.new.feed (one_more_map c.loop-i.shelf)
+      (steps one_more_map c.args.shelf.now c.args.count) (λ w is. (c.loop-i.invariant.0 w is).0)
+      (λ w is error one. steps-end one_more_map c.loop-i.shelf c.args.count c.loop-i.i (left w c.loop-i.feed) error _
+      (omega arith) one (c.loop-i.invariant.0 w is).1)
       c.in-Err.ensures.reads.0,
-  λ going. c.in-Err.ensures.reads.1 (c.loop-i.invariant.3 going),
+  λ going. c.in-Err.ensures.reads.1 (c.loop-i.invariant.2 going),
 )
 
 pub loop-i-preserved : goal.loop-i-preserved
 loop-i-preserved g c = (
-  c.in-Ok.ensures.reads.0 ∙ c.loop-i.invariant.0,
-  λ known. steps-on one_more_map c.loop-i.shelf c.push_map.new.shelf c.args.count c.loop-i.i (left c.loop-i.feed) (left c.push_map.new.feed) _ (omega arith) (c.in-Ok.ensures.reads.1 (c.loop-i.invariant.0 ∙ known)) (c.loop-i.invariant.1 known),
-  omega (arith, c.in-Ok.ensures.count, c.loop-i.invariant.2),
-  λ going. c.in-Ok.ensures.reads.2 (c.loop-i.invariant.3 going),
+  λ w is.
+      let one = c.in-Ok.ensures.reads.0 w is in
+      let before = c.loop-i.invariant.0 w one.0 in (
+        before.0,
+        steps-on one_more_map c.loop-i.shelf c.push_map.new.shelf c.args.count c.loop-i.i (left w c.loop-i.feed)
+            (left w c.push_map.new.feed) _ (omega arith) one.1 before.1,
+      ),
+  omega (arith, c.in-Ok.ensures.count, c.loop-i.invariant.1),
+  λ going. c.in-Ok.ensures.reads.1 (c.loop-i.invariant.2 going),
 )
 
 pub returns : goal.returns
 returns g c = (
-  c.loop-i.invariant.0,
-  λ known. steps-done one_more_map c.loop-i.shelf c.args.count c.loop-i.i (left c.loop-i.feed) _ (omega arith) (c.loop-i.invariant.1 known),
-  c.loop-i.invariant.3,
+  λ w is.
+      let before = c.loop-i.invariant.0 w is in (
+        before.0,
+        steps-done one_more_map c.loop-i.shelf c.args.count c.loop-i.i (left w c.loop-i.feed) _ (omega arith) before.1,
+      ),
+  c.loop-i.invariant.2,
 )

@@ -2,21 +2,21 @@ use Rattle.rcell_pipe_response.proofs.EndLemmas.{text_done, text_stopped, text_f
 use Rattle.rcell_pipe_response.proofs.frame_run.print_statements.Goals as goal
 
 pub returns-in-Ok : goal.returns-in-Ok
-returns-in-Ok g c = λ read accepted.
+returns-in-Ok g c = λ read questions accepted.
     let done = rw c.statements.ensures at c.in-Ok.ensures.ok in
-    text_done read c.args.shelf c.args.script.now accepted _ done (rw c.in-Ok.is at c.execute.ensures.faults)
+    text_done read c.args.shelf c.args.script.now questions accepted _ done (rw c.in-Ok.is at c.execute.ensures.faults)
     (c.end_text.ensures _ done.text done.taken done.count)
 
 pub returns-in-Memory : goal.returns-in-Memory
-returns-in-Memory g c = λ read accepted.
+returns-in-Memory g c = λ read questions accepted.
     let stopped = rw (c.statements.ensures, c.in-Memory.is) at c.in-Err.ensures.err in
-    text_stopped read c.args.shelf c.args.script.now accepted _ c.in-Memory.line stopped
+    text_stopped read c.args.shelf c.args.script.now questions accepted _ c.in-Memory.line stopped
     (rw (c.in-Err.is, c.in-Memory.is) at c.execute.ensures.faults)
     (c.end_text-in-Memory.ensures _ stopped.text stopped.taken stopped.count)
 
 pub returns : goal.returns
-returns g c = λ read accepted.
-    text_failed read c.args.shelf c.args.script.now accepted _
+returns g c = λ read questions accepted.
+    text_failed read c.args.shelf c.args.script.now questions accepted _
     (rw (c.statements.ensures, c.in-Write.is) at c.in-Err.ensures.err)
-    (rw (c.in-Err.is, c.in-Write.is) at c.execute.ensures.faults) c.outcome_of.ensures.reported
-    c.outcome_of.ensures.error c.outcome_of.ensures.status c.outcome_of.ensures.written
+    (rw (c.in-Err.is, c.in-Write.is) at c.execute.ensures.faults) c.cut_short.ensures.reported
+    c.cut_short.ensures.error c.cut_short.ensures.status c.cut_short.ensures.written

@@ -1,5 +1,6 @@
 use Rattle.std.proofs.Common.{◌∙◌, [], Ok, Some, refl, sym}
 use Rattle.rcell_script.specs.ReadScripts.{IsScriptFault}
+use Rattle.rcell_pipe_request.specs.Questions.{question_values}
 use Rattle.rcell_pipe_request.specs.Requests.{run_request_value}
 use Rattle.rcell_pipe_response.specs.declared.end.PipeError.TheVariants as errors
 use Rattle.rcell_pipe_response.specs.RunEnds.{memory_end, IsResponse, end_value}
@@ -9,21 +10,11 @@ use Rattle.rcell_pipe_response.proofs.frame_run.run_request.Goals as goal
 pub returns-in_default : goal.returns-in_default
 returns-in_default g c = ends_as (IsResponse c.args.form (Ok (run_request_value c.args.request))) (Some errors.Memory) refl (λ write. cc) (finished_frames [] (end_value c.memory_end.result) (memory_end 0) c.memory_end.ensures c.reject.ensures)
 
-pub returns-in-Frames : goal.returns-in-Frames
-returns-in-Frames g c =
-    rw c.in-Frames.is (c.run_statements.ensures (Ok (run_request_value c.args.request)) (record {
-      script = c.args.request.script.items;
-      request = refl;
-      denoted = rw (c.in-Ok.ensures.names, c.deref.ensures.value) at c.in-Ok-parse_script.ensures.ok;
-    }))
-
 pub returns-in-Ok-parse_script : goal.returns-in-Ok-parse_script
 returns-in-Ok-parse_script g c =
-    rw c.in-Text.is (c.print_statements.ensures (Ok (run_request_value c.args.request)) (record {
-      script = c.args.request.script.items;
-      request = refl;
-      denoted = rw (c.in-Ok.ensures.names, c.deref.ensures.value) at c.in-Ok-parse_script.ensures.ok;
-    }))
+    rw c.as_slice.ensures.value at
+    (c.run_script.ensures c.args.request.script.items
+    (rw (c.in-Ok.ensures.names, c.deref.ensures.value) at c.in-Ok-parse_script.ensures.ok))
 
 pub returns-then-is_memory : goal.returns-then-is_memory
 returns-then-is_memory g c = ends_as (IsResponse c.args.form (Ok (run_request_value c.args.request))) (Some errors.Memory) refl (λ write. cc) (finished_frames [] (end_value c.memory_end-then-is_memory.result) (memory_end 0) c.memory_end-then-is_memory.ensures c.reject-then-is_memory.ensures)
@@ -32,5 +23,7 @@ pub returns : goal.returns
 returns g c =
     let rejected = c.reject_script.ensures in
     let first : IsScriptFault c.args.request.shelf.names c.args.request.script.items c.in-Err.error = rw (c.in-Ok.ensures.names, c.deref.ensures.value) at (c.in-Err.ensures.err (not_memory c.in-Err.error.kind (sym c.is_memory.ensures ∙ c.if-is_memory.false))) in
-    ends_as (IsResponse c.args.form (Ok (run_request_value c.args.request))) (Some rejected.error) (rejection c.args.form c.args.request.shelf c.args.request.script.items c.in-Err.error rejected.error rejected.end first rejected.rejects)
+    ends_as (IsResponse c.args.form (Ok (run_request_value c.args.request))) (Some rejected.error)
+    (rejection c.args.form c.args.request.shelf c.args.request.script.items
+    (question_values c.args.request.questions.items) c.in-Err.error rejected.error rejected.end first rejected.rejects)
     (not_write c.in-Err.error rejected.error rejected.end rejected.rejects) rejected.finished

@@ -1,5 +1,4 @@
-use Rattle.std.proofs.Common.{◌≡◌, ◌∙◌, Ok, Some, ap, true, sym, subst}
-use Rattle.rcell_pipe_request.specs.Feeds.{left}
+use Rattle.std.proofs.Common.{◌≡◌, Some}
 use Rattle.rcell_pipe_response.specs.RunEnds.{IsResponse}
 use Rattle.rcell_pipe_response.proofs.EndLemmas.{ends_as}
 use Rattle.rcell_plan_response.specs.PlanEnds.{IsPlanResponse}
@@ -11,35 +10,44 @@ use Rattle.rcell_plan_response.proofs.responding.respond_to.Goals as goal
 
 pub returns-in-Run-clause-end : goal.returns-in-Run-clause-end
 returns-in-Run-clause-end g c =
-    ends_more (IsOfFeed c.read_form.new.feed (IsResponse c.in-Run.form (run_request_of (left c.read_form.new.feed))))
-    (IsOfFeed c.args.feed.now (IsResponseTo (form_at (left c.args.feed.now))))
-    (λ response error is. (is.0, λ known. rw (c.in-Ok.ensures.1 known, c.in-Run.is) (is.1 (c.in-Ok.ensures.0 ∙ known))))
+    ends_more
+    (IsOfFeed c.read_form.new.feed c.respond_to_run.new.feed (λ x. IsResponse c.in-Run.form (run_request_of x)))
+    (IsOfFeed c.args.feed.now c.respond_to_run.new.feed (λ x. IsResponseTo (form_at x)))
+    (λ response error is. (
+      is.0,
+      λ x fit.
+          let of_run = is.1 x fit in
+          let form = c.in-Ok.ensures.0 x of_run.0 in
+          (form.0, rw (form.1, c.in-Run.is) of_run.1),
+    ))
     c.respond_to_run.ensures.end
 
 pub returns-in-Run-clause-asked : goal.returns-in-Run-clause-asked
-returns-in-Run-clause-asked g c = λ going. c.respond_to_run.ensures.asked (c.in-Ok.ensures.2 going)
+returns-in-Run-clause-asked g c = λ going. c.respond_to_run.ensures.asked (c.in-Ok.ensures.1 going)
 
 pub returns-in-Plan-clause-end : goal.returns-in-Plan-clause-end
 returns-in-Plan-clause-end g c =
-    ends_more (IsOfFeed c.read_form.new.feed (IsPlanResponse (plan_request_of (left c.read_form.new.feed))))
-    (IsOfFeed c.args.feed.now (IsResponseTo (form_at (left c.args.feed.now))))
+    ends_more (IsOfFeed c.read_form.new.feed c.respond_to_plan.new.feed (λ x. IsPlanResponse (plan_request_of x)))
+    (IsOfFeed c.args.feed.now c.respond_to_plan.new.feed (λ x. IsResponseTo (form_at x)))
     (λ response error is. (
       is.0,
-      λ known. rw (c.in-Ok.ensures.1 known, c.in-Plan.is)
-          (is.1 (c.in-Ok.ensures.0 ∙ known)),
+      λ x fit.
+          let of_plan = is.1 x fit in
+          let form = c.in-Ok.ensures.0 x of_plan.0 in
+          (form.0, rw (form.1, c.in-Plan.is) of_plan.1),
     ))
     c.respond_to_plan.ensures.end
 
 pub returns-in-Plan-clause-asked : goal.returns-in-Plan-clause-asked
-returns-in-Plan-clause-asked g c = λ going. c.respond_to_plan.ensures.asked (c.in-Ok.ensures.2 going)
+returns-in-Plan-clause-asked g c = λ going. c.respond_to_plan.ensures.asked (c.in-Ok.ensures.1 going)
 
 pub returns-in-Err-clause-end : goal.returns-in-Err-clause-end
 returns-in-Err-clause-end g c =
-    let form = form_at (left c.args.feed.now) in
-    ends_as (IsOfFeed c.args.feed.now (IsResponseTo form)) (Some (error_of_stop c.at.result)) (
+    ends_as (IsOfFeed c.args.feed.now c.read_form.new.feed (λ x. IsResponseTo (form_at x)))
+    (Some (error_of_stop c.at.result)) (
       only_stop c.at.result,
-      λ known. rw c.at.ensures
-          (stopped_form form c.in-Err.stop c.args.feed.now.known c.in-Err.ensures.0 known),
+      λ x fit. rw c.at.ensures
+          (stopped_form c.in-Err.stop c.args.feed.now c.read_form.new.feed c.in-Err.ensures.0 x fit),
     )
     (stop_fine c.at.result) c.reject_stop.ensures
 

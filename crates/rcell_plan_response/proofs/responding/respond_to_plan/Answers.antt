@@ -1,8 +1,6 @@
-use Rattle.std.proofs.Common.{◌≡◌, Ok, Some, ap, true}
-use Rattle.cell_core_values.specs.Answers.{◌>>=◌}
-use Rattle.rcell_pipe_request.specs.Feeds.{left}
+use Rattle.std.proofs.Common.{◌≡◌, Ok, Some}
 use Rattle.rcell_pipe_response.proofs.EndLemmas.{ends_as}
-use Rattle.rcell_plan_response.specs.PlanRequests.{plan_at, plan_request_value}
+use Rattle.rcell_plan_response.specs.PlanRequests.{plan_request_value}
 use Rattle.rcell_plan_response.specs.PlanEnds.{IsPlanResponse}
 use Rattle.rcell_plan_response.specs.Responses.{plan_request_of}
 use Rattle.rcell_plan_response.specs.parts.RequestStops.{error_of_stop}
@@ -14,22 +12,26 @@ use Rattle.rcell_plan_response.proofs.responding.respond_to_plan.Goals as goal
 pub returns-in-Ok-clause-end : goal.returns-in-Ok-clause-end
 returns-in-Ok-clause-end g c =
     let read = Ok (plan_request_value c.in-Ok.request) in
-    ends_more (IsPlanResponse read) (IsOfFeed c.args.feed.now (IsPlanResponse (plan_request_of (left c.args.feed.now))))
-    (λ response error is. (only_end_of_plan read response error is, λ known. rw (c.in-Ok.ensures.1 known) is))
+    ends_more (IsPlanResponse read)
+    (IsOfFeed c.args.feed.now c.read_plan.new.feed (λ x. IsPlanResponse (plan_request_of x)))
+    (λ response error is. (
+      only_end_of_plan read response error is,
+      λ x fit.
+          let at = c.in-Ok.ensures.0 x fit in
+          (at.0, rw at.1 is),
+    ))
     c.plan_request.ensures
 
 pub returns-in-Ok-clause-asked : goal.returns-in-Ok-clause-asked
 returns-in-Ok-clause-asked g c = λ going.
-    asked_of_plan (plan_request_value c.in-Ok.request) _ _ c.plan_request.ensures.is (c.in-Ok.ensures.2 going)
+    asked_of_plan (plan_request_value c.in-Ok.request) _ _ c.plan_request.ensures.is (c.in-Ok.ensures.1 going)
 
 pub returns-in-Err-clause-end : goal.returns-in-Err-clause-end
 returns-in-Err-clause-end g c =
-    ends_as (IsOfFeed c.args.feed.now (IsPlanResponse (plan_request_of (left c.args.feed.now))))
+    ends_as (IsOfFeed c.args.feed.now c.read_plan.new.feed (λ x. IsPlanResponse (plan_request_of x)))
     (Some (error_of_stop c.in-Err.stop)) (
       only_stop c.in-Err.stop,
-      λ known. stopped_plan (plan_at (left c.args.feed.now)) c.in-Err.stop c.args.feed.now.known
-          c.in-Err.ensures.0 known (plan_request_of (left c.args.feed.now))
-          (λ error is. ap (λ r. r >>= λ plan. Ok plan.0) is),
+      stopped_plan c.in-Err.stop c.args.feed.now c.read_plan.new.feed c.in-Err.ensures.0,
     )
     (stop_fine c.in-Err.stop) c.reject_stop.ensures
 

@@ -1,7 +1,5 @@
-use Rattle.std.proofs.Common.{◌≡◌, Ok, Some, ap, true}
-use Rattle.cell_core_values.specs.Answers.{◌>>=◌}
-use Rattle.rcell_pipe_request.specs.Feeds.{left}
-use Rattle.rcell_pipe_request.specs.Requests.{run_at, run_request_value}
+use Rattle.std.proofs.Common.{◌≡◌, Ok, Some}
+use Rattle.rcell_pipe_request.specs.Requests.{run_request_value}
 use Rattle.rcell_pipe_response.specs.RunEnds.{IsResponse}
 use Rattle.rcell_pipe_response.proofs.EndLemmas.{ends_as, only_end_of_run}
 use Rattle.rcell_plan_response.specs.Responses.{run_request_of}
@@ -15,26 +13,25 @@ pub returns-in-Ok-clause-end : goal.returns-in-Ok-clause-end
 returns-in-Ok-clause-end g c =
     let read = Ok (run_request_value c.in-Ok.request) in
     ends_more (IsResponse c.args.form read)
-    (IsOfFeed c.args.feed.now (IsResponse c.args.form (run_request_of (left c.args.feed.now))))
+    (IsOfFeed c.args.feed.now c.read_run.new.feed (λ x. IsResponse c.args.form (run_request_of x)))
     (λ response error is. (
       only_end_of_run c.args.form read response error is,
-      λ known. rw
-          (c.in-Ok.ensures.1 known) is,
+      λ x fit.
+          let at = c.in-Ok.ensures.0 x fit in
+          (at.0, rw at.1 is),
     ))
     c.run_request.ensures
 
 pub returns-in-Ok-clause-asked : goal.returns-in-Ok-clause-asked
 returns-in-Ok-clause-asked g c = λ going.
-    asked_of_run c.args.form (run_request_value c.in-Ok.request) _ _ c.run_request.ensures.is (c.in-Ok.ensures.2 going)
+    asked_of_run c.args.form (run_request_value c.in-Ok.request) _ _ c.run_request.ensures.is (c.in-Ok.ensures.1 going)
 
 pub returns-in-Err-clause-end : goal.returns-in-Err-clause-end
 returns-in-Err-clause-end g c =
-    ends_as (IsOfFeed c.args.feed.now (IsResponse c.args.form (run_request_of (left c.args.feed.now))))
+    ends_as (IsOfFeed c.args.feed.now c.read_run.new.feed (λ x. IsResponse c.args.form (run_request_of x)))
     (Some (error_of_stop c.in-Err.stop)) (
       only_stop c.in-Err.stop,
-      λ known. stopped_run c.args.form
-          (run_at (left c.args.feed.now)) c.in-Err.stop c.args.feed.now.known
-          c.in-Err.ensures.0 known (run_request_of (left c.args.feed.now)) (λ error is. ap (λ r. r >>= λ run. Ok run.0) is),
+      stopped_run c.args.form c.in-Err.stop c.args.feed.now c.read_run.new.feed c.in-Err.ensures.0,
     )
     (stop_fine c.in-Err.stop) c.reject_stop.ensures
 

@@ -1,0 +1,2 @@
+-- Answered requests.
+pub mod StatusLemmas

@@ -1,0 +1,2 @@
+-- What `rcell-pipe` does.
+pub mod Exchanges

@@ -1,0 +1,6 @@
+-- What the law of requests states, and two worked requests.
+pub mod SentMaps
+pub mod SentBytes
+pub mod SentQuestions
+pub mod RequestLaw
+pub mod SentExamples

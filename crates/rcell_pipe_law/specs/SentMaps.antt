@@ -1,0 +1,95 @@
+-- What a caller of rcell-pipe has: maps of numbers, and which cells the numbers mean (profile).
+use Rattle.std.specs.Prelude.{ℕ, ℤ, ◌≡◌, ◌<◌, ◌^◌, Bool, true, false, ◌&&◌, ◌||◌, List, ◌∷◌, length, map, All}
+use Rattle.std.specs.Prelude.{IfSome, Some, None, if◌then◌else◌}
+use Rattle.std.specs.Int.{w32, w64}
+use Rattle.std.specs.Int.RustNames.{FitsSigned}
+use Rattle.cell_core_values.specs.Cell.{is_category}
+use Rattle.cell_core_values.specs.Name.{is_name}
+use Rattle.cell_core_values.specs.Region.{RegionValue, IsRegion}
+use Rattle.cell_core.specs.Grid.{CellValue, Grid, no_labels}
+use Rattle.cell_core.specs.Shelf.{ShelfValue}
+use Rattle.cell_ascii_meaning.specs.EdgeNumbers.{coordinate}
+use Rattle.rcell_pipe_request.specs.Heads.{LabelValue, is_bad_label}
+use Rattle.rcell_pipe_request.specs.Numbers.{has_number}
+use Rattle.rcell_pipe_request.specs.RawRows.{is_nodata}
+use Rattle.rcell_pipe_request.specs.Requests.{with_labels}
+use Rattle.rcell_pipe_request.specs.declared.head.RawFormat.{RawFormat}
+use Rattle.rcell_pipe_request.specs.declared.kind.CellType.{CellType}
+
+-- a number, and whether the mask hides it
+pub record SentCell : Type 0 where
+  pub number : ℤ
+  pub hidden : Bool
+
+-- a map of numbers: its edges also as the texts that are sent; the type of the numbers, the number that stands for null
+-- if one does, and whether there is a mask; labels; and the rows from north to south
+pub record SentMap : Type 0 where
+  pub name : List ℕ
+  pub region : RegionValue
+  pub north : List ℕ
+  pub south : List ℕ
+  pub east : List ℕ
+  pub west : List ℕ
+  pub format : RawFormat
+  pub labels : List LabelValue
+  pub rows : List (List SentCell)
+
+-- a number is null if the mask of the map hides it or it stands for null
+abbrev pub means_null : RawFormat → SentCell → Bool
+means_null format cell = (format.is_masked && cell.hidden) || is_nodata format.nodata cell.number
+
+-- and otherwise its own category
+abbrev pub sent_cell : RawFormat → SentCell → CellValue
+sent_cell format cell = if means_null format cell then None else Some cell.number
+
+-- the map that is meant
+abbrev pub sent_grid : SentMap → Grid
+sent_grid m = record {
+  region = m.region;
+  rows = map (map (sent_cell m.format)) m.rows;
+  labels = with_labels no_labels m.labels;
+}
+
+-- the maps that are meant, under their names; the first gives the region
+abbrev pub sent_shelf : SentMap → List SentMap → ShelfValue
+sent_shelf first others = record {
+  region = first.region;
+  names = map (λ m. m.name) (first ∷ others);
+  maps = map sent_grid (first ∷ others);
+}
+
+-- a number of a type
+pub record IsOfType (kind : CellType) (number : ℤ) : Type 0 where
+  pub has : has_number kind number ≡ true
+  pub fits : FitsSigned w64 number
+
+-- a number of the type that is null or a category
+pub record IsSentCell (format : RawFormat) (cell : SentCell) : Type 0 where
+  pub number : IsOfType format.kind cell.number
+  pub means : (means_null format cell || is_category cell.number) ≡ true
+
+-- a category with a text that fits its length, without a line feed
+pub record IsSentLabel (label : LabelValue) : Type 0 where
+  pub good : is_bad_label label.category label.text ≡ false
+  pub category : FitsSigned w32 label.category
+  pub text : length label.text < 2 ^ 16
+
+-- a short text that spells this coordinate
+pub record Spells (edge : ℤ) (text : List ℕ) : Type 0 where
+  pub short : length text < 2 ^ 8
+  pub spelt : coordinate text ≡ Some edge
+
+-- a map that can be sent
+pub record IsSentMap (m : SentMap) : Type 0 where
+  pub name : is_name m.name ≡ true
+  pub region : IsRegion m.region
+  pub north : Spells m.region.north m.north
+  pub south : Spells m.region.south m.south
+  pub east : Spells m.region.east m.east
+  pub west : Spells m.region.west m.west
+  pub nodata : IfSome m.format.nodata (IsOfType m.format.kind)
+  pub count : length m.labels < 2 ^ 32
+  pub labels : All IsSentLabel m.labels
+  pub height : length m.rows ≡ m.region.rows
+  pub width : All (λ row. length row ≡ m.region.cols) m.rows
+  pub cells : All (All (IsSentCell m.format)) m.rows

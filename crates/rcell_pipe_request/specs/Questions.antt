@@ -1,0 +1,96 @@
+-- What the bytes of the questions of a request denote (profile).
+use Rattle.std.specs.Prelude.{ℕ, ◌+◌, List, [], ◌∷◌, ◌++◌, length, map, nat_le, Option, Some, None, Ok, Err}
+use Rattle.std.specs.Prelude.{◌==◌, if◌then◌else◌}
+use Rattle.std.specs.Int.{w8, w32}
+use Rattle.cell_core_devices.specs.Device.{Coming}
+use Rattle.cell_core_values.specs.Answers.{◌>>=◌}
+use Rattle.cell_core_values.specs.Name.{is_name}
+use Rattle.cell_cats_areas.specs.declared.clump.Joining.{Joining}
+use Rattle.cell_cats_areas.specs.declared.clump.Joining.TheVariants.{Edges, EdgesAndCorners}
+use Rattle.rcell_pipe_request.specs.declared.error.ErrorKind.TheVariants as kinds
+use Rattle.rcell_pipe_request.specs.declared.question.Question.{Question}
+use Rattle.rcell_pipe_request.specs.RequestFields.{FieldReading, Placed, error_at, number_at, text_at, end_at, steps}
+use Rattle.rcell_pipe_request.specs.Heads.{wanted}
+
+-- a question for the patches of a map: its number in the request, from 1, the name of the map, which cells are
+-- adjacent, how many steps inside its patch a cell of its core is, and the name of a map of zones, if it has one
+pub record QuestionValue : Type 0 where
+  pub number : ℕ
+  pub map : List ℕ
+  pub joining : Joining
+  pub depth : ℕ
+  pub zones : Option (List ℕ)
+
+-- the connectivity of a code
+abbrev pub joining_of_code : ℕ → Option Joining
+joining_of_code code = if code == 4 then Some Edges else (if code == 8 then Some EdgesAndCorners else None)
+
+-- the kind, which is 1
+unfoldable pub question_kind_at : Coming → FieldReading Unit
+question_kind_at c = do
+  kind ← number_at w8 c
+  if kind.0 == 1 then Ok (tt, kind.1) else Err kinds.BadQuestion
+
+-- the connectivity
+unfoldable pub joining_at : Coming → FieldReading Joining
+joining_at c = do
+  code ← number_at w8 c
+  wanted kinds.BadConnectivity code.1 (joining_of_code code.0)
+
+-- the depth, which is at least 1
+unfoldable pub depth_at : Coming → FieldReading ℕ
+depth_at c = do
+  depth ← number_at w32 c
+  if nat_le 1 depth.0 then Ok depth else Err kinds.BadDepth
+
+-- the name of a map of zones, or none if the text is empty
+abbrev pub zones_of_text : List ℕ → Option (Option (List ℕ))
+zones_of_text [] = Some None
+zones_of_text (b ∷ bs) = if is_name (b ∷ bs) then Some (Some (b ∷ bs)) else None
+
+unfoldable pub zones_at : Coming → FieldReading (Option (List ℕ))
+zones_at c = do
+  text ← text_at w8 c
+  wanted kinds.BadZones text.1 (zones_of_text text.0)
+
+-- a question; an error of a field is found before the next field is read
+unfoldable pub question_at : ℕ → Coming → FieldReading QuestionValue
+question_at number c = do
+  kind ← question_kind_at c
+  name ← text_at w8 kind.1
+  joining ← joining_at name.1
+  depth ← depth_at joining.1
+  zones ← zones_at depth.1
+  Ok (record { number = number; map = name.0; joining = joining.0; depth = depth.0; zones = zones.0 }, zones.1)
+
+-- the questions so far, and one more; an error has the number of the question in the place of a row
+unfoldable pub one_more_question : ℕ → List QuestionValue → Coming → Placed (List QuestionValue)
+one_more_question maps questions c = do
+  question ← error_at maps (length questions + 1) (question_at (length questions + 1) c)
+  Ok (questions ++ question.0 ∷ [], question.1)
+
+-- how many questions there are, and the questions
+unfoldable pub questions_at : ℕ → Coming → Placed (List QuestionValue)
+questions_at maps c = do
+  count ← error_at maps 0 (number_at w32 c)
+  steps (one_more_question maps) [] count.0 count.1
+
+-- the questions, which end the request
+unfoldable pub last_questions_at : ℕ → Coming → Placed (List QuestionValue)
+last_questions_at maps c = do
+  questions ← questions_at maps c
+  end ← error_at maps 0 (end_at questions.1)
+  Ok (questions.0, end.1)
+
+-- a question without the place of its name in memory
+abbrev pub question_value : Question → QuestionValue
+question_value question = record {
+  number = question.number;
+  map = question.map.items;
+  joining = question.joining;
+  depth = question.depth;
+  zones = question.zones;
+}
+
+abbrev pub question_values : List Question → List QuestionValue
+question_values questions = map question_value questions

@@ -1,0 +1,184 @@
+-- Questions one after another.
+use Rattle.std.proofs.Common.{◌≡◌, ℕ, suc, ◌+◌, ◌<◌, List, [], ◌∷◌, ◌++◌, length}
+use Rattle.std.proofs.Common.{take, drop, get_or, Option}
+use Rattle.std.proofs.Common.{Some, None, refl, ap, sym, ◌∙◌, subst, append_assoc, append-nil, add-one, arith}
+use Rattle.std.proofs.Common.{take-append-drop}
+use Rattle.std.proofs.Math.Seq.{drop-cons}
+use Rattle.std.specs.Option.{is_some, option_map}
+use Rattle.std.proofs.lemmas.List.{take_more, length-map, length-take-le, map-append}
+use Rattle.std.proofs.lemmas.List.Concat.{flat_map-append}
+use Rattle.cell_core_devices.specs.Device.{Faults}
+use Rattle.cell_core_devices.specs.Blocks.{BlockValue, Appended, Appends}
+use Rattle.cell_core_devices.proofs.BlockLemmas.{appends_none, appends_then}
+use Rattle.cell_core.specs.Shelf.{ShelfValue}
+use Rattle.rcell.proofs.OutputLemmas.{names_after}
+use Rattle.rcell_script.specs.declared.statement.Statement.{Statement}
+use Rattle.rcell_pipe_request.specs.declared.question.Question.{Question}
+use Rattle.rcell_pipe_request.specs.Questions.{QuestionValue, question_value, question_values}
+use Rattle.rcell_pipe_response.specs.declared.frame_run.RunForm.{RunForm}
+use Rattle.rcell_pipe_response.specs.declared.question_error.QuestionKind.{QuestionKind}
+use Rattle.rcell_pipe_response.specs.declared.question_error.QuestionError.{QuestionError}
+use Rattle.rcell_pipe_response.specs.Frames.{OutputFrame, GivesFrames}
+use Rattle.rcell_pipe_response.specs.FrameBytes.{frame_bytes, frames_bytes, response_magic}
+use Rattle.rcell_pipe_response.specs.QuestionFrames.{all_names, question_fault, fault_or, first_fault}
+use Rattle.rcell_pipe_response.specs.QuestionFrames.{IsAnswer, AreAnswers}
+use Rattle.rcell_pipe_response.specs.RunEnds.{GivesAll}
+use Rattle.rcell_pipe_response.specs.parts.Answering.{HasAnswer, HasAnswered, AnswersFirst}
+
+-- the question in a place, and those after it
+next_at : (questions : List Question) (i : ℕ) (q : Question) → i < length questions → q ≡ get_or questions i q
+    → drop i questions ≡ q ∷ drop (i + 1) questions
+next_at questions i q h read =
+    rw add-one (drop-cons questions i q h ∙ ap (λ x. x ∷ drop (suc i) questions) (sym read))
+
+-- a value that is seen by a function is there if the value is
+pub some_seen : {A B : Type 0} (f : A → B) (x : Option A) → is_some (option_map f x) ≡ is_some x
+some_seen f None = refl
+some_seen f (Some a) = refl
+
+-- neither is rejected
+none_of_both : (number : ℕ) (fault : Option QuestionKind) (others : Option QuestionError)
+    → fault_or number fault others ≡ None → (fault ≡ None) × (others ≡ None)
+none_of_both number None others h = (refl, h)
+none_of_both number (Some kind) others h = absurd (cc h)
+
+module _ (form : RunForm) (names : List (List ℕ)) (questions : List Question) (i : ℕ) (q : Question)
+    (h : i < length questions) (read : q ≡ get_or questions i q) where
+  abbrev after : Option QuestionError
+  after = first_fault form names (question_values (drop (i + 1) questions))
+
+  opened : first_fault form names (question_values (drop i questions))
+      ≡ fault_or q.number (question_fault form names (question_value q)) after
+  unfolding first_fault
+  opened = ap (λ (l : List Question). first_fault form names (question_values l)) (next_at questions i q h read)
+
+  -- the first that is rejected is the one in place i
+  pub fault_here : {all : Option QuestionError} (kind : QuestionKind)
+      → first_fault form names (question_values (drop i questions)) ≡ all
+      → question_fault form names (question_value q) ≡ Some kind
+      → Some (record { kind = kind; number = q.number }) ≡ all
+  fault_here kind before fault =
+      sym (ap (λ (f : Option QuestionKind). fault_or q.number f after) fault) ∙ sym opened ∙ before
+
+  -- or it is one after it
+  pub fault_after : {all : Option QuestionError}
+      → first_fault form names (question_values (drop i questions)) ≡ all
+      → question_fault form names (question_value q) ≡ None
+      → first_fault form names (question_values (drop (i + 1) questions)) ≡ all
+  fault_after before fine =
+      sym (ap (λ (f : Option QuestionKind). fault_or q.number f after) fine) ∙ sym opened ∙ before
+
+  -- if none is rejected, neither the one in place i is, nor one after it
+  pub none_here : first_fault form names (question_values (drop i questions)) ≡ None
+      → (question_fault form names (question_value q) ≡ None)
+      × (first_fault form names (question_values (drop (i + 1) questions)) ≡ None)
+  none_here none = none_of_both q.number (question_fault form names (question_value q)) after (sym opened ∙ none)
+
+-- no question is left
+pub none_left : (form : RunForm) (names : List (List ℕ)) → first_fault form names [] ≡ None
+unfolding first_fault
+none_left form names = refl
+
+-- one frame of a question more
+answers_more : (first : List QuestionValue) (shelf : ShelfValue) (question : QuestionValue) (place n : ℕ)
+    (frames : List OutputFrame) (frame : OutputFrame) → n ≡ place + length first → AreAnswers shelf place first frames
+    → IsAnswer shelf n question frame → AreAnswers shelf place (first ++ question ∷ []) (frames ++ frame ∷ [])
+answers_more [] shelf question place n frames frame is x answer =
+    let none : n ≡ place + 0 = is in
+    let same : n ≡ place = omega (arith, none) in (
+      frame,
+      ([], (subst (λ (k : ℕ). IsAnswer shelf k question frame) same answer, (refl, ap (λ t. t ++ frame ∷ []) x))),
+    )
+answers_more (q ∷ qs) shelf question place n frames frame is x answer =
+    let count : n ≡ place + suc (length qs) = is in
+    let next : n ≡ (place + 1) + length qs = omega (arith, count) in (
+      x.0,
+      (
+        x.1.0 ++ frame ∷ [],
+        (
+          x.1.1.0,
+          (
+            answers_more qs shelf question (place + 1) n x.1.0 frame next x.1.1.1.0 answer,
+            ap (λ t. t ++ frame ∷ []) x.1.1.1.1,
+          ),
+        ),
+      ),
+    )
+
+-- no question has a frame
+pub answered_none : {S : Type 0} {taken : S → Option (List ℕ)} {faults : S → Faults} (shelf : ShelfValue) (now : S)
+    (block : BlockValue) → HasAnswered taken faults shelf [] now block now block
+answered_none shelf now block = record { frames = []; answers = refl; appends = appends_none }
+
+module _ {S : Type 0} {taken : S → Option (List ℕ)} {faults : S → Faults} {shelf : ShelfValue}
+    (questions : List Question) (i : ℕ) {old was : S} {block middle : BlockValue}
+    (given : HasAnswered taken faults shelf (question_values (take i questions)) old block was middle) where
+  -- the question in place i has its frame
+  pub answered_more : (q : Question) → i < length questions → q ≡ get_or questions i q
+      → {mid now : S} {between new : BlockValue}
+      → HasAnswer taken faults shelf i (question_value q) was middle mid between
+      → Appends taken faults mid between [] now new
+      → HasAnswered taken faults shelf (question_values (take (i + 1) questions)) old block now new
+  answered_more q h read {mid} {now} {between} {new} answer emptied =
+      let frame = answer.frame in
+      let short : length (take i questions) ≡ i = length-take-le i questions (omega (arith, h)) in
+      let long : length (question_values (take i questions)) ≡ i =
+      length-map (take i questions) question_value ∙ short in
+      let all : List QuestionValue = question_values (take i questions) ++ question_value q ∷ [] in
+      let list : all ≡ question_values (take (i + 1) questions) =
+      sym (map-append question_value (take i questions) (q ∷ []))
+      ∙ ap question_values (ap (λ x. take i questions ++ x ∷ []) read ∙ sym (take_more questions i q h)) in
+      let more : AreAnswers shelf 0 all (given.frames ++ frame ∷ []) =
+      answers_more (question_values (take i questions)) shelf (question_value q) 0 i given.frames frame
+      (omega (arith, long)) given.answers answer.answer in
+      record {
+        frames = given.frames ++ frame ∷ [];
+        answers = subst (λ (l : List QuestionValue). AreAnswers shelf 0 l (given.frames ++ frame ∷ [])) list more;
+        appends = subst (λ (bytes : List ℕ). Appends taken faults old block bytes now new)
+            (sym (flat_map-append frame_bytes given.frames (frame ∷ [])))
+            (appends_then given.appends (appends_then answer.appends emptied));
+      }
+
+  -- the frames of questions stop before it
+  pub answers_first : AnswersFirst taken faults shelf (question_values questions) old block was middle
+  answers_first = record {
+    first = question_values (take i questions);
+    others = question_values (drop i questions);
+    whole = sym (map-append question_value (take i questions) (drop i questions))
+        ∙ ap question_values (take-append-drop i questions);
+    answered = given;
+  }
+
+-- ---- after the frames of statements
+
+-- the names at the end
+pub names_at_end : (statements : List Statement) (shelf after : ShelfValue) (frames : List OutputFrame)
+    → GivesFrames shelf statements frames after → after.names ≡ all_names shelf.names statements
+names_at_end [] shelf after frames x = ap (λ (s : ShelfValue). s.names) x.1
+names_at_end (s ∷ ss) shelf after frames x =
+    names_at_end ss x.0 after x.1.0 x.1.1.1.0
+    ∙ ap (λ (names : List (List ℕ)). all_names names ss) (names_after shelf s.command x.0 x.1.1.0)
+
+-- statements give their frames without questions
+pub gives_none : (shelf after : ShelfValue) (statements : List Statement) (frames : List OutputFrame)
+    → GivesFrames shelf statements frames after → GivesAll shelf statements [] frames
+gives_none shelf after statements frames given = record {
+  frames = frames;
+  after = after;
+  given = given;
+  answers = [];
+  answered = refl;
+  both = sym (append-nil frames);
+}
+
+-- the frames of questions follow the other frames
+pub answered_after : {S : Type 0} {taken : S → Option (List ℕ)} {faults : S → Faults} {old now : S}
+    {block new : BlockValue} (before : Option (List ℕ)) (start : Faults) (frames answers : List OutputFrame)
+    → Appended before start (response_magic ++ frames_bytes frames) (taken old) (faults old) block
+    → Appends taken faults old block (frames_bytes answers) now new
+    → Appended before start (response_magic ++ frames_bytes (frames ++ answers)) (taken now) (faults now) new
+answered_after {taken = taken} {faults} {old} {now} {block} {new} before start frames answers first second =
+    subst (λ (text : List ℕ). Appended before start text (taken now) (faults now) new)
+    (append_assoc response_magic (frames_bytes frames) (frames_bytes answers)
+    ∙ ap (λ (t : List ℕ). response_magic ++ t) (sym (flat_map-append frame_bytes frames answers)))
+    (second.adds before start (response_magic ++ frames_bytes frames) first)

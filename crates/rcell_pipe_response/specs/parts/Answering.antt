@@ -1,0 +1,45 @@
+-- What has been written when the frames of questions stop.
+use Rattle.std.specs.Prelude.{ℕ, ◌≡◌, true, List, ◌++◌, Option}
+use Rattle.cell_core_devices.specs.Device.{Faults}
+use Rattle.cell_core_devices.specs.Blocks.{BlockValue, Appends}
+use Rattle.cell_core.specs.Shelf.{ShelfValue}
+use Rattle.rcell_pipe_request.specs.Questions.{QuestionValue}
+use Rattle.rcell_pipe_response.specs.declared.answers.AnswerStop.{AnswerStop}
+use Rattle.rcell_pipe_response.specs.declared.answers.AnswerStop.TheVariants as stops
+use Rattle.rcell_pipe_response.specs.Frames.{OutputFrame}
+use Rattle.rcell_pipe_response.specs.FrameBytes.{frame_bytes, frames_bytes}
+use Rattle.rcell_pipe_response.specs.QuestionFrames.{IsAnswer, AreAnswers}
+
+-- the frame of a question was appended
+pub record HasAnswer {S : Type 0} (taken : S → Option (List ℕ)) (faults : S → Faults) (shelf : ShelfValue) (place : ℕ)
+    (question : QuestionValue) (old : S) (block : BlockValue) (now : S) (new : BlockValue) : Type 0 where
+  pub frame : OutputFrame
+  pub answer : IsAnswer shelf place question frame
+  pub appends : Appends taken faults old block (frame_bytes frame) now new
+
+-- the frames of questions were appended
+pub record HasAnswered {S : Type 0} (taken : S → Option (List ℕ)) (faults : S → Faults) (shelf : ShelfValue)
+    (questions : List QuestionValue) (old : S) (block : BlockValue) (now : S) (new : BlockValue) : Type 0 where
+  pub frames : List OutputFrame
+  pub answers : AreAnswers shelf 0 questions frames
+  pub appends : Appends taken faults old block (frames_bytes frames) now new
+
+-- the frames of the first questions were appended
+pub record AnswersFirst {S : Type 0} (taken : S → Option (List ℕ)) (faults : S → Faults) (shelf : ShelfValue)
+    (questions : List QuestionValue) (old : S) (block : BlockValue) (now : S) (new : BlockValue) : Type 0 where
+  pub first : List QuestionValue
+  pub others : List QuestionValue
+  pub whole : first ++ others ≡ questions
+  pub answered : HasAnswered taken faults shelf first old block now new
+
+-- whether the sink failed, if that stops the frames
+abbrev pub FailsBy : BlockValue → AnswerStop → Type 0
+FailsBy new stops.Memory = Unit {0}
+FailsBy new stops.Write = new.failed ≡ true
+
+-- why they stop after these
+pub record StopsAnswers {S : Type 0} (taken : S → Option (List ℕ)) (faults : S → Faults) (shelf : ShelfValue)
+    (questions : List QuestionValue) (old : S) (block : BlockValue) (now : S) (new : BlockValue)
+    (stop : AnswerStop) : Type 0 where
+  pub so_far : AnswersFirst taken faults shelf questions old block now new
+  pub failed : FailsBy new stop
