@@ -60,7 +60,7 @@ again_holds h bs v n times within front again i few =
     front_holds h (drop (i * n) bs) v n inside (subst (λ (l : List ℕ). HoldsCell h l v n) (sym (again i few)) front)
 
 module _ (h : HeaderValue) (bs : List ℕ) where
-  -- the same cell so many times more
+  -- the same cell, repeated times more times
   many_times : (cells : List CellValue) (count m : ℕ) (v : CellValue) (n times : ℕ) → HoldsCells h bs cells count m
       → ((i : ℕ) → i ≤ times → HoldsCell h (drop (i * n) (drop m bs)) v n)
       → HoldsCells h bs (cells ++ replicate (1 + times) v) (count + (1 + times)) (m + (n + times * n))

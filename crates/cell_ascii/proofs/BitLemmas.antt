@@ -152,7 +152,7 @@ next_end bs at e buffered some is =
       next = next_ends bs buffered at set;
     })
 
--- so many line feeds come before a place
+-- the number of line feeds before a place
 pub feeds_before : (n : ℕ) (bs : List ℕ) → n ≤ 64 → count_ones (mask_l (feeds bs) % 2 ^ n) ≡ newlines (take n bs)
 feeds_before n bs few =
     ap count_ones (mask-take n (feeds bs) ∙ ap mask_l (take-map is_line_feed n (take 64 bs) ∙ ap (map is_line_feed) (take-take n 64 bs few)))

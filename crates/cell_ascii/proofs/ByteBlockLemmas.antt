@@ -1,18 +1,19 @@
 -- The cells of the short words of a block.
 use Rattle.std.proofs.Common.{◌≡◌, ℕ, zero, suc, ◌+◌, ◌-◌, ◌*◌, ◌^◌, ◌<◌, ◌≤◌, w64, eqb, leb, cond, Bool, true, false, not, pos, List, [], ◌∷◌, ◌++◌, Some, None, Ok, map, length, take, drop, get_or, refl, sym, ap, ap₂, ◌∙◌, arith, subst, length-take, length-drop}
-use Rattle.std.specs.Prelude.{◌&&◌}
+use Rattle.std.specs.Prelude.{◌&&◌, bytes_eq}
 use Rattle.std.specs.List.{list_all}
 use Rattle.std.proofs.lemmas.List.{take_more, drop_more, get_or-drop, get_or-take, drop-take, take-take, get_or-map, length-map, get_or_past}
 use Rattle.std.proofs.lemmas.List.{map-append}
 use Rattle.std.proofs.lemmas.Bool.{eqb-true}
+use Rattle.cell_core_values.proofs.NameLemmas.{bytes_eq-differ}
 use Rattle.std.proofs.lemmas.Bool.Decides.{nat_tests}
 use Rattle.cell_core_values.specs.SmallCells.{byte_cell, cells_of_bytes}
 use Rattle.cell_ascii_meaning.specs.GridTokens.{is_space, is_word_byte, newlines}
 use Rattle.cell_ascii_meaning.specs.EdgeNumbers.{is_digit, value_of_digits, whole_number, is_in_range}
-use Rattle.cell_ascii_meaning.specs.Header.{HeaderValue}
+use Rattle.cell_ascii_meaning.specs.Header.{HeaderValue, usual_null}
 use Rattle.cell_ascii_meaning.specs.CellTexts.{cell_of_word}
 use Rattle.cell_ascii.specs.TableWords.{HoldsLines, blanks}
-use Rattle.cell_ascii.specs.parts.ByteWords.{IsPlain}
+use Rattle.cell_ascii_reading.specs.InRange.{HasPlainNumbers}
 use Rattle.cell_ascii_lanes.specs.WordLanes.{AreWordValues, AreShortWords, is_null_star, kept}
 use Rattle.cell_ascii.proofs.BufferedLemmas.{both, digits_number}
 use Rattle.cell_ascii_lanes.proofs.ByteBitLemmas.{trues, ones_are}
@@ -20,7 +21,7 @@ use Rattle.std.specs.Int.{bit_at}
 use Rattle.std.specs.Int.RustNames.{count_ones}
 use Rattle.std.specs.Int.Count.{count_leading_zeros}
 use Rattle.std.proofs.lemmas.Simd.{bit_mask_l, mask_l-lt}
-use Rattle.std.proofs.lemmas.Nat.Bits.{bit_at_not}
+use Rattle.std.proofs.lemmas.Nat.Bits.{bit_at_not, bit_at-zero}
 use lib.Lanes.{mask_l}
 use Rattle.cell_ascii.proofs.ByteEndLemmas.{ends_of, ends_at, top, top-le, top-set, top-unset, top_is, length-ends, front, length-front, front-mask, front-trues, front-kept, front-top}
 use Rattle.cell_ascii.proofs.WordLemmas.{word-more, gap-more, gap-one, HoldsLines-none}
@@ -30,29 +31,40 @@ use Rattle.cell_ascii.proofs.WordLemmas.{word-more, gap-more, gap-one, HoldsLine
 in_range : (v : ℕ) → v < 100000000 → is_in_range (pos v) ≡ true
 in_range v lt = grind (arith, nat_tests)
 
-digit_no_star : (b : ℕ) → is_digit b ≡ true → eqb b 42 ≡ false
-digit_no_star b e = grind (arith, nat_tests)
+apart : (b : Bool) → b ≡ true → b ≡ false → ⊥
+apart true e f = cc
+apart false e f = cc
+
+-- no word of digits is a null text with another byte
+not_null : (null word : List ℕ) → list_all is_digit null ≡ false → list_all is_digit word ≡ true
+    → bytes_eq word null ≡ false
+not_null null word other digits =
+    bytes_eq-differ word null (λ same. apart (list_all is_digit null) (ap (list_all is_digit) (sym same) ∙ digits) other)
 
 -- a number
-pub digits_word : (h : HeaderValue) → IsPlain h → (b : ℕ) (word : List ℕ) (v : ℕ) → list_all is_digit (b ∷ word) ≡ true
-    → is_digit b ≡ true
-    → v ≡ value_of_digits (b ∷ word) → v < 100000000 → cell_of_word h (b ∷ word) ≡ Ok (Some (pos v))
-digits_word h plain b word v digits first is small =
-    let no_star = digit_no_star b first in
+pub digits_word : (h : HeaderValue) → HasPlainNumbers h → (b : ℕ) (word : List ℕ) (v : ℕ)
+    → list_all is_digit (b ∷ word) ≡ true → v ≡ value_of_digits (b ∷ word) → v < 100000000 → cell_of_word h (b ∷ word) ≡ Ok (Some (pos v))
+digits_word h plain b word v digits is small =
+    let other = not_null h.null_text (b ∷ word) plain.null digits in
     let number : whole_number (b ∷ word) ≡ Some (pos v) = digits_number b word digits
     ∙ ap (λ n. Some (pos n)) (sym is) in
     let one : v * 1 ≡ v = omega arith in
-    rw (plain.null, plain.multiplier, no_star, number, in_range v small, one, in_range v small) refl
+    rw (other, plain.multiplier, number, in_range v small, one, in_range v small) refl
 
 -- a number that a byte stands for
-pub number_word : (h : HeaderValue) → IsPlain h → (b : ℕ) (word : List ℕ) (v : ℕ) → list_all is_digit (b ∷ word) ≡ true → is_digit b ≡ true → v ≡ value_of_digits (b ∷ word) → v < 255
+pub number_word : (h : HeaderValue) → HasPlainNumbers h → (b : ℕ) (word : List ℕ) (v : ℕ)
+    → list_all is_digit (b ∷ word) ≡ true → v ≡ value_of_digits (b ∷ word) → v < 255
     → cell_of_word h (b ∷ word) ≡ Ok (byte_cell v)
-number_word h plain b word v digits first is small =
+number_word h plain b word v digits is small =
     let other : eqb v 255 ≡ false = grind (arith, nat_tests) in
-    rw other (digits_word h plain b word v digits first is (omega arith))
+    rw other (digits_word h plain b word v digits is (omega arith))
 
-pub star_word : (h : HeaderValue) → IsPlain h → (b : ℕ) → is_null_star b ≡ true → cell_of_word h (b ∷ []) ≡ Ok None
-star_word h plain b star = rw (plain.null, eqb-true b 42 star) refl
+pub star_word : (h : HeaderValue) → h.null_text ≡ usual_null → (b : ℕ) → is_null_star b ≡ true
+    → cell_of_word h (b ∷ []) ≡ Ok None
+star_word h null b star = rw (null, eqb-true b 42 star) refl
+
+digit_no_star : (b : ℕ) → is_digit b ≡ true → eqb b 42 ≡ false
+digit_no_star b e = grind (arith, nat_tests)
 
 -- ---- what is known of the bytes of a block
 
@@ -85,10 +97,6 @@ one_from f (suc n) (x ∷ xs) le all (suc i) lt = one_from f n xs (omega arith) 
 
 pub space_no_digit : (b : ℕ) → is_space b ≡ true → is_digit b ≡ false
 space_no_digit b e = grind (arith, nat_tests)
-
-apart : (b : Bool) → b ≡ true → b ≡ false → ⊥
-apart true e f = cc
-apart false e f = cc
 
 and-false : (a : Bool) → (a && false) ≡ false
 and-false true = refl
@@ -135,7 +143,8 @@ module _ (bs : List ℕ) (long : 64 ≤ length bs) where
       ap (λ m. 64 - count_leading_zeros 64 m) (is ∙ front-mask q ends) ∙ top_is ms (omega (arith, wide)) ∙ front-top q ends in
       omega (arith, place, top_low q le)
 
-module _ (h : HeaderValue) (plain : IsPlain h) (bs : List ℕ) (long : 64 ≤ length bs) (block : IsShortBlock bs) (vs : List ℕ) (size : length vs ≡ 64) (bytes : AreCellBytes bs vs) where
+module _ (h : HeaderValue) (plain : HasPlainNumbers h) (bs : List ℕ)
+    (star_null : (p : ℕ) → p < 64 → is_null_star (get_or bs p 0) ≡ true → h.null_text ≡ usual_null) (long : 64 ≤ length bs) (block : IsShortBlock bs) (vs : List ℕ) (size : length vs ≡ 64) (bytes : AreCellBytes bs vs) where
   abbrev byte : ℕ → ℕ
   byte p = get_or bs p 0
 
@@ -284,11 +293,9 @@ module _ (h : HeaderValue) (plain : IsPlain h) (bs : List ℕ) (long : 64 ≤ le
           let front : drop first bs ≡ byte first ∷ drop (first + 1) bs = drop_more bs first 0 (omega arith) in
           let next : n + 1 ≡ suc n = omega arith in
           let word : take (n + 1) (drop first bs) ≡ byte first ∷ take n (drop (first + 1) bs) = ap₂ take next front in
-          let zero-here : first + 0 ≡ first = omega arith in
-          let one = ap (λ j. is_digit (byte j)) (sym zero-here) ∙ each 0 (omega arith) in
           ap (cell_of_word h) word
           ∙ number_word h plain (byte first) (take n (drop (first + 1) bs)) (get_or vs k 0)
-          (sym (ap (list_all is_digit) word) ∙ all) one (sym here ∙ value.0 ∙ ap value_of_digits word) (rw here at value.1)
+          (sym (ap (list_all is_digit) word) ∙ all) (sym here ∙ value.0 ∙ ap value_of_digits word) (rw here at value.1)
 
       by : (n : ℕ) → k - first ≡ n → first + n ≡ k → cell_of_word h (take (n + 1) (drop first bs)) ≡ Ok (byte_cell (get_or vs k 0))
       by zero e place = kind (is_digit (byte first)) refl
@@ -303,7 +310,8 @@ module _ (h : HeaderValue) (plain : IsPlain h) (bs : List ℕ) (long : 64 ≤ le
               let front : drop first bs ≡ byte first ∷ drop (first + 1) bs = drop_more bs first 0 (omega arith) in
               let there : is_null_star (byte k) ≡ true = ap (λ j. is_null_star (byte j)) (sym here) ∙ star in
               let null : get_or vs k 0 ≡ 255 = bytes.stars k lt there in
-              ap (λ l. cell_of_word h (take 1 l)) front ∙ star_word h plain (byte first) star ∙ ap (λ v. Ok (byte_cell v)) (sym null)
+              let usual = star_null first (omega arith) star in
+              ap (λ l. cell_of_word h (take 1 l)) front ∙ star_word h usual (byte first) star ∙ ap (λ v. Ok (byte_cell v)) (sym null)
       by (suc n) e place =
           digits (suc n) place (λ i less. digit_beside k lt s (omega arith) (first + i) (omega arith) (omega arith))
 
@@ -429,6 +437,16 @@ module _ (bs : List ℕ) (long : 64 ≤ length bs) where
   pub bit_of : (f : ℕ → Bool) (i : ℕ) → i < 64 → bit_at (mask_l (map f (take 64 bs))) i ≡ bit (f (get_or bs i 0))
   bit_of f i lt =
       bit_mask_l (map f (take 64 bs)) i ∙ ap bit (get_or-map f (take 64 bs) i 0 false (omega (arith, wide)) ∙ ap f (get_or-take 64 bs i 0 lt))
+
+  -- if a byte is a star, stars are null
+  pub star_of : (null : List ℕ) (stars : ℕ) → stars ≡ mask_l (map is_null_star (take 64 bs)) → (nulls : Bool)
+      → (nulls ≡ true → null ≡ usual_null) → (nulls ≡ false → stars ≡ 0)
+      → (p : ℕ) → p < 64 → is_null_star (get_or bs p 0) ≡ true → null ≡ usual_null
+  star_of null stars is true usual none p lt star = usual refl
+  star_of null stars is false usual none p lt star =
+      let set : bit_at stars p ≡ 1 = ap (λ n. bit_at n p) is ∙ bit_of is_null_star p lt ∙ ap bit star in
+      let unset : bit_at stars p ≡ 0 = ap (λ n. bit_at n p) (none refl) ∙ bit_at-zero p in
+      absurd (omega (arith, set, unset))
 
   abbrev words : ℕ
   words = 18446744073709551615 - mask_l (blanks bs)

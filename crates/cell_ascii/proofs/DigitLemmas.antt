@@ -183,7 +183,7 @@ front_value size bs few within digits =
     let long : length all ≡ 8 = omega (arith, length-zeros (8 - size) word, length-take size bs) in
     eight_value all long (zeros_count (8 - size) word (digits_count word digits)) ∙ zeros_value (8 - size) word
 
--- the first bytes of eight, so many, moved to the upper end
+-- the first size of eight bytes, moved to the upper end
 abbrev moved : ℕ → List ℕ → ℕ
 moved size bs = number_l 256 (take 8 bs) % 18446744073709551616 * 2 ^ (64 - 8 * size) % 18446744073709551616
 

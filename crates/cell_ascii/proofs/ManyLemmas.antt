@@ -112,7 +112,7 @@ module _ {X : Type 0} (one : At → Reading X) where
       ∙ then_map (λ (r : Reading (List X)). r >>= and_then k) (λ c. many one i (here c)) (λ c. Ok (front, mid c)) a b so_far
       ∙ then_map (λ (r : Reading (List X)). r >>= glue front) (λ c. many one k (mid c)) (λ c. Ok (next, there c)) b d e
 
-  -- so many as are asked for
+  -- the list has the length that was asked for
   many_length : (n : ℕ) (at : At) (y : List X × At) → many one n at ≡ Ok y → length y.0 ≡ n
   many_length zero at y e = let p : ◌≡◌ {A = List X × At} ([], at) y = cc in ap (λ (w : List X × At). length w.0)
       (sym p)

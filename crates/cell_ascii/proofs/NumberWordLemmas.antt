@@ -12,7 +12,7 @@ use Rattle.cell_ascii_meaning.specs.Header.{HeaderValue}
 use Rattle.cell_ascii_meaning.specs.CellTexts.{cell_of_word}
 use Rattle.cell_ascii.specs.TableWords.{HoldsLines, blanks, cleared_front}
 use Rattle.cell_core.specs.Grid.{CellValue}
-use Rattle.cell_ascii.specs.parts.ByteWords.{IsPlain}
+use Rattle.cell_ascii_reading.specs.InRange.{HasPlainNumbers}
 use Rattle.cell_ascii_lanes.specs.NumberLanes.{AreNumberWords}
 use Rattle.cell_ascii.proofs.BitLemmas.{NextEnd, next_end}
 use Rattle.cell_ascii.proofs.WordLemmas.{word-more, gap-one}
@@ -22,14 +22,13 @@ use lib.Count.{count_trailing_zeros}
 use lib.Lanes.{mask_l}
 
 -- the cell of the first bytes, if they are digits
-pub digits_cell : (h : HeaderValue) → IsPlain h → (n : ℕ) (bs : List ℕ) (v : ℕ) → 0 < n → n ≤ length bs
+pub digits_cell : (h : HeaderValue) → HasPlainNumbers h → (n : ℕ) (bs : List ℕ) (v : ℕ) → 0 < n → n ≤ length bs
     → list_all is_digit (take n bs) ≡ true
     → v ≡ value_of_digits (take n bs) → v < 100000000 → cell_of_word h (take n bs) ≡ Ok (Some (pos v))
 digits_cell h plain zero bs v some within digits is small = absurd (omega arith)
 digits_cell h plain (suc n) [] v some within digits is small = absurd (omega arith)
 digits_cell h plain (suc n) (b ∷ bs) v some within digits is small =
-    digits_word h plain b (take n bs) v digits (one_from is_digit (suc n) (b ∷ bs) within digits 0 (omega arith)) is
-    small
+    digits_word h plain b (take n bs) v digits is small
 
 -- all words of a block are of one to seven digits, each after one blank
 pub record IsNumberBlock (bs : List ℕ) : Type 0 where
@@ -183,7 +182,7 @@ two_numbers bs long block last ends others blank set is next more =
     }
 
 -- one more cell
-pub number_more : (h : HeaderValue) → IsPlain h → (bs : List ℕ) → 64 ≤ length bs
+pub number_more : (h : HeaderValue) → HasPlainNumbers h → (bs : List ℕ) → 64 ≤ length bs
     → (cells : List CellValue) (count last ends v : ℕ) → last < 64
     → is_space (get_or bs last 0) ≡ true → NextNumber bs last ends
     → v ≡ value_of_digits (take (count_trailing_zeros 64 ends - last - 1)

@@ -7,7 +7,7 @@ use Rattle.cell_core.specs.Grid.{CellValue}
 use Rattle.cell_core_values.specs.SmallCells.{byte_cell, cells_of_bytes}
 use Rattle.cell_ascii.specs.parts.FrontCells.{front_cells, rows_of}
 
--- so many rows as are asked for
+-- there are exactly rows rows
 pub rows_count : {X : Type 0} (cols rows : ℕ) (xs : List X) → length (rows_of cols rows xs) ≡ rows
 rows_count cols zero xs = refl
 rows_count cols (suc rows) xs = ap suc (rows_count cols rows (drop cols xs))

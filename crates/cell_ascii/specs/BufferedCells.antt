@@ -1,4 +1,4 @@
--- A cell whose bytes are held: a space, a word and a byte that ends it.
+-- A cell whose bytes are in the buffer: a space, a word and the byte that ends it.
 use Rattle.std.specs.Prelude.{ℕ, zero, suc, ◌+◌, ◌-◌, ◌*◌, ◌≡◌, ◌<◌, ◌≤◌, true, List, drop, take, length, slice_index_or, Ok}
 use Rattle.std.specs.List.{list_all}
 use Rattle.cell_core_devices.specs.Device.{Coming}
@@ -14,25 +14,25 @@ abbrev pub HoldsCell : HeaderValue → List ℕ → CellValue → ℕ → Type 0
 HoldsCell h bs v n = (line run : ℕ) → run < 1048576 → (c : Coming)
     → cell_from h (at_of line run (before_coming bs c)) ≡ Ok (v, at_of line 0 (before_coming (drop n bs) c))
 
--- the same by its first n bytes and the one that ends the word, whatever else is held
+-- the same, given only its first n bytes and the byte that ends the word
 abbrev pub HoldsFront : HeaderValue → List ℕ → CellValue → ℕ → Type 0
 HoldsFront h bs v n = HoldsCell h (take (n + 1) bs) v n
 
--- the length of the run of blanks and line feeds after so many cells
+-- the length of the run of blanks and line feeds after the first count cells
 abbrev pub run_after : ℕ → ℕ → ℕ
 run_after run zero = run
 run_after run (suc count) = 0
 
--- whatever comes after these bytes, the next cells are these, so many of them, and take the first n bytes
+-- whatever comes after these bytes, the next count cells are the first cells of the list, and take the first n bytes
 abbrev pub HoldsCells : HeaderValue → List ℕ → List CellValue → ℕ → ℕ → Type 0
 HoldsCells h bs cells count n = (line run : ℕ) → run < 1048576 → (c : Coming)
     → many (cell_from h) count (at_of line run (before_coming bs c)) ≡ Ok (cells, at_of line (run_after run count) (before_coming (drop n bs) c))
 
--- the first n bytes, without the first of all
+-- the first n bytes without the very first
 abbrev pub buffered_word : List ℕ → ℕ → List ℕ
 buffered_word bs n = take (n - 1) (drop 1 bs)
 
--- they are the next word, so that it decides the next cell
+-- these bytes are the next word, so they decide the next cell
 abbrev pub HoldsWord : List ℕ → ℕ → Type 0
 HoldsWord bs n = (h : HeaderValue) (v : CellValue) → cell_of_word h (buffered_word bs n) ≡ Ok v → HoldsFront h bs v n
 
@@ -45,6 +45,6 @@ pub record IsNumeral (bs : List ℕ) (value n : ℕ) : Type 0 where
   pub sum : value ≡ value_of_digits (take n bs)
   pub ends : is_space (slice_index_or bs n 0) ≡ true
 
--- the first n bytes and the byte after them come again so many times, each time n bytes later
+-- the first n bytes and the byte after them are repeated times more times, every n bytes
 abbrev pub ComesAgain : List ℕ → ℕ → ℕ → Type 0
 ComesAgain bs n times = (i : ℕ) → i ≤ times → take (n + 1) (drop (i * n) bs) ≡ take (n + 1) bs

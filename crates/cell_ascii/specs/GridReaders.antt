@@ -12,9 +12,9 @@ use Rattle.cell_ascii_reading.specs.Scan.{FailsInText}
 use Rattle.cell_ascii_meaning.specs.declared.grid_fault.GridKind.TheVariants.{Memory, Failed}
 use Rattle.cell_ascii_meaning.specs.declared.grid_fault.GridFault.{GridFault}
 
--- the header, how many rows are still to come, a first token of the data that is not yet judged, the line, the length
--- of the run of blanks and line feeds, whether the reader has failed, the bytes to come if they are known, and what was
--- heard of the source
+-- the header, the number of rows still to come, a first token of the data that is not yet judged, the line, the length
+-- of the run of blanks and line feeds, whether the reader has failed, the bytes to come if they are known, and the
+-- source's state
 pub record ReaderValue : Type 0 where
   pub header : HeaderValue
   pub rows_left : ℕ
@@ -25,7 +25,7 @@ pub record ReaderValue : Type 0 where
   pub coming : Option Coming
   pub heard : Heard
 
--- the place of a text that it is at
+-- the reader's place in the text
 abbrev pub reader_place : ReaderValue → Coming → At
 reader_place r c = record { pending = r.pending; line = r.line; run = r.run; coming = c }
 
@@ -52,7 +52,7 @@ abbrev pub fault_of_reading : {X : Type 0} → Result X GridFault → Option Gri
 fault_of_reading (Ok x) = None
 fault_of_reading (Err f) = Some f
 
--- a reader that failed returns this error from then on
+-- a reader that has failed returns this error from then on
 abbrev pub reader_has_failed : GridFault
 reader_has_failed = grid_fault Failed 0
 
@@ -65,7 +65,7 @@ pub record IsCutRow (h : HeaderValue) (at : At) (f : GridFault) (old new : List 
   pub stop : cell_from h rest ≡ Err f
   pub kept : drop count new ≡ drop count old
 
--- a row of which only some cells at the start have changed
+-- a row in which only cells at the start have changed
 pub record IsChangedInFront (old new : List CellValue) : Type 0 where
   pub count : ℕ
   pub fewer : count < length old

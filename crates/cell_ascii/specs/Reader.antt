@@ -20,7 +20,7 @@ pub record ReaderPlace : Type 0 where
   pub run : ℕ
   pub ahead : Ahead
 
--- the place of a text that it is at
+-- the scanner's place in the text
 abbrev pub at_place : ReaderPlace → Coming → At
 at_place p c = record { pending = p.pending; line = p.line; run = p.run; coming = c }
 
@@ -28,28 +28,28 @@ at_place p c = record { pending = p.pending; line = p.line; run = p.run; coming 
 abbrev pub opened_at : ReaderPlace → Coming → OpenedText
 opened_at p c = record { header = p.header; at = at_place p c }
 
--- the same for a scanner after the header and the first word of the data, if there is one
+-- the same for a scanner, after the header and the first word of the data if there is one
 abbrev pub opened_by : HeaderValue × Bool → Scan → Coming → OpenedText
 opened_by (header, waiting) s c =
     record { header = header; at = record { pending = (if waiting then Some s.word else None); line = s.line; run = 0; coming = c } }
 
--- the next word, with its line
+-- the next word and its line
 abbrev pub token_read : Start → Result (ℕ × (List ℕ × Coming)) GridFault
 token_read (Begins line c) = word_from line [] c >>= (λ w. Ok (line, w))
 token_read (Ends line) = Err (grid_fault TooFew line)
 token_read (Stops f) = Err f
 
--- what a result says of the next word, with its line
+-- what a result says about the next word and its line
 abbrev pub token_seen : Result (Unit {0}) GridFault → ℕ → List ℕ → Coming → Result (ℕ × (List ℕ × Coming)) GridFault
 token_seen (Ok u) line word c = Ok (line, (word, c))
 token_seen (Err f) line word c = Err f
 
--- what a result says of a reading
+-- what a result says about a reading
 abbrev pub reading_seen : {X : Type 0} → Result X GridFault → ReaderPlace → Coming → Reading X
 reading_seen (Ok x) p c = Ok (x, at_place p c)
 reading_seen (Err f) p c = Err f
 
--- whatever is to come
+-- all that is still to come
 abbrev pub always : {X : Type 0} → X → Coming → X
 always x c = x
 
@@ -62,7 +62,7 @@ reader_at p rows_left failed =
 abbrev pub IsPlaced : ReaderValue → Type 0
 IsPlaced r = IfSome r.coming (λ c. IsPlaceOf (reader_place r c) × (r.rows_left ≡ 0 → r.pending ≡ None))
 
--- a reader of rows that has not failed can number the lines to come, is at a place of the text, and heard no `Err`
+-- a reader of rows that has not failed: it can number the lines to come, is at a place of the text, and saw no `Err`
 pub record IsReaderReady (r : ReaderValue) : Type 0 where
   pub wide : 0 < r.header.region.cols
   pub lines : r.failed ≡ false → r.line + (r.rows_left * r.header.region.cols + 1) * 1048577 < 2 ^ 63

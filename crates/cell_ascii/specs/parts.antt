@@ -3,6 +3,5 @@
 pub mod InLine
 pub mod WordPlaces
 pub mod BlankRuns
-pub mod ByteWords
 pub mod FrontCells
 pub mod Unread

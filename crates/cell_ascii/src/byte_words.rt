@@ -1,11 +1,11 @@
-//! Cells of stars and of numbers of at most three digits, below 255, as bytes: 64 bytes of a text at a time, by vectors.
+//! Reads the numbers 0 to 254, and stars that are null, into bytes, 64 bytes of text at a time, with vector instructions.
 
 ghost use Rattle.std.specs.Prelude.{true, false, ◌≡◌, ◌+◌, ◌*◌, ◌<◌, ◌≤◌, length, take};
 ghost use Rattle.cell_core_values.specs.SmallCells.{cells_of_bytes};
 ghost use Rattle.cell_ascii_meaning.specs.GridTokens.{newlines};
-ghost use Rattle.cell_ascii_meaning.specs.Header.{HeaderValue};
+ghost use Rattle.cell_ascii_meaning.specs.Header.{HeaderValue, usual_null};
 ghost use Rattle.cell_ascii.specs.TableWords.{HoldsLines};
-ghost use Rattle.cell_ascii.specs.parts.ByteWords.{IsPlain};
+ghost use Rattle.cell_ascii_reading.specs.InRange.{HasPlainNumbers};
 
 use crate::word_table::{blanks_in, lines_below};
 use cell_ascii_lanes::word_lanes::{
@@ -13,20 +13,35 @@ use cell_ascii_lanes::word_lanes::{
 };
 use std::simd::prelude::*;
 
-// So many bytes are read at once.
+// Bytes read at once.
 pub(crate) const BLOCK: usize = 64;
 
-// So many bytes more than it has cells a row has room for, so that a vector can be stored after the last cell.
+// Spare bytes at the end of a row, so that a vector can be stored after its last cell.
 pub(crate) const MORE_BYTES: usize = 72;
 
-// The words that end among the first 64 bytes held, as bytes at the start of a row, at most so many: how many they are, and
-// where the last of them ends. None if a word is neither a star nor a number below 255 of at most three digits.
+// Whether there is a star, and stars are not null.
 #[inline(always)]
-fn block_bytes_in(buffered: &[u8], row: &mut [u8], most: usize) -> (usize, usize)
+fn has_other_star(stars: u64, is_star_null: bool) -> bool
+    ensures { result ≡ false → is_star_null ≡ false → stars ≡ 0 }
+{
+    !is_star_null && stars != 0
+}
+
+// Reads at most `most` words that end among the first 64 buffered bytes, as bytes at the start of `row`. Returns their
+// number and where the last one ends; 0 if a word is neither a number below 255 of at most three digits nor, if stars
+// are null, a star.
+#[inline(always)]
+fn block_bytes_in(
+    buffered: &[u8],
+    row: &mut [u8],
+    most: usize,
+    is_star_null: bool,
+) -> (usize, usize)
     requires buffered { 64 ≤ length buffered.now }
     requires room { 72 ≤ length row.old }
-    ensures cells { (h : HeaderValue) → IsPlain h → HoldsLines h buffered.now
-        (cells_of_bytes (take result.0 row.new)) result.0 result.1
+    ensures cells { (h : HeaderValue) → HasPlainNumbers h
+        → (is_star_null ≡ true → h.null_text ≡ usual_null)
+        → HoldsLines h buffered.now (cells_of_bytes (take result.0 row.new)) result.0 result.1
         (newlines (take result.1 buffered.now)) }
     ensures count { result.0 ≤ most }
     ensures within { result.1 < 64 }
@@ -34,7 +49,11 @@ fn block_bytes_in(buffered: &[u8], row: &mut [u8], most: usize) -> (usize, usize
     let bytes = u8x64::from_slice(buffered);
     let blanks = blanks_in(buffered);
     let words = !blanks;
-    if !are_short(words, digit_mask(bytes), star_mask(bytes)) {
+    let stars = star_mask(bytes);
+    if has_other_star(stars, is_star_null) {
+        return (0, 0);
+    }
+    if !are_short(words, digit_mask(bytes), stars) {
         return (0, 0);
     }
     let (values, are_small) = word_values(bytes, words);
@@ -48,14 +67,21 @@ fn block_bytes_in(buffered: &[u8], row: &mut [u8], most: usize) -> (usize, usize
     (count, 64 - ends.leading_zeros() as usize)
 }
 
-/// The cells of the words that are held one after another, if these are stars and numbers below 255 of at most three
-/// digits, up to so many: the bytes that stand for them fill the start of a row. Returns how many they are, how many bytes
-/// of the text they take, and how many of these are line feeds.
+/// Reads at most `most` buffered words, if they are numbers below 255 of at most three digits or, if stars are null,
+/// stars, as bytes at the start of `row`. Returns the number of cells, the bytes of text that they take, and the line
+/// feeds among these bytes.
 #[inline(never)]
-pub(crate) fn bytes_in(buffered: &[u8], row: &mut [u8], most: usize) -> (usize, usize, u64)
+pub(crate) fn bytes_in(
+    buffered: &[u8],
+    row: &mut [u8],
+    most: usize,
+    is_star_null: bool,
+) -> (usize, usize, u64)
     requires room { most + 72 ≤ length row.old }
-    ensures cells { (h : HeaderValue) → IsPlain h → HoldsLines h buffered.now
-        (cells_of_bytes (take result.0 row.new)) result.0 result.1 result.2 }
+    ensures cells { (h : HeaderValue) → HasPlainNumbers h
+        → (is_star_null ≡ true → h.null_text ≡ usual_null)
+        → HoldsLines h buffered.now (cells_of_bytes (take result.0 row.new)) result.0 result.1
+        result.2 }
     ensures count { result.0 ≤ most }
     ensures within { result.1 ≤ length buffered.now }
     ensures among { result.2 ≤ result.1 }
@@ -66,7 +92,7 @@ pub(crate) fn bytes_in(buffered: &[u8], row: &mut [u8], most: usize) -> (usize, 
     let mut lines = 0;
     'blocks: while i < most && buffered.len() - passed >= BLOCK {
         let block = &buffered[passed..];
-        let found = block_bytes_in(block, &mut row[i..], most - i);
+        let found = block_bytes_in(block, &mut row[i..], most - i, is_star_null);
         if found.0 == 0 {
             return (i, passed, lines);
         }
@@ -77,13 +103,13 @@ pub(crate) fn bytes_in(buffered: &[u8], row: &mut [u8], most: usize) -> (usize, 
     (i, passed, lines)
 }
 
-// So many bytes at most show how long runs are.
+// The length of runs is judged by at most this many bytes.
 const SAMPLE: usize = 256;
 
-// Runs of so many bytes on average are short.
+// Runs of up to this many bytes, on average, are short.
 const SHORT_RUN: usize = 64;
 
-/// Whether most runs of equal bytes are short, by the first bytes: if not, cells are read faster by runs.
+/// Whether most runs of equal bytes are short, judged by the first bytes. If not, reading cells by runs is faster.
 pub(crate) fn has_short_runs(bytes: &[u8]) -> bool {
     let mut changes: usize = 0;
     let mut at = 0;

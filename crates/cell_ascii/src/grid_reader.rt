@@ -1,4 +1,4 @@
-//! Whole grids, read row by row.
+//! Grids, read row by row.
 
 ghost use Rattle.std.specs.Prelude.{◌≡◌, ◌≢◌, ◌+◌, ◌*◌, ◌++◌, [], ◌∷◌, ◌^◌, ◌<◌, ◌≤◌, ◌||◌, true, false, length, take, drop, Option, Some, Ok, Err, OnOk, OnErr, IfOk, IfErr, IfSome};
 ghost use Rattle.std.specs.Option.{option_map};
@@ -17,7 +17,7 @@ ghost use Rattle.cell_ascii.specs.Reader.{ReaderPlace, at_place, token_read, tok
 ghost use Rattle.cell_ascii.specs.GridReaders.{reader_place, IsOpened, fault_of_reading, reader_has_failed, AnswersGrid, IsCutRow, IsChangedInFront, IsOfReading, ReportsEnd};
 ghost use Rattle.cell_ascii_reading.specs.Scan.{Hears, FailsInText};
 ghost use Rattle.cell_core_values.specs.SmallCells.{byte_cell, cells_of_bytes};
-ghost use Rattle.cell_ascii.specs.parts.ByteWords.{IsPlain};
+ghost use Rattle.cell_ascii_reading.specs.InRange.{HasPlainNumbers};
 ghost use Rattle.cell_ascii.specs.parts.FrontCells.{front_cells, rows_of, IsFront};
 ghost use Rattle.cell_ascii.specs.parts.Unread.{IsUnread, IsAtData, IsBehindHeader, HasRows};
 
@@ -39,7 +39,7 @@ use cell_core_values::small_cells::write_byte_cells;
 use std::alloc::Global;
 use std::marker::Model;
 
-// So many cells are read at once where rows have fewer, since a call takes as long as many cells.
+// Rows with fewer cells are read together, about this many cells per call, since each call has a fixed cost.
 const BAND: u32 = 1024;
 
 const NO_MEMORY: GridFault = GridFault {
@@ -165,7 +165,7 @@ impl<R: Source> CellReader<R> {
         self.words.header().region()
     }
 
-    // Reads the cells whose bytes are held into the start of a row, and returns their number.
+    // Reads the buffered cells into the start of a row, and returns their number.
     #[tactic(auto, using(crate::proofs::WordLemmas::lines_buffered))]
     fn buffered_cells(&mut self, row: &mut [Cell]) -> usize
         requires room { self.old.line + length row.old * 64 < 2 ^ 64 }
@@ -193,11 +193,10 @@ impl<R: Source> CellReader<R> {
         count
     }
 
-    // Reads cells whose bytes are held, at most so many, into the start of a row of the bytes that stand for them. Returns
-    // their number.
+    // Reads at most `most` buffered cells as bytes into the start of a row. Returns their number.
     #[tactic(auto, using(crate::proofs::WordLemmas::lines_buffered))]
     fn buffered_bytes(&mut self, row: &mut [u8], most: usize) -> usize
-        requires plain { IsPlain self.old.header }
+        requires plain { HasPlainNumbers self.old.header }
         requires lines { self.old.line + most * 64 < 2 ^ 64 }
         requires room { most + 72 ≤ length row.old }
         ensures cells { Agrees (λ c. many (cell_from self.old.header) result (at_place self.old c))
@@ -211,7 +210,8 @@ impl<R: Source> CellReader<R> {
         if self.waiting || !self.scanner.is_behind_word() {
             return 0;
         }
-        let (count, size, lines) = bytes_in(self.scanner.buffered_bytes(), row, most);
+        let is_star_null = self.words.header().is_star_null();
+        let (count, size, lines) = bytes_in(self.scanner.buffered_bytes(), row, most, is_star_null);
         if count > 0 {
             self.scanner.pass(size);
             self.scanner.count_lines(lines);
@@ -219,7 +219,7 @@ impl<R: Source> CellReader<R> {
         count
     }
 
-    // Whether too few bytes are held to read words 64 bytes at a time.
+    // Whether too few bytes are buffered to read words 64 bytes at a time.
     fn is_at_seam(&self) -> bool {
         self.waiting || self.scanner.buffered_bytes().len() < BLOCK
     }
@@ -301,14 +301,14 @@ fn byte_of(cell: Cell) -> Option<u8>
     }
 }
 
-// Reads cells at the start of a row as bytes, as long as their words are short and bytes stand for them. Returns how many
-// they are, and whether they are all of the row and kept as bytes. Else the row begins with them.
+// Reads cells at the start of a row as bytes, while their words are short and each cell has a byte. Returns their
+// number, and whether they fill the row and are kept as bytes. If not, `row` begins with these cells.
 fn read_front<R: Source>(
     cells: &mut CellReader<R>,
     bytes: &mut [u8],
     row: &mut [Cell],
 ) -> Result<(usize, bool), GridFault>
-    requires plain { IsPlain cells.old.header }
+    requires plain { HasPlainNumbers cells.old.header }
     requires lines { cells.old.line + length row.old * 1048577 < 2 ^ 63 }
     requires bytes { length row.old + 72 ≤ length bytes.old }
     requires heard { cells.old.ahead.heard.failed ≡ false }
@@ -343,7 +343,7 @@ fn read_front<R: Source>(
     }
 }
 
-// The same if it is of use, and else no cells.
+// The same, but reads no cells if that is of no use.
 fn read_bytes<R: Source>(
     cells: &mut CellReader<R>,
     bytes: &mut [u8],
@@ -363,7 +363,7 @@ fn read_bytes<R: Source>(
     ensures kind { FailsInText result }
     ensures heard { Hears result cells.old.ahead cells.new.ahead }
 {
-    if !cells.words.is_plain() || cells.pace.bytes.left > 0 {
+    if !cells.words.header().has_plain_numbers() || cells.pace.bytes.left > 0 {
         cells.pace.bytes.pass(row.len());
         return Ok((0, false));
     }
@@ -444,7 +444,7 @@ impl<R: Source> GridReader<R> {
         ensures fault { IfErr result (λ f. f.kind ≢ GridKind.Memory
             → IfSome (R.coming source) (λ c. opening_fault c ≡ Some f)) }
         ensures kinds { IfErr result IsOfReading }
-        // A source is asked only while it continues, and its `Err` is reported as Read: so far it gave none.
+        // The source is asked only while it continues. Its `Err` is reported as `Read`; so far there was none.
         ensures heard { IfOk result (λ r. r.heard ≡ heard_first (R.asked source)) }
     {
         let cells = CellReader::open(alloc, source)?;
@@ -463,15 +463,15 @@ impl<R: Source> GridReader<R> {
         self.cells.region()
     }
 
-    /// How many rows are still to be read.
+    /// The number of rows that are still to be read.
     pub fn rows_left(&self) -> u32
         ensures { result ≡ self.now.rows_left }
     {
         self.rows_left
     }
 
-    /// Reads the next row into a slice of as many cells as the region has columns, from west to east. Returns whether a
-    /// row was left; else the slice is unchanged. Takes no memory.
+    /// Reads the next row, from west to east, into a slice with one cell per column. Returns whether a row was left; if
+    /// not, the slice is unchanged. Takes no memory.
     ///
     /// # Errors
     ///
@@ -502,7 +502,7 @@ impl<R: Source> GridReader<R> {
         ensures fails { self.new.failed ≡ (self.old.failed || is_err result) }
         ensures memory { IfErr result (λ f. f.kind ≢ GridKind.Memory) }
         ensures kinds { self.old.failed ≡ false → FailsInText result }
-        // A source is asked only while it continues, and its `Err` is reported as Read.
+        // The source is asked only while it continues, and its `Err` is reported as `Read`.
         ensures heard { self.old.failed ≡ false
             → self.new.heard ≡ hears (reports_read result) self.old.heard }
     {
@@ -554,7 +554,8 @@ impl<R: Source> GridReader<R> {
     }
 }
 
-// Reads the next rows, so many and no more than are left, as bytes or else as cells. Returns whether as bytes.
+// Reads the next `rows` rows, or those that are left if they are fewer, as bytes or else as cells. Returns whether as
+// bytes.
 fn next_either<R: Source>(
     reader: &mut GridReader<R>,
     rows: u32,
@@ -594,7 +595,7 @@ fn next_either<R: Source>(
     }
 }
 
-// Puts a row below the others of a map, by its bytes or by its cells.
+// Adds a row at the bottom of a map, as bytes or as cells.
 fn push_either(
     builder: &mut MapBuilder,
     is_bytes: bool,
@@ -615,7 +616,7 @@ fn push_either(
     builder.push_row(row)
 }
 
-// Puts rows below the others of a map, by their bytes or by their cells.
+// Adds rows at the bottom of a map, as bytes or as cells.
 fn push_rows(
     builder: &mut MapBuilder,
     rows: u32,
@@ -643,7 +644,7 @@ fn push_rows(
     Ok(())
 }
 
-// How many rows of a region are read at once.
+// The number of rows of a region that are read at once.
 fn rows_at_once(region: Region) -> u32
     ensures some { 0 < result }
     ensures few { result ≤ 1024 }
@@ -691,7 +692,7 @@ fn read_whole<R: Source>(alloc: Global, reader: &mut GridReader<R>) -> Result<Ce
     ensures reading { (text : Option Coming) → IsOpened text reader.old
         → IfSome text (λ c. AnswersGrid result (grid_of c)) }
     ensures kinds { IfErr result IsOfReading }
-    // A source is asked only while it continues, and its `Err` is reported as Read.
+    // The source is asked only while it continues, and its `Err` is reported as `Read`.
     ensures heard { reader.new.heard ≡ hears (reports_read result) reader.old.heard }
 {
     let map = read_rows(alloc, reader)?;

@@ -1,4 +1,4 @@
-//! What the reading of a grid text means, and which error it gives.
+//! What reading a grid text means, and which error it gives.
 
 pub use cell_ascii_law::law::grid_reading_denotes;
 pub use cell_ascii_law_faults::law::{

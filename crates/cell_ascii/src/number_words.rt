@@ -1,10 +1,10 @@
-//! Words of digits, with one blank before each: two at a time, by vectors.
+//! Words of digits, each after one blank: read two at a time, with vector instructions.
 
 ghost use Rattle.std.specs.Prelude.{true, ◌≡◌, ◌<◌, ◌≤◌, length, take, drop, pos, Some};
 ghost use Rattle.cell_ascii_meaning.specs.GridTokens.{newlines};
 ghost use Rattle.cell_ascii_meaning.specs.Header.{HeaderValue};
 ghost use Rattle.cell_ascii.specs.TableWords.{HoldsLines};
-ghost use Rattle.cell_ascii.specs.parts.ByteWords.{IsPlain};
+ghost use Rattle.cell_ascii_reading.specs.InRange.{HasPlainNumbers};
 
 use crate::word_table::{blanks_in, next_bits};
 use cell_ascii_lanes::number_lanes::{are_numbers, two_values};
@@ -24,12 +24,12 @@ fn cell_of(number: u64) -> Cell
     }
 }
 
-// The cells of the words that end among the first 64 bytes held, an even number of them, if all are of one to seven digits
-// and one blank is before each: how many they are, and where the last of them ends.
+// Reads an even number of words that end among the first 64 buffered bytes, if all have one to seven digits and one
+// blank before them. Returns their number and where the last one ends.
 #[inline(always)]
 pub(crate) fn block_numbers_in(buffered: &[u8], row: &mut [Cell]) -> (usize, usize)
     requires buffered { 80 ≤ length buffered.now }
-    ensures cells { (h : HeaderValue) → IsPlain h → HoldsLines h buffered.now
+    ensures cells { (h : HeaderValue) → HasPlainNumbers h → HoldsLines h buffered.now
         (take result.0 row.new) result.0 result.1 (newlines (take result.1 buffered.now)) }
     ensures count { result.0 ≤ length row.old }
     ensures within { result.1 < 64 }

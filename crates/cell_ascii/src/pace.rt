@@ -1,6 +1,6 @@
 //! Which way cells are read next.
 
-// A way that was of no use is left alone for so many cells, and for twice as many each next time, up to the last of these.
+// A way that was of no use is not tried again for this many cells, then for twice as many each time, up to LAST_WAIT.
 const FIRST_WAIT: usize = 16;
 
 const LAST_WAIT: usize = 4096;
@@ -10,33 +10,33 @@ const FIRST_BYTES_WAIT: usize = 1 << 14;
 
 const LAST_BYTES_WAIT: usize = 1 << 18;
 
-// Words come again often if so many cells were read so.
+// Words repeat often if more than this many cells were read by repetition.
 const MANY_CELLS: usize = 64;
 
-// So many words are looked up to see whether that is of use again.
+// Number of words looked up to see whether looking up is of use again.
 const FEW_WORDS: usize = 16;
 
 /// A way to read cells.
 #[derive(Clone, Copy)]
 pub(crate) enum Way {
-    /// Words that come again and again, each read once.
+    /// Repeated words, each read once.
     Repeated,
-    /// Words looked up among those that were read before.
+    /// Words that are looked up among those read before.
     Sought,
     /// Numbers by their digits.
     Digits,
-    /// Words one by one, as at the last bytes buffered.
+    /// Words one by one, for example at the end of the buffer.
     Single,
 }
 
-/// How long a way is left alone.
+/// How long a way is not used.
 #[derive(Drop)]
 pub(crate) struct Pause {
-    /// For how many cells yet.
+    /// The number of cells still to wait.
     pub(crate) left: usize,
-    // For how many from the next time on that it is of no use.
+    // The number of cells to wait after the next failed trial.
     next: usize,
-    // For how many at least, and at most.
+    // The shortest and the longest wait.
     first: usize,
     last: usize,
 }
@@ -51,7 +51,7 @@ impl Pause {
         }
     }
 
-    /// The way was tried.
+    /// Ends a trial of the way.
     pub(crate) fn end_trial(&mut self, is_of_use: bool) {
         if is_of_use {
             self.next = self.first;
@@ -61,13 +61,14 @@ impl Pause {
         }
     }
 
-    /// So many cells were read in other ways.
+    /// Counts cells that were read in other ways.
     pub(crate) fn pass(&mut self, count: usize) {
         self.left = self.left.saturating_sub(count);
     }
 }
 
-/// Which way cells are read next: a way that was of no use is tried less and less often. It says nothing of what is read.
+/// Chooses how cells are read next: a way that was of no use is tried less and less often. It does not affect the
+/// result.
 #[derive(Drop)]
 pub struct Pace {
     repeated: Pause,
@@ -77,7 +78,7 @@ pub struct Pace {
 }
 
 impl Pace {
-    /// The pace of a reader that has read nothing yet.
+    /// The pace of a new reader.
     pub fn new() -> Pace {
         Pace {
             repeated: Pause::new(FIRST_WAIT, LAST_WAIT),
@@ -86,7 +87,7 @@ impl Pace {
         }
     }
 
-    /// The way to read next, and how many cells at most. One by one if the last try but one found nothing.
+    /// The way to read next, and the maximum number of cells. Cells are read one by one on the last try but one.
     pub(crate) fn next_way(&self, tries: usize) -> (Way, usize) {
         if tries == 1 {
             return (Way::Single, usize::MAX);
@@ -104,7 +105,8 @@ impl Pace {
         }
     }
 
-    /// So many cells were read in a way, of which so many were looked up in vain. Whether they end where the row does.
+    /// Counts the cells that a way has read, and how many of them were looked up in vain. `ends_row`: they end where
+    /// the row does.
     pub(crate) fn pass(&mut self, way: Way, count: usize, missed: usize, ends_row: bool) {
         self.repeated.pass(count);
         match way {

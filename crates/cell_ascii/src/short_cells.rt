@@ -1,4 +1,4 @@
-//! A cell whose bytes are held.
+//! Cells whose bytes are in the buffer.
 
 ghost use Rattle.std.specs.Prelude.{◌≡◌, ℕ, List, ◌∷◌, ◌++◌, ◌+◌, ◌*◌, ◌/◌, ◌<◌, ◌≤◌, pos, neg_ℤ, length, take, drop, replicate, Some, IfSome};
 ghost use Rattle.cell_ascii.specs.BufferedCells.{HoldsFront, HoldsWord, IsNumeral, ComesAgain, buffered_word};
@@ -14,25 +14,25 @@ use cell_core::cell::Cell;
 use cell_core_values::whole_numbers::is_digit;
 use std::simd::prelude::*;
 
-// So many digits fit 32 bits, whatever they are.
+// Any number of this many digits fits in 32 bits.
 pub(crate) const MOST_DIGITS: usize = 9;
 
-// The most bytes of a word.
+// Maximum length of a word.
 const MOST_BYTES: usize = 64;
 
-// How many bytes are compared at once.
+// Number of bytes compared at once.
 const LANES: usize = 16;
 
-// Repeated words are looked for on credit: each word costs some, and each time that it comes again pays 1, up to the most.
-// When it is used up, cells are read one by one for a while.
+// Repeated words are looked for on credit: each word costs some, each repetition pays back 1, up to a maximum. When the
+// credit is used up, cells are read one by one for a while.
 const MOST_CREDIT: usize = 8;
 
 const COST_OF_A_WORD: usize = 2;
 
-// So many ways are tried if none finds a cell.
+// Number of ways that are tried if none finds a cell.
 const MOST_TRIES: usize = 3;
 
-// One to three digits, then a byte that ends them, at the start of four bytes, and how many digits there are.
+// One to three digits and the byte that ends them, at the start of four bytes. Returns the number of digits.
 #[inline(always)]
 #[tactic(auto, using(crate::proofs::BufferedLemmas::short_one, crate::proofs::BufferedLemmas::short_two, crate::proofs::BufferedLemmas::short_three))]
 fn short_digits(a: u8, b: u8, c: u8, d: u8) -> Option<(u32, usize)>
@@ -58,7 +58,7 @@ fn short_digits(a: u8, b: u8, c: u8, d: u8) -> Option<(u32, usize)>
     Some((value * 10 + (c - b'0') as u32, 3))
 }
 
-// One to nine digits and a byte that ends them, and how many digits there are.
+// One to nine digits and the byte that ends them. Returns the number of digits.
 #[inline(always)]
 fn more_digits(bytes: &[u8]) -> Option<(u32, usize)>
     ensures { IfSome result (λ r. IsNumeral bytes.now r.0 r.1) }
@@ -79,15 +79,15 @@ fn more_digits(bytes: &[u8]) -> Option<(u32, usize)>
     None
 }
 
-// The number of digits after a minus.
+// The number of digits after a minus sign.
 pub(crate) fn negative(value: u32) -> i64
     ensures { result ≡ neg_ℤ (pos value) }
 {
     -(value as i64)
 }
 
-// A space, a number of one to three digits and a byte that ends it, and how many bytes come before that byte. The
-// length is compared once, so as many bytes are needed as the longest form has.
+// A space, a number of one to three digits and the byte that ends it. Returns the number of bytes before that byte. The
+// length is compared once, so the buffer must hold the longest form.
 #[inline(always)]
 fn short_number_in(buffered: &[u8]) -> Option<(i64, usize)>
     ensures word { IfSome result (λ r. HoldsWord buffered.now r.1) }
@@ -105,7 +105,7 @@ fn short_number_in(buffered: &[u8]) -> Option<(i64, usize)>
     Some((value as i64, n + 1))
 }
 
-// The same of one to nine digits.
+// Like `short_number_in`, for one to nine digits.
 fn number_in(buffered: &[u8]) -> Option<(i64, usize)>
     ensures word { IfSome result (λ r. HoldsWord buffered.now r.1) }
     ensures number { IfSome result (λ r. whole_number (buffered_word buffered.now r.1) ≡ Some r.0) }
@@ -122,7 +122,7 @@ fn number_in(buffered: &[u8]) -> Option<(i64, usize)>
     Some((value as i64, n + 1))
 }
 
-// A space, a word and a byte that ends it, and how many bytes come before that byte.
+// A space, a word and the byte that ends it. Returns the number of bytes before that byte.
 fn word_in(buffered: &[u8]) -> Option<usize>
     ensures word { IfSome result (λ n. HoldsWord buffered.now n) }
     ensures within { IfSome result (λ n. (0 < n) × (n ≤ length buffered.now)) }
@@ -162,7 +162,7 @@ fn buffered_number_cell(
     }
 }
 
-// The same as `buffered_cell`, if there is no short number.
+// As `buffered_cell`, for words that are not short numbers.
 #[inline(never)]
 fn other_cell_in(buffered: &[u8], header: &Header) -> Option<(Cell, usize)>
     ensures cell { IfSome result (λ r. HoldsFront header.now buffered.now r.0 r.1) }
@@ -178,8 +178,8 @@ fn other_cell_in(buffered: &[u8], header: &Header) -> Option<(Cell, usize)>
     }
 }
 
-// The cell of a space and a word that ends among the bytes held, and how many of them it takes.
-// None for another form, or a word that is no cell.
+// The cell of a space and a word that ends in the buffer, and the number of bytes taken. None for any other form, or a
+// word that is not a cell.
 #[inline(always)]
 fn buffered_cell(buffered: &[u8], header: &Header) -> Option<(Cell, usize)>
     ensures cell { IfSome result (λ r. HoldsFront header.now buffered.now r.0 r.1) }
@@ -209,7 +209,7 @@ fn front_alike(a: &[u8], b: &[u8]) -> usize
     }
 }
 
-// How many bytes from place n on equal the bytes n places before them. It may leave out some of the last bytes held.
+// How many bytes from place n on equal the bytes n places before them. Some of the last buffered bytes may be left out.
 #[inline(always)]
 fn bytes_again(buffered: &[u8], n: usize) -> usize
     requires { n ≤ length buffered.now }
@@ -229,7 +229,7 @@ fn bytes_again(buffered: &[u8], n: usize) -> usize
     count
 }
 
-// A quotient. The lengths of most words are divided by as constants.
+// A quotient. Most words have lengths that are divided by as constants.
 #[inline(always)]
 fn quotient(a: usize, n: usize) -> usize
     requires { 0 < n }
@@ -244,7 +244,7 @@ fn quotient(a: usize, n: usize) -> usize
     }
 }
 
-// How often the first n bytes and the byte after them come again, as far as that is seen.
+// How often the first n bytes and the byte after them are repeated, as far as the buffer shows.
 #[inline(always)]
 fn times_again(buffered: &[u8], n: usize) -> usize
     requires some { 0 < n }
@@ -259,7 +259,7 @@ fn times_again(buffered: &[u8], n: usize) -> usize
     quotient(bytes - 1, n)
 }
 
-// Writes a cell over so many cells of a row from a place on.
+// Writes `cell` over `count` cells of a row, from place `at`.
 #[inline(always)]
 fn fill_cells(row: &mut [Cell], at: usize, count: usize, cell: Cell)
     requires { at + count ≤ length row.old }
@@ -268,7 +268,7 @@ fn fill_cells(row: &mut [Cell], at: usize, count: usize, cell: Cell)
     row[at..at + count].fill(cell);
 }
 
-// The credit that is left after a word that came again so many times.
+// The credit that is left after a word that was repeated `more` times.
 #[inline(always)]
 fn next_credit(credit: usize, more: usize) -> usize {
     credit
@@ -277,7 +277,7 @@ fn next_credit(credit: usize, more: usize) -> usize {
         .saturating_sub(COST_OF_A_WORD)
 }
 
-// The same as `cells_in`, for a text in which words come again and again: each that does is read once. It ends once few do.
+// As `cells_in`, for a text in which words are repeated: each is read once. It stops when few words are repeated.
 #[inline(never)]
 fn repeated_cells_in(buffered: &[u8], header: &Header, row: &mut [Cell]) -> (usize, usize)
     ensures { AreCellsInLine header.now buffered.now row.old row.new result }
@@ -316,16 +316,16 @@ fn single_cells_in(buffered: &[u8], header: &Header, row: &mut [Cell]) -> (usize
     (row.len(), passed)
 }
 
-// How many tries are left: all again if the last found some cells.
+// The number of tries left: reset if the last try found some cells.
 fn tries_left(tries: usize, found: usize) -> usize
     requires { 0 < tries }
-    // So the tries for all cells come to an end.
+    // This ensures that the tries for all cells end.
     ensures { result < tries + 4 * found }
 {
     if found > 0 { MOST_TRIES } else { tries - 1 }
 }
 
-// Some cells in one way, at most so many, and how many of them were looked up in vain.
+// Reads at most `most` cells in one way. Returns their number and how many of them were looked up in vain.
 #[inline(never)]
 fn cells_by(
     way: Way,

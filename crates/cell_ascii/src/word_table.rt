@@ -1,5 +1,5 @@
-//! Cells of words that were read before: each is read once, and then found by its bytes. If most are new, numbers are read by
-//! their digits.
+//! Cells of words that were read before: each word is read once, and later found using its bytes. If most words are
+//! new, numbers are read digit by digit.
 
 ghost use Rattle.std.specs.Prelude.{ℕ, List, ◌++◌, replicate, true, false, ◌≡◌, ◌+◌, ◌-◌, ◌*◌, ◌%◌, ◌^◌, ◌<◌, ◌≤◌, length, take, drop, Some, Ok, IfOk, IfSome};
 ghost use Rattle.std.specs.List.{All, list_all};
@@ -10,7 +10,7 @@ ghost use Rattle.cell_ascii_meaning.specs.CellTexts.{cell_of_word};
 ghost use Rattle.cell_ascii_meaning.specs.EdgeNumbers.{digits_of, is_digit, value_of_digits, whole_number};
 ghost use Rattle.cell_ascii.specs.TableWords.{HoldsLines, IsEntry, IsCellPut, blanks, feeds, kept_bytes, AreCellsRead};
 ghost use Rattle.cell_ascii.specs.parts.WordPlaces.{CanPut};
-ghost use Rattle.cell_ascii.specs.parts.ByteWords.{IsPlain};
+ghost use Rattle.cell_ascii_reading.specs.InRange.{HasPlainNumbers};
 ghost use Rattle.cell_ascii.specs.parts.BlankRuns.{IsAtBlank, IsBehindBlanks};
 
 use crate::number_words::block_numbers_in;
@@ -24,22 +24,22 @@ use std::alloc::Global;
 use std::marker::Model;
 use std::simd::prelude::*;
 
-// How many words are kept. They take 64 KiB for each open reader.
+// Number of words that are kept. They take 64 KiB per open reader.
 const ENTRIES: usize = 4096;
 
-// So many upper bits of a number below 2^64 are a place among them.
+// The place is this many upper bits of a number below 2^64.
 const PLACE_BITS: u32 = 12;
 
-// The most bytes of a word that is kept.
+// Maximum length of a kept word.
 const MOST_KEPT: usize = 8;
 
-// So many bytes have to be held for that, and for a load of 16 bytes at the last of them.
+// Bytes that must be buffered for that, and for a load of 16 bytes at the last of them.
 const LEAST_BUFFERED: usize = 80;
 
-// So many blocks one after another are tried as numbers in vain. Then one is tried in each call, until one is of numbers.
+// After this many failed blocks in a row, only one block per call is tried as numbers, until one succeeds.
 const BLOCK_TRIES: usize = 8;
 
-// A word that was read, by its bytes, and its cell. It is free if it has no bytes.
+// A word that was read, as its bytes, and its cell. A place is free if it has no bytes.
 #[derive(Clone, Copy)]
 struct WordEntry {
     key: u64,
@@ -47,7 +47,7 @@ struct WordEntry {
     cell: Cell,
 }
 
-// Which of the first 64 bytes are blanks or line feeds, from the lowest bit on.
+// Which of the first 64 bytes are blanks or line feeds; the first byte is the lowest bit.
 #[inline(always)]
 pub(crate) fn blanks_in(buffered: &[u8]) -> u64
     requires { 64 ≤ length buffered.now }
@@ -67,7 +67,7 @@ fn feeds_in(buffered: &[u8]) -> u64
         .to_bitmask()
 }
 
-// A number of lines, and how many line feeds are among the first n bytes.
+// A number of lines, plus the line feeds among the first n bytes.
 #[inline(always)]
 pub(crate) fn lines_below(lines: u64, buffered: &[u8], n: usize) -> u64
     requires room { lines + 64 < 2 ^ 64 }
@@ -76,14 +76,14 @@ pub(crate) fn lines_below(lines: u64, buffered: &[u8], n: usize) -> u64
     ensures { result ≡ lines + newlines (take n buffered.now) }
 {
     let feeds = feeds_in(buffered);
-    // As in most blocks.
+    // The usual case in most blocks.
     if feeds == 0 {
         return lines;
     }
     lines + (feeds & ((1 << n) - 1)).count_ones() as u64
 }
 
-// Bits without the lowest that is set.
+// Clears the lowest set bit.
 #[inline(always)]
 pub(crate) fn next_bits(bits: u64) -> u64
     requires { 0 < bits }
@@ -92,9 +92,9 @@ pub(crate) fn next_bits(bits: u64) -> u64
     bits & (bits - 1)
 }
 
-// The place after a run of blanks that begins at a place, and the bits of the blanks after that.
+// The place after a run of blanks that begins at a place, and the bits of the blanks after it.
 //
-// Bits for both ends of each word were faster for right-aligned columns, and slower for single blanks.
+// Computing bits for both ends of each word was faster for right-aligned columns, and slower for single blanks.
 #[inline(always)]
 fn pass_blanks(ends: u64, at: usize) -> (usize, u64)
     requires { at < 64 }
@@ -126,7 +126,7 @@ fn word_place(key: u64) -> usize
     (key.wrapping_mul(0x9E37_79B9_7F4A_7C15) >> (64 - PLACE_BITS)) as usize
 }
 
-// How many digits the first eight bytes begin with. If all are digits, it may be more.
+// The number of digits at the start of the first eight bytes. If all eight are digits, the result may be above 8.
 #[inline(always)]
 fn digits_at(bytes: &[u8]) -> usize
     requires { 8 ≤ length bytes.now }
@@ -139,7 +139,7 @@ fn digits_at(bytes: &[u8]) -> usize
         .trailing_zeros() as usize
 }
 
-// The value of so many digits, by three multiplications: of pairs of digits, of pairs of these, and of both fours.
+// The value of `size` digits, by three multiplications: of pairs of digits, of pairs of these, and of both fours.
 #[inline(always)]
 fn digits_value(bytes: &[u8], size: usize) -> u64
     requires some { 0 < size }
@@ -185,7 +185,7 @@ fn value_of(bytes: &[u8], size: usize) -> Option<u32>
     Some(digits_value(bytes, size) as u32)
 }
 
-// The number that a word of one to nine digits is, with or without a minus.
+// The number that a word of one to nine digits spells, with or without a minus sign.
 #[inline(always)]
 fn word_number(bytes: &[u8], size: usize) -> Option<i64>
     requires some { 0 < size }
@@ -198,7 +198,7 @@ fn word_number(bytes: &[u8], size: usize) -> Option<i64>
     Some(value_of(bytes, size)? as i64)
 }
 
-// The cell of the number that a word of one to nine digits is, with or without a minus.
+// The cell of the number that a word of one to nine digits spells, with or without a minus sign.
 #[inline(always)]
 fn number_cell(bytes: &[u8], size: usize, header: &Header) -> Option<Cell>
     requires some { 0 < size }
@@ -224,7 +224,7 @@ fn read_word(bytes: &[u8], size: usize, header: &Header) -> Option<Cell>
     }
 }
 
-// Keeps the cell of a word, in the place of another if the word is short.
+// Keeps the cell of a word if the word is short. It may replace another one.
 fn keep_word(bytes: &[u8], size: usize, cell: Cell, header: &Header, entries: &mut [WordEntry])
     requires some { 0 < size }
     requires buffered { 8 ≤ length bytes.now }
@@ -244,8 +244,8 @@ fn keep_word(bytes: &[u8], size: usize, cell: Cell, header: &Header, entries: &m
     };
 }
 
-// Reads the cell of the word that the first bytes are, to a place of a row, and keeps it. Returns whether it is one. It is
-// counted as missed.
+// Reads the cell of the first word into a place of a row, and keeps it. Returns whether the word is a cell. It counts
+// as missed.
 #[inline(never)]
 fn read_cell(
     bytes: &[u8],
@@ -270,8 +270,8 @@ fn read_cell(
     true
 }
 
-// Writes the cell of the word that the first bytes are to a place of a row. Returns whether it is one. A number is looked up
-// if SOUGHT says so, and else read by its digits.
+// Writes the cell of the first word to a place of a row. Returns whether the word is a cell. Numbers are looked up if
+// SOUGHT is set, and otherwise read digit by digit.
 #[inline(always)]
 fn put_cell<const SOUGHT: bool>(
     bytes: &[u8],
@@ -302,8 +302,8 @@ fn put_cell<const SOUGHT: bool>(
     read_cell(bytes, size, header, entries, row, i, missed)
 }
 
-// The cells of the words that end among the first 64 bytes held, up to the length of a row: how many they are, and where the
-// last of them ends. It ends before a word that is no cell.
+// Reads the words that end among the first 64 buffered bytes, up to the length of a row. Returns their number and where
+// the last one ends. It ends before a word that is not a cell.
 #[inline(always)]
 fn block_cells_in<const SOUGHT: bool>(
     buffered: &[u8],
@@ -346,32 +346,18 @@ fn block_cells_in<const SOUGHT: bool>(
     (i, last)
 }
 
-// Whether a header says that a star is null, and each other word its number.
-fn is_plain(header: &Header) -> bool
-    ensures { result ≡ true → IsPlain header.now }
-{
-    let Ok(star) = header.cell_of_word(b"*") else {
-        return false;
-    };
-    let Ok(one) = header.cell_of_word(b"1") else {
-        return false;
-    };
-    star.get().is_none() && one.get() == Some(1)
-}
-
-/// What the header of a grid text says of its cells, and words that were read under it. It grows by no call.
+/// What the header of a grid text says about its cells, and words that were read under it. No call allocates.
 #[derive(Drop)]
 pub struct WordTable {
     header: Header,
     entries: Vec<WordEntry>,
-    is_plain: bool,
-    // How many blocks are tried as numbers yet.
+    // The number of blocks that may still be tried as numbers.
     tries: usize,
 }
 
 impl Model for WordTable {
     ghost use Rattle.std.specs.Prelude.{◌≡◌, length, true};
-    ghost use Rattle.cell_ascii.specs.parts.ByteWords.{IsPlain};
+    ghost use Rattle.cell_ascii_reading.specs.InRange.{HasPlainNumbers};
     ghost use Rattle.std.specs.List.{All, list_all};
     ghost use Rattle.cell_ascii_meaning.specs.Header.{HeaderValue};
     ghost use Rattle.cell_ascii.specs.TableWords.{IsEntry};
@@ -380,11 +366,10 @@ impl Model for WordTable {
 
     ghost view = { λ t. t.header };
 
-    ghost invariant = { λ t. (length t.entries.items ≡ 4096) × All (IsEntry t.header) t.entries.items
-        × (t.is_plain ≡ true → IsPlain t.header) };
+    ghost invariant = { λ t. (length t.entries.items ≡ 4096) × All (IsEntry t.header) t.entries.items };
 }
 
-// The same by vectors, if a header is plain, a try is left, and all words are numbers.
+// The same with vector instructions, if words of digits are their numbers, a try is left, and all words are numbers.
 #[inline(always)]
 fn next_cells_in<const SOUGHT: bool>(
     buffered: &[u8],
@@ -395,7 +380,7 @@ fn next_cells_in<const SOUGHT: bool>(
     tries: &mut usize,
 ) -> (usize, usize)
     requires buffered { 80 ≤ length buffered.now }
-    requires plain { 0 < tries.old → IsPlain header.now }
+    requires plain { 0 < tries.old → HasPlainNumbers header.now }
     requires room { length entries.old ≡ 4096 }
     requires known { All (IsEntry header.now) entries.old }
     ensures cells { HoldsLines header.now buffered.now (take result.0 row.new) result.0 result.1
@@ -404,7 +389,7 @@ fn next_cells_in<const SOUGHT: bool>(
     ensures within { result.1 < 64 }
     ensures rest { drop result.0 row.new ≡ drop result.0 row.old }
     ensures known { All (IsEntry header.now) entries.new }
-    ensures plain { 0 < tries.new → IsPlain header.now }
+    ensures plain { 0 < tries.new → HasPlainNumbers header.now }
 {
     if *tries > 0 {
         let found = block_numbers_in(buffered, row);
@@ -417,10 +402,10 @@ fn next_cells_in<const SOUGHT: bool>(
     block_cells_in::<SOUGHT>(buffered, header, entries, row, missed)
 }
 
-// The cells whose words are held one after another, apart by blanks and line feeds, up to the length of a row: they
-// fill the start of the row. Returns how many they are, how many bytes they take, and how many of these are line feeds.
-// It leaves out the last bytes held, words of 64 bytes and more, and a word that is no cell with all that follows.
-// Words that are not kept are counted as missed.
+// Reads the words in the buffer, which are separated by blanks and line feeds, into the start of a row, up to its
+// length. Returns the number of cells, the bytes that they take, and the line feeds among these. Leaves out the last
+// bytes of the buffer and words of 64 bytes or more; stops at a word that is not a cell. Words that are not kept count
+// as missed.
 #[inline(never)]
 fn table_cells_in<const SOUGHT: bool>(
     buffered: &[u8],
@@ -430,7 +415,7 @@ fn table_cells_in<const SOUGHT: bool>(
     missed: &mut usize,
     tries: &mut usize,
 ) -> (usize, usize, u64)
-    requires plain { 0 < tries.old → IsPlain header.now }
+    requires plain { 0 < tries.old → HasPlainNumbers header.now }
     requires room { length entries.old ≡ 4096 }
     requires known { All (IsEntry header.now) entries.old }
     ensures cells { AreCellsRead header.now buffered.now row.old row.new result }
@@ -453,7 +438,7 @@ fn table_cells_in<const SOUGHT: bool>(
 }
 
 impl WordTable {
-    /// A table of no words yet.
+    /// An empty table.
     pub fn new(alloc: Global, header: Header) -> Result<WordTable, Memory>
         ensures { IfOk result (λ t. t ≡ header) }
     {
@@ -463,20 +448,11 @@ impl WordTable {
             cell: Cell::null(),
         };
         let entries = vec![in alloc; free; ENTRIES]?;
-        let is_plain = is_plain(&header);
         Ok(WordTable {
             header,
             entries,
-            is_plain,
             tries: BLOCK_TRIES,
         })
-    }
-
-    /// Whether a star is null, and each other word its number.
-    pub(crate) fn is_plain(&self) -> bool
-        ensures { result ≡ true → IsPlain self.now }
-    {
-        self.is_plain
     }
 
     /// The header by which words are read as cells.
@@ -486,10 +462,9 @@ impl WordTable {
         &self.header
     }
 
-    /// The cells whose words are held one after another, apart by blanks and line feeds, up to the length of a row:
-    /// they fill the start of the row. Returns how many they are, how many bytes they take, and how many of these are
-    /// line feeds. Words that are not known from earlier are counted as missed. Numbers are looked up only if SOUGHT
-    /// says so.
+    /// Reads the words in the buffer, which are separated by blanks and line feeds, into the start of a row, up to its
+    /// length. Returns the number of cells, the bytes that they take, and the line feeds among these. Words that were
+    /// not read before count as missed. Numbers are looked up only if SOUGHT is set.
     pub fn cells_in<const SOUGHT: bool>(
         &mut self,
         buffered: &[u8],
@@ -499,7 +474,11 @@ impl WordTable {
         ensures cells { AreCellsRead self.old buffered.now row.old row.new result }
         ensures same { self.new ≡ self.old }
     {
-        let mut tries = if self.is_plain { self.tries.max(1) } else { 0 };
+        let mut tries = if self.header.has_plain_numbers() {
+            self.tries.max(1)
+        } else {
+            0
+        };
         let found = table_cells_in::<SOUGHT>(
             buffered,
             &self.header,

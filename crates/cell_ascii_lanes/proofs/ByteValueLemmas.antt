@@ -77,7 +77,7 @@ module _ (bytes : List ℕ) (size : length bytes ≡ 64) (fits : (k : ℕ) → g
   before : (p : ℕ) → p + 1 < 64 → lane_before (p + 1) ≡ p
   before p lt = omega arith
 
-  -- nothing is added before a byte that is no digit
+  -- nothing is added before a byte that is not a digit
   more_of_none : (p : ℕ) → is_digit (byte p) ≡ false → more_at bytes p ≡ 0
   more_of_none p e =
       let is = adds_nothing (byte p) (fits p) e in

@@ -1,4 +1,4 @@
--- Values of words at lanes, and lanes that bits name.
+-- Values of words in lanes, and lanes selected by bits.
 pub mod NumberLanes
 pub mod WordLanes
 pub mod parts

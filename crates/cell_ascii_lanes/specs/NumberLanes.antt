@@ -2,7 +2,7 @@
 use Rattle.std.specs.Prelude.{ℕ, ◌+◌, ◌≡◌, ◌<◌}
 use Rattle.std.specs.Int.{bit_at}
 
--- all words are of one to seven digits, each after one blank, by the bits of the blanks and of the digits
+-- all words have one to seven digits, each after one blank, given the bits of blanks and of digits
 pub record AreNumberWords (blanks digits : ℕ) : Type 0 where
   pub first : bit_at blanks 0 ≡ 1
   pub known : (i : ℕ) → i < 64 → bit_at blanks i ≡ 0 → bit_at digits i ≡ 1

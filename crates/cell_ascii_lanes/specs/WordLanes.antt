@@ -6,26 +6,26 @@ use Rattle.std.specs.Int.RustNames.{count_ones}
 use Rattle.cell_core_values.specs.Letters.{byte}
 use Rattle.cell_core_values.specs.Digits.{is_digit, value_of_digits}
 
--- the usual text of null
+-- the usual null text
 abbrev pub is_null_star : ℕ → Bool
 is_null_star b = b == byte (codes "*")
 
--- the items where a list says so
+-- the items whose flags are set
 abbrev pub kept : List Bool → List ℕ → List ℕ
 kept [] xs = []
 kept (m ∷ ms) [] = []
 kept (true ∷ ms) (x ∷ xs) = x ∷ kept ms xs
 kept (false ∷ ms) (x ∷ xs) = kept ms xs
 
--- the numbers of digits are at their last digits
+-- the values of numbers are at their last digits
 abbrev pub AreWordValues : List ℕ → List ℕ → Type 0
 AreWordValues bytes values = (at n : ℕ) → n < 3 → at + 1 + n < 64 → is_digit (slice_index_or bytes at 0) ≡ false
     → list_all is_digit (take (n + 1) (drop (at + 1) bytes)) ≡ true
     → (slice_index_or values (at + 1 + n) 0 ≡ value_of_digits (take (n + 1) (drop (at + 1) bytes)))
     × (slice_index_or values (at + 1 + n) 0 < 255)
 
--- all words are stars and numbers of at most three digits, and a blank comes first, by the bits of the bytes of words, of
--- digits and of stars
+-- all words are stars and numbers of at most three digits, and a blank comes first, given the bits of word bytes,
+-- digits and stars
 pub record AreShortWords (words digits stars : ℕ) : Type 0 where
   pub first : bit_at words 0 ≡ 0
   pub known : (i : ℕ) → i < 64 → bit_at words i ≡ 1 → bit_at digits i ≡ 0 → bit_at stars i ≡ 1
@@ -33,7 +33,7 @@ pub record AreShortWords (words digits stars : ℕ) : Type 0 where
   pub behind : (i : ℕ) → bit_at stars i ≡ 1 → bit_at words (i + 1) ≡ 0
   pub few : (i : ℕ) → i + 3 < 64 → bit_at words i ≡ 1 → bit_at words (i + 1) ≡ 1 → bit_at words (i + 2) ≡ 1 → bit_at words (i + 3) ≡ 0
 
--- the lowest bits, of which no more than so many are set
+-- the bits below a place, of which at most `most` are set
 pub record AreLowest (bits most result : ℕ) : Type 0 where
   pub place : ℕ
   pub within : place ≤ 64

@@ -1,7 +1,7 @@
-//! Words of a text, by the lanes of vectors.
+//! Words of a text, in the lanes of vectors.
 //!
-//! - `word_lanes`: which words are stars or numbers of at most three digits, their values, and the
-//!   lanes that bits name, one after another
+//! - `word_lanes`: which words are stars or numbers of at most three digits, their values, and the lanes that bits
+//!   select, one after another
 //! - `number_lanes`: the values of words of digits, two at a time
 #![tactic(auto)]
 

@@ -1,6 +1,6 @@
-//! Words of digits, two at a time, by the lanes of vectors.
+//! Words of digits, two at a time, in the lanes of vectors.
 //!
-//! Each of two words is at the end of a half of a vector, after zeros. Pairs of lanes then become lanes twice as wide: the
+//! Each of the two words ends a half of a vector, after zeros. Pairs of lanes then become lanes of twice the width: the
 //! values of two digits, of four, and of eight.
 
 ghost use Rattle.std.specs.Prelude.{ℕ, true, ◌≡◌, ◌+◌, ◌-◌, ◌*◌, ◌%◌, ◌<◌, ◌≤◌, ◌++◌, length, take, replicate, slice_index_or};
@@ -10,12 +10,12 @@ ghost use Rattle.cell_ascii_lanes.specs.NumberLanes.{AreNumberWords};
 
 use std::simd::prelude::*;
 
-// From the place of a length on: where the bytes of a word of that length come from, if it ends a half, and 128 for zeros.
+// For each length, where the bytes of a word of that length come from if it ends a half, and 128 for zeros.
 static SOURCES: [u8; 24] = [
     128, 128, 128, 128, 128, 128, 128, 128, 0, 1, 2, 3, 4, 5, 6, 7, 8, 9, 10, 11, 12, 13, 14, 15,
 ];
 
-/// Whether all words are of one to seven digits, each after one blank, by the bits of the blanks and of the digits.
+/// Whether all words have one to seven digits, each after one blank, given the bits of blanks and of digits.
 #[inline(always)]
 pub fn are_numbers(blanks: u64, digits: u64) -> bool
     ensures { result ≡ true → AreNumberWords blanks digits }
@@ -38,7 +38,7 @@ fn at_end(bytes: &[u8], size: usize) -> u8x16
     u8x16::from_slice(bytes).swizzle_dyn(u8x16::from_slice(&SOURCES[size..]))
 }
 
-// The values of two digits each, from their bytes.
+// The values of pairs of digits, from their bytes.
 #[inline(always)]
 fn twos(digits: u8x16) -> u16x8
     requires { (k : ℕ) → k < 16 → slice_index_or digits k 0 % 16 < 10 }
@@ -49,7 +49,7 @@ fn twos(digits: u8x16) -> u16x8
     (lanes * u16x8::splat(10 * 256 + 1)) >> u16x8::splat(8)
 }
 
-// The values of four digits each, from the values of two.
+// The values of groups of four digits, from the values of pairs.
 #[inline(always)]
 fn fours(twos: u16x8) -> u32x4
     requires { (k : ℕ) → k < 8 → slice_index_or twos k 0 < 100 }
@@ -60,7 +60,7 @@ fn fours(twos: u16x8) -> u32x4
     (lanes * u32x4::splat(100 * 65536 + 1)) >> u32x4::splat(16)
 }
 
-// The values of eight digits each, from the values of four.
+// The values of groups of eight digits, from the values of fours.
 #[inline(always)]
 fn eights(fours: u32x4) -> u64x2
     requires { (k : ℕ) → k < 4 → slice_index_or fours k 0 < 10000 }

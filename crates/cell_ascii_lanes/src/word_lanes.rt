@@ -1,7 +1,7 @@
-//! Words of stars and of numbers of at most three digits, by the lanes of vectors.
+//! Stars and numbers of at most three digits, in the lanes of vectors.
 //!
-//! Each lane takes the value of the word that would end there, from its byte and the two before it. The lanes where words
-//! end are then moved together, by a table of the places of bits.
+//! Each lane gets the value of the word that would end there, from its byte and the two before it. The lanes where
+//! words end are then moved together, using a table of the positions of bits.
 
 ghost use Rattle.std.specs.Prelude.{ℕ, Bool, List, if◌then◌else◌, true, false, ◌≡◌, ◌+◌, ◌*◌, ◌%◌, ◌^◌, ◌<◌, ◌≤◌, length, take, map, bit_and, slice_index_or};
 ghost use Rattle.std.specs.Int.{bit_at};
@@ -14,7 +14,7 @@ ghost use Rattle.cell_ascii_lanes.specs.parts.LaneTables.{IsLaneTable, table_pla
 
 use std::simd::prelude::*;
 
-// The places of the set bits of a number below 256, and zeros after them: eight bytes for each number, and eight more, so
+// The positions of the set bits of each number below 256, followed by zeros: eight bytes per number, and eight more, so
 // that a vector can be loaded from each.
 static PLACES: [u8; 2056] = [
     0, 0, 0, 0, 0, 0, 0, 0, 0, 0, 0, 0, 0, 0, 0, 0, 1, 0, 0, 0, 0, 0, 0, 0, 0, 1, 0, 0, 0, 0, 0, 0,
@@ -84,42 +84,42 @@ static PLACES: [u8; 2056] = [
     0, 0, 0, 0, 0, 0, 0, 0,
 ];
 
-// What the byte of a digit adds to the value of a word, by its distance from 48: as the last digit. Each table is there
-// four times, for the four parts of a vector.
+// What a digit adds to the value of a word as its last digit, indexed by its byte minus 48. The table is repeated four
+// times, for the four parts of a vector.
 static ONES: [u8; 64] = [
     0, 1, 2, 3, 4, 5, 6, 7, 8, 9, 0, 0, 0, 0, 0, 0, 0, 1, 2, 3, 4, 5, 6, 7, 8, 9, 0, 0, 0, 0, 0, 0,
     0, 1, 2, 3, 4, 5, 6, 7, 8, 9, 0, 0, 0, 0, 0, 0, 0, 1, 2, 3, 4, 5, 6, 7, 8, 9, 0, 0, 0, 0, 0, 0,
 ];
 
-// The same as the last digit but one.
+// The same for the last digit but one.
 static TENS: [u8; 64] = [
     0, 10, 20, 30, 40, 50, 60, 70, 80, 90, 0, 0, 0, 0, 0, 0, 0, 10, 20, 30, 40, 50, 60, 70, 80, 90,
     0, 0, 0, 0, 0, 0, 0, 10, 20, 30, 40, 50, 60, 70, 80, 90, 0, 0, 0, 0, 0, 0, 0, 10, 20, 30, 40,
     50, 60, 70, 80, 90, 0, 0, 0, 0, 0, 0,
 ];
 
-// The same as the digit before that, or 255 if a word with it is above 254.
+// The same for the digit before that, or 255 if the word would be above 254.
 static HUNDREDS: [u8; 64] = [
     0, 100, 200, 255, 255, 255, 255, 255, 255, 255, 0, 0, 0, 0, 0, 0, 0, 100, 200, 255, 255, 255,
     255, 255, 255, 255, 0, 0, 0, 0, 0, 0, 0, 100, 200, 255, 255, 255, 255, 255, 255, 255, 0, 0, 0,
     0, 0, 0, 0, 100, 200, 255, 255, 255, 255, 255, 255, 255, 0, 0, 0, 0, 0, 0,
 ];
 
-// All ones if it is a digit.
+// All ones for a digit.
 static DIGITS: [u8; 64] = [
     255, 255, 255, 255, 255, 255, 255, 255, 255, 255, 0, 0, 0, 0, 0, 0, 255, 255, 255, 255, 255,
     255, 255, 255, 255, 255, 0, 0, 0, 0, 0, 0, 255, 255, 255, 255, 255, 255, 255, 255, 255, 255, 0,
     0, 0, 0, 0, 0, 255, 255, 255, 255, 255, 255, 255, 255, 255, 255, 0, 0, 0, 0, 0, 0,
 ];
 
-// Blanks and line feeds, by the low four bits of their bytes. No byte with other such bits is 0.
+// Blanks and line feeds, indexed by the low four bits of their bytes. No byte with other low bits is 0.
 static SPACES: [u8; 64] = [
     32, 0, 0, 0, 0, 0, 0, 0, 0, 9, 10, 0, 0, 13, 0, 0, 32, 0, 0, 0, 0, 0, 0, 0, 0, 9, 10, 0, 0, 13,
     0, 0, 32, 0, 0, 0, 0, 0, 0, 0, 0, 9, 10, 0, 0, 13, 0, 0, 32, 0, 0, 0, 0, 0, 0, 0, 0, 9, 10, 0,
     0, 13, 0, 0,
 ];
 
-// The entries of a table at the places that lanes name.
+// The entries of a table at the places given by lanes.
 #[inline(always)]
 fn looked_up(table: &[u8; 64], places: u8x64) -> u8x64
     requires { (k : ℕ) → slice_index_or places k 0 < 16 }
@@ -136,7 +136,7 @@ fn places_of(bytes: u8x64) -> u8x64
     (bytes - u8x64::splat(b'0')).simd_min(u8x64::splat(15))
 }
 
-// Sums of lanes, or 255 where one is more.
+// Sums of lanes, capped at 255.
 #[inline(always)]
 fn sums(a: u8x64, b: u8x64) -> u8x64
     ensures { (p : ℕ) → p < 64
@@ -145,7 +145,7 @@ fn sums(a: u8x64, b: u8x64) -> u8x64
     a.saturating_add(b)
 }
 
-// The lanes one further, in a round.
+// The lanes rotated by one.
 #[inline(always)]
 fn moved_up(lanes: u8x64) -> u8x64
     ensures { (p : ℕ) → p < 64
@@ -154,7 +154,7 @@ fn moved_up(lanes: u8x64) -> u8x64
     lanes.rotate_elements_right::<1>()
 }
 
-// The lanes of digits, by their places, and 0 elsewhere.
+// The lanes of digits as places in a table, and 0 elsewhere.
 #[inline(always)]
 fn of_digits(places: u8x64, lanes: u8x64) -> u8x64
     requires { (k : ℕ) → slice_index_or places k 0 < 16 }
@@ -175,7 +175,7 @@ fn two_digits(bytes: u8x64) -> u8x64
     sums(looked_up(&ONES, places), moved_up(tens))
 }
 
-// The values of words of one to three digits, at their last digits, or 255 if a value is more.
+// The values of words of one to three digits, at their last digits; 255 if a value is larger.
 #[inline(always)]
 fn three_digits(bytes: u8x64) -> u8x64
     ensures { (p : ℕ) → p < 64 → slice_index_or result p 0
@@ -239,7 +239,7 @@ pub fn are_short(words: u64, digits: u64, stars: u64) -> bool
     (other | joined | (two & (two << 2)) | (words & 1)) == 0
 }
 
-// The first eight lanes that bits name, first.
+// Moves the first eight lanes whose bits are set to the start.
 #[inline(always)]
 fn packed(values: u8x16, bits: u64) -> u8x16
     requires { bits < 256 }
@@ -250,7 +250,7 @@ fn packed(values: u8x16, bits: u64) -> u8x16
     values.swizzle_dyn(u8x16::from_slice(&PLACES[8 * bits as usize..]))
 }
 
-/// Writes the bytes that bits name to a row. Returns how many they are.
+/// Writes the bytes whose bits are set to a row. Returns their number.
 #[inline(always)]
 pub fn put_lanes(values: &[u8], bits: u64, row: &mut [u8]) -> usize
     requires values { 72 ≤ length values.now }
@@ -267,7 +267,7 @@ pub fn put_lanes(values: &[u8], bits: u64, row: &mut [u8]) -> usize
     i
 }
 
-// A place, or one so many further if no more than so many bits below that are set.
+// `place`, or `place + step` if at most `most` bits below that are set.
 #[inline(always)]
 fn further(bits: u64, most: usize, place: usize, step: usize) -> usize
     requires within { place + step < 64 }
@@ -282,7 +282,7 @@ fn further(bits: u64, most: usize, place: usize, step: usize) -> usize
     }
 }
 
-/// So many of the lowest bits that are set.
+/// The lowest bits, up to the place where `most` of them are set.
 #[inline(always)]
 pub fn lowest_bits(bits: u64, most: usize) -> u64
     ensures { AreLowest bits most result }

@@ -1,4 +1,4 @@
--- A written map is read again as the same region and rows.
+-- A written map is read back as the same region and rows.
 use Rattle.std.specs.Prelude.{ℕ, ◌≢◌, false, List, All, IfSome, IsTrue}
 use Rattle.std.specs.Fmt.{signed_decimal}
 use Rattle.cell_core_values.specs.Region.{IsRegion}
@@ -18,7 +18,7 @@ pub record IsWritable (null_text : List ℕ) (m : Grid) : Type 0 where
   pub range : All (λ row. All (λ cell. IfSome cell (λ category. IsTrue (is_in_range category))) row) m.rows
   pub apart : All (λ row. All (λ cell. IfSome cell (λ category. signed_decimal category ≢ null_text)) row) m.rows
 
--- a written map is read again as the same region and rows
+-- a written map is read back as the same region and rows
 abbrev pub WritingIsRead : Type 0
 WritingIsRead = (null_text : List ℕ) (m : Grid) → IsNullText null_text → IsWritable null_text m
     → Denotes (record { bytes = grid_text null_text m; fails = false }) (without_labels m)

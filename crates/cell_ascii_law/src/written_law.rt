@@ -2,8 +2,8 @@
 
 ghost use Rattle.cell_ascii_law.specs.WrittenLaw.{WritingIsRead};
 
-/// The text written of a map denotes the same region and rows, if the region is accepted, the rows are filled with
-/// nulls and categories in range, the null text is a good one, and no cell's decimal text equals it.
+/// The text written for a map denotes the same region and rows, if the region is accepted, the rows are filled with
+/// nulls and categories in range, the null text is valid, and no cell's decimal text equals it.
 pub fn written_denotes()
     ensures { WritingIsRead }
 {}

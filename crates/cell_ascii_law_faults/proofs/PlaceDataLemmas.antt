@@ -43,7 +43,7 @@ module _ (l : List (List ℕ)) (ls : Lines) where
   words_more e = ap (λ (t : Bool). all_words (drop (cond (not t) (1 + prefix_len no_data ls) 0) (l ∷ ls))) e
       ∙ ap (λ (n : ℕ). all_words (drop n (l ∷ ls))) (one_more (prefix_len no_data ls))
 
--- the header lines among lines that are no data
+-- the header lines among lines that are not data
 abbrev pub heads : Lines → Lines
 heads ls = filter is_header_line ls
 
@@ -284,7 +284,7 @@ module _ (h : HeaderValue) where
   abbrev Follows : {X : Type 0} → At → Option GridFault → ℕ → (At → Reading X) → ℕ → Type 0
   Follows {X} at s n one a = (F : X → At → Result Grid GridFault) → Goes (n + a) F → fault_in (one at >>= (λ x. F x.0 x.1)) ≡ s
 
-  -- and does so at each place where so many are to come
+  -- and the reading advances by one cell while n + a cells are still to come
   abbrev Advances : {X : Type 0} → (At → Reading X) → ℕ → Type 0
   Advances one a = (n : ℕ) → n + a ≤ cells → (line gap : ℕ) (bs : List ℕ) (f : Bool) (ls : Lines) (ws : List (List ℕ)) → gap ≤ 1048576 → IsData h n ls ws
       → Follows (at_of line gap (coming bs f)) (scan whole_table (at_seen line gap ls ws []) bs f) n one a

@@ -24,7 +24,7 @@ OpeningAgrees = (c : Coming) (f : GridFault) → (header_of_text c ≡ Err f) �
 abbrev pub CellsAgree : Type 0
 CellsAgree = (h : HeaderValue) (count : ℕ) (at : At) (f : GridFault) → IsPlaceOf at → (many (cell_from h) count at ≡ Err f) ↔ (cells_fault h count at ≡ Some f)
 
--- and reading the end gives an error exactly if it is the first that is reported up to the first byte of a token
+-- reading the end gives an error exactly if it is the first that is reported up to the first byte of a token
 abbrev pub EndAgrees : Type 0
 EndAgrees = (at : At) (f : GridFault) → IsPlaceOf at → at.pending ≡ None → (end_of (grid_start at.line at.run at.coming) ≡ Err f) ↔ (end_fault at ≡ Some f)
 

@@ -1,4 +1,4 @@
-//! Which error the reading of a grid text gives.
+//! Which error reading a grid text gives.
 
 ghost use Rattle.cell_ascii_law_faults.specs.FaultLaw.{CellsAgree, CellsKeepPlaces, EndAgrees, FaultsAgree, OpeningAgrees, OpeningKeepsPlaces, GridTextsAreJudged};
 
@@ -8,18 +8,18 @@ pub fn reading_faults()
 {}
 
 /// Reading the header of a text, up to the end of the first token of the data, gives an error exactly if it is the
-/// first that a place up to there reports, errors about cells left out.
+/// first error that any place up to there reports, not counting errors about cells.
 pub fn opening_faults()
     ensures { OpeningAgrees }
 {}
 
-/// Reading the next cells from a place after the header gives an error exactly if it is the first that a place up to
-/// the end of the last cell reports.
+/// Reading the next cells from a place after the header gives an error exactly if it is the first one that any place up
+/// to the end of the last cell reports.
 pub fn cells_faults()
     ensures { CellsAgree }
 {}
 
-/// Reading the end after the last cell gives an error exactly if it is the first that a place up to the first byte of a
+/// After the last cell, reading the end gives an error exactly if it is the first one that any place up to the next
 /// token reports.
 pub fn end_faults()
     ensures { EndAgrees }

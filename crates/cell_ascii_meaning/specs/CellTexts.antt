@@ -1,4 +1,4 @@
--- The data of a grid text, from the bytes to come: one word after another, and the end (r.in.ascii manual).
+-- The data of a grid text, given the bytes to come: one word after another, and the end (r.in.ascii manual).
 pub use Rattle.cell_ascii_meaning.specs.GridWords.{cell_of_number, cell_of_word}
 use Rattle.std.specs.Prelude.{ℕ, zero, suc, List, [], ◌∷◌, Option, Some, None, Result, Ok, Err}
 use Rattle.cell_core_devices.specs.Device.{Coming}
@@ -17,7 +17,7 @@ Reading X = Result (X × At) GridFault
 abbrev pub at_of : ℕ → ℕ → Coming → At
 at_of line run c = record { pending = None; line = line; run = run; coming = c }
 
--- a cell and the place after it, or why the word is no cell, at its line
+-- a cell and the place after it, or why the word is not a cell, at its line
 abbrev pub after_cell : ℕ → Coming → Result CellValue GridKind → Reading CellValue
 after_cell line c (Ok v) = Ok (v, at_of line 0 c)
 after_cell line c (Err kind) = Err (grid_fault kind line)
@@ -33,7 +33,7 @@ after_start h (Begins line c) = cell_after_word h line (word_from line [] c)
 after_start h (Ends line) = Err (grid_fault TooFew line)
 after_start h (Stops f) = Err f
 
--- the next cell, of the word that waits, else of the next word
+-- the next cell: of the word that waits, or else of the next word
 unfoldable pub cell_from : HeaderValue → At → Reading CellValue
 cell_from h at = next at.pending
   where

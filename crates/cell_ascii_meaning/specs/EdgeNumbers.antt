@@ -1,4 +1,4 @@
--- Whole numbers and coordinates in decimal (r.in.ascii manual; the numbers of digits are the profile's).
+-- Whole numbers and coordinates in decimal (r.in.ascii manual; the limits on digits are the profile's).
 use Rattle.std.specs.Prelude.{ℕ, ℤ, Bool, pos, negsuc, ◌+◌, ◌-◌, ◌*◌, ◌^◌, nat_le, ◌&&◌, ◌==◌, List, length, Option, Some, None, if◌then◌else◌, codes}
 use Rattle.std.specs.List.{list_all, before_first, after_first}
 use Rattle.std.specs.Option.{option_map}

@@ -41,7 +41,7 @@ is_end_of_words (Byte b) = false
 is_end_of_words End = true
 is_end_of_words Fails = false
 
--- a list that holds nothing
+-- a list is empty
 abbrev pub is_empty : {X : Type 0} → List X → Bool
 is_empty [] = true
 is_empty (x ∷ xs) = false
@@ -52,7 +52,7 @@ last_token [] = []
 last_token (p ∷ []) = p
 last_token (p ∷ q ∷ ps) = last_token (q ∷ ps)
 
--- all but the last
+-- all lists but the last
 abbrev pub front_of : {X : Type 0} → List X → List X
 front_of [] = []
 front_of (p ∷ []) = []
@@ -64,15 +64,15 @@ front_of (p ∷ q ∷ ps) = p ∷ front_of (q ∷ ps)
 abbrev pub line_of_place : List ℕ → ℕ
 line_of_place before = 1 + newlines before
 
--- the number of blanks and line feeds in a row that end just here
+-- the length of the run of blanks and line feeds that ends here
 abbrev pub gap_of_place : List ℕ → ℕ
 gap_of_place before = suffix_len is_space before
 
--- the token that the byte before belongs to; empty after a blank or line feed, and at the start
+-- the token that the byte before this place belongs to; empty after a blank or line feed, and at the start
 abbrev pub token_at_place : List ℕ → List ℕ
 token_at_place before = last_token (slice_split is_space before)
 
--- The rows of the table. `earlier` has the words of each earlier line, `line` the words so far of the line of the place.
+-- The rows of the table. `earlier` has the words of each earlier line, `line` the words so far of the place's own line.
 
 -- an error that is reported if something holds
 abbrev pub when : Bool → GridKind → Option GridKind
@@ -102,7 +102,7 @@ stuck gap (Byte b) = when (is_space b && gap == 1048576) ReaderStuck
 stuck gap End = None
 stuck gap Fails = None
 
--- a line of the header that has a key
+-- a header line that has a key
 abbrev pub in_header_line : List (List (List ℕ)) → List (List ℕ) → Bool
 in_header_line earlier line = not (list_any is_data_line earlier) && is_header_line line
 
@@ -129,13 +129,13 @@ bad_value Null value = None
 bad_value CellType value = unless (int_type value) BadType
 bad_value Multiplier value = unless (whole_in_range value) BadNumber
 
--- an unknown key, no value, or a null text with a colon; a key twice; a bad value
+-- an unknown key, no value, or a null text with a colon; a repeated key; a bad value
 abbrev pub line_fault : Bool → Option HeaderKey → List (List ℕ) → Option GridKind
 line_fault twice None line_values = Some BadHeader
 line_fault twice (Some key) [] = Some BadHeader
 line_fault twice (Some key) (value ∷ line_values) = bad_null key value or when twice TwiceKey or bad_value key value
 
--- one of these lines has the key of a line
+-- one of these lines has the same key as a line
 abbrev pub has_key_of : List (List ℕ) → List (List (List ℕ)) → Bool
 has_key_of line earlier = list_any (λ l. bytes_eq (key_text line) (key_text l)) earlier
 
@@ -144,7 +144,7 @@ abbrev pub header_line_ends : Bool → List (List (List ℕ)) → List (List ℕ
 header_line_ends inside earlier line place =
     if ends_line place && inside then line_fault (has_key_of line (header_lines earlier)) (header_key_of (key_text line)) (line_values line) else None
 
--- what header lines give their keys
+-- the values that header lines give their keys
 abbrev pub keys_of : List (List (List ℕ)) → KeyValues
 keys_of lines = record {
   north = option_and_then coordinate (value_of (codes "north") lines);
@@ -158,7 +158,7 @@ keys_of lines = record {
   multiplier = option_and_then whole_in_range (value_of (codes "multiplier") lines);
 }
 
--- the header of lines, or why it is none
+-- the header that lines give, or why they give none
 abbrev pub header_in : List (List (List ℕ)) → Result HeaderValue GridKind
 header_in lines = header_of (keys_of (header_lines lines))
 
@@ -172,7 +172,7 @@ abbrev pub header_ends : Result HeaderValue GridKind → List (List ℕ) → Lis
 header_ends header words token place =
     if (is_end_of_words place && is_empty words) || ((ends_token place && is_word token) && length words == 1) then why_not header else None
 
--- why a token of the data is no cell if the header is a good one
+-- why a token of the data is not a cell, if the header is valid
 abbrev pub cell_fault : Result HeaderValue GridKind → List (List ℕ) → List ℕ → Option GridKind
 cell_fault (Err kind) words token = None
 cell_fault (Ok h) [] token = None
@@ -182,12 +182,12 @@ cell_fault (Ok h) (word ∷ words) token = why_not (cell_of_word h token)
 abbrev pub bad_cell : Result HeaderValue GridKind → List (List ℕ) → List ℕ → FaultPlace → Option GridKind
 bad_cell header words token place = if ends_token place && is_word token then cell_fault header words token else None
 
--- fewer words than the region of a good header has cells
+-- fewer words than the region of a valid header has cells
 abbrev pub has_fewer : Result HeaderValue GridKind → List (List ℕ) → Bool
 has_fewer (Err kind) words = false
 has_fewer (Ok h) words = nat_lt (length words) (h.region.rows * h.region.cols)
 
--- as many words as the region of a good header has cells, or more
+-- at least as many words as the region of a valid header has cells
 abbrev pub has_all : Result HeaderValue GridKind → List (List ℕ) → Bool
 has_all (Err kind) words = false
 has_all (Ok h) words = nat_le (h.region.rows * h.region.cols) (length words)
@@ -210,12 +210,12 @@ read_fails (Byte b) = None
 read_fails End = None
 read_fails Fails = Some Read
 
--- the error of a place, after a gap and a token that may continue, inside a header line or not, after the words of each
--- earlier line, the words of its own line, the header, and the words of the data
+-- the error at a place, given the gap before it, a token that may continue, whether it is inside a header line, the
+-- words of each earlier line, the words of its own line, the header, and the words of the data
 abbrev pub Table : Type 0
 Table = ℕ → List ℕ → Bool → List (List (List ℕ)) → List (List ℕ) → Result HeaderValue GridKind → List (List ℕ) → FaultPlace → Option GridKind
 
--- The table: a place that is in several rows is judged by them from the top.
+-- The table: if a place is in several rows, the first of them decides.
 abbrev pub whole_table : Table
 whole_table gap token inside earlier line header words place =
     long_token token place
@@ -232,7 +232,7 @@ whole_table gap token inside earlier line header words place =
 abbrev pub is_opening : List (List ℕ) → List ℕ → Bool
 is_opening words token = is_empty words || (is_word token && length words == 1)
 
--- the rows that judge no cell
+-- the rows that are not about cells
 abbrev pub header_rows : Table
 header_rows gap token inside earlier line header words place =
     long_token token place
@@ -246,7 +246,7 @@ header_rows gap token inside earlier line header words place =
 abbrev pub opening_table : Table
 opening_table gap token inside earlier line header words place = if is_opening words token then header_rows gap token inside earlier line header words place else None
 
--- a table on the words of each line up to a place
+-- a table applied to the words of each line up to a place
 abbrev pub kind_at : Table → ℕ → List ℕ → List (List (List ℕ)) → List (List ℕ) → List (List (List ℕ)) → FaultPlace → Option GridKind
 kind_at table gap token earlier line lines place = table gap token (in_header_line earlier line) earlier line (header_in lines) (data_words lines) place
 
@@ -265,6 +265,6 @@ first_reported table before (b ∷ bs) fails = reported_fault table before (Byte
 abbrev pub text_fault : Coming → Option GridFault
 text_fault c = first_reported whole_table [] c.bytes c.fails
 
--- the error of a text up to the end of the first token of its data, in which no cell is judged
+-- the error of a text up to the end of the first token of its data; cells are not judged
 abbrev pub opening_fault : Coming → Option GridFault
 opening_fault c = first_reported opening_table [] c.bytes c.fails

@@ -10,7 +10,7 @@ use Rattle.cell_ascii_meaning.specs.EdgeNumbers.{coordinate, side, whole_in_rang
 use Rattle.cell_ascii_meaning.specs.KeyNames.{header_key_of}
 use Rattle.cell_ascii_meaning.specs.GridWords.{is_line_feed, HeaderValue, is_space, is_colon, has_colon, is_int, usual_null, usual_multiplier, cell_of_word}
 
--- the lines of a text, parted by line feeds
+-- the lines of a text, separated by line feeds
 abbrev pub lines_of : List ℕ → List (List ℕ)
 lines_of text = slice_split is_line_feed text
 
@@ -27,7 +27,7 @@ abbrev pub is_data_line : List (List ℕ) → Bool
 is_data_line [] = false
 is_data_line (word ∷ words) = not (has_colon word)
 
--- a line whose first word has a colon: before the data it is a header line
+-- a line whose first word has a colon: a header line, if it is before the data
 abbrev pub is_header_line : List (List ℕ) → Bool
 is_header_line [] = false
 is_header_line (word ∷ words) = has_colon word
@@ -54,7 +54,7 @@ line_values (word ∷ words) = filter is_word (after_first is_colon word ∷ wor
 abbrev pub value_of : List ℕ → List (List (List ℕ)) → Option (List ℕ)
 value_of key lines = option_and_then (λ l. slice_get (line_values l) 0) (find (λ l. bytes_eq key (key_text l)) lines)
 
--- what is read of a value, else what goes without saying
+-- the value that is read, or else the default
 abbrev pub read_or : {X : Type 0} → (List ℕ → Option X) → X → Option (List ℕ) → Option X
 read_or read usual None = Some usual
 read_or read usual (Some value) = read value
@@ -67,7 +67,7 @@ null_text value = if has_colon value then None else Some value
 abbrev pub int_type : List ℕ → Option (Unit {0})
 int_type value = if is_int value then Some tt else None
 
--- header lines with one value each, of known keys, each key once, that say what `h` holds
+-- header lines with one value each, with known keys, each key once, that give the values of `h`
 pub record IsHeader (lines : List (List (List ℕ))) (h : HeaderValue) : Type 0 where
   pub one_value : All (λ l. length (line_values l) ≡ 1) lines
   pub known : All (λ l. IsSome (header_key_of (key_text l))) lines

@@ -19,7 +19,7 @@ newlines bs = count_by is_line_feed bs
 abbrev pub grid_fault : GridKind → ℕ → GridFault
 grid_fault kind line = record { kind = kind; line = line }
 
--- where the next word begins, with what comes from there on; the end; or an error before either
+-- where the next word begins, and what comes from there on; or the end; or an error before either
 pub data Start : Type 0 where
   Begins : ℕ → Coming → Start
   Ends : ℕ → Start

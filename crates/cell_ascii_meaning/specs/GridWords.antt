@@ -1,4 +1,4 @@
--- The small words of a grid text: blanks, colons, the header that a text has, the cell of a word (r.in.ascii manual).
+-- The vocabulary of a grid text: blanks, colons, the header that a text has, the cell of a word (r.in.ascii manual).
 use Rattle.std.specs.Prelude.{ℕ, ℤ, pos, ◌*ℤ◌, Bool, ◌||◌, ◌==◌, List, Option, Some, None, Result, Ok, Err, if◌then◌else◌, bytes_eq, codes}
 use Rattle.std.specs.List.{list_any}
 use Rattle.cell_core_values.specs.Letters.{byte}
@@ -28,17 +28,17 @@ has_colon text = list_any is_colon text
 abbrev pub is_int : List ℕ → Bool
 is_int value = bytes_eq value (codes "int")
 
--- what the header says of the cells
+-- what the header says about the cells
 pub record HeaderValue : Type 0 where
   pub region : RegionValue
   pub null_text : List ℕ
   pub multiplier : ℤ
 
--- an asterisk is null if no text is given
+-- an asterisk is null if no null text is given
 abbrev pub usual_null : List ℕ
 usual_null = codes "*"
 
--- cells stand for themselves if no multiplier is given
+-- cells are unchanged if no multiplier is given
 abbrev pub usual_multiplier : ℤ
 usual_multiplier = pos 1
 

@@ -1,4 +1,4 @@
--- The header of a grid text, from the bytes to come: key lines, up to the end of the first word of the data (r.in.ascii manual; the limits are the profile's).
+-- A header from the bytes to come: key lines, then the first word of the data (r.in.ascii manual; limits: profile).
 pub use Rattle.cell_core_values.specs.Answers.{◌>>=◌}
 pub use Rattle.cell_ascii_meaning.specs.GridWords.{is_line_feed, HeaderValue, is_colon, has_colon, is_int, usual_null, usual_multiplier}
 use Rattle.std.specs.Prelude.{ℕ, ℤ, zero, suc, ◌+◌, Bool, true, false, ◌&&◌, ◌==◌, not, nat_lt, List, [], ◌∷◌, drop, Option, Some, None, Result, Ok, Err, if◌then◌else◌, unwrap_or}
@@ -15,7 +15,7 @@ use Rattle.cell_ascii_meaning.specs.declared.grid_fault.GridKind.{GridKind}
 use Rattle.cell_ascii_meaning.specs.declared.grid_fault.GridKind.TheVariants.{BadHeader, TwiceKey, MissingKey, BadNumber, BadType, Region, Read, ReaderStuck}
 use Rattle.cell_ascii_meaning.specs.declared.grid_fault.GridFault.{GridFault}
 
--- the keys given so far, each with its value; for the type only whether it was given
+-- the keys given so far, each with its value; for the type, only whether it was given
 pub record KeyValues : Type 0 where
   pub north : Option ℤ
   pub south : Option ℤ
@@ -31,13 +31,13 @@ pub record KeyValues : Type 0 where
 abbrev pub no_keys : KeyValues
 no_keys = record { north = None; south = None; east = None; west = None; rows = None; cols = None; null = None; kind = false; multiplier = None }
 
--- a key is given once, and its value is a good one
+-- a key is given once, and its value is valid
 abbrev pub value_given : {X : Type 0} → Option X → Option X → (X → KeyValues) → Result KeyValues GridKind
 value_given (Some old) value keep = Err TwiceKey
 value_given None None keep = Err BadNumber
 value_given None (Some x) keep = Ok (keep x)
 
--- the keys with one more
+-- the keys with one added
 abbrev pub with_header_key : KeyValues → Option HeaderKey → List ℕ → Result KeyValues GridKind
 with_header_key keys None value = Err BadHeader
 with_header_key keys (Some North) value = value_given keys.north (coordinate value) (λ x. record keys { north = Some x })
@@ -50,7 +50,7 @@ with_header_key keys (Some Null) value = if has_colon value then Err BadHeader e
 with_header_key keys (Some CellType) value = if keys.kind then Err TwiceKey else (if is_int value then Ok (record keys { kind = true }) else Err BadType)
 with_header_key keys (Some Multiplier) value = value_given keys.multiplier (whole_in_range value) (λ x. record keys { multiplier = Some x })
 
--- the header of the keys over their region, or why the six numbers are no region
+-- the header of the keys over their region, or why the six numbers are not a region
 abbrev pub header_of_keys : KeyValues → Result RegionValue RegionFault → Result HeaderValue GridKind
 header_of_keys keys (Ok region) = Ok (record { region = region; null_text = unwrap_or keys.null usual_null; multiplier = unwrap_or keys.multiplier usual_multiplier })
 header_of_keys keys (Err f) = Err (Region f)
@@ -63,7 +63,7 @@ header_of keys = all keys.north keys.south keys.east keys.west keys.rows keys.co
     all (Some n) (Some s) (Some e) (Some w) (Some r) (Some c) = header_of_keys keys (region_fault (record { north = n; south = s; east = e; west = w; rows = r; cols = c }))
     all n s e w r c = Err MissingKey
 
--- a space that ends no line
+-- a space that does not end a line
 abbrev pub is_grid_blank : ℕ → Bool
 is_grid_blank b = is_space b && not (is_line_feed b)
 
@@ -111,12 +111,12 @@ line_end line (Feed run d) = Ok (Some (run, d))
 line_end line Last = Ok None
 line_end line (Fault f) = Err f
 
--- an error of a line has the line's number
+-- an error of a line, with the line's number
 abbrev pub at_line : {X : Type 0} → ℕ → Result X GridKind → Result X GridFault
 at_line line (Ok x) = Ok x
 at_line line (Err kind) = Err (grid_fault kind line)
 
--- a header line after its first word: the keys with its own, and where it ends
+-- a header line after its first word: the keys with the new one, and where the line ends
 abbrev pub key_line : ℕ → KeyValues → List ℕ → Coming → Result (KeyValues × LineEnd) GridFault
 key_line line keys word c =
     value_from line (after_first is_colon word) c
@@ -136,7 +136,7 @@ pub record OpenedText : Type 0 where
   pub header : HeaderValue
   pub at : At
 
--- nothing is left of a text
+-- the text is used up
 abbrev pub header_ended : Coming
 header_ended = record { bytes = []; fails = false }
 

@@ -3,7 +3,7 @@ use Rattle.std.specs.Prelude.{ℕ, List, Option, Some, None, if◌then◌else◌
 use Rattle.cell_ascii_meaning.specs.declared.header_key.HeaderKey.{HeaderKey}
 use Rattle.cell_ascii_meaning.specs.declared.header_key.HeaderKey.TheVariants.{North, South, East, West, Rows, Cols, Null, CellType, Multiplier}
 
--- the key of a name, if it is the name of one
+-- the key with this name, if there is one
 abbrev pub header_key_of : List ℕ → Option HeaderKey
 header_key_of name =
     if bytes_eq name (codes "north") then Some North

@@ -10,12 +10,12 @@ IsOfText Memory = ⊥
 IsOfText Failed = ⊥
 IsOfText _ = ⊤
 
--- whether it says that the text cannot be read on
+-- whether the kind says that the text cannot be read any further
 abbrev pub is_read : GridKind → Bool
 is_read Read = true
 is_read _ = false
 
--- whether a result reports that an `Err` of the source was heard
+-- whether a result reports that the source returned an `Err`
 abbrev pub reports_read : {X : Type 0} → Result X GridFault → Bool
 reports_read (Ok x) = false
 reports_read (Err f) = is_read f.kind

@@ -1,4 +1,4 @@
--- Grid texts: what they mean, which error they have, how they are read forward, what is written.
+-- Grid texts: what they mean, which error they have, how they are read from left to right, and how they are written.
 pub mod GridWords
 pub mod GridTokens
 pub mod EdgeNumbers

@@ -12,7 +12,7 @@ use Rattle.cell_ascii_meaning.specs.declared.grid_fault.GridKind.{GridKind}
 use Rattle.cell_ascii_meaning.specs.declared.grid_fault.GridKind.TheVariants.{TooFew, TooMany}
 use Rattle.cell_ascii_meaning.specs.declared.grid_fault.GridFault.{GridFault}
 
--- the error of a place, after a gap and a token that may continue, among so many words
+-- the error at a place, given the gap before it, a token that may continue, and the words so far
 abbrev pub RowTable : Type 0
 RowTable = ℕ → List ℕ → List (List ℕ) → FaultPlace → Option GridKind
 
@@ -49,7 +49,7 @@ cells_table h count gap token words place = if is_within count words token then 
 abbrev pub end_table : RowTable
 end_table gap token words place = stuck gap place or token_begins token place or read_fails place
 
--- the number of blanks and line feeds in a row that end just here, after a run of them before the bytes
+-- the length of the run of blanks and line feeds that ends here, which may have begun before the bytes
 abbrev pub run_of : ℕ → List ℕ → ℕ
 run_of run before = if list_all is_space before then run + length before else gap_of_place before
 
@@ -72,7 +72,7 @@ cells_fault h count at = first_behind (cells_table h count) at [] at.coming.byte
 abbrev pub end_fault : At → Option GridFault
 end_fault at = first_behind end_table at [] at.coming.bytes at.coming.fails
 
--- what comes is not the rest of a token
+-- what comes does not continue the token
 abbrev pub is_apart : Coming → Bool
 is_apart c = apart c.bytes c.fails
   where

@@ -8,15 +8,15 @@ use Rattle.cell_core.specs.Text.{cell_text}
 use Rattle.cell_ascii_meaning.specs.GridTokens.{is_word_byte}
 use Rattle.cell_ascii_meaning.specs.Header.{has_colon, usual_null}
 
--- digits without the zeros at their end
+-- digits without trailing zeros
 abbrev pub without_zeros : List ℕ → List ℕ
 without_zeros digits = take (length digits - prefix_len (λ b. b == byte (codes "0")) (reverse digits)) digits
 
--- a part of 10^8 as a point and its eight digits, without the zeros at their end; nothing if it is 0
+-- a part of 10^8 as a point and its eight digits, without trailing zeros; nothing if it is 0
 abbrev pub fraction_text : ℕ → List ℕ
 fraction_text part = if part == 0 then [] else byte (codes ".") ∷ without_zeros (drop 1 (decimal (100000000 + part)))
 
--- a number of units of 10^-8 that is not negative
+-- a non-negative number of units of 10^-8
 abbrev pub units_text : ℕ → List ℕ
 units_text n = decimal (n / 100000000) ++ fraction_text (n % 100000000)
 
@@ -39,7 +39,7 @@ region_text e =
     ++ line_of_key (codes "rows") (decimal e.rows)
     ++ line_of_key (codes "cols") (decimal e.cols)
 
--- the line of a null text that is not the usual one
+-- the line of the null text, unless it is the usual one
 abbrev pub null_line : List ℕ → List ℕ
 null_line null_text = if bytes_eq null_text usual_null then [] else line_of_key (codes "null") null_text
 
@@ -51,7 +51,7 @@ row_text null_text row = join_with_byte (byte (codes " ")) (map (cell_text null_
 abbrev pub grid_text : List ℕ → Grid → List ℕ
 grid_text null_text m = region_text m.region ++ null_line null_text ++ flat_map (row_text null_text) m.rows
 
--- what may stand for null: 1 to 64 bytes, none of them a blank, a line feed or a colon
+-- a valid null text: 1 to 64 bytes, none of them a blank, a line feed or a colon
 pub record IsNullText (null_text : List ℕ) : Type 0 where
   pub some : 1 ≤ length null_text
   pub most : length null_text ≤ 64

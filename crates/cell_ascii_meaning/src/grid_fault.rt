@@ -1,4 +1,4 @@
-//! Why a text is no grid.
+//! Why a text is not a grid.
 
 use cell_core::region::RegionFault;
 use thiserror::Error;
@@ -15,19 +15,19 @@ pub enum GridKind {
     /// The header ends without one of the six required keys.
     #[error("missing key")]
     MissingKey,
-    /// A value that is no number of its kind.
+    /// A value that is not a number of its kind.
     #[error("bad number")]
     BadNumber,
     /// A type other than `int`.
     #[error("type not supported")]
     BadType,
-    /// The six numbers are no region.
+    /// The six numbers are not a region.
     #[error("bad region")]
     Region(RegionFault),
     /// A word that is neither null nor a whole number.
     #[error("bad cell")]
     BadCell,
-    /// A number, or its product with the multiplier, that is no category.
+    /// A number, or its product with the multiplier, that is not a category.
     #[error("cell out of range")]
     CellRange,
     /// The text ends before the last cell.
@@ -36,7 +36,7 @@ pub enum GridKind {
     /// A word after the last cell.
     #[error("too many cells")]
     TooMany,
-    /// The text cannot be read on.
+    /// The text cannot be read any further.
     #[error("read failed")]
     Read,
     /// Memory ran out.
@@ -53,8 +53,7 @@ pub enum GridKind {
     LongToken,
 }
 
-/// What is wrong, and the line, counted from 1; 0 when out of memory, and of a reader that failed
-/// before.
+/// What is wrong, and the line, counted from 1; 0 if memory ran out or the reader failed before.
 #[derive(Clone, Copy, Debug, PartialEq, Eq, Error)]
 #[error("{line}: {kind}")]
 pub struct GridFault {

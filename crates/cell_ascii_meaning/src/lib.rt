@@ -1,5 +1,4 @@
-//! Which text is which grid, and which error an invalid text has. Definitions alone: nothing here
-//! reads a byte.
+//! Which text is which grid, and which error an invalid text has. Only definitions: nothing here reads a byte.
 //!
 //! The format follows the GRASS manual (r.in.ascii, r.out.ascii); limits and the order of errors
 //! are our own choice (profile). `Denotes` says of a source and a map that the source ends without

@@ -83,7 +83,7 @@ signed_none false true (Some k) all e = cc
 signed_none false false rest None e = refl
 signed_none false false rest (Some k) e = cc
 
--- a text that is no number as it is computed is none
+-- a text whose computed number is None is not a number
 capped_none : (bs : List ℕ) → capped_number bs ≡ None → whole_number bs ≡ None
 capped_none [] e = refl
 capped_none (b ∷ bs) e = signed_none (b == 45) (b == 43) (digits_of bs) (digits_of (b ∷ bs)) e
@@ -98,7 +98,7 @@ by_one m n e = by (is_in_range n) refl
     by true f = rw (e, times_one n, f) refl
     by false f = rw f refl
 
--- the word of a number is its cell if the null text is no number and nothing is multiplied
+-- the word of a number is its cell if the null text is not a number and nothing is multiplied
 pub plain_cell : (h : HeaderValue) (word : List ℕ) (n : ℤ) → whole_number word ≡ Some n → capped_number h.null_text ≡ None → h.multiplier ≡ pos 1
     → cell_in_range n ≡ cell_of_word h word
 plain_cell h word n is none one =

@@ -1,11 +1,11 @@
--- The bytes that a buffered source still gives: the bytes held, and then the bytes of the source.
+-- The bytes that a buffered source has left: the bytes in the buffer, and then the source's.
 use Rattle.std.specs.Prelude.{ℕ, ◌≡◌, Bool, List, [], ◌++◌, Option, IfSome}
 use Rattle.std.specs.Option.{option_map}
 use Rattle.cell_core_devices.specs.Asking.{Heard}
 use Rattle.cell_core_devices.specs.Device.{Coming}
 
--- the bytes that a buffer holds, what its source still gives, if that is known, whether the source has ended, and what
--- was heard of it
+-- the bytes in the buffer, what the source has left, if that is known, whether the source has ended, and what it has
+-- reported
 pub record Ahead : Type 0 where
   pub buffered : List ℕ
   pub rest : Option Coming
@@ -20,10 +20,10 @@ before_coming bs c = record { bytes = bs ++ c.bytes; fails = c.fails }
 abbrev pub bytes_to_come : Ahead → Option Coming
 bytes_to_come a = option_map (before_coming a.buffered) a.rest
 
--- a source whose bytes are known to be at their end
+-- if the bytes of a source are known, none are left, and it ends or fails as stated
 abbrev pub IsAtEnd : Bool → Option Coming → Type 0
 IsAtEnd fails known = IfSome known (λ c. (c.bytes ≡ []) × (c.fails ≡ fails))
 
--- two functions agree: one on the bytes that were to come, the other on the bytes that are
+-- two functions agree: the first on the bytes that were to come before, the second on those that are to come now
 abbrev pub Agrees : {A : Type 0} → (Coming → A) → Ahead → (Coming → A) → Ahead → Type 0
 Agrees before old after new = option_map before (bytes_to_come old) ≡ option_map after (bytes_to_come new)

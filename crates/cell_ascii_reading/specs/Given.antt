@@ -6,7 +6,7 @@ use Rattle.cell_ascii_meaning.specs.Header.{HeaderValue, has_colon, is_int, usua
 use Rattle.cell_ascii_meaning.specs.declared.grid_fault.GridKind.{GridKind}
 use Rattle.cell_ascii_meaning.specs.declared.grid_fault.GridKind.TheVariants.{BadHeader, TwiceKey, BadNumber, BadType, Region}
 
--- its value, if it was not given before and is a number
+-- its value, if it was not given before and the value is a number
 abbrev pub given_value : {X : Type 0} → Option X → Option X → Result X GridKind
 given_value (Some old) value = Err TwiceKey
 given_value None None = Err BadNumber

@@ -1,5 +1,5 @@
--- The bytes of a source that are ahead, and what the scanner of words is at.
--- The cell of a number, the values of keys, a header line by line.
+-- The bytes that a source has left, and the place of a scanner of words. The cell of a number, the values of keys, a
+-- header line by line.
 pub mod Ahead
 pub mod Scan
 pub mod InRange

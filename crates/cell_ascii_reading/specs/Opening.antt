@@ -10,18 +10,18 @@ use Rattle.cell_ascii_reading.specs.declared.header_reading.Ending.TheVariants.{
 use Rattle.cell_ascii_reading.specs.declared.header_reading.HeaderLine.{HeaderLine}
 use Rattle.cell_ascii_reading.specs.declared.header_reading.HeaderLine.TheVariants.{Key, Data, Last}
 
--- what a result says of a value, which is the rest of a word from a place on
+-- what a result says about a value, which is the rest of a word from a place on
 abbrev pub value_seen : Result ℕ GridFault → List ℕ → Coming → Result (List ℕ × Coming) GridFault
 value_seen (Ok at) word c = Ok (drop at word, c)
 value_seen (Err f) word c = Err f
 
--- what a result says of the end of a line
+-- what a result says about the end of a line
 abbrev pub ending_seen : Result Ending GridFault → ℕ → Coming → Result LineEnd GridFault
 ending_seen (Ok Feed) run c = Ok (Some (run, c))
 ending_seen (Ok Text) run c = Ok None
 ending_seen (Err f) run c = Err f
 
--- what a result says of a header line after its first word
+-- what a result says about a header line after its first word
 abbrev pub key_line_seen : Result Ending GridFault → KeyValues → ℕ → Coming → Result (KeyValues × LineEnd) GridFault
 key_line_seen (Ok Feed) keys run c = Ok (keys, Some (run, c))
 key_line_seen (Ok Text) keys run c = Ok (keys, None)
@@ -44,14 +44,14 @@ line_read keys (Ends line) = Ok (Stop keys line None header_ended)
 line_read keys (Begins line c) =
     word_from line [] c >>= (λ w. if list_any is_colon w.0 then key_line line keys w.0 w.1 >>= after_key line else Ok (Stop keys line (Some w.0) w.1))
 
--- what a result says of a line
+-- what a result says about a line
 abbrev pub header_line_seen : Result HeaderLine GridFault → KeyValues → List ℕ → ℕ → ℕ → Coming → Result AfterLine GridFault
 header_line_seen (Ok Key) keys word line run c = Ok (More keys line run c)
 header_line_seen (Ok Data) keys word line run c = Ok (Stop keys line (Some word) c)
 header_line_seen (Ok Last) keys word line run c = Ok (Stop keys line None c)
 header_line_seen (Err f) keys word line run c = Err f
 
--- what a result says of the full header: whether the first word of the data was read
+-- what a result says about the full header: whether the first word of the data was read
 abbrev pub header_seen : Result Bool GridFault → KeyValues → List ℕ → ℕ → Coming → Result OpenedText GridFault
 header_seen (Ok waiting) keys word line c = opened_text keys line (if waiting then Some word else None) c
 header_seen (Err f) keys word line c = Err f

@@ -19,13 +19,13 @@ pub record Scan : Type 0 where
   pub word : List ℕ
   pub ahead : Ahead
 
--- what a result says of the next word: that it begins, that the text ends, or an error
+-- what a result says about the next word: that it begins, that the text ends, or an error
 abbrev pub start_seen : Result Next GridFault → ℕ → Coming → Start
 start_seen (Ok NextWord) line c = Begins line c
 start_seen (Ok NextEnd) line c = Ends line
 start_seen (Err f) line c = Stops f
 
--- what a result says of the rest of a line
+-- what a result says about the rest of a line
 abbrev pub gap_seen : Result InLine GridFault → ℕ → Coming → Gap
 gap_seen (Ok LineWord) run c = Word c
 gap_seen (Ok LineFeed) run c = Feed run c
@@ -39,12 +39,12 @@ line_count_seen (Ok LineFeed) line = line + 1
 line_count_seen (Ok LineEnd) line = line
 line_count_seen (Err f) line = line
 
--- what a result says of a word
+-- what a result says about a word
 abbrev pub word_seen : Result (Unit {0}) GridFault → List ℕ → Coming → Result (List ℕ × Coming) GridFault
 word_seen (Ok u) word c = Ok (word, c)
 word_seen (Err f) word c = Err f
 
--- what a part of a word says of the full word
+-- what part of a word says about the full word
 abbrev pub part_seen : Result Bool GridFault → ℕ → List ℕ → Coming → Result (List ℕ × Coming) GridFault
 part_seen (Ok true) line word c = word_from line word c
 part_seen (Ok false) line word c = Ok (word, c)
@@ -54,6 +54,6 @@ part_seen (Err f) line word c = Err f
 abbrev pub FailsInText : {A : Type 0} → Result A GridFault → Type 0
 FailsInText answer = IfErr answer (λ f. IsOfText f.kind)
 
--- what was heard of the source is what a result reports
+-- the state of the source changes as the result reports
 abbrev pub Hears : {A : Type 0} → Result A GridFault → Ahead → Ahead → Type 0
 Hears answer old new = new.heard ≡ hears (reports_read answer) old.heard

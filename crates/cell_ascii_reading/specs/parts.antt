@@ -1,3 +1,3 @@
--- What only private functions and proofs speak of.
+-- Definitions that only private functions and proofs use.
 pub mod ScanSteps
 pub mod LineEnds

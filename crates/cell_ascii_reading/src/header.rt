@@ -1,9 +1,10 @@
-//! What the header of a grid text says of its cells.
+//! What the header of a grid text says about its cells.
 
-ghost use Rattle.std.specs.Prelude.{◌≡◌, Some, bytes_eq};
+ghost use Rattle.std.specs.Prelude.{◌≡◌, Some, true, bytes_eq};
 ghost use Rattle.cell_ascii_meaning.specs.CellTexts.{cell_of_word, cell_of_number};
-ghost use Rattle.cell_ascii_reading.specs.InRange.{cell_in_range};
+ghost use Rattle.cell_ascii_reading.specs.InRange.{cell_in_range, HasPlainNumbers};
 ghost use Rattle.cell_ascii_meaning.specs.EdgeNumbers.{whole_number};
+ghost use Rattle.cell_ascii_meaning.specs.GridWords.{usual_null};
 
 use crate::header_null::HeaderNull;
 use cell_ascii_meaning::grid_fault::GridKind;
@@ -17,10 +18,10 @@ use std::marker::Model;
 pub struct Header {
     region: Region,
     null_text: HeaderNull,
-    // The number that the null text is, if it is one: no word of another number in range is compared with the text.
+    // The null text as a number, if it is one: words of other numbers in range are then not compared with the text.
     null_number: Option<i64>,
     multiplier: i32,
-    // Whether the null text is no number and the multiplier 1, so that each number in range is its own cell.
+    // Whether the null text is not a number and the multiplier is 1, so that each number in range is its own cell.
     is_plain: bool,
 }
 
@@ -57,7 +58,7 @@ fn multiplied_cell(multiplier: i32, number: i64) -> Result<Cell, GridKind>
     if !whole_numbers::is_in_range(number) {
         return Err(GridKind::CellRange);
     }
-    // The usual multiplier is no reason to look at the range once more.
+    // With the usual multiplier, the range need not be checked again.
     if multiplier == 1 {
         return in_range(number);
     }
@@ -65,7 +66,7 @@ fn multiplied_cell(multiplier: i32, number: i64) -> Result<Cell, GridKind>
 }
 
 impl Header {
-    /// A header that says this.
+    /// The header with these values.
     pub fn new(region: Region, null_text: HeaderNull, multiplier: i32) -> Header
         ensures { result
             ≡ record { region = region; null_text = null_text; multiplier = multiplier } }
@@ -88,7 +89,7 @@ impl Header {
         self.region
     }
 
-    /// The cell that the word of a number denotes. It is inlined, as each cell calls it.
+    /// The cell that the word of a number denotes. Inlined, since it is called for each cell.
     #[inline(always)]
     pub fn cell_of_number(&self, word: &[u8], number: i64) -> Result<Cell, GridKind>
         requires { whole_number word.now ≡ Some number }
@@ -117,6 +118,20 @@ impl Header {
             return false;
         }
         self.null_text.is(word)
+    }
+
+    /// Whether each word of digits in range denotes its own number.
+    pub fn has_plain_numbers(&self) -> bool
+        ensures { result ≡ true → HasPlainNumbers self.now }
+    {
+        !self.null_text.has_only_digits() && self.multiplier == 1
+    }
+
+    /// Whether a star is null.
+    pub fn is_star_null(&self) -> bool
+        ensures { result ≡ true → self.now.null_text ≡ usual_null }
+    {
+        self.null_text.is(b"*")
     }
 
     /// The cell that a word denotes.

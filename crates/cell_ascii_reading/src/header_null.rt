@@ -1,6 +1,8 @@
 //! The text that stands for null.
 
 ghost use Rattle.std.specs.Prelude.{◌≡◌, ◌≤◌, length, bytes_eq};
+ghost use Rattle.std.specs.List.{list_all};
+ghost use Rattle.cell_core_values.specs.Digits.{is_digit};
 ghost use Rattle.cell_ascii_meaning.specs.Header.{usual_null};
 ghost use Rattle.cell_core_values.specs.Capped.{capped_number};
 
@@ -48,14 +50,21 @@ impl HeaderNull {
         }
     }
 
-    /// Whether a word is this text, byte for byte.
+    /// Whether a word equals this text byte for byte.
     pub fn is(&self, word: &[u8]) -> bool
         ensures { result ≡ bytes_eq word.now self.now }
     {
         word == &self.bytes[..self.len]
     }
 
-    /// The number that this text is, if it is one. One below -10^18 or above 10^18 comes as that bound.
+    /// Whether this text has only digits.
+    pub fn has_only_digits(&self) -> bool
+        ensures { result ≡ list_all is_digit self.now }
+    {
+        whole_numbers::are_digits(&self.bytes[..self.len])
+    }
+
+    /// This text as a number, if it is one. Numbers beyond -10^18 or 10^18 are returned as that bound.
     pub fn as_number(&self) -> Option<i64>
         ensures { result ≡ capped_number self.now }
     {

@@ -15,7 +15,7 @@ use crate::{key_names, number};
 use cell_ascii_meaning::grid_fault::{GridFault, GridKind};
 use cell_core::source::Source;
 
-// One line more than there are keys.
+// One line more than the number of keys.
 const LINES: u32 = 10;
 
 /// What ends a header line.
@@ -86,7 +86,7 @@ fn end_line<R: Source>(scanner: &mut Scanner<R>) -> Result<Ending, GridFault>
     }
 }
 
-// Reads a header line after its first word, whose first colon is at this place.
+// Reads a header line after its first word, given the place of the word's first colon.
 fn read_key<R: Source>(
     scanner: &mut Scanner<R>,
     keys: &mut HeaderKeys,

@@ -10,7 +10,7 @@ use cell_core::source::Source;
 use std::alloc::Global;
 use std::marker::Model;
 
-// How many bytes are asked for at once.
+// Number of bytes requested at a time.
 const BLOCK: usize = 65536;
 
 /// A source with a buffer.
@@ -70,8 +70,8 @@ impl<R: Source> Input<R> {
         })
     }
 
-    /// The next byte, or `None` at the end. The source is not asked again after its end, nor after an `Err`, which is
-    /// returned from then on.
+    /// The next byte, or `None` at the end. The source is not asked again after its end or after an `Err`, which is
+    /// then returned from every call.
     pub fn peek(&mut self) -> Result<Option<u8>, DeviceFault>
         ensures same { bytes_to_come self.new ≡ bytes_to_come self.old }
         ensures byte { IfOk result (λ o. IfSome o (λ b. slice_get self.new.buffered 0 ≡ Some b)) }
@@ -106,14 +106,14 @@ impl<R: Source> Input<R> {
         Ok(Some(self.buffer[0]))
     }
 
-    /// The bytes that are held.
+    /// The bytes in the buffer.
     pub fn buffered_bytes(&self) -> &[u8]
         ensures { result.now ≡ self.now.buffered }
     {
         &self.buffer[self.at..self.filled]
     }
 
-    /// Passes held bytes.
+    /// Skips bytes of the buffer.
     pub fn pass(&mut self, n: usize)
         requires { n ≤ length self.old.buffered }
         ensures { self.new ≡ record self.old { buffered = drop n self.old.buffered } }
@@ -121,7 +121,7 @@ impl<R: Source> Input<R> {
         self.at += n;
     }
 
-    /// Passes the byte that `peek` gave.
+    /// Skips the byte that `peek` returned.
     pub fn pass_byte(&mut self)
         requires { 0 < length self.old.buffered }
         ensures buffered { self.new.buffered ≡ drop 1 self.old.buffered }

@@ -13,7 +13,7 @@ use cell_core::region::{Region, RegionFault};
 use cell_core_values::whole_numbers;
 use std::marker::Model;
 
-/// The keys given so far, each with its value.
+/// The keys given so far, with their values.
 #[derive(Drop)]
 pub struct HeaderKeys {
     north: Option<i64>,
@@ -35,7 +35,7 @@ impl Model for HeaderKeys {
     ghost view = { λ k. record { north = k.north; south = k.south; east = k.east; west = k.west; rows = k.rows; cols = k.cols; null = k.null; kind = k.kind; multiplier = k.multiplier } };
 }
 
-// A key is given once, and its value is a number.
+// The value of a key: it must be a number, and the first one given.
 fn value_given<T: Copy>(old: Option<T>, value: Option<T>) -> Result<T, GridKind>
     ensures { result ≡ given_value old value }
 {
@@ -46,7 +46,7 @@ fn value_given<T: Copy>(old: Option<T>, value: Option<T>) -> Result<T, GridKind>
     }
 }
 
-// A null text is given once, and has no colon.
+// The null text: it must be the first one given, and have no colon.
 fn given_null(old: &Option<HeaderNull>, text: &[u8]) -> Result<HeaderNull, GridKind>
     requires { length text.now ≤ 64 }
     ensures { result ≡ given_null old.now text.now }
@@ -60,7 +60,7 @@ fn given_null(old: &Option<HeaderNull>, text: &[u8]) -> Result<HeaderNull, GridK
     }
 }
 
-// The type is given once, and is the type of whole numbers.
+// The type: it must be the first one given, and the type of whole numbers.
 fn given_type(old: bool, text: &[u8]) -> Result<bool, GridKind>
     ensures { result ≡ given_type old text.now }
 {
@@ -92,7 +92,7 @@ fn header_of_region(
 }
 
 impl HeaderKeys {
-    /// Keys of which none was given.
+    /// No keys yet.
     pub fn new() -> HeaderKeys
         ensures { result ≡ no_keys }
     {
@@ -109,7 +109,7 @@ impl HeaderKeys {
         }
     }
 
-    /// Adds a key, whose value is a text.
+    /// Adds a key with the text of its value.
     pub fn give(&mut self, key: Option<HeaderKey>, text: &[u8]) -> Result<(), GridKind>
         requires { length text.now ≤ 64 }
         ensures ok { OnOk result (with_header_key self.old key text.now ≡ Ok self.new) }

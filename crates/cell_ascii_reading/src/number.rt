@@ -6,7 +6,7 @@ ghost use Rattle.cell_ascii_meaning.specs.EdgeNumbers.{in_units, unsigned_coordi
 
 use cell_core_values::whole_numbers::{are_digits, value_of_digits, whole_in_range};
 
-// Greater than each coordinate in units.
+// Larger than any coordinate in units.
 const UNITS_CAP: u64 = 1000000000000000000;
 
 /// A number of rows or columns: a whole number in range; a negative one counts none.
@@ -34,7 +34,7 @@ fn in_units(whole: &[u8], part: &[u8]) -> Option<u64>
     Some(value_of_digits(whole) * 100000000 + value_of_digits(part) * scale)
 }
 
-/// The place of the first such byte, or the length.
+/// The place of the first such byte, or the length if there is none.
 pub fn byte_place(byte: u8, text: &[u8]) -> usize
     ensures place { result ≡ position_or_len (λ b. b == byte) text.now }
     ensures within { result ≤ length text.now }

@@ -70,7 +70,7 @@ impl<R: Source> Scanner<R> {
     ghost use Rattle.cell_ascii_reading.specs.parts.ScanSteps.{IsStep};
     ghost use Rattle.cell_ascii_reading.specs.Scan.{start_seen, gap_seen, line_count_seen, word_seen, part_seen};
 
-    // The next byte, or `None` at the end. A device that fails is an error at the line.
+    // The next byte, or `None` at the end. A failing device is an error at the current line.
     #[inline(always)]
     fn peek(&mut self) -> Result<Option<u8>, GridFault>
         ensures same { bytes_to_come self.new.ahead ≡ bytes_to_come self.old.ahead }
@@ -91,7 +91,7 @@ impl<R: Source> Scanner<R> {
         }
     }
 
-    // Passes one blank or line feed if one comes.
+    // Skips one blank or line feed if it is next.
     fn step(&mut self) -> Result<ScanStep, GridFault>
         requires room { self.old.line + 1048576 < 2 ^ 64 + self.old.run }
         requires run { self.old.run ≤ 1048576 }
@@ -120,7 +120,7 @@ impl<R: Source> Scanner<R> {
         Ok(ScanStep::Blank)
     }
 
-    /// Passes blanks and line feeds.
+    /// Skips blanks and line feeds.
     pub fn skip_spaces(&mut self) -> Result<Next, GridFault>
         requires room { self.old.line + 1048576 < 2 ^ 64 }
         requires run { self.old.run ≤ 1048576 }
@@ -145,7 +145,7 @@ impl<R: Source> Scanner<R> {
         }
     }
 
-    /// Passes the blanks of a line, and the line feed if it ends them.
+    /// Skips the blanks of a line, and the line feed if it ends them.
     pub fn skip_blanks(&mut self) -> Result<InLine, GridFault>
         requires room { self.old.line + 1048576 < 2 ^ 64 }
         requires run { self.old.run ≤ 1048576 }
@@ -169,7 +169,7 @@ impl<R: Source> Scanner<R> {
         }
     }
 
-    // Takes one byte of a word if one comes.
+    // Reads one byte of a word if it is next.
     fn grow(&mut self) -> Result<bool, GridFault>
         requires { length self.old.word ≤ 64 }
         ensures word { Agrees (word_from self.old.line self.old.word) self.old.ahead
@@ -199,7 +199,7 @@ impl<R: Source> Scanner<R> {
         Ok(true)
     }
 
-    /// Reads the word that comes. No space comes first.
+    /// Reads the next word. No space comes before it.
     pub fn read_word(&mut self) -> Result<(), GridFault>
         ensures word { Agrees (word_from self.old.line []) self.old.ahead
             (word_seen result self.new.word) self.new.ahead }
@@ -226,21 +226,21 @@ impl<R: Source> Scanner<R> {
         self.run = 0;
     }
 
-    /// The bytes that are held.
+    /// The bytes in the buffer.
     pub fn buffered_bytes(&self) -> &[u8]
         ensures { result.now ≡ self.now.ahead.buffered }
     {
         self.input.buffered_bytes()
     }
 
-    /// Whether no blank was passed since the last word.
+    /// Whether no blank was skipped since the last word.
     pub fn is_behind_word(&self) -> bool
         ensures { result ≡ true → self.now.run ≡ 0 }
     {
         self.run == 0
     }
 
-    /// Counts line feeds among bytes that are passed.
+    /// Counts line feeds among skipped bytes.
     pub fn count_lines(&mut self, count: u64)
         requires { self.old.line + count < 2 ^ 64 }
         ensures { self.new ≡ record self.old { line = self.old.line + count } }
@@ -248,7 +248,7 @@ impl<R: Source> Scanner<R> {
         self.line += count;
     }
 
-    /// Passes held bytes that end with a word.
+    /// Skips bytes of the buffer that end with a word.
     pub fn pass(&mut self, n: usize)
         requires { n ≤ length self.old.ahead.buffered }
         ensures { self.new ≡ record self.old {
@@ -260,7 +260,7 @@ impl<R: Source> Scanner<R> {
         self.input.pass(n);
     }
 
-    /// The line that the scanner is at, from 1.
+    /// The scanner's line, from 1.
     pub fn line(&self) -> u64
         ensures { result ≡ self.now.line }
     {

@@ -19,7 +19,7 @@ use std::test::Fail;
 const GRID: &[u8] =
     b"north: 3\nsouth: 0\neast: 4\nwest: 0\nrows: 3\ncols: 4\n1 1 2 *\n1 2 2 2\n3 3 1 1\n";
 
-// A sink that takes all that it is given, and counts the puts.
+// A sink that accepts everything and counts the puts.
 #[derive(Drop)]
 struct Counting {
     puts: u32,
@@ -84,14 +84,14 @@ fn category(map: &CellMap, row: u32, col: u32) -> Option<i32> {
     None
 }
 
-// These cells of a map have these categories.
+// The map has these cells with these categories.
 fn expect_categories<R: Abort>(rt: &R, map: &CellMap, cells: &[(u32, u32, Option<i32>)]) {
     for (row, col, wanted) in cells {
         assert_same!(rt; category(map, *row, *col), *wanted, "{row} {col}");
     }
 }
 
-// The text of a map with this null text, by pieces of a size: it has the length that the call returns.
+// The text of a map with this null text, put in pieces of a given size; its length is what the call returns.
 fn written<R: Abort + AllocGlobal>(
     rt: &R,
     map: &CellMap,
@@ -124,7 +124,7 @@ fn reads_a_grid(rt: HostRuntime) -> Result<(), Fail> {
     Ok(())
 }
 
-// Texts with an error of the header, and its line.
+// Texts whose header has an error, and its line.
 const HEADER_FAULTS: [(&[u8], GridKind, u64); 8] = [
     (b"", GridKind::MissingKey, 1),
     (b"north: 3 4\n", GridKind::BadHeader, 1),
@@ -153,7 +153,7 @@ fn reports_faults_of_a_header(rt: HostRuntime) -> Result<(), Fail> {
     expect_faults(&rt, &HEADER_FAULTS)
 }
 
-// Texts with an error of the region.
+// Texts whose region has an error.
 const REGION_FAULTS: [(&[u8], GridKind, u64); 3] = [
     (
         b"north: 3\nsouth: 0\neast: 4\nwest: 0\nrows: -1\ncols: 4\n1 1 2 *\n1 2 2 2\n3 3 1 1\n",
@@ -177,7 +177,7 @@ fn reports_faults_of_a_region(rt: HostRuntime) -> Result<(), Fail> {
     expect_faults(&rt, &REGION_FAULTS)
 }
 
-// Regions with more cells than there are categories above 0, and such as have just not.
+// Regions with more cells than there are categories above 0, and regions with just that many.
 const SIZE_FAULTS: [(&[u8], GridKind, u64); 3] = [
     (
         b"north: 1\nsouth: 0\neast: 1\nwest: 0\nrows: 65535\ncols: 65535\n7\n",
@@ -248,7 +248,7 @@ fn reports_faults_of_cells(rt: HostRuntime) -> Result<(), Fail> {
     expect_faults(&rt, &CELL_FAULTS)
 }
 
-// Texts with cells that their null text and their multiplier do not allow.
+// Texts with cells that are invalid because of their null text or multiplier.
 const NULL_FAULTS: [(&[u8], GridKind, u64); 2] = [
     (
         b"north: 1\nsouth: 0\neast: 3\nwest: 0\nrows: 1\ncols: 3\nnull: -9\nmultiplier: 3\n* 9 -2\n",
@@ -276,7 +276,7 @@ fn reads_null_and_multiplier(rt: HostRuntime) -> Result<(), Fail> {
     expect_faults(&rt, &NULL_FAULTS)
 }
 
-// Texts that become invalid by further equal bytes: the byte, their number and the error that they then have.
+// Texts that become invalid if a byte is repeated: the byte, the number of repetitions, and the error.
 const LIMITS: [(&[u8], u8, u32, Option<GridFault>); 5] = [
     (GRID, b' ', 1048575, None),
     (
@@ -326,7 +326,7 @@ fn limits_words_and_blanks(rt: HostRuntime) -> Result<(), Fail> {
     Ok(())
 }
 
-// A text is put in blocks, and none of it is flushed.
+// A text is written in blocks, and never flushed.
 #[test]
 fn writes_without_a_flush(rt: HostRuntime) -> Result<(), Fail> {
     let map = read_good(&rt, GRID)?;
@@ -340,7 +340,7 @@ fn writes_without_a_flush(rt: HostRuntime) -> Result<(), Fail> {
     Ok(())
 }
 
-// The text that is written of this one.
+// The text written for this one.
 fn written_again<R: Abort + AllocGlobal>(rt: &R, text: &[u8]) -> Result<Vec<u8>, Fail> {
     let map = read_good(rt, text)?;
     let sink = MemorySink::new(vec![in rt.alloc(); 0u8; 100]?, 3, false);

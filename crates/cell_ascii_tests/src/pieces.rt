@@ -1,5 +1,5 @@
-//! Texts whose bytes come in pieces of many sizes, so that each place of a text is once at the end of a piece and of a
-//! block of the reader.
+//! Texts whose bytes come in pieces of many sizes, so that each place of a text is at the end of a piece, and of a
+//! block of the reader, at least once.
 
 ghost use Rattle.std.specs.Prelude.{◌<◌};
 
@@ -26,7 +26,7 @@ const TEXTS: [&[u8]; 9] = [
     b"north: 1\nsouth: 0\neast: 3\nwest: 0\nrows: 2\ncols: 3\n1 2 3\n4 5 6 7\n",
 ];
 
-// A text after so many spaces, in pieces of a size.
+// Reads a text after `spaces` spaces from a source that gives `piece` bytes at a time.
 fn read_behind<R: AllocGlobal>(
     rt: &R,
     spaces: usize,
@@ -73,7 +73,7 @@ fn expect_same<R: Abort + AllocGlobal>(
     }
 }
 
-// Each text is read as it is in one piece, where a piece ends at each of its places once.
+// Each text gives the same result in one piece and in pieces that end at any of its places.
 fn agrees_in_pieces<R: Abort + AllocGlobal>(rt: &R, piece: usize) -> Result<(), Fail>
     requires { 0 < piece }
 {
@@ -97,7 +97,7 @@ fn each_place_ends_a_piece(rt: HostRuntime) -> Result<(), Fail> {
     agrees_in_pieces(&rt, 65)
 }
 
-// The reader's block, one byte less and one more.
+// The size of the reader's block, minus one and plus one.
 #[test]
 fn each_place_ends_a_block(rt: HostRuntime) -> Result<(), Fail> {
     agrees_in_pieces(&rt, 65535)?;

@@ -80,7 +80,7 @@ fn reads_rows_to_the_end(rt: HostRuntime) -> Result<(), Fail> {
     Ok(())
 }
 
-// A source of one byte a call that fails at a place, and else continues for ever. It counts its calls.
+// A source that gives one byte per call and fails at a place, or else continues forever. It counts its calls.
 #[derive(Drop)]
 struct Counting<'a> {
     text: &'a [u8],
@@ -90,7 +90,7 @@ struct Counting<'a> {
 }
 
 impl<'a> Counting<'a> {
-    // What a call gives.
+    // What a call returns.
     fn give(&mut self, buf: &mut [u8]) -> Result<usize, DeviceFault>
         requires { 0 < length buf.old }
         ensures count { IfOk result (λ n. n ≤ length buf.new) }

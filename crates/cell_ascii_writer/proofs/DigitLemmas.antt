@@ -53,7 +53,7 @@ values-after_zeros z k n few =
     let parts = ap (digit_values (z + k)) (sym whole) ∙ values-parts z k 0 n few in
     omega (arith, parts, values-none z)
 
--- so many digits 0
+-- k digits 0
 abbrev pub zeros : ℕ → ℕ
 zeros zero = 0
 zeros (suc k) = zeros k + 256 ^ k * 48
@@ -105,7 +105,7 @@ low_bytes-last (suc k) a d few small =
     let rest : (a + 256 ^ suc k * d) / 256 ≡ a / 256 + 256 ^ k * d = omega (arith, ends) in
     ap₂ (λ (x : ℕ) (l : List ℕ). x ∷ l) first (ap (digits_l 256 (suc k)) rest ∙ low_bytes-last k (a / 256) d less small)
 
--- the digits of a number with so many of them are its text
+-- the digits of a number of k + 1 digits are its text
 pub values-decimal : (k n : ℕ) → 10 ^ k ≤ n → n < 10 ^ suc k → n < 2 ^ 64
     → low_bytes (digit_values (suc k) n + zeros (suc k)) (suc k) ≡ decimal n
 values-decimal zero n many few wide =
@@ -194,7 +194,7 @@ bytes-power (suc z) =
     pow-suc 256 z ∙ ap (λ (x : ℕ). x * 256) (bytes-power z) ∙ sym (pow-add 2 (8 * z) 8)
     ∙ ap (λ (i : ℕ). 2 ^ i) (sym count)
 
--- so many bytes 0 before one that is not 0
+-- z bytes 0 before one that is not 0
 trailing-bytes : (z y : ℕ) → z ≤ 7 → 0 < y % 256 → count_trailing_zeros 64 (256 ^ z * y) / 8 ≡ z
 trailing-bytes z y few some =
     let rest = 64 - 8 * z in
@@ -205,7 +205,7 @@ trailing-bytes z y few some =
     let last : count_trailing_zeros rest y < 8 = trailing-below 8 rest y le some in
     omega (arith, shifted, last)
 
--- ---- a number that has at most so many digits
+-- ---- a number that has at most a given number of digits
 
 record HasDigits (most number : ℕ) : Type 0 where
   before : ℕ

@@ -15,7 +15,7 @@ pub first-some : (runs rest : List RunValue) (cell : CellValue) (n : ℕ) → Al
 first-some runs rest cell n some e = (rw e at some) 0 (cell, n) (omega arith)
 
 module _ (null : List ℕ) where
-  -- a cell, so many times
+  -- a cell, n times
   pub times_cells : (n : ℕ) (cell : CellValue) → times n (32 ∷ cell_text null cell) ≡ spaced_cells null (replicate n cell)
   times_cells zero cell = refl
   times_cells (suc n) cell = ap (λ (t : List ℕ). (32 ∷ cell_text null cell) ++ t) (times_cells n cell)
@@ -23,7 +23,7 @@ module _ (null : List ℕ) where
   pub both : (xs ys : List CellValue) → spaced_cells null (xs ++ ys) ≡ spaced_cells null xs ++ spaced_cells null ys
   both xs ys = flat_map-append (λ cell. 32 ∷ cell_text null cell) xs ys
 
-  -- a cell, so many times more
+  -- a cell, m times more
   pub spaced-more : (n m : ℕ) (cell : CellValue) → spaced_cells null (replicate (n + m) cell) ≡ spaced_cells null (replicate n cell) ++ spaced_cells null (replicate m cell)
   spaced-more n m cell =
       ap (spaced_cells null) (sym (replicate-append-replicate n m cell)) ∙ both (replicate n cell) (replicate m cell)

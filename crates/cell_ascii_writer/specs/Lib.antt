@@ -1,4 +1,4 @@
--- The cells of a row as they are written, run by run.
+-- The written cells of a row, run by run.
 pub mod WrittenRuns
 pub mod Fields
 pub mod parts

@@ -1,11 +1,11 @@
--- The cells of a row as they are written, run by run.
+-- The written cells of a row, run by run.
 use Rattle.std.specs.Prelude.{ℕ, List, ◌∷◌, map, flat_map, replicate, codes}
 use Rattle.std.specs.List.{join_with_byte}
 use Rattle.cell_core_values.specs.Letters.{byte}
 use Rattle.cell_core.specs.Grid.{CellValue}
 use Rattle.cell_core.specs.Text.{cell_text}
 
--- a text, so many times
+-- a text, repeated n times
 abbrev pub times : ℕ → List ℕ → List ℕ
 times n text = flat_map (λ t. t) (replicate n text)
 
@@ -13,6 +13,6 @@ times n text = flat_map (λ t. t) (replicate n text)
 abbrev pub spaced_cells : List ℕ → List CellValue → List ℕ
 spaced_cells null_text cells = flat_map (λ cell. byte (codes " ") ∷ cell_text null_text cell) cells
 
--- the cells, with a space between each two
+-- the cells, separated by spaces
 abbrev pub joined_cells : List ℕ → List CellValue → List ℕ
 joined_cells null_text cells = join_with_byte (byte (codes " ")) (map (cell_text null_text) cells)

@@ -1,2 +1,2 @@
--- What is made to write a map.
+-- What is prepared to write a map.
 pub mod MadeFields

@@ -12,16 +12,16 @@ use cell_core::cell::Cell;
 use cell_core_values::small_cells::cell_of_byte;
 use itoa::Buffer;
 
-// How many cells are gathered at most before they are pushed.
+// Maximum number of cells gathered before they are pushed.
 pub(crate) const CELLS: usize = 128;
 
-// The room for a cell: its text has at most 64 bytes, and a space is before it. A number is multiplied faster by 72 than by 65.
+// Room for a cell: its text has at most 64 bytes, after a space. Multiplying by 72 is faster than by 65.
 pub(crate) const ROOM: usize = 72;
 
-// The bytes of so many cells.
+// Bytes of a line of CELLS cells.
 pub(crate) const LINE: usize = CELLS * ROOM;
 
-// Writes a space and a cell into a line from a place on, and returns where they end. Its text may be long.
+// Writes a space and a cell into a line from `start`, and returns where they end. The cell's text may be long.
 fn put_long_cell(line: &mut [u8], at: usize, cell: Cell, fields: &Fields<'_>) -> usize
     requires { at + 72 ≤ length line.old }
     ensures end { result ≤ at + 72 }
@@ -34,7 +34,7 @@ fn put_long_cell(line: &mut [u8], at: usize, cell: Cell, fields: &Fields<'_>) ->
     }
 }
 
-// Writes a field, so many times, into a line from a place on, and returns where they end.
+// Writes a field `count` times into a line from `start`, and returns where the last one ends.
 #[inline(always)]
 fn put_fields(line: &mut [u8], start: usize, field: Field, count: usize) -> usize
     requires room { start + 8 * count ≤ length line.old }
@@ -50,7 +50,7 @@ fn put_fields(line: &mut [u8], start: usize, field: Field, count: usize) -> usiz
     end
 }
 
-// Writes a space and a cell, so many times, in the same way. Its text may be long.
+// Writes a space and a cell `count` times in the same way. The cell's text may be long.
 fn put_long_cells(
     line: &mut [u8],
     start: usize,
@@ -70,8 +70,8 @@ fn put_long_cells(
     end
 }
 
-// Writes a space and a cell, so many times, in the same way, if it is null or its text is long. It is not inlined, as it would
-// take registers from the loops over cells.
+// Writes a space and a cell `count` times in the same way, if the cell is null or its text is long. Not inlined, since
+// it would take registers from the loops over cells.
 #[inline(never)]
 fn put_other_cells(
     line: &mut [u8],
@@ -91,7 +91,7 @@ fn put_other_cells(
     }
 }
 
-// Writes a space and a cell, so many times, in the same way. Most cells are numbers of few digits, so that is asked first.
+// Writes a space and a cell `count` times in the same way. Tests for numbers of few digits first, since most cells are.
 #[inline(always)]
 pub(crate) fn put_run(
     line: &mut [u8],
@@ -113,7 +113,7 @@ pub(crate) fn put_run(
     put_fields(line, start, field, count)
 }
 
-// Writes a space and a cell, for each cell, into a line, and returns where they end.
+// Writes a space and a cell, for each cell, into a line, and returns where the last one ends.
 #[inline(never)]
 pub(crate) fn put_cells(line: &mut [u8], cells: &[Cell], fields: &Fields<'_>) -> usize
     requires { 72 * length cells.now ≤ length line.old }
@@ -141,7 +141,7 @@ fn put_byte_cells(line: &mut [u8], bytes: &[u8], fields: &Fields<'_>) -> usize
     end
 }
 
-// The same. If null has a field, each of the cells has one.
+// The same. If null has a field, every one of these cells has one.
 #[inline(never)]
 pub(crate) fn put_bytes(line: &mut [u8], bytes: &[u8], fields: &Fields<'_>) -> usize
     requires { 72 * length bytes.now ≤ length line.old }

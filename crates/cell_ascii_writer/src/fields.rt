@@ -11,7 +11,7 @@ ghost use Rattle.cell_ascii_writer.specs.parts.MadeFields.{AreTriples};
 use std::marker::Model;
 use std::simd::prelude::*;
 
-// How many bytes there are, and the one that stands for null.
+// The number of bytes, and the byte that stands for null.
 const BYTES: usize = 256;
 
 const NULL: usize = 255;
@@ -20,20 +20,20 @@ const THOUSAND: usize = 1000;
 
 const MILLION: u32 = 1_000_000;
 
-// The most bytes of a text that has a field.
+// Maximum length of a text that has a field.
 const MOST_TEXT: usize = 7;
 
 // Six digits 0.
 const ZEROS: u64 = 0x3030_3030_3030;
 
-// A space and a text, as the lowest bytes of a number, and how many these are.
+// A space and a text, as the lowest bytes of a number, and their length.
 #[derive(Clone, Copy)]
 pub(crate) struct Field {
     pub(crate) bytes: u64,
     pub(crate) size: usize,
 }
 
-// The three digits of each number below a thousand, in a byte each, the first one lowest.
+// The three digits of each number below a thousand, one per byte, the first one in the lowest.
 #[derive(Drop)]
 pub(crate) struct Triples {
     digits: [u32; THOUSAND],
@@ -63,7 +63,7 @@ impl Triples {
         upper as u64 + lower as u64 * 0x100_0000
     }
 
-    // The digits of a number, as the lowest bytes of another, and how many they are.
+    // The digits of a number, as the lowest bytes of another number, and how many they are.
     #[inline(always)]
     fn digits_of(&self, number: u32) -> (u64, usize)
         requires some { 0 < number }
@@ -151,11 +151,11 @@ fn text_field(text: &[u8]) -> Field
     Field { bytes, size }
 }
 
-// What is made once to write a map. It is seen as the text that null is written as.
+// Made once for each map that is written. In contracts it is just the null text.
 #[derive(Drop)]
 pub(crate) struct Fields<'a> {
     null_text: &'a [u8],
-    // The fields of the cells that bytes stand for, but of null only if its text is short.
+    // The fields of cells kept as bytes; the field of null only if its text is short.
     small: [Field; BYTES],
     triples: Triples,
 }
@@ -172,7 +172,7 @@ impl<'a> Model for Fields<'a> {
 }
 
 impl<'a> Fields<'a> {
-    // The fields for a map whose nulls are written as a text.
+    // The fields for a map with this null text.
     pub(crate) fn new(null_text: &'a [u8]) -> Fields<'a>
         requires { length null_text.now ≤ 64 }
         ensures { result ≡ null_text.now }
@@ -192,7 +192,7 @@ impl<'a> Fields<'a> {
         }
     }
 
-    // What null is written as.
+    // The null text.
     pub(crate) fn null_text(&self) -> &'a [u8]
         ensures value { result.now ≡ self.now }
         ensures few { length self.now ≤ 64 }
@@ -245,7 +245,7 @@ impl<'a> Fields<'a> {
     }
 }
 
-// Writes a field into a line from a place on, and returns where it ends. Eight bytes are written, however many belong to it.
+// Writes a field into a line from `start`, and returns where it ends. Always writes eight bytes.
 #[inline(always)]
 pub(crate) fn put_field(line: &mut [u8], at: usize, field: Field) -> usize
     requires room { at + 8 ≤ length line.old }

@@ -24,10 +24,10 @@ use cell_core::stretches::Stretches;
 use cell_core_values::small_cells::cell_of_byte;
 use itoa::Buffer;
 
-/// How many units a coordinate of 1 has.
+/// Units per coordinate 1.
 pub const UNIT: u64 = 100000000;
 
-// How many zeros are at the end.
+// The number of trailing zeros.
 fn zeros_at_end(digits: &[u8]) -> usize
     ensures count { result ≡ prefix_len (λ b. b == byte (codes "0")) (reverse digits.now) }
     ensures within { result ≤ length digits.now }
@@ -35,7 +35,7 @@ fn zeros_at_end(digits: &[u8]) -> usize
     digits.iter().rev().take_while(|b| **b == b'0').count()
 }
 
-/// The digits without the zeros at their end.
+/// The digits without trailing zeros.
 pub fn without_zeros(digits: &[u8]) -> &[u8]
     ensures value { result.now ≡ without_zeros digits.now }
     ensures len { length result.now ≤ length digits.now }
@@ -43,7 +43,7 @@ pub fn without_zeros(digits: &[u8]) -> &[u8]
     &digits[..digits.len() - zeros_at_end(digits)]
 }
 
-/// The eight digits of a part: the digits of its sum with 10^8, without the leading 1.
+/// The eight digits of a part: the digits of the part plus 10^8, without the leading 1.
 #[tactic(auto, using(std::proofs::lemmas::Fmt::decimal_nonempty))]
 pub fn eight_digits(buffer: &mut Buffer, part: u64) -> &[u8]
     requires { part < 100000000 }
@@ -54,7 +54,7 @@ pub fn eight_digits(buffer: &mut Buffer, part: u64) -> &[u8]
     &digits[1..]
 }
 
-// Writes a point and the eight digits of a part, without the zeros at their end, or nothing if it is 0.
+// Writes a point and the eight digits of a part, without trailing zeros, or nothing if the part is 0.
 fn write_fraction<W: Sink>(out: &mut W, block: &mut OutputBlock, part: u64)
     requires { part < 100000000 }
     ensures { Appends W.taken W.faults out.old block.old (fraction_text part) out.new block.new }
@@ -66,7 +66,7 @@ fn write_fraction<W: Sink>(out: &mut W, block: &mut OutputBlock, part: u64)
     block.push(out, without_zeros(eight_digits(&mut Buffer::new(), part)));
 }
 
-// Writes a number of units that is not negative.
+// Writes a non-negative number of units.
 fn write_units<W: Sink>(out: &mut W, block: &mut OutputBlock, units: u64)
     ensures { Appends W.taken W.faults out.old block.old (units_text units) out.new block.new }
 {
@@ -84,7 +84,7 @@ fn write_coordinate<W: Sink>(out: &mut W, block: &mut OutputBlock, units: i64)
     write_units(out, block, units.unsigned_abs());
 }
 
-// Writes a key and what parts it from its value.
+// Writes a key and the separator after it.
 fn write_key<W: Sink>(out: &mut W, block: &mut OutputBlock, key: &[u8])
     ensures { Appends W.taken W.faults out.old block.old (key.now ++ codes ": ") out.new block.new }
 {
@@ -132,7 +132,7 @@ fn write_region<W: Sink>(out: &mut W, block: &mut OutputBlock, region: Region)
     write_side(out, block, b"cols", region.cols());
 }
 
-// Writes the line of the null text if that is not the usual one.
+// Writes the line of the null text, unless it is the usual one.
 fn write_null_line<W: Sink>(out: &mut W, block: &mut OutputBlock, null_text: &[u8])
     ensures { Appends W.taken W.faults out.old block.old (null_line null_text.now)
         out.new block.new }
@@ -143,7 +143,7 @@ fn write_null_line<W: Sink>(out: &mut W, block: &mut OutputBlock, null_text: &[u
     write_line(out, block, b"null", null_text);
 }
 
-// Pushes the bytes of a line up to a place. It is not inlined, as it would take registers from the loops over cells.
+// Pushes the bytes of a line up to a place. Not inlined, since it would take registers from the loops over cells.
 #[inline(never)]
 fn push_line<W: Sink>(out: &mut W, block: &mut OutputBlock, line: &[u8], end: usize)
     requires { end ≤ length line.now }
@@ -152,8 +152,8 @@ fn push_line<W: Sink>(out: &mut W, block: &mut OutputBlock, line: &[u8], end: us
     block.push(out, &line[..end]);
 }
 
-// Writes a space and the cell of a run, for each cell of it, after the bytes of a line up to a place, which are still to be
-// pushed, if the line has no room for them. Returns where the bytes end that are left.
+// Writes a space and a cell, for each cell of a run, after the bytes of a line that are still to be pushed. If the line
+// has no room, pushes it first. Returns where the remaining bytes end.
 #[inline(never)]
 fn write_long_run<W: Sink>(
     out: &mut W,
@@ -203,7 +203,7 @@ fn write_run<W: Sink>(
     write_long_run(out, block, line, start, run, fields)
 }
 
-// Writes a space and a cell for each cell of the runs, after the bytes of a line up to a place.
+// Writes a space and a cell, for each cell of the runs, after the bytes of a line up to a place.
 fn write_runs<W: Sink>(
     out: &mut W,
     block: &mut OutputBlock,
@@ -225,7 +225,7 @@ fn write_runs<W: Sink>(
     push_line(out, block, line, end);
 }
 
-// Writes the cells of the runs of a row, with a space between each two.
+// Writes the cells of the runs of a row, separated by spaces.
 fn write_run_row<W: Sink>(
     out: &mut W,
     block: &mut OutputBlock,
@@ -248,7 +248,7 @@ fn write_run_row<W: Sink>(
     write_runs(out, block, line, end, others, fields);
 }
 
-// Writes the cells of a row, with a space between each two.
+// Writes the cells of a row, separated by spaces.
 fn write_cell_row<W: Sink>(
     out: &mut W,
     block: &mut OutputBlock,
@@ -275,7 +275,7 @@ fn write_cell_row<W: Sink>(
     push_line(out, block, line, end);
 }
 
-// Writes the cells that bytes stand for, with a space between each two.
+// Writes cells kept as bytes, separated by spaces.
 fn write_byte_row<W: Sink>(
     out: &mut W,
     block: &mut OutputBlock,
@@ -302,7 +302,7 @@ fn write_byte_row<W: Sink>(
     push_line(out, block, line, end);
 }
 
-// Writes the cells of a row, in the way that fits how they are kept.
+// Writes the cells of a row, in the way that suits how they are stored.
 fn write_row_cells<W: Sink>(
     out: &mut W,
     block: &mut OutputBlock,
@@ -358,7 +358,7 @@ pub fn write_grid<W: Sink>(out: &mut W, block: &mut OutputBlock, map: &CellMap, 
     write_rows(out, block, map, null_text);
 }
 
-// Says that the lines of a region are short, and its sides. Does nothing.
+// States that the lines of a region are short, and its sides. Does nothing.
 fn region_is_short(region: Region)
     ensures lines { length (region_text region) ≤ 256 }
     ensures rows { region.rows ≤ 65535 }

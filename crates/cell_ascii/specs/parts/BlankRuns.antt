@@ -1,4 +1,4 @@
--- Blanks in a row, by the bits of the blanks from a place on.
+-- Runs of blanks, given as bits from a place on.
 use Rattle.std.specs.Prelude.{ℕ, ◌-◌, ◌≡◌, ◌<◌, ◌≤◌, true, List, drop, take, length, slice_index_or}
 use Rattle.std.specs.List.{list_all}
 use Rattle.std.specs.Simd.Lanes.{mask_l}

@@ -4,7 +4,7 @@ use Rattle.cell_core.specs.Grid.{CellValue}
 use Rattle.cell_ascii_meaning.specs.Header.{HeaderValue}
 use Rattle.cell_ascii.specs.BufferedCells.{HoldsCells}
 
--- a row begins with the next cells of these bytes: so many, which take so many bytes; its other cells stay
+-- a row begins with the next cells of these bytes: their number and their bytes are in read; the row's other cells stay
 pub record AreCellsInLine (h : HeaderValue) (bs : List ℕ) (old new : List CellValue) (read : ℕ × ℕ) : Type 0 where
   pub cells : HoldsCells h bs (take read.0 new) read.0 read.1
   pub count : read.0 ≤ length old

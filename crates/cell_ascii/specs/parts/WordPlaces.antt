@@ -5,7 +5,7 @@ use Rattle.cell_ascii_meaning.specs.Header.{HeaderValue}
 use Rattle.cell_ascii.specs.declared.word_table.WordEntry.{WordEntry}
 use Rattle.cell_ascii.specs.TableWords.{IsEntry}
 
--- the word is the first so many bytes, entries are kept, and the row has the place
+-- the word is the first size bytes, the table has a place for it, and the row has a place for its cell
 pub record CanPut (h : HeaderValue) (bytes : List ℕ) (size : ℕ) (entries : List WordEntry) (i : ℕ) (row : List CellValue) : Type 0 where
   pub some : 0 < size
   pub within : size ≤ length bytes

@@ -1,15 +1,15 @@
--- What bytes add to the values of words, by tables.
+-- What bytes add to the values of words, as tables.
 use Rattle.std.specs.Prelude.{ℕ, ◌+◌, ◌*◌, ◌%◌, ◌≡◌, ◌<◌, List, slice_index_or, min, bit_and, nat_lt, if◌then◌else◌}
 
--- a table of 16 entries, four times
+-- a table of 16 entries, repeated four times
 abbrev pub IsLaneTable : (ℕ → ℕ) → List ℕ → Type 0
 IsLaneTable f table = (b j : ℕ) → b < 4 → j < 16 → slice_index_or table (16 * b + j) 0 ≡ f j
 
--- the place of a byte in such a table: its distance from 48, if that is small
+-- the place of a byte in such a table: its value minus 48, if that is small
 abbrev pub table_place : ℕ → ℕ
 table_place b = min ((b + 208) % 256) 15
 
--- the lane before another, in a round of 64
+-- the lane before another, modulo 64
 abbrev pub lane_before : ℕ → ℕ
 lane_before p = (p + 63) % 64
 
@@ -26,11 +26,11 @@ as_hundred j = if nat_lt j 10 then min (100 * j) 255 else 0
 abbrev pub ones_of_digit : ℕ → ℕ
 ones_of_digit j = if nat_lt j 10 then 255 else 0
 
--- a sum of two bytes, or 255 if it is more
+-- a sum of two bytes, capped at 255
 abbrev pub capped_sum : ℕ → ℕ → ℕ
 capped_sum a b = min (a + b) 255
 
--- the place of a byte of a list
+-- the place of a byte in a list
 abbrev pub place_at : List ℕ → ℕ → ℕ
 place_at bytes p = table_place (slice_index_or bytes p 0)
 

@@ -5,7 +5,7 @@ use Rattle.cell_ascii_reading.specs.Scan.{Scan}
 use Rattle.cell_ascii_reading.specs.declared.header_reading.Ending.{Ending}
 use Rattle.cell_ascii_reading.specs.declared.header_reading.Ending.TheVariants.{Feed, Text}
 
--- the value begins at a place of the word, which ends the blanks, in the line
+-- the value begins at a place of the word; the word ends the blanks and is in the line
 pub record IsAtValue (at here : ℕ) (s : Scan) : Type 0 where
   pub line : s.line ≡ here
   pub run : s.run ≡ 0

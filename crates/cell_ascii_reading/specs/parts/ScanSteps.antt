@@ -1,4 +1,4 @@
--- Steps over blanks and line feeds: their results, and what they say of the next word and of the line.
+-- Steps over blanks and line feeds: their results, and what they say about the next word and the line.
 use Rattle.std.specs.Prelude.{ℕ, ◌≡◌, ◌≤◌, ◌+◌, Bool, true, false, ◌==◌, nat_lt, List, [], ◌∷◌, Result, Ok, Err}
 use Rattle.cell_core_devices.specs.Device.{Coming}
 use Rattle.cell_ascii_meaning.specs.GridTokens.{Start, Begins, Ends, Stops, grid_start, grid_fault, is_space}
@@ -10,7 +10,7 @@ use Rattle.cell_ascii_reading.specs.Scan.{Scan}
 use Rattle.cell_ascii_reading.specs.declared.scanner.ScanStep.{ScanStep}
 use Rattle.cell_ascii_reading.specs.declared.scanner.ScanStep.TheVariants.{Blank, Feed as FeedStep, Word as WordStep, End}
 
--- a step at a byte, by whether it is a space, whether the run has room for one more, and whether it is a line feed
+-- a step at a byte: is it a space, has the run room for one more, and is it a line feed
 abbrev pub step_at : Bool → Bool → Bool → ℕ → Coming → Coming → Result ScanStep GridFault × Coming
 step_at false room feed line here past = (Ok WordStep, here)
 step_at true false feed line here past = (Err (grid_fault ReaderStuck line), here)
@@ -23,7 +23,7 @@ step_from line run [] false = (Ok End, record { bytes = []; fails = false })
 step_from line run (b ∷ bs) fails =
     step_at (is_space b) (nat_lt run 1048576) (b == 10) line (record { bytes = b ∷ bs; fails = fails }) (record { bytes = bs; fails = fails })
 
--- a step if the run of spaces has `run` bytes so far, and what is to come then
+-- a step after `run` bytes of spaces, and what is to come then
 unfoldable pub step_of : ℕ → ℕ → Coming → Result ScanStep GridFault × Coming
 step_of line run c = step_from line run c.bytes c.fails
 
@@ -49,7 +49,7 @@ pub record IsStep (step : Result ScanStep GridFault) (old new : Scan) : Type 0 w
   pub run : new.run ≤ 1048576
   pub end : EndsReported step new.ahead
 
--- what a step says of the next word
+-- what a step says about the next word
 abbrev pub start_step : Result ScanStep GridFault → ℕ → ℕ → Coming → Start
 start_step (Ok Blank) line run c = grid_start line run c
 start_step (Ok FeedStep) line run c = grid_start line run c
@@ -57,7 +57,7 @@ start_step (Ok WordStep) line run c = Begins line c
 start_step (Ok End) line run c = Ends line
 start_step (Err f) line run c = Stops f
 
--- what a step says of the rest of a line
+-- what a step says about the rest of a line
 abbrev pub gap_step : Result ScanStep GridFault → ℕ → ℕ → Coming → Gap
 gap_step (Ok Blank) line run c = gap_of line run c
 gap_step (Ok FeedStep) line run c = Feed run c

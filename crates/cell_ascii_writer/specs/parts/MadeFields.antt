@@ -1,11 +1,11 @@
--- What is made to write a map.
+-- What is prepared to write a map.
 use Rattle.std.specs.Prelude.{ℕ, ◌≡◌, ◌<◌, ◌≤◌, List, length, get_or, slice_index}
 use Rattle.cell_core_values.specs.SmallCells.{byte_cell}
 use Rattle.cell_core.specs.Text.{cell_text}
 use Rattle.cell_ascii_writer.specs.declared.fields.Field.{Field}
 use Rattle.cell_ascii_writer.specs.Fields.{IsFieldOf, digit_values}
 
--- the fields of the cells that bytes stand for
+-- the fields of cells kept as bytes
 pub record AreMade (null_text : List ℕ) (small : List Field) : Type 0 where
   pub null : length null_text ≤ 64
   pub categories : (i : ℕ) (d : Field) → i < 255 → IsFieldOf (cell_text null_text (byte_cell i)) (get_or small i d)

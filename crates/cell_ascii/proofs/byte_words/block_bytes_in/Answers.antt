@@ -7,7 +7,7 @@ use Rattle.cell_ascii.specs.TableWords.{blanks}
 use Rattle.cell_ascii_lanes.specs.WordLanes.{AreShortWords, is_null_star}
 use Rattle.cell_ascii.proofs.BitLemmas.{mask-take}
 use Rattle.cell_ascii.proofs.ByteEndLemmas.{ends_of, ends_mask, front, length-front, front-mask, length-ends}
-use Rattle.cell_ascii.proofs.ByteBlockLemmas.{short_block, cell_bytes_are, put_holds, put_low, word_at, space_no_digit, sixty_four_ends}
+use Rattle.cell_ascii.proofs.ByteBlockLemmas.{short_block, cell_bytes_are, put_holds, put_low, star_of, word_at, space_no_digit, sixty_four_ends}
 use Rattle.cell_ascii.proofs.byte_words.block_bytes_in.Goals as goal
 use lib.Bits.{bit_and}
 use lib.Lanes.{mask_l}
@@ -37,16 +37,18 @@ word_values-are_small-requires c = λ p lt digit.
     ap (λ n. bit_at (18446744073709551615 - n) p) c.blanks_in-blanks.ensures ∙ word_at bs long p lt ∙ ap (λ b. 1 - cond b 1 0) space
 
 pub returns-clause-cells : goal.returns-clause-cells
-returns-clause-cells c = λ h plain.
+returns-clause-cells c = λ h plain null.
     let bs = c.args.buffered.now in
     let long = c.requires.buffered in
     let lanes = c.cell_bytes.new.lanes in
-    let short = short_from bs c.blanks_in-blanks.result c.digit_mask.result c.star_mask.result c.blanks_in-blanks.ensures c.digit_mask.ensures c.star_mask.ensures (c.are_short.ensures c.if-not-are_short.false) in
+    let short = short_from bs c.blanks_in-blanks.result c.digit_mask.result c.star_mask-stars.result c.blanks_in-blanks.ensures c.digit_mask.ensures c.star_mask-stars.ensures (c.are_short.ensures c.if-not-are_short.false) in
     let block = short_block bs long short in
     let bytes = cell_bytes_are bs long c.word_values-are_small.result.0 lanes (c.word_values-are_small.ensures c.if-not-are_small.false) c.cell_bytes.ensures in
     let size : length (take 64 lanes) ≡ 64 = omega (arith, length-take 64 lanes, c.cell_bytes.auto.lanes) in
     let low = c.lowest_bits-ends.ensures in
-    put_holds h plain bs long block (take 64 lanes) size bytes low.place low.within c.lowest_bits-ends.result c.put_lanes-count.result c.put_lanes-count.new.row
+    let star = star_of bs long h.null_text c.star_mask-stars.result c.star_mask-stars.ensures c.args.is_star_null null
+    (c.has_other_star.ensures c.if-has_other_star.false) in
+    put_holds h plain bs star long block (take 64 lanes) size bytes low.place low.within c.lowest_bits-ends.result c.put_lanes-count.result c.put_lanes-count.new.row
     (ends_are bs long c.blanks_in-blanks.result c.lowest_bits-ends.result low.place c.blanks_in-blanks.ensures low.is) c.put_lanes-count.ensures
 
 pub returns-clause-count : goal.returns-clause-count

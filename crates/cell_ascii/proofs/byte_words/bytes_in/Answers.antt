@@ -34,9 +34,9 @@ blocks-2-preserved c =
     record {
       count = omega (arith, found.ensures.count, inv.count);
       within = omega (arith, c.if-buffered-passed-ge-BLOCK.true, inv.within, found.ensures.within);
-      cells = λ h plain.
-          let next = rw here at (found.ensures.cells h plain) in
-          rw (cells, lines) (HoldsLines-append h buffered (cells_of_bytes (take i row)) (cells_of_bytes (take k part)) i k passed n c.blocks-2.lines (newlines (take n rest)) (inv.cells h plain) next);
+      cells = λ h plain star.
+          let next = rw here at (found.ensures.cells h plain star) in
+          rw (cells, lines) (HoldsLines-append h buffered (cells_of_bytes (take i row)) (cells_of_bytes (take k part)) i k passed n c.blocks-2.lines (newlines (take n rest)) (inv.cells h plain star) next);
       fewer = omega (arith, lines, newlines-few rest n, inv.fewer);
       few = omega (arith, lines, newlines-few rest n, inv.few, c.if-found-eq0.false);
     }

@@ -1,6 +1,6 @@
 use Rattle.std.proofs.Common.{◌≡◌, ◌≤◌, ◌-◌, ◌*◌, ◌<◌, length, take, drop}
 use Rattle.std.specs.List.{All}
-use Rattle.cell_ascii.specs.parts.ByteWords.{IsPlain}
+use Rattle.cell_ascii_reading.specs.InRange.{HasPlainNumbers}
 use Rattle.cell_ascii.specs.TableWords.{HoldsLines, IsEntry}
 use Rattle.cell_ascii.proofs.word_table.table_cells_in.Given as goal
 
@@ -14,7 +14,7 @@ invariant-blocks-2 g l = record {
   rest : drop l.i l.row ≡ drop l.i l.fn.row;
   room : length l.entries ≡ 4096;
   known : All (IsEntry l.header) l.entries;
-  plain : 0 < l.tries → IsPlain l.header;
+  plain : 0 < l.tries → HasPlainNumbers l.header;
 }
 
 abbrev pub decreases-blocks-2 : goal.decreases-blocks-2

@@ -12,7 +12,7 @@ use Rattle.cell_ascii_meaning.proofs.TokenLemmas.{word-ends, word-fails, word-st
 use Rattle.cell_ascii_reading.proofs.ComingLemmas.{at_byte, past_byte, at_end}
 use Rattle.cell_ascii_reading.proofs.scanner.Scanner.grow.Goals as goal
 
--- an error is no `Ok`
+-- an error is not an `Ok`
 err_no_ok : (P : Type 0) (r : Result Bool GridFault) (x : Bool) → IsErr r → r ≡ Ok x → P
 err_no_ok P (Ok y) x err e = cc
 err_no_ok P (Err d) x err e = cc
