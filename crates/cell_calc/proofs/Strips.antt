@@ -22,7 +22,7 @@ after_front P a front ys count before there c lt false h =
     let place : a + (c - a) ≡ c = omega arith in
     rw (get_or-append_right front ys a c None count above) (rw place at (there (c - a) (omega arith)))
 
--- a part of a row, so many columns to the right of a strip
+-- the part of a row that is right columns to the right of a strip
 pub part_at : (source part : List CellValue) (first width from c : ℕ) (right : ℤ) → part ≡ take width (drop first source)
     → pos first ≡ pos from +ℤ right → c < width → at part c ≡ item_at None source (pos (from + c) +ℤ right)
 part_at source part first width from c right is place lt =

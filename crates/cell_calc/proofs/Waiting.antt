@@ -72,7 +72,7 @@ map_rest : {V W : Type 0} (f : V → W) (xs : List V) → map f (drop 1 xs) ≡ 
 map_rest f [] = refl
 map_rest f (x ∷ xs) = refl
 
--- it is let go if so many rows are above
+-- the first row is let go if at least above rows are above the centre
 pub let_go : {V W : Type 0} (f : V → W) (queue rest : List V) (seen : List W) (above centre : ℕ) → rest ≡ drop 1 queue
     → map f queue ≡ seen → above ≤ centre → map f rest ≡ (if nat_le above centre then drop 1 seen else seen)
 let_go f queue rest seen above centre is is_seen le =

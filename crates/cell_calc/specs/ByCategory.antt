@@ -1,4 +1,4 @@
--- Expressions whose value depends on the category of one cell alone.
+-- Expressions whose value depends only on the category of one cell.
 use Rattle.std.specs.Prelude.{◌≡◌, ℕ, pos, Bool, true, false, All, List, [], Some, None, slice_index_or}
 use Rattle.cell_core.specs.Grid.{CellValue}
 use Rattle.cell_core_values.specs.Region.{RegionValue}
@@ -17,7 +17,7 @@ asks_place function.Row = true
 asks_place function.Column = true
 asks_place f = false
 
--- a step that reads no map but the first, at the cell itself, and does not ask where the cell is
+-- a step that reads at most the first map, at the cell itself, and does not ask for the cell's position
 abbrev pub IsCategoryStep : Step ℕ → Type 0
 IsCategoryStep (step.Map i down right) = (i ≡ 0) × ((down ≡ pos 0) × (right ≡ pos 0))
 IsCategoryStep (step.Call f n) = asks_place f ≡ false
@@ -27,7 +27,7 @@ IsCategoryStep _ = Unit {0}
 abbrev pub IsByCategory : Formula → Type 0
 IsByCategory f = All IsCategoryStep (postfix f)
 
--- what a step makes of cells where the first map has this one
+-- the result of a step if the first map has this cell
 abbrev pub of_cell : RegionValue → CellValue → Step ℕ → List CellValue → CellValue
 of_cell region x (step.Number n) xs = Some (pos n)
 of_cell region x (step.Map i down right) xs = x
@@ -36,6 +36,6 @@ of_cell region x step.Not xs = inverted_cell (slice_index_or xs 0 None)
 of_cell region x (step.Binary op) xs = operator_value op (slice_index_or xs 0 None) (slice_index_or xs 1 None)
 of_cell region x (step.Call f n) xs = call_result f (grid_position region 0 0) xs
 
--- the value where the first map has this cell
+-- the value if the first map has this cell
 abbrev pub value_of_cell : RegionValue → Formula → CellValue → CellValue
 value_of_cell region f x = at (values_after (of_cell region x) (postfix f) []) 0

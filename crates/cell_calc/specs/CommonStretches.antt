@@ -1,15 +1,15 @@
--- Stretches of a row: columns side by side in which no window's row changes.
+-- Stretches of a row: adjacent columns in which no window's row changes.
 use Rattle.std.specs.Prelude.{◌≡◌, ◌≤◌, ◌+◌, ℕ, pos, All, List, [], ◌∷◌, ◌++◌, Some, length, drop, map, replicate}
 use Rattle.cell_core.specs.Grid.{CellValue}
 use Rattle.cell_calc.specs.RowValues.{at}
 use Rattle.cell_calc.specs.Window.{Window}
 use Rattle.cell_calc.specs.WindowsOver.{row_below}
 
--- the row in a window's centre
+-- the row at a window's centre
 abbrev pub centre_row : Window → List CellValue
 centre_row w = row_below (pos 0) (Some w)
 
--- how many columns stretches of these widths have
+-- the number of columns of stretches of these widths
 abbrev pub total : List ℕ → ℕ
 total [] = 0
 total (w ∷ widths) = w + total widths
@@ -25,16 +25,16 @@ abbrev pub start_cells : List CellValue → List ℕ → List CellValue
 start_cells row [] = []
 start_cells row (w ∷ widths) = at row 0 ∷ start_cells (drop w row) widths
 
--- the row of a window is made of its cells where stretches begin
+-- a window's row can be rebuilt from its cells at the starts of stretches
 abbrev pub GoesBy : List ℕ → Window → Type 0
 GoesBy widths w = spread (start_cells (centre_row w) widths) widths ≡ centre_row w
 
--- stretches of so many columns by which the rows of windows go
+-- widths of stretches that together have cols columns, in each of which no row of a window changes
 pub record AreStretches (cols : ℕ) (windows : List Window) (widths : List ℕ) : Type 0 where
   pub all : total widths ≡ cols
   pub few : length widths ≤ cols
   pub go : All (GoesBy widths) windows
 
--- windows have just the cells where stretches begin
+-- windows that have only the cells where stretches begin
 abbrev pub AreShort : List ℕ → (windows short : List Window) → Type 0
 AreShort widths windows short = map centre_row short ≡ map (λ w. start_cells (centre_row w) widths) windows

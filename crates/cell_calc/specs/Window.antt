@@ -2,7 +2,7 @@
 use Rattle.std.specs.Prelude.{◌≡◌, ◌≤◌, ℕ, ℤ, pos, ◌+◌, ◌-◌, ◌≤ℤ◌, neg_ℤ, List, take, drop, Option, Some, None}
 use Rattle.cell_core.specs.Grid.{Grid, CellValue}
 
--- how many rows it reaches up and down, its centre, how many rows and columns its map has, and the rows that it holds
+-- how many rows it reaches up and down, its centre, the size of its map, and the rows that it holds
 pub record Window : Type 0 where
   pub above : ℕ
   pub below : ℕ
@@ -11,11 +11,11 @@ pub record Window : Type 0 where
   pub cols : ℕ
   pub held : List (List CellValue)
 
--- the rows from so many above a row to so many below it, as far as there are any, in order
+-- the rows from above rows over the centre to below rows under it, as far as the map goes, in order
 abbrev pub around : (above below centre : ℕ) → List (List CellValue) → List (List CellValue)
 around above below centre rows = drop (centre - above) (take (centre + below + 1) rows)
 
--- it is one of this map: it holds the rows around its centre, and no other
+-- a window of this map: it holds the rows around its centre, and no others
 pub record IsWindowOf (w : Window) (m : Grid) : Type 0 where
   pub rows : w.rows ≡ m.region.rows
   pub cols : w.cols ≡ m.region.cols
@@ -32,7 +32,7 @@ IsOver None m = ⊥
 IsOver (Some w) None = ⊥
 IsOver (Some w) (Some m) = IsWindowOf w m
 
--- there is a window that is at the row and reaches so far up and down
+-- there is a window at the row that reaches this far up and down
 abbrev pub HasReach : (row up down : ℕ) → Option Window → Type 0
 HasReach row up down None = ⊥
 HasReach row up down (Some w) = (w.centre ≡ row) × ((up ≤ w.above) × (down ≤ w.below))

@@ -4,7 +4,7 @@ use Rattle.cell_core.specs.Grid.{CellValue}
 use Rattle.cell_calc_binding.specs.Offsets.{item_at}
 use Rattle.cell_calc.specs.Window.{Window}
 
--- the row that a window holds so far below its centre, none if it holds none
+-- the row that a window holds at this distance below its centre, or none
 abbrev pub row_below : ℤ → Option Window → List CellValue
 row_below down None = []
 row_below down (Some w) = item_at [] w.held ((pos w.centre +ℤ down) -ℤ pos (w.centre - w.above))

@@ -1,5 +1,4 @@
--- What only bodies and proofs speak of.
--- What only private functions and proofs cite.
+-- Definitions that only bodies and proofs use. Definitions that only private functions and proofs use.
 pub mod Columns
 pub mod InReach
 pub mod WindowRows

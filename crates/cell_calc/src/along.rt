@@ -39,7 +39,7 @@ pub(crate) fn along(
     Ok(row)
 }
 
-// What a step makes of the last operands.
+// The result of a step, from the last operands.
 fn step_value(
     alloc: Global,
     step: Step<usize>,
@@ -93,7 +93,7 @@ fn step_value(
     }
 }
 
-// The values of a function of the last operands, so many. A single argument is changed in place.
+// The values of a function of the last `count` operands. A single argument is changed in place.
 fn call_value(
     alloc: Global,
     function: Function,
@@ -136,7 +136,7 @@ fn call_value(
     }
 }
 
-// The same by a row for each argument.
+// The same, with a row per argument.
 fn by_rows(
     alloc: Global,
     function: Function,
@@ -160,7 +160,7 @@ fn by_rows(
     Ok(row)
 }
 
-// Moves the last operands, so many, to the arguments of a call, as rows.
+// Moves the last `count` operands to the arguments of a call, as rows.
 fn gather_arguments(
     alloc: Global,
     count: usize,

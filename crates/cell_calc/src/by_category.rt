@@ -1,4 +1,4 @@
-//! Expressions whose value depends on the category of one cell alone.
+//! Expressions whose value depends only on the category of one cell.
 
 ghost use Rattle.std.specs.Prelude.{◌≡◌, ◌≤◌, length, map, IfOk, true};
 ghost use Rattle.cell_calc.specs.ByCategory.{IsCategoryStep, IsByCategory, value_of_cell};
@@ -13,10 +13,10 @@ use cell_core::memory::Memory;
 use cell_core::region::Region;
 use std::alloc::Global;
 
-// Looking a value up costs as much as so few steps.
+// Looking a value up costs as much as this many steps.
 const FEW_STEPS: usize = 4;
 
-// Whether a step reads no map but the first, at the cell itself, and does not ask where the cell is.
+// Whether a step reads at most the first map, at the cell itself, and does not ask for the cell's position.
 fn is_category_step(step: Step<usize>) -> bool
     ensures { result ≡ true → IsCategoryStep step }
 {
@@ -28,7 +28,7 @@ fn is_category_step(step: Step<usize>) -> bool
     }
 }
 
-/// Whether an expression is such a one, and takes longer than looking a value up.
+/// Whether an expression has only such steps, and takes longer than looking its value up.
 pub fn is_by_category(bound: &Bound) -> bool
     ensures { result ≡ true → IsByCategory bound.now }
 {

@@ -1,4 +1,4 @@
-//! Stretches of a row: columns side by side in which no window's row changes.
+//! Stretches of a row: adjacent columns in which no window's row changes.
 
 ghost use Rattle.std.specs.Prelude.{◌≡◌, ◌<◌, ◌≤◌, ◌+◌, ◌^◌, ℕ, length, All, IfOk, IfSome, true};
 ghost use Rattle.cell_calc.specs.RowValues.{at};
@@ -11,16 +11,16 @@ use cell_core::memory::Memory;
 use cell_core::runs::fill_run;
 use std::alloc::Global;
 
-// Stretches have to have so many columns in the mean: if they have fewer, a value for each column costs no more.
+// Minimum mean length of stretches, in columns: if they are shorter, a value for each column costs no more.
 const COLUMNS_A_STRETCH: usize = 8;
 
-// So many stretches are looked for in each row.
+// Number of stretches that are looked for in each row.
 const FIRST_STRETCHES: usize = 8;
 
-// So many columns are looked at before any other.
+// Number of columns that are looked at first.
 const FIRST_COLUMNS: usize = 16;
 
-// How many cells at the start are equal to the first one.
+// The number of cells at the start that equal the first one.
 fn count_alike(cells: &[Cell]) -> usize
     requires { 0 < length cells.now }
     ensures within { result ≤ length cells.now }
@@ -35,7 +35,7 @@ fn count_alike(cells: &[Cell]) -> usize
     cells.len()
 }
 
-// Whether half of the first cells of a row or more differ from the one before: there is little to gain then.
+// Whether at least half of the first cells of a row differ from the cell before: then there is little to gain.
 fn begins_with_changes(row: &[Cell]) -> bool {
     let columns = row.len().min(FIRST_COLUMNS);
     let mut changes: usize = 0;
@@ -47,7 +47,7 @@ fn begins_with_changes(row: &[Cell]) -> bool {
     changes >= columns / 2
 }
 
-/// Whether the row of a window begins so. Looks at a few cells of each.
+/// The same for the row of a window, of which only a few cells are looked at.
 pub fn are_changing(windows: &[RowWindow]) -> bool {
     for window in windows {
         if begins_with_changes(window.centre_row()) {
@@ -57,7 +57,7 @@ pub fn are_changing(windows: &[RowWindow]) -> bool {
     false
 }
 
-// Whether the row of each window has so many columns.
+// Whether the row of each window has `cols` columns.
 fn are_wide(windows: &[RowWindow], cols: usize) -> bool
     ensures { result ≡ true → All (HasWidth cols) windows.now }
 {
@@ -69,7 +69,7 @@ fn are_wide(windows: &[RowWindow], cols: usize) -> bool
     true
 }
 
-// In how many columns from one on no row changes, of so many that are left.
+// The number of columns, from `from` and at most `left`, in which no row changes.
 fn alike_in_all(windows: &[RowWindow], from: usize, left: usize) -> usize
     requires wide { All (HasWidth (from + left)) windows.now }
     requires some { 0 < left }
@@ -87,8 +87,8 @@ fn alike_in_all(windows: &[RowWindow], from: usize, left: usize) -> usize
 
 /// The widths of the stretches of the windows' rows, unless there are many.
 ///
-/// They are found in the rows that windows hold, not in the runs of maps, so that the clauses of `eval_row` are about windows
-/// alone. A row with many is given up near its left end.
+/// They are found in the rows that windows hold, not in the runs of maps, so that the clauses of `eval_row` are only
+/// about windows. A row with many stretches is given up near its left end.
 ///
 /// # Errors
 ///
@@ -142,7 +142,7 @@ fn cells_at_starts(alloc: Global, row: &[Cell], widths: &[u32]) -> Result<Vec<Ce
     Ok(cells)
 }
 
-/// For each window one over just the cells where stretches begin.
+/// One window per window, over only the cells where stretches begin.
 ///
 /// # Errors
 ///

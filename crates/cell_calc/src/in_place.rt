@@ -1,4 +1,4 @@
-//! Expressions that need one value for each stretch of a row in which no map changes.
+//! Expressions that need only one value for each stretch of a row in which no map changes.
 
 ghost use Rattle.std.specs.Prelude.{◌≡◌, ◌≤◌, All, IfOk, IfSome, true};
 ghost use Rattle.cell_calc.specs.parts.InPlace.{IsInPlace};
@@ -11,15 +11,15 @@ use cell_calc_grammar::step::Step;
 use cell_core::memory::Memory;
 use std::alloc::Global;
 
-// So many steps for each map have to be saved, so that stretches cost less to find than they save.
+// Steps that must be saved per map, so that stretches save more than finding them costs.
 const STEPS_A_WINDOW: usize = 16;
 
-// Whether an expression has enough steps for its maps.
+// Whether an expression has enough steps per map.
 fn is_long(steps: &[Step<usize>], windows: &[RowWindow]) -> bool {
     steps.len() / STEPS_A_WINDOW >= windows.len()
 }
 
-// Whether a step makes the same of the same cells at each column of a row.
+// Whether a step gives the same value for the same cells at each column of a row.
 fn is_in_place(step: Step<usize>) -> bool
     ensures { result ≡ true → IsInPlace step }
 {

@@ -1,13 +1,13 @@
 //! The values of an expression along a row of its maps (GRASS manual: r.mapcalc).
 //!
-//! Users need this crate alone; it re-exports `parse`, `resolve` and their types.
+//! Users only need this crate; it re-exports `parse`, `resolve` and their types.
 //!
 //! - `rows_of_values`: `eval_row`, the values along a row, from one window for each map
 //! - `window`: `RowWindow`, the rows of a map around a centre row, which moves down; outside the
 //!   map its cells are null (profile); private `window_rows` keeps them
 //! - `rows`, `calls`: operators and functions on rows of cells
 //! - `common_stretches`: spans of columns in which no map changes; one value each is enough
-//! - `by_category`: expressions whose value depends on the category of one cell alone
+//! - `by_category`: expressions whose value depends only on the category of one cell
 //! - private: `along`, the steps of an expression one after another, in strips of 1,024 columns,
 //!   with a stack of operands (`operand`, `strip`); `in_place`, whether one value for each span is
 //!   enough

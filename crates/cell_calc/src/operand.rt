@@ -25,7 +25,7 @@ pub(crate) fn pop_operand(operands: &mut Vec<Operand>) -> Operand
     operands.pop().unwrap()
 }
 
-/// A row of so many cells, whatever they are: one that is free, or a new one.
+/// A row of `width` cells with any contents: a free one, or a new one.
 #[inline(never)]
 pub(crate) fn spare_row(
     alloc: Global,
@@ -43,7 +43,7 @@ pub(crate) fn spare_row(
     Ok(Vec::from_elem(alloc, Cell::null(), width)?)
 }
 
-// The row so far below the centre of the window at a place.
+// The row at the given distance below the centre of the window at a place.
 fn window_row<'a>(windows: &'a [RowWindow], place: usize, down: i32) -> &'a [Cell]
     requires { IsInReach down (slice_get windows.now place) }
     ensures { result.now ≡ row_below down (slice_get windows.now place) }
@@ -51,7 +51,7 @@ fn window_row<'a>(windows: &'a [RowWindow], place: usize, down: i32) -> &'a [Cel
     windows[place].row(down)
 }
 
-/// The cells of an operand, in a row that may be written over.
+/// The cells of an operand, in a row that may be overwritten.
 ///
 /// It is inlined, since most operands of operators are rows, which are only passed on.
 #[inline(always)]
@@ -84,7 +84,7 @@ pub(crate) fn row_of(
     }
 }
 
-/// The values of an operator, in a row that may be written over.
+/// The values of an operator, in a row that may be overwritten.
 pub(crate) fn binary_value(
     alloc: Global,
     operator: Operator,
@@ -106,8 +106,8 @@ pub(crate) fn binary_value(
     Ok(row)
 }
 
-// Applies an operator to the cells of a row, which are its left operands. The right ones need no row of their own if they
-// are a number, or lie in the row of a map; else their row is free afterwards.
+// Applies an operator to the cells of a row, which are its left operands. The right ones need no row of their own if
+// they are a number or part of a map's row; otherwise their row is free afterwards.
 fn apply_to_operands(
     operator: Operator,
     right: Operand,
@@ -141,8 +141,8 @@ fn apply_to_operands(
     }
 }
 
-/// The values of `if` of three arguments. The first choice needs no row of its own if it is a number, or lies in the row of
-/// a map.
+/// The values of `if` with three arguments. The first choice needs no row of its own if it is a number or part of a
+/// map's row.
 pub(crate) fn choice_value(
     alloc: Global,
     condition: Operand,
@@ -168,7 +168,7 @@ pub(crate) fn choice_value(
     Ok(row)
 }
 
-// Puts the cells of an operand into a row if conditions hold.
+// Copies the cells of an operand into a row where conditions hold.
 fn choose_operands(
     alloc: Global,
     yes: Operand,
@@ -205,7 +205,7 @@ fn choose_operands(
     }
 }
 
-// Puts the cells of another row into a row if conditions hold; the other row is free afterwards.
+// Copies the cells of another row into a row where conditions hold; the other row is free afterwards.
 fn choose_row(
     others: Vec<Cell>,
     conditions: &[Cell],

@@ -30,9 +30,9 @@ pub(crate) fn each<F: Fn(Cell) -> Cell>(row: &mut [Cell], f: F)
     }
 }
 
-/// Changes each cell of a row by the cell of another row in its column.
+/// Changes each cell of a row using the cell of another row in its column.
 ///
-/// Callers pass named functions, since a closure would be proved by itself at each place.
+/// Callers pass named functions, since a closure would be proved anew at each use.
 pub(crate) fn combine<F: Fn(Cell, Cell) -> Cell>(row: &mut [Cell], other: &[Cell], f: F)
     requires callable { F.IsAlwaysCallable f }
     requires width { length other.now ≡ length row.old }
@@ -44,7 +44,7 @@ pub(crate) fn combine<F: Fn(Cell, Cell) -> Cell>(row: &mut [Cell], other: &[Cell
     }
 }
 
-/// Changes each cell of a row by one and the same other.
+/// Changes each cell of a row using one other cell.
 pub(crate) fn combine_one<F: Fn(Cell, Cell) -> Cell>(row: &mut [Cell], other: Cell, f: F)
     requires callable { F.IsAlwaysCallable f }
     ensures { (c : ℕ) → c < length row.old → F.post f (at row.old c) other (at row.new c) }
@@ -66,7 +66,7 @@ pub fn choose(row: &mut [Cell], conditions: &[Cell], yes: &[Cell])
     }
 }
 
-/// The same with one cell for a row.
+/// The same with one cell in place of a row.
 pub fn choose_one(row: &mut [Cell], conditions: &[Cell], yes: Cell)
     requires width { length conditions.now ≡ length row.old }
     ensures { Becomes row.old row.new
@@ -77,7 +77,7 @@ pub fn choose_one(row: &mut [Cell], conditions: &[Cell], yes: Cell)
     }
 }
 
-/// The columns' numbers, from 1, of a strip that begins at a column from 0.
+/// The numbers, from 1, of the columns of a strip that begins at a column counted from 0.
 pub(crate) fn number(row: &mut [Cell], from: usize)
     requires { from + length row.old ≤ 65535 }
     ensures { Becomes row.old row.new (λ c. Some (pos (from + c + 1))) }
@@ -114,7 +114,7 @@ fn from_left(source: &[Cell], skip: usize, row: &mut [Cell])
     }
 }
 
-// The column that is so many columns to the right of another; below 0 it lies before the row.
+// The column `right` columns to the right of `from`; below 0 it is before the row.
 fn shifted_column(from: usize, right: i32) -> i64
     requires { from ≤ 65535 }
     ensures { result ≡ pos from +ℤ right }
@@ -122,7 +122,7 @@ fn shifted_column(from: usize, right: i32) -> i64
     from as i64 + right as i64
 }
 
-/// The part of a row that lies so many columns to the right of a strip, if all of it lies inside.
+/// The part of a row that is `right` columns to the right of a strip, if all of it is inside the row.
 pub fn inside<'a>(source: &'a [Cell], from: usize, right: i32, width: usize) -> Option<&'a [Cell]>
     requires { from ≤ 65535 }
     ensures width { IfSome result (λ part. length part.now ≡ width) }
@@ -140,7 +140,7 @@ pub fn inside<'a>(source: &'a [Cell], from: usize, right: i32, width: usize) -> 
     Some(&source[first..first + width])
 }
 
-/// The cells of a row so many columns to the right, null outside, of a strip that begins at a column.
+/// The cells of a row that are `right` columns to the right of a strip beginning at `from`, null outside the row.
 pub fn shift(source: &[Cell], from: usize, right: i32, row: &mut [Cell])
     requires { from ≤ 65535 }
     ensures { Becomes row.old row.new
@@ -152,7 +152,7 @@ pub fn shift(source: &[Cell], from: usize, right: i32, row: &mut [Cell])
     }
 }
 
-// The same if some of them are outside.
+// The same, if some of them are outside.
 fn shift_over_the_edge(source: &[Cell], from: usize, right: i32, row: &mut [Cell])
     requires { from ≤ 65535 }
     ensures { Becomes row.old row.new
@@ -245,7 +245,7 @@ pub(crate) fn choose_or_zero(row: &mut [Cell], other: &[Cell])
     }
 }
 
-/// The values of an operator along a row, which holds its left operands.
+/// Applies an operator to a row, which holds its left operands.
 pub fn apply_operator(operator: Operator, row: &mut [Cell], other: &[Cell])
     requires width { length other.now ≡ length row.old }
     ensures { Becomes row.old row.new
@@ -270,7 +270,7 @@ pub fn apply_operator(operator: Operator, row: &mut [Cell], other: &[Cell])
     }
 }
 
-/// The values of an operator along a row, which holds its left operands; the right one is the same cell everywhere.
+/// Applies an operator to a row, which holds its left operands; the right operand is one cell.
 pub fn apply_one(operator: Operator, row: &mut [Cell], b: Cell)
     ensures { Becomes row.old row.new (λ c. operator_value operator (at row.old c) b) }
 {
@@ -293,8 +293,8 @@ pub fn apply_one(operator: Operator, row: &mut [Cell], b: Cell)
     }
 }
 
-// Where a row lies under a strip: its first cell there, the column of the strip that is over that cell, and how many
-// cells they share.
+// How a row overlaps a strip: the row's first cell in it, the strip's column there, and the number of cells that they
+// share.
 #[derive(Clone, Copy)]
 struct Overlap {
     first: usize,
@@ -302,7 +302,7 @@ struct Overlap {
     count: usize,
 }
 
-// The overlap of a row of so many cells, moved to the left, with a strip of a width that begins at a column.
+// The overlap of a row of `cells` cells, moved to the left, with a strip of `width` columns that begins at `from`.
 fn overlap_of(cells: usize, right: i32, from: usize, width: usize) -> Overlap
     requires { from ≤ 65535 }
     ensures strip { result.before + result.count ≤ width }
@@ -332,8 +332,8 @@ fn overlap_of(cells: usize, right: i32, from: usize, width: usize) -> Overlap
     }
 }
 
-/// The values of an operator along a strip, which holds its left operands and begins at a column; the right ones are the
-/// cells of another row so many columns to the right, null outside.
+/// Applies an operator along a strip that begins at `from`. The strip holds the left operands; the right ones are the
+/// cells of `source` that are `right` columns to the right, null outside.
 pub fn apply_shifted(operator: Operator, row: &mut [Cell], source: &[Cell], right: i32, from: usize)
     requires { from ≤ 65535 }
     ensures { Becomes row.old row.new

@@ -25,7 +25,7 @@ use cell_core::memory::Memory;
 use cell_core::region::Region;
 use std::alloc::Global;
 
-// The columns whose values are worked out at a time, so that the rows that a value needs stay near.
+// Number of columns computed at a time, so that the rows of a value stay in cache.
 const STRIP: usize = 1024;
 
 // The values of an expression along the first columns of a row, strip by strip.
@@ -80,7 +80,7 @@ pub(crate) fn along_columns(
     Ok(cells)
 }
 
-// A value for each stretch of a row: the value of each column which has the cells where the stretch begins.
+// The value of each stretch of a row: the value at each of its columns.
 fn along_stretches(
     alloc: Global,
     steps: &[Step<usize>],
@@ -105,7 +105,7 @@ fn along_stretches(
     Ok(values)
 }
 
-// Writes the values of an expression along a row: one for each stretch if these are few, else one for each column.
+// Writes the values of an expression along a row: one per stretch if there are few stretches, else one per column.
 fn write_row(
     alloc: Global,
     steps: &[Step<usize>],

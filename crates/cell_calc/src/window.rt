@@ -14,7 +14,7 @@ use cell_core::memory::Memory;
 use std::alloc::Global;
 use std::marker::Model;
 
-/// The rows of a map from some above a centre row to some below it. The centre moves down.
+/// The rows of a map around a centre row. The centre moves down.
 #[derive(Drop)]
 pub struct RowWindow {
     above: u32,
@@ -57,7 +57,7 @@ impl RowWindow {
         ensures centre { IfOk result (λ w. w.centre ≡ 0) }
     {
         let region = map.region();
-        // A map with fewer rows than the window needs no more memory than its rows.
+        // On a map with fewer rows than that, the window only needs memory for the map's rows.
         let capacity = (above + below + 1).min(region.rows());
         let mut held = WindowRows::new(alloc, capacity as usize, region.cols())?;
         for r in 0..below + 1 {
@@ -72,7 +72,7 @@ impl RowWindow {
         })
     }
 
-    /// The row that it is at, from 0.
+    /// The centre row, from 0.
     pub fn centre(&self) -> u32
         ensures value { result ≡ self.now.centre }
         ensures within { self.now.centre < self.now.rows }
@@ -80,7 +80,7 @@ impl RowWindow {
         self.centre
     }
 
-    /// The most rows that it holds at a time.
+    /// The largest number of rows that it holds at a time.
     pub fn capacity(&self) -> usize
         ensures value { result ≡ self.now.above + self.now.below + 1 }
         ensures held { length self.now.held ≤ result }
@@ -103,7 +103,7 @@ impl RowWindow {
         self.centre += 1;
     }
 
-    /// The map's cell so many rows below the centre and at a column, null outside its region.
+    /// The map's cell `dr` rows below the centre, in column `c`; null outside its region.
     pub fn cell(&self, dr: i32, c: i64) -> Cell
         requires { Reaches self.now dr }
         ensures { (m : Grid) → IsWindowOf self.now m
@@ -131,14 +131,14 @@ impl RowWindow {
         })
     }
 
-    /// The cells of the row that it is at.
+    /// The cells of the centre row.
     pub fn centre_row(&self) -> &[Cell]
         ensures { result.now ≡ centre_row self.now }
     {
         self.row(0)
     }
 
-    /// The cells of the row so many below the centre, none outside the map.
+    /// The cells of the row `down` rows below the centre; none outside the map.
     pub fn row(&self, down: i32) -> &[Cell]
         requires { Reaches self.now down }
         ensures held { result.now ≡ row_below down (Some self.now) }
@@ -153,7 +153,7 @@ impl RowWindow {
     }
 }
 
-// The place of the row so many below a centre, from a first row on.
+// The index, counted from row `first`, of the row `down` rows below the centre.
 fn row_place(centre: u32, first: u32, down: i32) -> Option<usize>
     ensures some { IfSome result (λ i. pos (first + i) ≡ pos centre +ℤ down) }
     ensures none { IfNone result ((pos centre +ℤ down) <ℤ pos first) }

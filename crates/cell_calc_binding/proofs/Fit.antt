@@ -14,7 +14,7 @@ category_fits : (n : ℤ) → is_category n ≡ true → FitsSigned w32 n
 category_fits (pos n) h = grind (arith, ints)
 category_fits (negsuc n) h = grind (arith, ints)
 
--- what does not fit is no category
+-- a value that does not fit is not a category
 no_category : (n : ℤ) (b : Bool) → is_category n ≡ b → (FitsSigned w32 n → ⊥) → fit n ≡ None
 no_category n true h f = absurd (f (category_fits n h))
 no_category n false h f = rw h

@@ -8,7 +8,7 @@ use Rattle.cell_calc_grammar.specs.declared.function.Function.TheVariants as fun
 use Rattle.cell_calc_grammar.specs.declared.operator.Operator.{Operator}
 use Rattle.cell_calc_grammar.specs.declared.operator.Operator.TheVariants as operator
 
--- where a value is asked for: a row and a column from 0, among so many
+-- the position whose value is asked for, from 0, and the size of the grid
 pub record GridPosition : Type 0 where
   pub rows : ℕ
   pub cols : ℕ
@@ -19,7 +19,7 @@ pub record GridPosition : Type 0 where
 abbrev pub grid_position : RegionValue → (row col : ℕ) → GridPosition
 grid_position region row col = record { rows = region.rows; cols = region.cols; row = row; col = col }
 
--- minus; 1 if it is 0, else 0; its size
+-- its negation; 1 if it is 0, else 0; its absolute value
 abbrev pub negated_cell : CellValue → CellValue
 negated_cell a = of_one (λ x. fit (neg_ℤ x)) a
 

@@ -1,11 +1,11 @@
--- What operators and functions make of cells (r.mapcalc manual; the range, division, ties and nulls among known ones are the profile's).
+-- Operators and functions on cells (r.mapcalc manual; range, division, ties and nulls among known ones: profile).
 use Rattle.std.specs.Prelude.{ℕ, ℤ, pos, negsuc, int_le, Bool, true, false, not, ◌&&◌, ◌||◌, ◌==◌, nat_le, List, [], ◌∷◌, Some, None, slice_index_or, length, ◌-◌, if◌then◌else◌, filter, fold, count_by}
 use Rattle.std.specs.Int.{int_min, int_max}
 use Rattle.std.specs.List.{list_any, list_all}
 use Rattle.cell_core_values.specs.Cell.{cell_eq, is_category}
 use Rattle.cell_core.specs.Grid.{CellValue}
 
--- a result outside it is null
+-- a result out of range is null
 abbrev pub fit : ℤ → CellValue
 fit n = if is_category n then Some n else None
 
@@ -18,12 +18,12 @@ is_zero (negsuc n) = false
 abbrev pub truth : Bool → CellValue
 truth b = if b then Some (pos 1) else Some (pos 0)
 
--- of a category; null for null
+-- a function of a category; null for null
 abbrev pub of_one : (ℤ → CellValue) → CellValue → CellValue
 of_one f None = None
 of_one f (Some x) = f x
 
--- of two categories; null if one is null
+-- a function of two categories; null if one is null
 abbrev pub of_both : (ℤ → ℤ → CellValue) → CellValue → CellValue → CellValue
 of_both f None b = None
 of_both f (Some x) None = None
@@ -34,7 +34,7 @@ abbrev pub is_null : CellValue → Bool
 is_null None = true
 is_null (Some x) = false
 
--- 0, and no null
+-- a cell that is 0, not null
 abbrev pub is_false : CellValue → Bool
 is_false None = false
 is_false (Some x) = is_zero x
@@ -81,7 +81,7 @@ known_cells xs = filter (λ a. not (is_null a)) xs
 abbrev pub occurrences : CellValue → List CellValue → ℕ
 occurrences v xs = count_by (cell_eq v) xs
 
--- none of the values occurs more often than this one
+-- none of the values occurs more often than this
 abbrev pub is_most_frequent : List CellValue → CellValue → Bool
 is_most_frequent xs v = list_all (λ w. nat_le (occurrences w xs) (occurrences v xs)) xs
 
@@ -102,7 +102,7 @@ first_known (a ∷ xs) = a
 abbrev pub last_argument : List CellValue → CellValue
 last_argument xs = slice_index_or xs (length xs - 1) None
 
--- if(x) is as if(x,1,0), and if(x,a) as if(x,a,0)
+-- if(x) means if(x,1,0), and if(x,a) means if(x,a,0)
 abbrev pub if_of : List CellValue → CellValue
 if_of (x ∷ []) = chosen_cell x (Some (pos 1)) (Some (pos 0))
 if_of (x ∷ a ∷ []) = chosen_cell x a (Some (pos 0))

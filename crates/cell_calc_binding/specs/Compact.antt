@@ -1,4 +1,4 @@
--- Expressions over just the maps that they read.
+-- Expressions over only the maps that they read.
 use Rattle.std.specs.Prelude.{◌≡◌, ◌≢◌, ◌⊎◌, ℕ, List, Some, slice_get, AllPairs}
 use Rattle.cell_core.specs.Grid.{Grid}
 use Rattle.cell_calc_binding.specs.Formula.{Formula, Number, Map, Negated, Not, Binary, Call, Formulas, NoTrees, Then}
@@ -22,7 +22,7 @@ abbrev mutual
 abbrev pub AreMapsRead : List ℕ → Formula → Type 0
 AreMapsRead places f = (k i : ℕ) → slice_get places k ≡ Some i → ReadsMap i f
 
--- maps that are those at places of others, in the order of the places
+-- these maps are the maps at the given places, in the order of the places
 abbrev pub ArePicked : List ℕ → (maps picked : List Grid) → Type 0
 ArePicked places maps picked = (k i : ℕ) → slice_get places k ≡ Some i → slice_get picked k ≡ slice_get maps i
 

@@ -1,5 +1,5 @@
--- What operators and functions of r.mapcalc make of cells.
--- Expressions of r.mapcalc whose maps are places: what they are bound to, their values at cells, which maps they read and how far.
+-- Operators and functions of r.mapcalc on cells. Expressions of r.mapcalc whose maps are places: their names and
+-- places, their values at cells, which maps they read and how far.
 pub mod Applied
 pub mod CellOperators
 pub mod Joins

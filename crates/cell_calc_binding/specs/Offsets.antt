@@ -2,12 +2,12 @@
 use Rattle.std.specs.Prelude.{ℕ, ℤ, pos, negsuc, List, [], Option, Some, None, slice_index_or}
 use Rattle.cell_core.specs.Grid.{Grid, CellValue}
 
--- an item of a list by any whole number, counted from 0; another thing outside
+-- an item of a list at any whole number, counted from 0; a default outside the list
 abbrev pub item_at : {A : Type 0} → A → List A → ℤ → A
 item_at outside xs (pos n) = slice_index_or xs n outside
 item_at outside xs (negsuc n) = outside
 
--- the cells of a map's row, none outside
+-- the cells of a map's row; none outside
 abbrev pub row_of : Grid → ℤ → List CellValue
 row_of m r = item_at [] m.rows r
 

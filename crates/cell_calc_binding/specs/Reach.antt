@@ -8,7 +8,7 @@ use Rattle.cell_calc_language.specs.Grammatical.{up_by, down_by, IsGrammatical}
 abbrev pub top_at : (place : ℕ) (down right : ℤ) → ℕ
 top_at i down right = i + 1
 
--- the rows up that an offset for a place asks for
+-- the rows up that an offset of the map at a place asks for
 abbrev pub up_at : ℕ → (place : ℕ) (down right : ℤ) → ℕ
 up_at i j down right = if i == j then up_by down else 0
 
@@ -23,20 +23,20 @@ top_of f = fold_maps top_at 0 max f
 abbrev pub top_of_all : Formulas → ℕ
 top_of_all xs = fold_all top_at 0 max xs
 
--- the most rows up that an offset for a place asks for
+-- the largest number of rows up in an offset of the map at a place
 abbrev pub up_of : ℕ → Formula → ℕ
 up_of i f = fold_maps (up_at i) 0 max f
 
 abbrev pub up_of_all : ℕ → Formulas → ℕ
 up_of_all i xs = fold_all (up_at i) 0 max xs
 
--- the most rows down
+-- the largest number of rows down
 abbrev pub down_of : ℕ → Formula → ℕ
 down_of i f = fold_maps (down_at i) 0 max f
 
 abbrev pub down_of_all : ℕ → Formulas → ℕ
 down_of_all i xs = fold_all (down_at i) 0 max xs
 
--- what the language keeps: numbers that are categories, offsets from -255 to 255, numbers of arguments that are allowed; places in a list
+-- as the language guarantees: numbers are categories, offsets within ±255, arguments allowed; places are in a list
 abbrev pub IsProper : Formula → Type 0
 IsProper f = IsGrammatical f × (top_of f < 2 ^ 64)

@@ -68,7 +68,8 @@ pub fn resolve(alloc: Global, expr: &Expr, names: &Names) -> Result<Bound, CalcF
         (λ column. IsErrOf result (record { kind = CalcKind.UnknownMap; column = column })) }
     ensures err { IfErr result (λ fault. IsBindingFault names.now expr.now fault) }
 {
-    // Names are looked up twice, first without taking memory: so an unknown map is reported however much memory there is.
+    // Names are looked up twice, first without allocating: so an unknown map is reported even if there is little
+    // memory.
     if let Some(column) = expr.first_unknown(names) {
         return Err(CalcFault {
             kind: CalcKind::UnknownMap,

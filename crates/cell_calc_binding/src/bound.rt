@@ -112,14 +112,14 @@ fn down(i: usize, steps: &[Step<usize>]) -> u32
 }
 
 impl Bound {
-    /// One more than the largest place that is read, 0 if no map is. Takes no memory.
+    /// One more than the largest place that is read; 0 if no map is read. Takes no memory.
     pub fn top(&self) -> usize
         ensures { result ≡ top_of self.now }
     {
         top(self.steps.as_slice())
     }
 
-    /// The most rows up and down that an offset for the map at a place asks for. Takes no memory.
+    /// The largest number of rows up and down in an offset of the map at a place. Takes no memory.
     pub fn reach(&self, i: usize) -> (u32, u32)
         requires { i < top_of self.now }
         ensures up { result.0 ≡ up_of i self.now }

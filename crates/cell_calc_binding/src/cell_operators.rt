@@ -1,4 +1,4 @@
-//! What operators and functions do with cells.
+//! Operators and functions on cells.
 
 ghost use Rattle.std.specs.Prelude.{◌≡◌, pos, ◌+ℤ◌, ◌-ℤ◌, ◌*ℤ◌, ◌≤ℤ◌, ◌≤◌, Some, negsuc, neg_ℤ, int_div, unsigned_abs, false};
 ghost use Rattle.cell_calc_binding.specs.CellOperators.{fit, truth, chosen_cell, lesser, greater, is_zero, is_false, is_true, is_null, known_and, known_or, of_one};
@@ -29,7 +29,7 @@ pub fn number(number: u32) -> Cell
     fit(number as i32)
 }
 
-/// A result that was found, null if none was.
+/// A result, or null if there is none.
 #[inline(always)]
 fn cell_or_null(number: Option<i32>) -> Cell
     ensures { result ≡ of_one (λ n. fit n) number }
@@ -40,7 +40,7 @@ fn cell_or_null(number: Option<i32>) -> Cell
     }
 }
 
-/// 1 if something holds, 0 if not.
+/// 1 if a condition holds, 0 if not.
 #[inline(always)]
 pub fn truth(holds: bool) -> Cell
     ensures { result ≡ truth holds }
@@ -86,7 +86,7 @@ fn is_true(a: Cell) -> bool
     }
 }
 
-// The compiler makes vectors of this test for a sum that wraps, and of a checked sum it does not.
+// The compiler vectorises this test for a wrapping sum, but not for a checked sum.
 #[inline(always)]
 fn sum_of(x: i32, y: i32) -> Cell
     ensures { result ≡ fit (x +ℤ y) }
@@ -169,7 +169,7 @@ pub fn product(a: Cell, b: Cell) -> Cell
     }
 }
 
-/// `a / b`, cut off towards zero; null if one of them is null, or `b` is 0 (GRASS manual: r.mapcalc).
+/// `a / b`, truncated towards zero; null if one of them is null, or `b` is 0 (GRASS manual: r.mapcalc).
 #[inline(always)]
 pub fn quotient(a: Cell, b: Cell) -> Cell
     ensures { result ≡ operator_value operator.Divide a b }
@@ -291,7 +291,7 @@ pub fn or(a: Cell, b: Cell) -> Cell
     }
 }
 
-/// The lesser of two cells; null if one of them is null.
+/// The smaller of two cells; null if one of them is null.
 #[inline(always)]
 pub fn lesser(a: Cell, b: Cell) -> Cell
     ensures { result ≡ lesser a b }
@@ -341,7 +341,7 @@ pub fn known_or(a: Cell, b: Cell) -> Cell
     fit(0)
 }
 
-/// The lesser of two cells, or the one that is not null.
+/// The smaller of two cells, or the one that is not null.
 #[inline(always)]
 pub fn known_lesser(a: Cell, b: Cell) -> Cell
     ensures { result ≡ known_lesser a b }

@@ -1,4 +1,4 @@
-//! Expressions over just the maps that they read.
+//! Expressions over only the maps that they read.
 
 ghost use Rattle.std.specs.Prelude.{◌≡◌, ◌<◌, ◌+◌, ℕ, List, length, max, All, IfOk};
 ghost use Rattle.cell_core.specs.Grid.{Grid};
@@ -15,7 +15,7 @@ use cell_calc_grammar::step::Step;
 use cell_core::memory::Memory;
 use std::alloc::Global;
 
-// The index of a place in a list: past its end if it is not in it.
+// The index of a place in a list; the length of the list if it is not there.
 fn listed_place(places: &[usize], place: usize) -> usize
     ensures { result ≡ index_in places.now place }
 {
@@ -27,7 +27,7 @@ fn listed_place(places: &[usize], place: usize) -> usize
     places.len()
 }
 
-// The index of a place in a list: last if it was not in it.
+// The index of a place in a list, to which it is added if it was not there.
 fn place_or_new(places: &mut Vec<usize>, place: usize) -> Result<usize, Memory>
     ensures there { IfOk result (λ k. k ≡ index_in places.new.items place) }
     ensures count { IfOk result (λ k. length places.new.items
@@ -44,7 +44,7 @@ fn place_or_new(places: &mut Vec<usize>, place: usize) -> Result<usize, Memory>
     Ok(k)
 }
 
-// A step over the places in a list, to which the one that it reads is added.
+// A step over the places in a list, to which the step's place is added.
 fn step_over_new_place(step: Step<usize>, places: &mut Vec<usize>) -> Result<Step<usize>, Memory>
     ensures step { IfOk result (λ s. s ≡ step_over (index_in places.new.items) step) }
     ensures listed { IfOk result (λ _. IsListed places.new.items step) }
@@ -64,7 +64,7 @@ fn step_over_new_place(step: Step<usize>, places: &mut Vec<usize>) -> Result<Ste
     }
 }
 
-// Steps over a list of just the places that they read, and that list.
+// Renumbers steps so that they index only the maps that they read. Returns the steps and the places of these maps.
 fn steps_over_read_maps(
     alloc: Global,
     steps: &[Step<usize>],

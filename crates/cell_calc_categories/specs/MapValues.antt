@@ -6,7 +6,7 @@ use Rattle.cell_calc_binding.specs.Applied.{grid_position}
 use Rattle.cell_calc_binding.specs.Formula.{Formula}
 use Rattle.cell_calc_binding.specs.Value.{value}
 
--- a map of a region without labels, with the value of an expression over maps at each cell
+-- a map of a region without labels; each cell has the value of an expression over maps
 pub record HasValues (f : Formula) (r : RegionValue) (maps : List Grid) (m : Grid) : Type 0 where
   pub region : m.region ≡ r
   pub labels : m.labels ≡ no_labels

@@ -1,3 +1,3 @@
--- What only private functions and proofs cite.
+-- Definitions that only private functions and proofs use.
 pub mod CategorySpans
 pub mod ValueTables

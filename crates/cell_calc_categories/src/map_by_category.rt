@@ -1,5 +1,5 @@
-//! Maps of values that depend on the category of one cell alone: a value is worked out once for each category, and looked up
-//! for each cell.
+//! Maps of values that depend only on the category of one cell: a value is computed once for each category, and looked
+//! up for each cell.
 
 ghost use Rattle.std.specs.Prelude.{◌≡◌, ◌<◌, ◌≤◌, ◌+◌, ℕ, List, [], ◌∷◌, ◌++◌, length, map, All, Some, IfOk, OnOk, IfSome, slice_get, slice_index_or};
 ghost use Rattle.cell_core.specs.Grid.{Grid, CellValue, row_at, no_labels};
@@ -23,10 +23,10 @@ use cell_core::stretches::Stretches;
 use cell_core_values::small_cells::{are_small, bytes_of, cell_of_byte};
 use std::alloc::Global;
 
-// How many bytes there are.
+// The number of different bytes.
 const BYTES: usize = 256;
 
-// The cells at so many places of a span, from one on.
+// `width` categories of a span, as cells, starting at place `from`.
 fn cells_of_span(
     alloc: Global,
     span: CategorySpan,
@@ -76,7 +76,7 @@ fn values_of_span(
     Ok(table)
 }
 
-// Puts the value at a cell's place of a table in place of each cell.
+// Replaces each cell with the value at its place in a table.
 #[inline(never)]
 fn change_cells(span: CategorySpan, table: &[Cell], cells: &mut [Cell])
     requires span { IsSpan span }
@@ -90,7 +90,7 @@ fn change_cells(span: CategorySpan, table: &[Cell], cells: &mut [Cell])
     }
 }
 
-// Writes the values of stretches into a slice as long as they are.
+// Writes the values of stretches into a slice of their total length.
 fn write_by_stretches(
     span: CategorySpan,
     table: &[Cell],
@@ -112,7 +112,7 @@ fn write_by_stretches(
     }
 }
 
-// Writes the values of a map's row. Only a row that is kept as its runs is worked on run by run.
+// Writes the values of a map's row. Only a row that is kept as runs is processed run by run.
 fn write_row(span: CategorySpan, table: &[Cell], given: &CellMap, row: u32, cells: &mut [Cell])
     requires span { IsSpan span }
     requires size { IsSize span (length table.now) }
@@ -142,7 +142,7 @@ fn cells_of_all_bytes(alloc: Global) -> Result<Vec<Cell>, Memory>
     Ok(cells)
 }
 
-// The bytes that stand for the values of the cells that bytes stand for, if there are such bytes.
+// The bytes of the values of cells kept as bytes, if all of these values have bytes.
 fn byte_table(alloc: Global, span: CategorySpan, table: &[Cell]) -> Result<Option<Vec<u8>>, Memory>
     requires span { IsSpan span }
     requires size { IsSize span (length table.now) }
@@ -160,8 +160,8 @@ fn byte_table(alloc: Global, span: CategorySpan, table: &[Cell]) -> Result<Optio
     Ok(Some(bytes))
 }
 
-// Puts the byte at each byte's place of a table into a slice of as many. It is a call of its own, so that the table's place
-// stays in a register.
+// Looks each byte up in a table, and writes the results into a slice of the same length. It is a call of its own, so
+// that the address of the table stays in a register.
 #[inline(never)]
 fn write_bytes(table: &[u8], bytes: &[u8], values: &mut [u8])
     requires table { length table.now ≡ 256 }
@@ -174,7 +174,7 @@ fn write_bytes(table: &[u8], bytes: &[u8], values: &mut [u8])
     }
 }
 
-// Puts the values of a map's row below the rows of another map: as bytes, if the row and the values are bytes.
+// Adds the values of a map's row at the bottom of another map: as bytes, if the row and the values are bytes.
 fn push_values(
     builder: &mut MapBuilder,
     given: &CellMap,
@@ -210,7 +210,7 @@ fn push_values(
     builder.push_row(cells)
 }
 
-// The map of the values of a table.
+// The map of the values in a table.
 fn map_of_values(
     alloc: Global,
     given: &CellMap,
@@ -242,8 +242,8 @@ fn map_of_values(
     Ok(builder.finish())
 }
 
-/// The map of an expression's values over maps of which it reads the first alone, if a value depends on the category of the
-/// cell itself alone, and a table of values costs less than working each out.
+/// The map of an expression's values over maps, if the expression reads only the first of them, a value depends only on
+/// the category of the cell itself, and a table of values costs less than computing each one.
 ///
 /// # Errors
 ///

@@ -10,16 +10,16 @@ use cell_core::cell::Cell;
 use cell_core::map::CellMap;
 use cell_core::stretches::Stretches;
 
-// A map has at least so many cells for each category of its span, so that a table costs little.
+// A table is made only if a map has at least this many cells per category of its span, so that the table costs little.
 const CELLS_A_CATEGORY: u32 = 8;
 
-// A table has at most so many places, so that it stays near.
+// Maximum number of places in a table, so that it stays in the cache.
 const MOST_PLACES: u32 = 65536;
 
 // The largest category that a byte stands for.
 const GREATEST_BYTE: i32 = 254;
 
-/// The categories from one to another.
+/// The categories from a smallest to a largest one.
 #[derive(Clone, Copy)]
 pub(crate) struct CategorySpan {
     pub(crate) least: i32,
@@ -65,7 +65,7 @@ impl CategorySpan {
         }
     }
 
-    // The span with one more cell.
+    // The span extended by a cell.
     #[inline(always)]
     fn with(self, cell: Cell) -> CategorySpan
         requires { IsSpan self }
@@ -82,7 +82,7 @@ impl CategorySpan {
         }
     }
 
-    // The span with more cells.
+    // The span extended by cells.
     fn with_cells(self, cells: &[Cell]) -> CategorySpan
         requires { IsSpan self }
         ensures span { IsSpan result }
@@ -96,7 +96,7 @@ impl CategorySpan {
         span
     }
 
-    // The span with the cells of stretches.
+    // The span extended by the cells of stretches.
     fn with_stretches(self, stretches: Stretches<'_>) -> CategorySpan
         requires { IsSpan self }
         ensures span { IsSpan result }
@@ -110,7 +110,7 @@ impl CategorySpan {
         span
     }
 
-    // The span with the cells that bytes stand for: it has them already.
+    // The span extended by cells kept as bytes: it contains them already.
     fn with_bytes(self, bytes: &[u8]) -> CategorySpan
         requires { IsSpan self }
         ensures same { result ≡ self }
@@ -120,7 +120,7 @@ impl CategorySpan {
         self
     }
 
-    // The span with the cells of a map's row.
+    // The span extended by the cells of a map's row.
     fn with_row(self, given: &CellMap, row: u32) -> CategorySpan
         requires span { IsSpan self }
         requires row { row < given.now.region.rows }
@@ -138,7 +138,7 @@ impl CategorySpan {
     }
 }
 
-/// The span of the cells of a map and of the cells that bytes stand for, unless it is too wide for a table.
+/// The span of the cells of a map and of all cells that bytes stand for, unless it is too wide for a table.
 pub(crate) fn span_of(given: &CellMap) -> Option<CategorySpan>
     ensures span { IfSome result IsSpan }
     ensures within { IfSome result (λ span. (row : ℕ) → row < given.now.region.rows

@@ -78,7 +78,7 @@ finds_next : (s : Placed) {ts rest : List Placed} {o : ReadOutcome} → IsNoName
 finds_next s {rest = rest} {o = o} n w =
     record { before = s ∷ w.before; all = ap (λ l. s ∷ l) w.all; finds = finds_after s w.before rest o n w.finds }
 
--- an outcome that is no stop says nothing of the names
+-- an outcome that is not a stop says nothing about the names
 finds_any : {ts rest : List Placed} (o : ReadOutcome) {p : ReadOutcome} → IsNoStop o → Finds ts rest o → Finds ts rest p
 finds_any o n f = record {
   before = f.before;

@@ -1,4 +1,4 @@
--- The functions of expressions, and how many arguments they take (r.mapcalc manual, "Functions").
+-- The functions of expressions, and how many arguments they accept (r.mapcalc manual, "Functions").
 use Rattle.std.specs.Prelude.{ℕ, Bool, ◌&&◌, ◌==◌, nat_le, List, [], ◌∷◌, Option, Some, None, codes, bytes_eq, cond}
 use Rattle.cell_calc_grammar.specs.declared.function.Function.{Function}
 use Rattle.cell_calc_grammar.specs.declared.function.Function.TheVariants.{If, IsNull, Null, Abs, Min, Max, Mode, Row, Column, RowCount, ColumnCount, Eval, KnownMin, KnownMax, KnownMode}
@@ -23,16 +23,16 @@ names =
     ∷ (codes "nmode", KnownMode)
     ∷ []
 
--- the function of a name among these
+-- the function with a name among these
 abbrev pub named_among : List (List ℕ × Function) → List ℕ → Option Function
 named_among [] name = None
 named_among (f ∷ fs) name = cond (bytes_eq name f.0) (Some f.1) (named_among fs name)
 
--- the function of a name
+-- the function with a name
 abbrev pub function_of : List ℕ → Option Function
 function_of name = named_among names name
 
--- whether a function takes so many arguments
+-- whether a function accepts n arguments
 abbrev pub accepts : Function → ℕ → Bool
 accepts If n = nat_le 1 n && nat_le n 3
 accepts IsNull n = n == 1

@@ -23,7 +23,7 @@ pub data AreOffsets : List Placed → ℤ → ℤ → Type 0 where
       → AreOffsets (ts ++ sign_at Comma c ∷ (us ++ sign_at CloseBracket d ∷ [])) down right
 
 mutual
-  -- level 0 has operands alone; each further level has one of the level below, or one of its own, its operator and one of the level below
+  -- level 0: operands; any other: an expression of the level below, or one of its own, its operator and one below
   pub data Stands : ℕ → List Placed → Term → Type 0 where
     number : {n c : ℕ} → Stands zero (token_number_at n c ∷ []) (Number n)
     map : {name : List ℕ} {c : ℕ} → Stands zero (name_at name c ∷ []) (Map (map_name name c) (pos 0) (pos 0))
@@ -41,18 +41,18 @@ mutual
         → operator_of s.token ≡ Some op → level_of op ≡ k → Stands (suc k) ts a → Stands k us b
         → Stands (suc k) (ts ++ s ∷ us) (Binary op a b)
 
-  -- expr = or | or "?" expr ":" expr, where the choice is a call of `if`
+  -- expr = or | or "?" expr ":" expr; the choice is a call of `if`
   pub data IsExpression : List Placed → Term → Type 0 where
     plain : {ts : List Placed} {a : Term} → Stands top ts a → IsExpression ts a
     choice : {ts us vs : List Placed} {x a b : Term} (c d : ℕ) → Stands top ts x → IsExpression us a → IsExpression vs b
         → IsExpression (ts ++ sign_at Question c ∷ (us ++ sign_at Colon d ∷ vs)) (Call If (Then x (Then a (Then b NoTrees))))
 
-  -- what follows the opening parenthesis of a call, with the closing one
+  -- what follows the opening parenthesis of a call, including the closing one
   pub data AreCalled : List Placed → Terms → Type 0 where
     none : {c : ℕ} → AreCalled (sign_at CloseParenthesis c ∷ []) NoTrees
     some : {ts : List Placed} {xs : Terms} → AreArguments ts xs → AreCalled ts xs
 
-  -- one argument or more, with the closing parenthesis
+  -- one or more arguments, and the closing parenthesis
   pub data AreArguments : List Placed → Terms → Type 0 where
     last : {ts : List Placed} {a : Term} (c : ℕ) → IsExpression ts a
         → AreArguments (ts ++ sign_at CloseParenthesis c ∷ []) (Then a NoTrees)

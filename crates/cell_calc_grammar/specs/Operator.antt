@@ -6,7 +6,7 @@ use Rattle.cell_calc_grammar.specs.declared.token.Sign.TheVariants as sign
 use Rattle.cell_calc_grammar.specs.declared.token.Token.{Token}
 use Rattle.cell_calc_grammar.specs.declared.token.Token.TheVariants as token
 
--- a token as an operator between two operands
+-- the operator that a token is between two operands
 abbrev pub operator_of : Token → Option Operator
 operator_of (token.Sign sign.Star) = Some operator.Times
 operator_of (token.Sign sign.Slash) = Some operator.Divide
@@ -43,6 +43,6 @@ level_of operator.KnownAnd = 4
 level_of operator.Or = 5
 level_of operator.KnownOr = 5
 
--- the level of what has any operator between operands, but is no choice
+-- the level of expressions with operators between operands that are not choices
 abbrev pub top : ℕ
 top = 6

@@ -28,12 +28,12 @@ arity step.Not = 1
 arity (step.Binary op) = 2
 arity (step.Call f n) = n
 
--- the operands after steps: each step takes its own from the end, and puts there what it makes of them
+-- the operands after steps: each step takes its operands from the end, and puts its result there
 abbrev pub values_after : {L X : Type 0} → (Step L → List X → X) → List (Step L) → List X → List X
 values_after made [] xs = xs
 values_after made (s ∷ steps) xs = values_after made steps (take (length xs - arity s) xs ++ made s (drop (length xs - arity s) xs) ∷ [])
 
--- each of the steps has the operands that it takes, of so many at first, and one is left at the end
+-- starting with n operands, each step has the operands that it takes, and one operand is left at the end
 abbrev pub AreEnough : {L : Type 0} → List (Step L) → ℕ → Type 0
 AreEnough [] n = n ≡ 1
 AreEnough (s ∷ steps) n = (arity s ≤ n) × AreEnough steps (n - arity s + 1)
@@ -43,7 +43,7 @@ abbrev pub arguments : {L : Type 0} → List (Tree L) → Trees L
 arguments [] = NoTrees
 arguments (a ∷ xs) = Then a (arguments xs)
 
--- what a step makes of its operands
+-- the result of a step on its operands
 abbrev pub tree_of_step : {L : Type 0} → Step L → List (Tree L) → Tree L
 tree_of_step (step.Number n) xs = Number n
 tree_of_step (step.Map leaf down right) xs = Map leaf down right
@@ -65,7 +65,7 @@ step_over to step.Not = step.Not
 step_over to (step.Binary op) = step.Binary op
 step_over to (step.Call f n) = step.Call f n
 
--- what the map of a step comes to
+-- the value of a step's map
 abbrev pub at_step : {L X : Type 0} → (L → ℤ → ℤ → X) → X → Step L → X
 at_step at none (step.Map leaf down right) = at leaf down right
 at_step at none (step.Number n) = none
@@ -74,7 +74,7 @@ at_step at none step.Not = none
 at_step at none (step.Binary op) = none
 at_step at none (step.Call f n) = none
 
--- what the maps of steps come to, joined in their order
+-- the values of the maps of steps, joined in their order
 abbrev pub fold_steps : {L X : Type 0} → (L → ℤ → ℤ → X) → X → (X → X → X) → List (Step L) → X
 fold_steps at none join [] = none
 fold_steps at none join (s ∷ steps) = join (at_step at none s) (fold_steps at none join steps)

@@ -12,10 +12,10 @@ ExpressionReadingAgrees =
     → (GrammarReads (Expression ts) (Got a []) → IsExpression ts a)
     × (IsExpression ts a → GrammarReads (Expression ts) (Got a []))
 
--- what is read of a state is one outcome at most
+-- reading a state has at most one outcome
 abbrev pub OneReading : Type 0
 OneReading = (s : State) (o p : ReadOutcome) → GrammarReads s o → GrammarReads s p → o ≡ p
 
--- tokens stand for one expression at most
+-- tokens stand for at most one expression
 abbrev pub OneExpression : Type 0
 OneExpression = (ts : List Placed) (a b : Term) → IsExpression ts a → IsExpression ts b → a ≡ b

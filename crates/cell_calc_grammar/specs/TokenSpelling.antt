@@ -10,7 +10,7 @@ use Rattle.cell_calc_grammar.specs.declared.token.Placed.{Placed}
 use Rattle.cell_calc_grammar.specs.declared.token.Token.{Token}
 use Rattle.cell_calc_grammar.specs.declared.token.Token.TheVariants.{Number, Name, Sign}
 
--- these bytes spell a token: a number in digits, zeros before it or not, a name as it is, a sign by its own bytes
+-- these bytes spell a token: a number in digits, perhaps with leading zeros, a name as it is, a sign as its own bytes
 abbrev pub SpellsToken : List ℕ → Token → Type 0
 SpellsToken bytes (Number n) = (0 < length bytes) × IsTrue (list_all is_digit bytes) × (value_of_digits bytes ≡ n) × (n ≤ 2147483647)
 SpellsToken bytes (Name name) = (bytes ≡ name) × IsTrue (is_name name)
@@ -20,11 +20,11 @@ SpellsToken bytes (Sign s) = sign_of bytes ≡ Some s
 abbrev pub is_piece : List ℕ → Bool
 is_piece bytes = list_all is_name_byte bytes || is_some (sign_of bytes)
 
--- whatever follows, the bytes make no longer word or sign with it
+-- whatever follows, it does not continue the word or sign that the bytes spell
 abbrev pub IsLongestToken : (bytes text : List ℕ) → Type 0
 IsLongestToken bytes text = (more rest : List ℕ) → text ≡ more ++ rest → 0 < length more → is_piece (bytes ++ more) ≡ false
 
--- a text that begins at a column spells tokens, each at its own column and as long as can be, blanks alone between them
+-- a text from a column on spells tokens, each at its own column and as long as possible, with only blanks between
 pub data AreSpelled : ℕ → List ℕ → List Placed → Type 0 where
   ends : {column : ℕ} → AreSpelled column [] []
   blank : {column b : ℕ} {text : List ℕ} {tokens : List Placed} →
@@ -33,6 +33,6 @@ pub data AreSpelled : ℕ → List ℕ → List Placed → Type 0 where
       SpellsToken bytes t → IsLongestToken bytes text → AreSpelled (column + length bytes) text tokens →
       AreSpelled column (bytes ++ text) (record { token = t; column = column } ∷ tokens)
 
--- the list of a text is the one list of at most 1000 tokens that the text spells
+-- a text spells exactly one list of at most 1000 tokens
 abbrev pub ListIsSpelled : Type 0
 ListIsSpelled = (text : List ℕ) (ts : List Placed) → (token_list text ≡ Ok ts) ↔ (AreSpelled 1 text ts × (length ts ≤ 1000))

@@ -19,11 +19,11 @@ use Rattle.cell_calc_grammar.specs.declared.token.Token.TheVariants as token
 abbrev pub token_fault : CalcKind → ℕ → CalcFault
 token_fault kind column = record { kind = kind; column = column }
 
--- being out of memory has no column
+-- out of memory, without a column
 abbrev pub no_memory : CalcFault
 no_memory = token_fault Memory 0
 
--- an error that may be reported where this is wanted: its own, or being out of memory
+-- an error that may be reported in place of this: the expected one, or lack of memory
 abbrev pub IsTokenFault : {T : Type 0} → Result T CalcFault → CalcFault → Type 0
 IsTokenFault wanted reported = (reported ≡ no_memory) ⊎ (wanted ≡ Err reported)
 
@@ -53,11 +53,11 @@ signs = triple_signs ++ (double_signs ++ single_signs)
 abbrev pub sign_of : List ℕ → Option Sign
 sign_of bytes = option_map (λ s. s.1) (find (λ s. bytes_eq s.0 bytes) signs)
 
--- a point or an exponent, as numbers that are not whole have it
+-- a point or an exponent, as in numbers that are not whole
 abbrev pub is_float_byte : ℕ → Bool
 is_float_byte b = (b == byte (codes ".") || b == byte (codes "e")) || b == byte (codes "E")
 
--- what is wrong with a number that has other bytes than digits
+-- what is wrong with a number that does not consist of digits
 abbrev pub not_whole : List ℕ → CalcKind
 not_whole bytes = if list_any is_float_byte bytes then FloatNumber else BadNumber
 
@@ -85,7 +85,7 @@ mark_of column bytes = ok_or (option_map token.Sign (sign_of bytes)) (token_faul
 abbrev pub token_of : ℕ → List ℕ → Result Token CalcFault
 token_of column bytes = if list_all is_name_byte bytes then word_of column bytes else mark_of column bytes
 
--- the longest spelling that a text begins with, by its length; a byte alone if there is none
+-- the length of the longest spelling that a text begins with; 1 if there is none
 unfoldable pub mark_length : List ℕ → ℕ
 mark_length text = option_map_or length (find (starts_with nat_eq text) (map (λ s. s.0) (triple_signs ++ double_signs))) 1
 
@@ -104,7 +104,7 @@ pub record Piece : Type 0 where
 abbrev pub piece_at : ℕ → List ℕ → Piece
 piece_at column bytes = record { column = column; bytes = bytes }
 
--- the pieces of a text that begins at a column, where its first `begun` bytes belong to the piece before
+-- the pieces of a text that begins at a column, if its first `begun` bytes belong to the piece before
 unfoldable pub pieces : ℕ → ℕ → List ℕ → List Piece
 pieces begun column [] = []
 pieces (suc begun) column (b ∷ bs) = pieces begun (column + 1) bs
@@ -112,28 +112,28 @@ pieces zero column (b ∷ bs) =
     if is_blank b then pieces zero (column + 1) bs
     else piece_at column (take (piece_length (b ∷ bs)) (b ∷ bs)) ∷ pieces (piece_length (b ∷ bs) - 1) (column + 1) bs
 
--- a token put at its column
+-- a token at its column
 abbrev pub token_at : ℕ → Result Token CalcFault → Result Placed CalcFault
 token_at column (Ok t) = Ok (record { token = t; column = column })
 token_at column (Err f) = Err f
 
--- what a piece is after so many tokens: its token or its error, and too long after 1000
+-- what a piece is after count tokens: its token or its error; after 1000 tokens, the expression is too long
 abbrev pub next_token : ℕ → Piece → Result Placed CalcFault
 next_token count piece =
     if nat_lt count 1000 then token_at piece.column (token_of piece.column piece.bytes)
     else Err (token_fault TooLong piece.column)
 
--- a token before what follows it; the first error counts
+-- a token followed by other tokens; the first error counts
 abbrev pub before : Result Placed CalcFault → Result (List Placed) CalcFault → Result (List Placed) CalcFault
 before (Ok t) (Ok ts) = Ok (t ∷ ts)
 before (Ok t) (Err f) = Err f
 before (Err f) following = Err f
 
--- the tokens of pieces, after so many tokens
+-- the tokens of pieces, after a given number of tokens
 unfoldable pub tokens_of : ℕ → List Piece → Result (List Placed) CalcFault
 tokens_of count [] = Ok []
 tokens_of count (piece ∷ following) = before (next_token count piece) (tokens_of (count + 1) following)
 
--- the tokens of a text, columns from 1, or its first error
+-- the tokens of a text, with columns from 1, or its first error
 unfoldable pub token_list : List ℕ → Result (List Placed) CalcFault
 token_list text = tokens_of 0 (pieces 0 1 text)

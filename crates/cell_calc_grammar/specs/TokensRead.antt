@@ -1,4 +1,4 @@
--- Reading from the left, with one token of look-ahead: what the parser does, which the laws show to be the grammar.
+-- Reading from the left, with one token of look-ahead: what the parser does. Laws show that the grammar agrees.
 use Rattle.std.specs.Prelude.{◌≡◌, ℕ, ℤ, pos, List, [], ◌∷◌, Option, Some, None, Result, Ok, Err, Bool, cond, nat_lt, nat_le, if◌then◌else◌}
 use Rattle.std.proofs.Common.{neg_ℤ}
 use Rattle.cell_calc_grammar.specs.declared.calc_fault.CalcKind.{CalcKind}
@@ -21,7 +21,7 @@ abbrev pub tail : List Placed → List Placed
 tail [] = []
 tail (s ∷ ts) = ts
 
--- what is read of some of the tokens, and the rest of them; or an error, and the tokens from its place on
+-- what was read from some of the tokens, and the rest of them; or an error, and the tokens from its place on
 abbrev pub PartOfExpression : Type 0 → Type 0
 PartOfExpression A = Result (A × List Placed) (CalcKind × List Placed)
 
@@ -30,7 +30,7 @@ abbrev pub read_then : {A B : Type 0} → PartOfExpression A → (A → List Pla
 read_then (Ok x) f = f x.0 x.1
 read_then (Err e) f = Err e
 
--- a distance, by the token at the start
+-- a distance, depending on the token at the start
 abbrev pub distance_at : Option Token → List Placed → PartOfExpression ℕ
 distance_at (Some (token.Number n)) ts = if nat_le n 255 then Ok (n, tail ts) else Err (BadOffset, ts)
 distance_at _ ts = Err (Expected, ts)
@@ -44,7 +44,7 @@ abbrev pub offset_signed : (ℕ → ℤ) → PartOfExpression ℕ → PartOfExpr
 offset_signed f (Ok x) = Ok (f x.0, x.1)
 offset_signed f (Err e) = Err e
 
--- an offset, by the token at the start
+-- an offset, depending on the token at the start
 abbrev pub offset_at : Option Token → List Placed → PartOfExpression ℤ
 offset_at (Some (token.Sign Minus)) ts = offset_signed (λ n. neg_ℤ (pos n)) (distance (tail ts))
 offset_at (Some (token.Sign Plus)) ts = offset_signed pos (distance (tail ts))
@@ -54,12 +54,12 @@ offset_at _ ts = offset_signed pos (distance ts)
 abbrev pub offset : List Placed → PartOfExpression ℤ
 offset ts = offset_at (head ts) ts
 
--- the comma between offsets, by the token at the start
+-- the comma between offsets, depending on the token at the start
 abbrev pub comma_at : Option Token → List Placed → PartOfExpression (Unit {0})
 comma_at (Some (token.Sign Comma)) ts = Ok (tt, tail ts)
 comma_at _ ts = Err (Expected, ts)
 
--- the closing bracket, by the token at the start
+-- the closing bracket, depending on the token at the start
 abbrev pub bracket_at : Option Token → List Placed → PartOfExpression (Unit {0})
 bracket_at (Some (token.Sign CloseBracket)) ts = Ok (tt, tail ts)
 bracket_at _ ts = Err (Expected, ts)
@@ -90,17 +90,17 @@ pub data State : Type 0 where
   Arguments : (ts : List Placed) → State
   Onward : (argument : ReadOutcome) → State
 
--- the operator, if it is one of a level below
+-- an operator, if its level is low enough
 abbrev pub below_level : ℕ → Option Operator → Option Operator
 below_level k None = None
 below_level k (Some op) = if nat_lt (level_of op) k then Some op else None
 
--- the operator that a token is, if an expression of the level continues with it
+-- a token as an operator with which an expression of the level continues
 abbrev pub goes_on : ℕ → Option Token → Option Operator
 goes_on k None = None
 goes_on k (Some s) = below_level k (operator_of s)
 
--- the operator at the start, if an expression of the level continues with it
+-- the operator at the start with which an expression of the level continues, if there is one
 abbrev pub next : ℕ → List Placed → Option Operator
 next k ts = goes_on k (head ts)
 
@@ -108,15 +108,15 @@ next k ts = goes_on k (head ts)
 abbrev pub GoesOn : ℕ → List Placed → Operator → List Placed → Type 0
 GoesOn k ts op rest = (tail ts ≡ rest) × (next k ts ≡ Some op)
 
--- the next token is another
+-- the next token is a different one
 abbrev pub IsNot : Sign → Option Token → Type 0
 IsNot sign t = t ≡ Some (token.Sign sign) → ⊥
 
--- after a name: it is a map's, with no offsets
+-- after a name: it is a map's name, without offsets
 abbrev pub IsAlone : Option Token → Type 0
 IsAlone t = IsNot OpenParenthesis t × IsNot OpenBracket t
 
--- no operand begins so
+-- no operand begins with this
 abbrev pub BeginsNone : Option Token → Type 0
 BeginsNone (Some (token.Number n)) = ⊥
 BeginsNone (Some (token.Name n)) = ⊥
@@ -137,7 +137,7 @@ invert (Got a rest) = Got (Not a) rest
 invert (GotAll xs rest) = Stops Expected rest
 invert (Stops kind rest) = Stops kind rest
 
--- an expression in parentheses, by the token that follows it
+-- an expression in parentheses, depending on the token that follows it
 abbrev pub after_bracket : Option Token → Term → List Placed → ReadOutcome
 after_bracket (Some (token.Sign CloseParenthesis)) a rest = Got a (tail rest)
 after_bracket _ a rest = Stops Expected rest
@@ -165,7 +165,7 @@ abbrev pub move : List ℕ → ℕ → PartOfExpression (ℤ × ℤ) → ReadOut
 move name c (Ok x) = Got (Map (map_name name c) x.0.0 x.0.1) x.1
 move name c (Err e) = Stops e.0 e.1
 
--- a call that begins there, if its function takes so many arguments
+-- a call that begins there, if its function accepts that number of arguments
 abbrev pub call_judged : Bool → Function → Terms → (from rest : List Placed) → ReadOutcome
 call_judged b f xs from rest = cond b (Got (Call f xs) rest) (Stops BadArguments from)
 
@@ -181,7 +181,7 @@ add a (Got b rest) = Stops Expected rest
 add a (GotAll xs rest) = GotAll (Then a xs) rest
 add a (Stops kind rest) = Stops kind rest
 
--- one rule for each step: what is read of a state
+-- one rule for each step: how a state is read
 pub data GrammarReads : State → ReadOutcome → Type 0 where
   number : {n c : ℕ} {ts : List Placed} → GrammarReads (Operand (token_number_at n c ∷ ts)) (Got (Number n) ts)
   map : {name : List ℕ} {c : ℕ} {ts : List Placed} → IsAlone (head ts) → GrammarReads (Operand (name_at name c ∷ ts)) (Got (Map (map_name name c) (pos 0) (pos 0)) ts)

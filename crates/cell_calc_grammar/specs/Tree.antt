@@ -1,4 +1,4 @@
--- Expressions as trees, without where they lie in memory, over leaves: what their maps are.
+-- Expressions as trees, independent of how they are stored, with maps as leaves.
 use Rattle.std.specs.Prelude.{ℕ, zero, suc, ℤ}
 use Rattle.cell_calc_grammar.specs.declared.function.Function.{Function}
 use Rattle.cell_calc_grammar.specs.declared.operator.Operator.{Operator}
@@ -24,7 +24,7 @@ count NoTrees = zero
 count (Then a xs) = suc (count xs)
 
 abbrev mutual
-  -- what the maps of an expression come to, joined in the order of the text
+  -- the values of the maps of an expression, joined in the order of the text
   pub fold_maps : {L X : Type 0} → (L → ℤ → ℤ → X) → X → (X → X → X) → Tree L → X
   fold_maps at none join (Number n) = none
   fold_maps at none join (Map leaf down right) = at leaf down right

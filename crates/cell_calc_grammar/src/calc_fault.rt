@@ -1,4 +1,4 @@
-//! Why a text is no assignment.
+//! Why a text is not an assignment.
 
 use thiserror::Error;
 
@@ -29,7 +29,7 @@ pub enum CalcKind {
     UnknownMap,
 }
 
-/// What is wrong, and the column, counted in bytes from 1; 0 where out of memory.
+/// What is wrong, and the column, counted in bytes from 1; 0 if memory ran out.
 #[derive(Clone, Copy, Debug, PartialEq, Eq, Error)]
 #[error("{kind} at column {column}")]
 pub struct CalcFault {

@@ -45,7 +45,7 @@ const NAMES: [(&[u8], Function); 15] = [
     (b"nmode", Function::KnownMode),
 ];
 
-/// The function of a name, if there is one.
+/// The function with this name, if there is one.
 pub fn function_of(name: &[u8]) -> Option<Function>
     ensures { result ≡ function_of name.now }
 {
@@ -57,7 +57,7 @@ pub fn function_of(name: &[u8]) -> Option<Function>
     None
 }
 
-/// Whether a function takes so many arguments.
+/// Whether a function accepts `count` arguments.
 pub fn accepts(function: Function, count: usize) -> bool
     ensures { result ≡ accepts function count }
 {

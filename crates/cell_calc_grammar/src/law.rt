@@ -1,4 +1,4 @@
-//! What the reading of tokens means.
+//! What reading tokens means.
 
 ghost use Rattle.cell_calc_grammar.specs.ReadingLaw.{OneExpression, OneReading, ExpressionReadingAgrees};
 
@@ -7,12 +7,12 @@ pub fn expression_reading_denotes()
     ensures { ExpressionReadingAgrees }
 {}
 
-/// Reading has one outcome at most.
+/// Reading has at most one outcome.
 pub fn one_reading()
     ensures { OneReading }
 {}
 
-/// Tokens stand for one expression at most.
+/// Tokens stand for at most one expression.
 pub fn one_expression()
     ensures { OneExpression }
 {}

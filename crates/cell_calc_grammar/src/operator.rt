@@ -54,7 +54,7 @@ pub fn operator_of(token: &Token) -> Option<Operator>
     }
 }
 
-/// The level of what may have any operator between operands.
+/// The level of expressions that may have any operator between operands.
 pub const TOP_LEVEL: u32 = 6;
 
 /// The level of an operator's right operand, which is one below its own: 0 binds tightest.

@@ -3,15 +3,15 @@
 use crate::function::Function;
 use crate::operator::Operator;
 
-/// A step of an expression in postfix order, over what its maps are: what it takes is before it.
+/// A step of an expression in postfix order, generic over its maps: operands come before it.
 #[derive(Clone, Copy, Drop)]
 pub enum Step<L> {
     Number(u32),
-    /// The cell of a map, so many rows below and columns to the right.
+    /// The cell of a map `down` rows below and `right` columns to the right.
     Map { leaf: L, down: i32, right: i32 },
     Negated,
     Not,
     Binary(Operator),
-    /// A function of so many arguments.
+    /// A function and its number of arguments.
     Call(Function, usize),
 }

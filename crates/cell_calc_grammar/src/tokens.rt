@@ -18,10 +18,10 @@ use std::alloc::Global;
 /// The largest number of tokens of an assignment (profile).
 const TOKEN_LIMIT: usize = 1000;
 
-/// The largest category, as of GRASS's CELL type.
+/// The largest category, as in GRASS's CELL type.
 const GREATEST_NUMBER: u64 = 2147483647;
 
-/// Out of memory, which has no column.
+/// Out of memory, without a column.
 const NO_MEMORY: CalcFault = CalcFault {
     kind: CalcKind::Memory,
     column: 0,
@@ -227,7 +227,7 @@ fn token_of(alloc: Global, bytes: &[u8], column: u32) -> Result<Token, CalcFault
     }
 }
 
-// The token of a piece after so many others.
+// The token of a piece that comes after `count` other tokens.
 fn next_token(alloc: Global, count: usize, bytes: &[u8], column: u32) -> Result<Placed, CalcFault>
     ensures { ReportsToken result
         (next_token count (record { column = column; bytes = bytes.now })) }
@@ -274,7 +274,7 @@ pub fn tokens(alloc: Global, text: &[u8]) -> Result<Vec<Placed>, CalcFault>
     Ok(found)
 }
 
-/// The list of a text is the one list of at most 1000 tokens that the text spells: a law of the definitions.
+/// A text spells exactly one list of at most 1000 tokens: a law of the definitions.
 pub fn list_is_spelled()
     ensures { ListIsSpelled }
 {}

@@ -20,9 +20,8 @@ abbrev pub column_of : (end : ℕ) → List Placed → ℕ
 column_of end [] = end
 column_of end (s ∷ rest) = s.column
 
--- by its shape the list can continue: some assignment begins so, with other names and numbers in the
--- place of its own (so any name before `(` calls, with any number of arguments, and any number is an
--- offset)
+-- a list can continue, judged by its shape: some assignment begins in the same way, with other names and numbers (so
+-- any name before `(` is called, with any number of arguments, and any number is an offset)
 abbrev pub CanGoOn : List Placed → Type 0
 CanGoOn ts =
     (us after : List Placed) × (a : Assignment) × (shape us ≡ shape ts) × IsAssignment (us ++ after) a
@@ -31,13 +30,13 @@ CanGoOn ts =
 abbrev pub IsNone : List Placed → Type 0
 IsNone ts = (a : Assignment) → IsAssignment ts a → ⊥
 
--- the tokens end with a name that is no function's, and an opening parenthesis
+-- the tokens end with a name that is not a function, and an opening parenthesis
 abbrev pub IsUnknown : (column : ℕ) → List Placed → Type 0
 IsUnknown column ts =
     (front : List Placed) × (name : List ℕ) × (d : ℕ)
     × (ts ≡ front ++ name_at name column ∷ sign_at OpenParenthesis d ∷ []) × (function_of name ≡ None)
 
--- the tokens end with a call of a function that does not take so many arguments
+-- the tokens end with a call whose function does not accept that number of arguments
 abbrev pub IsMiscounted : (column : ℕ) → List Placed → Type 0
 IsMiscounted column ts =
     (front inside : List Placed) × (name : List ℕ) × (d : ℕ) × (f : Function) × (xs : Terms)
@@ -68,12 +67,12 @@ IsFar column ts =
     (before : List Placed) × (n : ℕ) × (ts ≡ before ++ token_number_at n column ∷ []) × (255 < n)
     × IsInBrackets before
 
--- the tokens before can continue, and with the next one they cannot
+-- the earlier tokens can continue, and with the next one they cannot
 abbrev pub IsUnexpected : (column : ℕ) → (before : List Placed) → Placed → Type 0
 IsUnexpected column before next =
     (next.column ≡ column) × CanGoOn before × (CanGoOn (before ++ next ∷ []) → ⊥)
 
--- reading from the left, at the next token an error of the kind is reported, at the column
+-- reading from the left, an error of this kind is reported at the next token, with the column
 abbrev pub Reports : CalcKind → (column : ℕ) → (before : List Placed) → Placed → Type 0
 Reports Expected column before next = IsUnexpected column before next
 Reports UnknownFunction column before next =
@@ -104,11 +103,11 @@ IsReportedAtEnd end ts reported = (reported ≡ token_fault Expected end) × Can
 abbrev pub IsGrammarFault : (end : ℕ) → List Placed → CalcFault → Type 0
 IsGrammarFault end ts token_fault = (IsReportedFirst ts token_fault ⊎ IsReportedAtEnd end ts token_fault) × IsNone ts
 
--- the error is one of the grammar, if memory lasts
+-- the error is one of the grammar, unless memory runs out
 abbrev pub IsFaultOf : (end : ℕ) → List Placed → CalcFault → Type 0
 IsFaultOf end ts token_fault = (token_fault ≡ no_memory) ⊎ IsGrammarFault end ts token_fault
 
--- the error is the first of the text's tokens, or else one of the grammar, if memory lasts
+-- the error is the first of the text's tokens, or else one of the grammar, unless memory runs out
 abbrev pub IsTextFault : (text : List ℕ) → CalcFault → Type 0
 IsTextFault text token_fault =
     (token_fault ≡ no_memory)

@@ -6,7 +6,7 @@ use Rattle.cell_calc_grammar.specs.declared.token.Placed.{Placed}
 use Rattle.cell_calc_language.specs.Assignment.{IsAssignment}
 use Rattle.cell_calc_language.specs.GrammarFault.{IsGrammarFault}
 
--- a list of tokens has one error of the grammar at most
+-- a list of tokens has at most one error of the grammar
 abbrev pub OneGrammarFault : Type 0
 OneGrammarFault =
     (end : ℕ) (ts : List Placed) (f g : CalcFault)

@@ -1,4 +1,4 @@
--- What holds of each expression of the grammar (offsets, numbers of arguments: r.mapcalc manual; their limits: profile).
+-- What holds for each expression of the grammar (offsets, arguments: r.mapcalc manual; their limits: profile).
 use Rattle.std.specs.Prelude.{◌≡◌, ◌≤◌, IsTrue, List, ℕ, zero, suc, ℤ, pos, negsuc}
 use Rattle.cell_calc_grammar.specs.Function.{accepts}
 use Rattle.cell_calc_grammar.specs.Tree.{Tree, Number, Map, Negated, Not, Binary, Call, Trees, NoTrees, Then, count}
@@ -16,7 +16,7 @@ down_by (pos n) = n
 down_by (negsuc n) = zero
 
 abbrev mutual
-  -- numbers are categories, offsets are at most 255, and a function takes so many arguments
+  -- numbers are categories, offsets are at most 255, and functions accept their number of arguments
   pub IsGrammatical : {L : Type 0} → Tree L → Type 0
   IsGrammatical (Number n) = n ≤ 2147483647
   IsGrammatical (Map leaf down right) = (up_by down ≤ 255) × ((down_by down ≤ 255) × ((up_by right ≤ 255) × (down_by right ≤ 255)))

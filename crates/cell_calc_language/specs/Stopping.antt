@@ -13,12 +13,12 @@ use Rattle.cell_calc_language.specs.GrammarFault.{column_of}
 use Rattle.cell_calc_grammar.specs.TokensRead.{State, Stops, GrammarReads, PartOfExpression, tail}
 use Rattle.cell_calc_grammar.specs.Token.{head}
 
--- reading stops there, if memory lasts
+-- reading stops there, unless memory runs out
 abbrev pub ParserStopsAt : State → ParseStop → Type 0
 ParserStopsAt s Memory = Unit {0}
 ParserStopsAt s (At kind rest) = GrammarReads s (Stops kind rest.now)
 
--- the part is that stop
+-- the part stops with that error
 abbrev pub IsPartStop : {A : Type 0} → PartOfExpression A → ParseStop → Type 0
 IsPartStop p Memory = ⊥
 IsPartStop p (At kind rest) = p ≡ Err (kind, rest.now)

@@ -1,11 +1,11 @@
--- The first map name of an expression, by place in the text, that is not among some names (profile).
+-- The first map name of an expression, in the order of the text, that is not among some names (profile).
 use Rattle.std.specs.Prelude.{ℕ, ℤ, List, Option, Some, None}
 use Rattle.cell_core_values.specs.Name.{place_of}
 use Rattle.cell_calc_grammar.specs.declared.map_name.MapName.{MapName}
 use Rattle.cell_calc_grammar.specs.Tree.{fold_maps}
 use Rattle.cell_calc_grammar.specs.Term.{Term}
 
--- the first of two columns
+-- the smaller of two columns
 abbrev pub first_column : Option ℕ → Option ℕ → Option ℕ
 first_column None b = b
 first_column (Some c) b = Some c

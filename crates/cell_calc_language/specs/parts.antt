@@ -1,2 +1,2 @@
--- What only bodies and proofs speak of.
+-- Definitions that only bodies and proofs use.
 pub mod Waiting

@@ -13,7 +13,7 @@ use cell_calc_grammar::tokens::tokens;
 use cell_core_values::name::Name;
 use std::alloc::Global;
 
-/// `NAME = EXPRESSION`: what r.mapcalc makes, and of what.
+/// `NAME = EXPRESSION`: the map that r.mapcalc makes, and its expression.
 #[derive(Drop)]
 pub struct Assignment {
     pub target: Name,
@@ -37,7 +37,7 @@ pub fn parse(alloc: Global, text: &[u8]) -> Result<Assignment, CalcFault>
     assignment(alloc, text.len() as u32 + 1, &found)
 }
 
-/// A list of tokens stands for no second assignment.
+/// A list of tokens stands for at most one assignment.
 pub fn one_assignment()
     ensures { (ts : List Placed) (a b : Assignment) → IsAssignment ts a → IsAssignment ts b
         → a ≡ b }

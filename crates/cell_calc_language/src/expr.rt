@@ -11,8 +11,8 @@ use cell_calc_grammar::step::Step;
 use cell_core_values::name::Names;
 use std::marker::Model;
 
-/// An expression of r.mapcalc: its numbers are categories, its offsets from -255 to 255, and each call has a
-/// number of arguments that its function takes.
+/// An expression of r.mapcalc: its numbers are categories, its offsets are from -255 to 255, and each call has a number
+/// of arguments that its function accepts.
 #[derive(Drop)]
 pub struct Expr {
     pub(crate) steps: Vec<Step<MapName>>,
@@ -38,7 +38,7 @@ impl Model for Expr {
 }
 
 impl Expr {
-    /// The column of the first map name, by place in the text, that is not among the names. Takes no memory.
+    /// The column of the first map name, in the order of the text, that is not among the names. Takes no memory.
     pub fn first_unknown(&self, names: &Names) -> Option<u32>
         ensures { result ≡ first_unknown names.now self.now }
     {

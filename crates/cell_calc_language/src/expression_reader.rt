@@ -1,4 +1,4 @@
-//! Expressions, read with a stack of the reader's own.
+//! Expressions, read with an explicit stack.
 
 ghost use Rattle.std.specs.Prelude.{◌≡◌, ◌<◌, ◌+◌, ◌*◌, ◌++◌, [], ◌∷◌, length, vec_len, IfOk, IfErr};
 ghost use Rattle.cell_calc_language.specs.declared.token_parsing.ParseStop.TheVariants.{Memory};
@@ -26,19 +26,19 @@ use std::alloc::Global;
 enum Frame<'a> {
     Negated,
     Not,
-    /// An expression of the level, whose first operand is being read.
+    /// An expression of the level; its first operand is being read.
     Level(u32),
-    /// An expression of the level, where the right operand is being read; the left one is among the steps.
+    /// An expression of the level; its right operand is being read, and the left one is among the steps.
     Joined(u32, Operator),
-    /// An expression, which `?` may follow.
+    /// An expression that `?` may follow.
     Choice,
-    /// What is chosen if the condition holds is being read.
+    /// The choice for a true condition is being read.
     AfterQuestion,
-    /// What is chosen otherwise is being read.
+    /// The choice for a false condition is being read.
     AfterColon,
-    /// What is in parentheses is being read.
+    /// An expression in parentheses is being read.
     Parenthesis,
-    /// An argument is being read, after so many; the call begins at `from`.
+    /// The argument after the first `count` is being read; the call begins at `from`.
     Call {
         function: Function,
         from: &'a [Placed],
@@ -57,7 +57,8 @@ enum Turn<'a> {
 
 /// What has been read of an expression: its steps so far, and what waits for more.
 ///
-/// What waits is in a list, since a recursive reader took stack for each level: 1.7 MB for 998 open parentheses.
+/// The waiting frames are in a list, since a recursive reader took stack for each level: 1.7 MB for 998 open
+/// parentheses.
 #[derive(Drop)]
 struct Reader<'a> {
     frames: Vec<Frame<'a>>,
@@ -97,7 +98,7 @@ impl<'a> Reader<'a> {
         Ok(Turn::Operand(tokens))
     }
 
-    // What is being read ends with the step.
+    // Ends what is being read with a step.
     fn end(&mut self, step: Step<MapName>, tokens: &'a [Placed]) -> Result<Turn<'a>, ParseStop<'a>>
         ensures goes { (s : State)
             → IsReadExpression s (waiting self.old) (self.old.steps.items ++ step ∷ []) tokens.now
@@ -126,7 +127,7 @@ impl<'a> Reader<'a> {
         }
     }
 
-    // An operand that begins with a sign, or none.
+    // An operand that begins with a sign, or an error.
     fn read_signed(
         &mut self,
         sign: Sign,
@@ -182,7 +183,7 @@ impl<'a> Reader<'a> {
         self.end(map, rest)
     }
 
-    // A call, from its name; the opening parenthesis is before what is inside.
+    // A call, from its name on; the opening parenthesis comes before its arguments.
     fn read_call(
         &mut self,
         name: &Name,
@@ -216,7 +217,7 @@ impl<'a> Reader<'a> {
         }
     }
 
-    // The frame that waited for what has been read continues.
+    // Continues the frame that waited for what has been read.
     fn resume(&mut self, frame: Frame<'a>, tokens: &'a [Placed]) -> Result<Turn<'a>, ParseStop<'a>>
         ensures goes { Resumes self.old frame.entry tokens.now self.new result }
         ensures lighter { LeavesWork (work tokens.now self.old) self.new result }
@@ -244,7 +245,7 @@ impl<'a> Reader<'a> {
         }
     }
 
-    // After an expression of the level, which an operator may join to another.
+    // After an expression of the level, which an operator may continue.
     fn level(&mut self, level: u32, tokens: &'a [Placed]) -> Result<Turn<'a>, ParseStop<'a>>
         ensures goes { Resumes self.old (frame.Level level) tokens.now self.new result }
         ensures lighter { LeavesWork (work tokens.now self.old) self.new result }
@@ -257,7 +258,7 @@ impl<'a> Reader<'a> {
         Ok(Turn::Operand(rest))
     }
 
-    // After a condition, or an expression that is none.
+    // After a condition, or an expression that is not a condition.
     fn choice(&mut self, tokens: &'a [Placed]) -> Result<Turn<'a>, ParseStop<'a>>
         ensures goes { Resumes self.old frame.Choice tokens.now self.new result }
         ensures lighter { LeavesWork (work tokens.now self.old) self.new result }
@@ -269,7 +270,7 @@ impl<'a> Reader<'a> {
         self.enter(rest)
     }
 
-    // After what is chosen if the condition holds.
+    // After the choice for a true condition.
     fn otherwise(&mut self, tokens: &'a [Placed]) -> Result<Turn<'a>, ParseStop<'a>>
         ensures goes { Resumes self.old frame.AfterQuestion tokens.now self.new result }
         ensures lighter { LeavesWork (work tokens.now self.old) self.new result }
@@ -281,7 +282,7 @@ impl<'a> Reader<'a> {
         self.enter(rest)
     }
 
-    // After an argument, which came after so many others of the call.
+    // After an argument; the call had `before` arguments already.
     fn argument(
         &mut self,
         function: Function,
@@ -293,7 +294,7 @@ impl<'a> Reader<'a> {
             result }
         ensures lighter { LeavesWork (work tokens.now self.old) self.new result }
     {
-        // Each argument took a step, so that memory ends before the count does.
+        // Each argument has taken a step, so memory runs out before the count overflows.
         let Some(count) = before.checked_add(1) else {
             return Err(ParseStop::Memory);
         };

@@ -2,7 +2,7 @@
 
 ghost use Rattle.cell_calc_language.specs.GrammarLaw.{EachListIsJudged, OneGrammarFault};
 
-/// A list of tokens has no second error of the grammar: it is the first that reading from the left can show.
+/// A list of tokens has at most one error of the grammar: the first that reading from the left can show.
 pub fn one_grammar_fault()
     ensures { OneGrammarFault }
 {}

@@ -154,7 +154,7 @@ pub(crate) fn offsets<'a>(tokens: &'a [Placed]) -> Result<((i32, i32), &'a [Plac
     Ok(((down, right), after))
 }
 
-/// The assignment that the tokens of a text stand for; the text ends before the column `end`.
+/// The assignment that the tokens of a text stand for; `end` is the column after the text.
 pub(crate) fn assignment(
     alloc: Global,
     end: u32,

@@ -82,7 +82,7 @@ before : (first up reads i : ℕ) → reads ≤ up → first ≤ i → (first - 
 before first up reads i most from =
     ⊎_elim (λ less. inl (omega (arith, less))) (λ le. inr (omega (arith, le, most, from))) (cases_lt first up)
 
--- how long the stretch is with its halo, within so many
+-- the length of a stretch with its halo, within total rows or columns
 abbrev length-with : (total first n up down : ℕ) → ℕ
 length-with total first n up down = min total (first + n + down) - (first - up)
 

@@ -1,4 +1,5 @@
--- Local expressions read nothing but the cell itself, so their values go by combinations (r.mapcalc, r.stats manuals).
+-- Local expressions read only the cell itself, so their values depend only on combinations (r.mapcalc, r.stats
+-- manuals).
 use Rattle.std.specs.Prelude.{ℕ, pos, ◌≡◌, ◌<◌, Bool, true, false, List, [], ◌∷◌, ◌++◌, length, All, Contains, Some, slice_get, map, filter, sum_by}
 use Rattle.cell_core_values.specs.Cell.{cell_eq}
 use Rattle.cell_core_values.specs.Region.{RegionValue}
@@ -25,7 +26,7 @@ asks_where ColumnCount = true
 asks_where f = false
 
 abbrev mutual
-  -- an expression that reads its maps at the cell itself, and neither a neighbour nor a row or a column
+  -- an expression that reads its maps only at the cell itself, and no row or column number
   pub IsLocal : Formula → Type 0
   IsLocal (Number n) = Unit {0}
   IsLocal (Map i down right) = (down ≡ pos 0) × (right ≡ pos 0)
@@ -34,7 +35,7 @@ abbrev mutual
   IsLocal (Binary op a b) = IsLocal a × IsLocal b
   IsLocal (Call f xs) = (asks_where f ≡ false) × AreLocal xs
 
-  -- each of the arguments is one
+  -- each of the arguments is local
   pub AreLocal : Formulas → Type 0
   AreLocal NoTrees = Unit {0}
   AreLocal (Then a xs) = IsLocal a × AreLocal xs
@@ -43,7 +44,7 @@ abbrev mutual
 abbrev pub ReadsAmong : List ℕ → Formula → Type 0
 ReadsAmong picks f = (place : ℕ) → ReadsMap place f → Contains picks place
 
--- at cells of one combination of the maps that it reads, a local expression has one value
+-- at all cells with one combination of the maps that it reads, a local expression has one value
 abbrev pub OneValueACombination : Type 0
 OneValueACombination =
     (f : Formula) (picks : List ℕ) → IsLocal f → ReadsAmong picks f
@@ -51,18 +52,18 @@ OneValueACombination =
     → combination_at maps picks s.row s.col ≡ combination_at maps picks t.row t.col
     → value f maps s ≡ value f maps t
 
--- a function of the combination gives the values of an expression, at each cell of whatever maps
+-- a function of the combination gives the values of an expression, at each cell of any maps
 abbrev pub GivesValues : (Combination → CellValue) → Formula → List ℕ → Type 0
 GivesValues given f picks =
     (maps : List Grid) (s : GridPosition) → value f maps s ≡ given (combination_at maps picks s.row s.col)
 
--- of a local expression there is such a function
+-- every local expression has such a function
 abbrev pub LocalGoesByCombinations : Type 0
 LocalGoesByCombinations =
     (f : Formula) (picks : List ℕ) → IsLocal f → ReadsAmong picks f
     → (given : Combination → CellValue) × GivesValues given f picks
 
--- the cells of a map of so many rows and columns, as combinations of this one map
+-- the cells of a map, as combinations of this one map
 abbrev pub cells_alone : RegionValue → Grid → List Combination
 cells_alone region m = all_combinations (m ∷ []) (0 ∷ []) region.rows region.cols
 
@@ -70,7 +71,8 @@ cells_alone region m = all_combinations (m ∷ []) (0 ∷ []) region.rows region
 abbrev pub cells_of_shelf : ShelfValue → List ℕ → List Combination
 cells_of_shelf shelf picks = all_combinations shelf.maps picks shelf.region.rows shelf.region.cols
 
--- after `x = f`: a value has as many cells in x as the table of the maps read counts for the combinations that give it
+-- after `x = f`: the number of cells of x with a value is the sum of the counts of the combinations that give this
+-- value
 abbrev pub CountsFollow : Type 0
 CountsFollow =
     (f : Formula) (picks : List ℕ) (given : Combination → CellValue) → GivesValues given f picks

@@ -1,4 +1,4 @@
--- Parts with a halo: as many rows and columns around a rectangle as an expression reaches.
+-- Parts with a halo: a rectangle with the rows and columns around it that an expression reaches.
 use Rattle.std.specs.Prelude.{ℕ, ◌≤◌, ◌<◌, ◌+◌, ◌-◌, max, min}
 use Rattle.cell_core_values.specs.Region.{RegionValue}
 use Rattle.cell_calc_language.specs.Grammatical.{up_by, down_by}
@@ -7,7 +7,7 @@ use Rattle.cell_calc_binding.specs.Reach.{up_of, down_of}
 use Rattle.cell_calc_law.specs.HaloParts.{left_of, right_of}
 use Rattle.cell_parts.specs.Parts.{Rectangle}
 
--- so many rows up and down, and columns to the left and to the right
+-- a number of rows up and down, and of columns to the left and to the right
 pub record Halo : Type 0 where
   pub up : ℕ
   pub down : ℕ
@@ -17,7 +17,7 @@ pub record Halo : Type 0 where
 abbrev pub no_halo : Halo
 no_halo = record { up = 0; down = 0; left = 0; right = 0 }
 
--- the one that holds two others
+-- the smallest halo that contains two others
 abbrev pub wider : Halo → Halo → Halo
 wider h k = record {
   up = max h.up k.up;
@@ -41,7 +41,7 @@ abbrev mutual
   reach_of_all NoTrees = no_halo
   reach_of_all (Then a xs) = wider (reach_of a) (reach_of_all xs)
 
--- no map is read further than the expression reaches
+-- an expression reads no map beyond its reach
 pub record IsWithinReach (f : Formula) (place : ℕ) : Type 0 where
   pub up : up_of place f ≤ (reach_of f).up
   pub down : down_of place f ≤ (reach_of f).down
@@ -51,7 +51,7 @@ pub record IsWithinReach (f : Formula) (place : ℕ) : Type 0 where
 abbrev pub MapsAreWithinReach : Type 0
 MapsAreWithinReach = (f : Formula) (place : ℕ) → IsWithinReach f place
 
--- a rectangle with so many rows and columns around it, as far as the region goes
+-- a rectangle with its halo, as far as the region goes
 abbrev pub with_halo : RegionValue → Halo → Rectangle → Rectangle
 with_halo region h r = record {
   top = r.top - h.up;

@@ -7,7 +7,8 @@ use Rattle.cell_stats_counts.specs.Counts.{count_of}
 use Rattle.rcell.specs.Making.{AreValues, with_map}
 use Rattle.cell_calc_law.specs.LocalLaw.{cells_alone, cells_of_shelf}
 
--- after `x = g[a,b]`, `y = x[c,d]`, `z = g[a+c,b+d]`: y has the cell of z if the step by (c,d) stays in the region
+-- after `x = g[a,b]`, `y = x[c,d]`, `z = g[a+c,b+d]`: y equals z at each cell from which the step (c,d) stays in the
+-- region
 abbrev pub ShiftsAddUp : Type 0
 ShiftsAddUp =
     (shelf : ShelfValue) (place : ℕ) (a b c d : ℤ) (name : List ℕ) (x y z : Grid)
@@ -19,7 +20,7 @@ ShiftsAddUp =
     → pos col +ℤ d ≡ pos to_col → to_col < shelf.region.cols
     → cell_at y row col ≡ cell_at z row col
 
--- after `x = g[a,b]`: x is null if the step by (a,b) leaves the region
+-- after `x = g[a,b]`: x is null if the step (a,b) leaves the region
 abbrev pub NullBeyondTheEdge : Type 0
 NullBeyondTheEdge =
     (shelf : ShelfValue) (place : ℕ) (a b : ℤ) (x : Grid)

@@ -1,4 +1,4 @@
--- Values by tiles: the map made of a tile with its halo is, in the tile, the map made of the full map.
+-- Values by tiles: the map made from a tile with its halo agrees, in the tile, with the map made from the full map.
 use Rattle.std.specs.Prelude.{ℕ, ◌≡◌, ◌≤◌, ◌-◌, false, All}
 use Rattle.cell_core_values.specs.Region.{RegionValue, most_cells}
 use Rattle.cell_core.specs.Grid.{Grid, IsFilled, cell_at}
@@ -12,7 +12,7 @@ use Rattle.cell_parts.specs.Parts.{Rectangle, AreCutOut}
 use Rattle.cell_calc_law.specs.ReachParts.{reach_of, with_halo, IsCellInside}
 use Rattle.rcell.specs.Making.{AreValues}
 
--- a tile with its halo: as many rows and columns around it as an expression reaches, as far as the region goes
+-- a tile with its halo: the rows and columns around it that an expression reaches, as far as the region goes
 abbrev pub haloed_rectangle : Formula → ShelfValue → Rectangle → Rectangle
 haloed_rectangle f whole r = with_halo whole.region (reach_of f) r
 
@@ -32,7 +32,7 @@ TilesMakeTheMap =
     → (row col : ℕ) → IsCellInside whole.region r row col
     → cell_at y (row - (haloed_rectangle f whole r).top) (col - (haloed_rectangle f whole r).left) ≡ cell_at x row col
 
--- a call as it is written for a part of a region: row() and col() count on from the part's first row and column, and
+-- a call as it is written for a part of a region: row() and col() continue from the part's first row and column, and
 -- nrows() and ncols() are the numbers of the region
 abbrev pub placed_call : RegionValue → Rectangle → Function → Formulas → Formula
 placed_call region r Row xs = Binary Plus (Call Row xs) (Number r.top)
@@ -42,7 +42,7 @@ placed_call region r ColumnCount xs = Number region.cols
 placed_call region r f xs = Call f xs
 
 abbrev mutual
-  -- an expression with each of its calls written so
+  -- an expression with all of its calls written that way
   pub placed : RegionValue → Rectangle → Formula → Formula
   placed region r (Number n) = Number n
   placed region r (Map i down right) = Map i down right
@@ -55,8 +55,8 @@ abbrev mutual
   all_placed region r NoTrees = NoTrees
   all_placed region r (Then a xs) = Then (placed region r a) (all_placed region r xs)
 
--- `x = f` over the full map, and over a tile with its halo `y = f` so written, as `row() + t` for `row()`, t the rows above the
--- tile with its halo: y has the cells of x in the tile, whatever expression f is
+-- `x = f` over the full map, and `y = f` with its calls rewritten over a tile with its halo, with `row() + t` for
+-- `row()` if t rows are above it: y has the cells of x in the tile, whatever expression f is
 abbrev pub PlacedTilesMakeTheMap : Type 0
 PlacedTilesMakeTheMap =
     (f : Formula) (whole tile : ShelfValue) (r : Rectangle) → IsHaloedTile f r whole tile

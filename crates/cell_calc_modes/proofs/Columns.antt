@@ -10,7 +10,7 @@ use Rattle.cell_calc_modes.specs.ColumnCells.{at, column}
 use Rattle.cell_calc_binding.specs.CellOperators.{lesser, greater, least, greatest_cell, known_cells, last_argument}
 use Rattle.cell_calc_binding.specs.Joins.{known_lesser, known_greater}
 
--- so many arguments, so many cells
+-- a column has one cell per argument
 pub column_length : {V : Type 0} (f : V → List CellValue) (xs : List V) (k : ℕ)
     → length (column k (map f xs)) ≡ length xs
 column_length f xs k = length-map (map f xs) (λ row. at row k) ∙ length-map xs f

@@ -15,10 +15,10 @@ column c rows = map (λ row. slice_index_or row c None) rows
 abbrev pub arguments_at : ℕ → List (Vec CellValue Global) → List CellValue
 arguments_at c rows = column c (map (λ cells. cells.items) rows)
 
--- all are so wide
+-- all rows have this width
 abbrev pub AreWide : ℕ → List (Vec CellValue Global) → Type 0
 AreWide width rows = All (λ cells. length cells.items ≡ width) rows
 
--- at each column a row has become this cell
+-- a row has this cell at each column
 abbrev pub Becomes : List CellValue → List CellValue → (ℕ → CellValue) → Type 0
 Becomes old new cell = (c : ℕ) → c < length old → at new c ≡ cell c

@@ -2,7 +2,7 @@
 //!
 //! - specs/ColumnCells.antt: the cells of rows at a column
 //! - `modes`: `mode` and `known_mode`, from the rows of arguments; many arguments are sorted
-//! - private: `mode_lanes`, few arguments by vectors, 16 columns at a time
+//! - private: `mode_lanes`, few arguments with vector instructions, 16 columns at a time
 #![tactic(auto)]
 
 mod mode_lanes;

@@ -1,4 +1,5 @@
-//! The most frequent cells of columns by vectors, 16 columns at a time: each argument is compared with those before it.
+//! The most frequent cells of columns, with vector instructions, 16 columns at a time: each argument is compared with
+//! those before it.
 
 ghost use Rattle.std.specs.Prelude.{◌≡◌, ◌≤◌, ◌<◌, ◌+◌, ◌==◌, ℕ, length, slice_index_or, All, OnOk, nat_lt, if◌then◌else◌};
 ghost use Rattle.cell_calc_binding.specs.CellOperators.{most_frequent, known_cells, occurrences};
@@ -10,10 +11,10 @@ use cell_core::memory::Memory;
 use std::alloc::Global;
 use std::simd::prelude::*;
 
-/// How many columns are worked on at a time.
+/// Number of columns processed at a time.
 pub(crate) const BLOCK: usize = 16;
 
-// The number that stands for a category is larger than the category by this.
+// The number for a category is the category plus this.
 const OFFSET: i64 = 2147483648;
 
 // The number that stands for a cell.
@@ -73,7 +74,7 @@ fn vector_at(vectors: &[u32x16], i: usize) -> u32x16
     vectors[i]
 }
 
-// One more in each lane in which two numbers are the same.
+// Adds one in each lane in which two numbers are equal.
 #[inline(always)]
 fn count_same(count: u32x16, key: u32x16, other: u32x16) -> u32x16
     requires { (k : ℕ) → k < 16 → lane k count + 1 < 4294967296 }
@@ -87,7 +88,7 @@ fn count_same(count: u32x16, key: u32x16, other: u32x16) -> u32x16
             .select(u32x16::splat(1), u32x16::splat(0))
 }
 
-// How often the cells of a vector occur with those before it; 0 for null.
+// How often the cells of a vector occur among those so far; 0 for null.
 #[inline(always)]
 fn occurrences(before: &[u32x16], key: u32x16) -> u32x16
     requires { length before.now < 65536 }
@@ -103,7 +104,7 @@ fn occurrences(before: &[u32x16], key: u32x16) -> u32x16
         .select(u32x16::splat(0), count)
 }
 
-// The number that occurs more often, of two that occur as often the smaller.
+// The number that occurs more often; the smaller one if both occur equally often.
 #[inline(always)]
 fn better(best: u32x16, most: u32x16, key: u32x16, count: u32x16) -> u32x16
     ensures long { length result ≡ 16 }
@@ -128,7 +129,7 @@ fn larger(most: u32x16, count: u32x16) -> u32x16
     most.simd_lt(count).select(count, most)
 }
 
-// The most frequent category at each lane.
+// The most frequent category in each lane.
 fn most_frequent(keys: &[u32x16]) -> u32x16
     requires { length keys.now < 65536 }
     ensures { (k : ℕ) → k < 16
@@ -145,7 +146,7 @@ fn most_frequent(keys: &[u32x16]) -> u32x16
     best
 }
 
-// Takes the numbers of a block of columns from rows.
+// Reads the numbers of a block of columns from rows.
 fn gather(arguments: &[Vec<Cell>], c: usize, keys: &mut [u32x16])
     requires columns { All (λ row. c + 16 ≤ length row.items) arguments.now }
     requires room { length keys.old ≡ length arguments.now }
@@ -156,7 +157,8 @@ fn gather(arguments: &[Vec<Cell>], c: usize, keys: &mut [u32x16])
     }
 }
 
-/// The most frequent categories of the columns of rows that have a block. The last block may share columns with the one before.
+/// The most frequent categories of the columns of rows with at least one block. The last block may overlap the one
+/// before.
 pub(crate) fn known_mode(
     alloc: Global,
     arguments: &[Vec<Cell>],

@@ -1,5 +1,5 @@
-//! The most frequent cells of rows. Few arguments are compared by vectors (`mode_lanes`). The categories of a column of many
-//! are put in order, and the longest run of equal ones is found.
+//! The most frequent cells of rows. Few arguments are compared with vector instructions (`mode_lanes`). If there are
+//! many, the categories of a column are sorted, and the longest run of equal ones is found.
 
 ghost use Rattle.std.specs.Prelude.{◌≡◌, ◌≤◌, ◌<◌, ◌+◌, List, length, take, All, IsPermutation, IsSorted, OnOk, nat_lt, if◌then◌else◌, false};
 ghost use Rattle.cell_core_values.specs.Cell.{cell_cmp, cell_eq};
@@ -14,7 +14,7 @@ use cell_core::cell::Cell;
 use cell_core::memory::Memory;
 use std::alloc::Global;
 
-// Beyond so many arguments, sorting them takes fewer steps than comparing each with those before it.
+// Above this many arguments, sorting takes fewer steps than comparing each one with those before it.
 const MOST_COMPARED: usize = 128;
 
 fn argument_at(cells: &[Cell], c: usize) -> Cell
@@ -31,7 +31,7 @@ fn category_count(cell: Cell) -> usize
     if is_null(cell) { 0 } else { 1 }
 }
 
-// Puts the categories of a column before all else, and counts them.
+// Moves the categories of a column to the start, and counts them.
 fn gather_column(arguments: &[Vec<Cell>], c: usize, cells: &mut [Cell]) -> usize
     requires column { All (λ row. c < length row.items) arguments.now }
     requires room { length cells.old ≡ length arguments.now }
@@ -47,21 +47,21 @@ fn gather_column(arguments: &[Vec<Cell>], c: usize, cells: &mut [Cell]) -> usize
     count
 }
 
-// How long a run is before a cell that follows its last one.
+// The length of a run whose last cell comes before the given place.
 fn longer_run(run: usize, last: Cell, cell: Cell) -> usize
     ensures { result ≡ (if cell_eq cell last then run else 0) }
 {
     if cell == last { run } else { 0 }
 }
 
-// The cell of the longer of two runs, of the first if both are as long.
+// The cell of the longer of two runs; of the first if both have the same length.
 fn longer(best: Cell, most: usize, cell: Cell, run: usize) -> Cell
     ensures { result ≡ (if nat_lt most run then cell else best) }
 {
     if most < run { cell } else { best }
 }
 
-// The category of the longest run, of several the first.
+// The category of the longest run; of the first if there are several.
 fn longest_run(cells: &[Cell]) -> Cell
     requires known { All (λ cell. is_null cell ≡ false) cells.now }
     requires sorted { IsSorted cell_cmp cells.now }

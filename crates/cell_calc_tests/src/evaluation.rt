@@ -1,4 +1,4 @@
-//! Values along a row, and what a failed growth leaves there.
+//! Values along a row, and what is left there if memory runs out.
 
 ghost use Rattle.std.specs.Prelude.{◌≡◌, ◌<◌, ◌≤◌, ℕ, length, slice_get, IfOk};
 ghost use Rattle.cell_calc_binding.specs.Reach.{top_of, up_of, down_of};

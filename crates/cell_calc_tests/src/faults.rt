@@ -70,7 +70,7 @@ fn texts_without_a_fault(rt: HostRuntime) -> Result<(), Fail> {
     Ok(())
 }
 
-// `x = NAME(1,1, .. ,1)` with so many arguments.
+// `x = NAME(1,1, .. ,1)` with `count` arguments.
 fn call(alloc: Global, name: &[u8], count: usize) -> Result<Vec<u8>, Fail> {
     let mut text = b"x = ".to_vec(alloc)?;
     text.extend_from_slice(name)?;

@@ -6,7 +6,7 @@ use cell_calc_language::calc_fault::{CalcFault, CalcKind};
 use std::alloc::Global;
 use std::test::Fail;
 
-// `x =`, the first text so many times, a 1 and the second text so many times.
+// `x =`, the text `before` `first` times, a 1, and the text `after` `second` times.
 fn repeated(
     alloc: Global,
     before: &[u8],
@@ -25,7 +25,7 @@ fn repeated(
     Ok(text)
 }
 
-// What is repeated before a 1 and how often, what after it and how often, and the column of the first token too many.
+// The texts before and after a 1 with their repetitions, and the column of the first token beyond the limit.
 const REPEATED: [(&[u8], u32, &[u8], u32, Option<u32>); 7] = [
     (b"-", 1, b" + 1", 498, None),
     (b"-", 2, b" + 1", 498, Some(1999)),

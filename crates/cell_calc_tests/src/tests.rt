@@ -219,8 +219,8 @@ fn worked_row(
     Ok(values_along(alloc, &bound, &shelf, row, cells)?)
 }
 
-// Run as it is, each growth is granted: tools/hostile denies them in turn, one in each run, and wants the row to be
-// evaluated again in some of them.
+// In a normal run every allocation succeeds. tools/hostile makes them fail in turn, one in each run, and checks that
+// the row is evaluated again in some of the runs.
 #[test]
 fn a_refused_row_is_evaluated_again(rt: HostRuntime) -> Result<(), Fail> {
     let text = b"(g + 1) * (g[1,0] + 1) + max(g, mode(g, 1))";

@@ -97,7 +97,7 @@ fn write_binary(
     Ok(())
 }
 
-// Each of so many arguments, and a semicolon.
+// Writes a call with `count` arguments from the stack, each followed by a semicolon.
 fn write_call(
     alloc: Global,
     function: Function,
@@ -213,7 +213,7 @@ fn one_level_goes_from_the_left(rt: HostRuntime) -> Result<(), Fail> {
     expect_trees(&rt, &ONE_LEVEL)
 }
 
-// Expressions by their operands, and their trees.
+// Expressions with their operands, and their trees.
 const OPERANDS: [(&[u8], &[u8]); 17] = [
     (b"10 - (4 - 3)", b"(10-(4-3))"),
     (b"(1 + 2) * 3", b"((1+2)*3)"),

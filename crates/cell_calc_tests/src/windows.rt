@@ -10,7 +10,7 @@ use std::alloc::Global;
 use std::process::Abort;
 use std::test::Fail;
 
-// The cells of a window that reaches one row up and down: how far below the centre, the column and the number.
+// The cells of a window that reaches one row up and down: the distance below the centre, the column and the number.
 fn expect_window<R: Abort>(
     rt: &R,
     window: &RowWindow,

@@ -115,7 +115,7 @@ pub record IsLeft (words : List (List ℕ)) (listed : Option (List (ℤ × ℤ))
   pub is : left_side words ≡ Some side
   pub read : listed_of_line side ≡ Some listed
 
--- the items of a left side that is no `*`
+-- the items of a left side that is not a `*`
 left-items : (words : List (List ℕ)) (listed : Option (List (ℤ × ℤ))) (side : Left)
     → option_map Some (items_of words) ≡ Some side → listed_of_line side ≡ Some listed
     → 0 < length words → SpellsListed words listed

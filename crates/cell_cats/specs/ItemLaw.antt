@@ -1,9 +1,9 @@
--- What a list of items spells: items as they are written, one after another (r.reclass manual).
+-- What a list of items spells: written items, one after another (r.reclass manual).
 use Rattle.std.specs.Prelude.{ℕ, ◌≡◌, ◌↔◌, Bool, true, ◌&&◌, List, [], ◌∷◌, map, Option, Some, None, codes}
 use Rattle.std.specs.List.{flat_map, list_all}
 use Rattle.cell_cats.specs.RuleReading.{is_end, items_of}
 
--- an item as it is written: a word, and the word after `thru` if it is a range
+-- a written item: a word, and the word after `thru` if it is a range
 abbrev pub Item : Type 0
 Item = List ℕ × Option (List ℕ)
 
@@ -25,7 +25,7 @@ is_second (Some b) = is_end b
 abbrev pub is_item : Item → Bool
 is_item item = is_end item.0 && is_second item.1
 
--- the second end: a word alone is both of its ends
+-- the second end: a single word is both ends
 abbrev pub second_end : List ℕ → Option (List ℕ) → List ℕ
 second_end a None = a
 second_end a (Some b) = b
@@ -41,6 +41,6 @@ pub record AreItems (words : List (List ℕ)) (ends : List (List ℕ × List ℕ
   pub words_are : flat_map item_words items ≡ words
   pub ends_are : map item_ends items ≡ ends
 
--- words are read as the items that they are the words of, and as no others
+-- words are read as the items that they spell, and as no others
 abbrev pub ItemsAreRead : Type 0
 ItemsAreRead = (words : List (List ℕ)) (ends : List (List ℕ × List ℕ)) → (items_of words ≡ Some ends) ↔ AreItems words ends

@@ -1,4 +1,4 @@
--- A map by rules (r.reclass manual).
+-- A reclassified map (r.reclass manual).
 use Rattle.std.specs.Prelude.{ℕ, ℤ, List, map, Option, reverse}
 use Rattle.std.specs.List.{filter_map}
 use Rattle.std.specs.Option.{option_map}
@@ -7,7 +7,7 @@ use Rattle.std.specs.Ordering.{int_cmp}
 use Rattle.cell_core.specs.Grid.{CellValue, Grid}
 use Rattle.cell_cats.specs.Rule.{RuleValue, new_category, labelled_category}
 
--- each cell by its new category
+-- each cell replaced with its new category
 abbrev pub new_row : List RuleValue → List CellValue → List CellValue
 new_row rules row = map (new_category rules) row
 
@@ -22,6 +22,6 @@ label_entry rule = option_map (λ k. (k, rule.label)) (labelled_category rule)
 abbrev pub labels_of : List RuleValue → FinMap int_cmp (List ℕ)
 labels_of rules = from_entries (filter_map label_entry (reverse rules))
 
--- the map by rules: its region, its rows cell by cell, the labels of the rules and no others
+-- the reclassified map: its region, its rows cell by cell, the labels of the rules and no others
 abbrev pub reclassed_map : List RuleValue → Grid → Grid
 reclassed_map rules given = record { region = given.region; rows = new_rows rules given.rows; labels = labels_of rules }

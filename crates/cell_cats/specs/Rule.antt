@@ -7,7 +7,7 @@ use Rattle.cell_core.specs.Grid.{CellValue}
 use Rattle.cell_cats.specs.declared.rule.Output.{Output}
 use Rattle.cell_cats.specs.declared.rule.Output.TheVariants.{Same, To}
 
--- the ends of the ranges that it lists, or none if it is a rule of `*`; what it gives; its label, empty if it has none
+-- the ends of the ranges that it lists, or none if it is a rule for `*`; its output; its label, empty if it has none
 pub record RuleValue : Type 0 where
   pub listed : Option (List (ℤ × ℤ))
   pub output : Output
@@ -17,7 +17,7 @@ pub record RuleValue : Type 0 where
 abbrev pub is_in_ends : ℤ × ℤ → ℤ → Bool
 is_in_ends ends x = (int_le ends.0 x && int_le x ends.1) || (int_le ends.1 x && int_le x ends.0)
 
--- a range of the list holds the category
+-- a range of the list contains the category
 abbrev pub is_listed : Option (List (ℤ × ℤ)) → ℤ → Bool
 is_listed None x = false
 is_listed (Some ranges) x = list_any (λ ends. is_in_ends ends x) ranges
@@ -26,7 +26,7 @@ is_listed (Some ranges) x = list_any (λ ends. is_in_ends ends x) ranges
 abbrev pub lists : ℤ → RuleValue → Bool
 lists x rule = is_listed rule.listed x
 
--- a rule of `*`
+-- a rule for `*`
 abbrev pub is_star_rule : RuleValue → Bool
 is_star_rule rule = no_list rule.listed
   where
@@ -34,20 +34,20 @@ is_star_rule rule = no_list rule.listed
     no_list None = true
     no_list (Some ranges) = false
 
--- the last element that passes
+-- the last element that passes a test
 abbrev pub last_such : {A : Type 0} → (A → Bool) → List A → Option A
 last_such p [] = None
 last_such p (x ∷ xs) = option_or (last_such p xs) (if p x then Some x else None)
 
--- the output of the last rule that passes
+-- the output of the last rule that passes a test
 abbrev pub last_output : (RuleValue → Bool) → List RuleValue → Option Output
 last_output p rules = option_map (λ rule. rule.output) (last_such p rules)
 
--- the output of the last rule that lists the category, else of the last rule of `*`
+-- the output of the last rule that lists the category, or else of the last rule for `*`
 abbrev pub output_for : List RuleValue → ℤ → Option Output
 output_for rules x = option_or (last_output (lists x) rules) (last_output is_star_rule rules)
 
--- what an output makes of a category; null without an output
+-- the new cell that an output gives a category; null without an output
 abbrev pub outcome : ℤ → Option Output → CellValue
 outcome x None = None
 outcome x (Some Same) = Some x
@@ -58,12 +58,12 @@ abbrev pub new_category : List RuleValue → CellValue → CellValue
 new_category rules None = None
 new_category rules (Some x) = outcome x (output_for rules x)
 
--- the category that an output always is, if it is one
+-- the category that an output always gives, if there is one
 abbrev pub category_of : Output → Option ℤ
 category_of Same = None
 category_of (To cell) = cell
 
--- the category that a rule labels: its output, if it has a label
+-- the category that a rule labels: its output, if the rule has a label
 abbrev pub labelled_category : RuleValue → Option ℤ
 labelled_category rule = if length rule.label == 0 then None else category_of rule.output
 

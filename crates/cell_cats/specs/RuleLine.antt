@@ -14,7 +14,7 @@ abbrev pub is_skipped : List ℕ → Bool
 is_skipped [] = true
 is_skipped (b ∷ bs) = b == byte (codes "#")
 
--- words spell ranges, one after another: `N thru N`, or `N` alone, which is both of its ends
+-- words spell ranges, one after another: `N thru N`, or a single `N`, which is both ends
 pub data SpellsRanges : List (List ℕ) → List (ℤ × ℤ) → Type 0 where
   none : SpellsRanges [] []
   one : {word : List ℕ} {words : List (List ℕ)} {end : ℤ} {ranges : List (ℤ × ℤ)}
@@ -23,7 +23,7 @@ pub data SpellsRanges : List (List ℕ) → List (ℤ × ℤ) → Type 0 where
       → whole_in_range word ≡ Some end → whole_in_range other ≡ Some last → SpellsRanges words ranges
       → SpellsRanges (word ∷ codes "thru" ∷ other ∷ words) ((end, last) ∷ ranges)
 
--- the words of the left side: nothing but `*`, or one range or more
+-- the words of the left side: only `*`, or one or more ranges
 abbrev pub SpellsListed : List (List ℕ) → Option (List (ℤ × ℤ)) → Type 0
 SpellsListed words None = words ≡ codes "*" ∷ []
 SpellsListed words (Some ranges) = (0 < length words) × SpellsRanges words ranges
@@ -42,7 +42,7 @@ output_word right = before_first is_blank right
 abbrev pub label_of_right : List ℕ → List ℕ
 label_of_right right = trimmed_text (after_first is_blank right)
 
--- a line that spells a rule by what is left and right of its first equals sign; `*` is an output only if the left is `*`
+-- a line that spells a rule, as the texts around its first equals sign; `*` is an output only if the left side is `*`
 pub record SpellsRule (line : List ℕ) (rule : RuleValue) : Type 0 where
   pub not_skipped : is_skipped (trimmed_text line) ≡ false
   pub not_end : trimmed_text line ≢ codes "end"

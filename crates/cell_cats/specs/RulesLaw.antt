@@ -1,4 +1,4 @@
--- What rules that keep every category keep, and worked lines.
+-- Which rules keep every category, and worked lines.
 use Rattle.std.specs.Prelude.{pos, ◌≡◌, List, [], ◌∷◌, Some, None, Ok, Err, codes}
 use Rattle.cell_core.specs.Grid.{CellValue}
 use Rattle.cell_cats.specs.Rule.{RuleValue}

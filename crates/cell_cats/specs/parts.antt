@@ -1,5 +1,5 @@
--- Cells that are reclassed by what is known of them, by a table of all bytes, and by the pieces that rules cut the number
--- line into; words as they are borrowed.
+-- Cells that are reclassed using what is known about them, a table of all bytes, and the pieces into which rules cut
+-- the number line; borrowed words.
 pub mod ByteTables
 pub mod KnownCategories
 pub mod Pieces

@@ -1,4 +1,4 @@
-//! The new categories of the cells that a byte stands for, in bytes too.
+//! The new categories of cells kept as bytes, also as bytes.
 
 ghost use Rattle.std.specs.Prelude.{◌≡◌, length, List, IfOk, IfSome};
 ghost use Rattle.cell_core_values.specs.SmallCells.{cells_of_bytes};
@@ -14,13 +14,13 @@ use cell_core::memory::Memory;
 use cell_core_values::small_cells::{are_small, bytes_of, cell_of_byte};
 use std::alloc::Global;
 
-// How many bytes there are.
+// The number of different bytes.
 const BYTES: usize = 256;
 
-// Fewer cells that are kept as bytes take less time without a table.
+// With fewer cells kept as bytes, a table takes more time than it saves.
 const FEWEST_CELLS: usize = 16_384;
 
-// Whether so many cells of a map are kept as bytes that a table saves time.
+// Whether a map keeps enough cells as bytes for a table to save time.
 fn has_many_bytes(map: &CellMap) -> bool {
     let mut cells: usize = 0;
     for row in 0..map.region().rows() {
@@ -34,7 +34,7 @@ fn has_many_bytes(map: &CellMap) -> bool {
     false
 }
 
-// For each byte the byte of its new category: None if bytes do not stand for all of these, or if a table would save no time.
+// For each byte, the byte of its new category; None if some of these have no byte, or if a table would save no time.
 pub(crate) fn byte_table(
     alloc: Global,
     pieces: &Pieces,
@@ -59,7 +59,7 @@ pub(crate) fn byte_table(
     Ok(Some(table))
 }
 
-// Writes the new categories of the cells that bytes stand for, into a slice of as many.
+// Writes the new categories of cells kept as bytes into a slice of the same length.
 pub(crate) fn write_by_table(table: &[u8], bytes: &[u8], row: &mut [u8])
     requires size { length table.now ≡ 256 }
     requires width { length row.old ≡ length bytes.now }

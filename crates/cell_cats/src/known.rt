@@ -1,4 +1,5 @@
-//! Cells whose new category is known: most runs of a map are of few categories, and need no look at the rules.
+//! Cells whose new category is known: most runs of a map have few different categories, so the rules are seldom
+//! consulted.
 
 ghost use Rattle.std.specs.Prelude.{◌≡◌, ◌<◌, List, IfOk, length};
 ghost use Rattle.cell_cats.specs.Rule.{RuleValue, new_category};
@@ -9,22 +10,22 @@ use cell_core::cell::Cell;
 use cell_core::memory::Memory;
 use std::alloc::Global;
 
-// A place for so many cells of a map, at least and at most so many: a large map may have many categories, and places take time to
-// make. All that clauses say of the places is that each is right, so the numbers can be tuned.
+// There is one place per CELLS_A_PLACE cells of a map, within FEWEST and MOST: a large map may have many categories,
+// and places take time to make. The contracts only say that each place is right, so these numbers can be tuned.
 const CELLS_A_PLACE: u64 = 8;
 
 const FEWEST: u64 = 64;
 
 const MOST: u64 = 32_768;
 
-// A cell, and what the rules make of it.
+// A cell, and its new category.
 #[derive(Clone, Copy)]
 pub(crate) struct Known {
     cell: Cell,
     reclassed: Cell,
 }
 
-// How many places there are for a map of so many cells: a power of two, so that no division is needed.
+// Number of places for a map of `cells` cells: a power of two, so that no division is needed.
 fn places_for(cells: u64) -> usize
     ensures { 0 < result }
 {
@@ -33,7 +34,7 @@ fn places_for(cells: u64) -> usize
         .next_power_of_two() as usize
 }
 
-// The place of a cell among so many.
+// The place of a cell in a table of `places` places.
 fn category_place(cell: Cell, places: usize) -> usize
     requires { 0 < places }
     ensures { result < places }
@@ -44,7 +45,7 @@ fn category_place(cell: Cell, places: usize) -> usize
     (number.cast_unsigned() as usize & last).min(last)
 }
 
-// Places for a map of so many cells, in which only null is known: every list of rules keeps it.
+// Places for a map of `cells` cells, in which only null is known: every list of rules keeps null.
 pub(crate) fn only_null(alloc: Global, cells: u64) -> Result<Vec<Known>, Memory>
     ensures some { IfOk result (λ known. 0 < length known.items) }
     ensures right { IfOk result (λ known. (rules : List RuleValue) → AreRight rules known.items) }

@@ -17,7 +17,7 @@ use cell_core_values::whole_numbers::whole_in_range;
 use cell_core_values::words::{list_words_of, pair_of};
 use std::alloc::Global;
 
-/// Whether a line without blanks at its ends is empty or a comment.
+/// Whether a line, without the blanks at its ends, is empty or a comment.
 pub fn is_skipped(text: &[u8]) -> bool
     ensures { result ≡ is_skipped text.now }
 {
@@ -45,7 +45,7 @@ fn is_null_word(word: &[u8]) -> bool
     word == b"NULL".as_slice() || word == b"null".as_slice()
 }
 
-// A word that stands for a number, good or bad.
+// A word that stands for a number, in range or not.
 fn is_end(word: &[u8]) -> bool
     ensures { result ≡ is_end word.now }
 {
@@ -59,7 +59,7 @@ fn are_ends(a: &[u8], b: &[u8]) -> bool
     is_end(a) && is_end(b)
 }
 
-// The second end of the item that begins with a word, and how many words more the item has.
+// The second end of the item that begins with a word, and the number of further words of the item.
 fn item_end<'a>(a: &'a [u8], others: &[&'a [u8]]) -> (&'a [u8], usize)
     ensures items { items_of (a.now ∷ item_texts others.now)
         ≡ with_item a.now result.0.now (items_of (item_texts (drop result.1 others.now))) }
@@ -146,7 +146,7 @@ fn is_lone_star(words: &[&[u8]]) -> bool
     }
 }
 
-// The items, or none if the left is `*`.
+// The items, or none if the left side is `*`.
 fn left_of<'a>(
     alloc: Global,
     words: &[&'a [u8]],
@@ -164,7 +164,7 @@ fn left_of<'a>(
     Ok(Some(items))
 }
 
-// The ranges of a left.
+// The ranges of a left side.
 fn listed_of(
     alloc: Global,
     left: &Option<Vec<(&[u8], &[u8])>>,

@@ -1,5 +1,5 @@
-//! The number line cut into pieces, each with the output that rules have for its categories: the new category of a cell is
-//! found in a time that grows with the logarithm of the number of ranges.
+//! The number line cut into pieces, each with the output that rules give its categories: finding the new category of a
+//! cell takes a time that grows with the logarithm of the number of ranges.
 
 ghost use Rattle.std.specs.Prelude.{◌≡◌, ℤ, negsuc, ◌≤ℤ◌, List, Option, IfOk, OnOk};
 ghost use Rattle.std.specs.BTreeMap.{get};
@@ -14,16 +14,16 @@ use cell_core::memory::Memory;
 use std::alloc::Global;
 use std::collections::BTreeMap;
 
-// The output of each piece by the place where it begins. The last may begin after the largest category.
+// Maps the start of each piece to its output. The last piece may start after the largest category.
 //
-// Clauses say nothing of the order of the entries, only which look-ups find a beginning.
+// Contracts only say which look-ups find a start, and nothing about the order of the entries.
 #[derive(Drop)]
 pub(crate) struct Pieces {
     starts: BTreeMap<i64, Option<Output>>,
 }
 
 impl Pieces {
-    // The pieces into which rules cut the line: at most two for each range, and one more.
+    // The pieces into which rules cut the line: at most two per range, plus one.
     pub(crate) fn of_rules(alloc: Global, rules: &Rules) -> Result<Pieces, Memory>
         ensures { IfOk result (λ pieces. AreOfRules rules.now pieces) }
     {
@@ -53,8 +53,8 @@ impl Pieces {
         Ok(())
     }
 
-    // Gives an output to the categories of a range. Each beginning in it is taken out, once for all: so the ranges take
-    // n log n steps, whatever they are.
+    // Gives an output to the categories of a range. Each start inside it is removed once and for all, so any ranges
+    // take n log n steps.
     fn paint(&mut self, ends: (i32, i32), output: Output) -> Result<(), Memory>
         ensures { OnOk result (Repaints (painted_outputs ends output) self.old self.new) }
     {
@@ -67,7 +67,7 @@ impl Pieces {
         Ok(())
     }
 
-    // Takes out what begins from one place up to another.
+    // Removes the starts from one place up to another.
     fn clear(&mut self, from: i64, to: i64)
         requires { from ≤ℤ to }
         ensures { IsCleared from to (get int_cmp self.old.starts) (get int_cmp self.new.starts) }

@@ -1,4 +1,4 @@
-//! Maps by rules.
+//! Reclassified maps.
 
 ghost use Rattle.std.specs.Prelude.{◌≡◌, ◌<◌, ◌^◌, length, ℤ, IfOk, OnOk};
 ghost use Rattle.std.specs.FinMap.{get};
@@ -18,10 +18,10 @@ use cell_core::memory::Memory;
 use cell_core::runs::Runs;
 use std::alloc::Global;
 
-// A row of more runs than one for so many cells is reclassed cell by cell: filling short runs takes longer.
+// A row with more than one run per this many cells is reclassed cell by cell: filling short runs takes longer.
 const CELLS_A_RUN: usize = 2;
 
-// Writes the runs of the new categories of runs: equal neighbours become one.
+// Writes the runs of the new categories of runs: equal neighbours are merged.
 fn write_new_runs(
     pieces: &Pieces,
     known: &mut [Known],
@@ -55,7 +55,7 @@ fn write_new_runs(
     Ok(())
 }
 
-// Puts the new category of each cell in its place.
+// Replaces each cell with its new category.
 fn renew(pieces: &Pieces, known: &mut [Known], row: &mut [Cell])
     requires some { 0 < length known.old }
     ensures row { ByRules pieces.now known.old (λ rules. row.new ≡ new_row rules row.old) }
@@ -66,7 +66,7 @@ fn renew(pieces: &Pieces, known: &mut [Known], row: &mut [Cell])
     }
 }
 
-// Gives a map without labels the labels of the rules: a later rule's over an earlier one's.
+// Gives a map without labels the labels of the rules. Later rules override earlier ones.
 fn set_labels(rules: &Rules, made: &mut CellMap) -> Result<(), Memory>
     requires { made.old.labels ≡ no_labels }
     ensures { OnOk result (made.new ≡ record made.old { labels = labels_of rules.now }) }
@@ -79,7 +79,7 @@ fn set_labels(rules: &Rules, made: &mut CellMap) -> Result<(), Memory>
     Ok(())
 }
 
-// The map by rules, without labels.
+// The reclassified map, without labels.
 fn reclass_cells(alloc: Global, given: &CellMap, rules: &Rules) -> Result<CellMap, Memory>
     ensures { IfOk result (λ made. made
         ≡ record (reclassed_map rules.now given.now) { labels = no_labels }) }

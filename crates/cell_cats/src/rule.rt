@@ -18,7 +18,7 @@ pub enum Output {
 }
 
 impl Output {
-    /// The new cell in place of a cell that is not null.
+    /// The cell that replaces a cell that is not null.
     pub fn of(self, cell: Cell) -> Cell
         ensures { IfSome cell (λ x. result ≡ outcome x (Some self)) }
     {
@@ -29,7 +29,7 @@ impl Output {
     }
 }
 
-/// A rule: the ends of the ranges that it lists, or none if it is a rule of `*`; its output; its label, or no bytes.
+/// A rule: the ends of the ranges that it lists, or none if it is a rule for `*`; its output; its label, or no bytes.
 #[derive(Debug, Drop)]
 pub struct Rule {
     listed: Option<Vec<(i32, i32)>>,
@@ -54,7 +54,7 @@ fn is_between(ends: (i32, i32), x: i32) -> bool
 }
 
 impl Rule {
-    /// A rule of these parts.
+    /// A rule with these parts.
     pub fn new(listed: Option<Vec<(i32, i32)>>, output: Output, label: Vec<u8>) -> Rule
         ensures { result ≡ record {
           listed = option_map (λ ranges. ranges.items) listed;
@@ -76,7 +76,7 @@ impl Rule {
         self.ranges().iter().any(|ends| is_between(*ends, x))
     }
 
-    // The ends of the ranges that it lists: none if it is a rule of `*`.
+    // The ends of the ranges that it lists; none if it is a rule for `*`.
     pub(crate) fn ranges(&self) -> &[(i32, i32)]
         ensures { (x : ℤ) → lists x self.now ≡ list_any (λ ends. is_in_ends ends x) result.now }
     {
@@ -86,7 +86,7 @@ impl Rule {
         }
     }
 
-    /// Whether it is a rule of `*`.
+    /// Whether it is a rule for `*`.
     pub fn is_star(&self) -> bool
         ensures { result ≡ is_star_rule self.now }
     {

@@ -14,23 +14,23 @@ use cell_core_values::blanks::trimmed_text;
 use std::alloc::{AllocError, AllocFailed, Global};
 use std::marker::Model;
 
-/// The kinds of good lines.
+/// The kinds of valid lines.
 #[derive(Clone, Copy, Debug, PartialEq, Eq)]
 pub enum LineKind {
     /// A rule.
     Rule,
-    /// Blanks or a comment.
+    /// Blank, or a comment.
     Skipped,
     /// The end of the rules.
     End,
 }
 
-/// Why a line is none.
+/// Why a line is invalid.
 #[derive(Clone, Copy, Debug, PartialEq, Eq)]
 pub enum RuleFault {
-    /// It lacks the shape of a rule.
+    /// It does not have the form of a rule.
     BadRule,
-    /// One of its numbers is not whole or not in range.
+    /// One of its numbers is not whole or out of range.
     BadNumber,
     /// Memory ran out.
     Memory,
@@ -86,7 +86,7 @@ impl Model for Rules {
 }
 
 impl Rules {
-    /// No rule: every cell becomes null. Takes no memory.
+    /// No rules: every cell becomes null. Takes no memory.
     pub fn new(alloc: Global) -> Rules
         ensures { result ≡ [] }
     {
@@ -96,7 +96,7 @@ impl Rules {
         }
     }
 
-    // The output of the last rule of `*`.
+    // The output of the last rule for `*`.
     pub(crate) fn star_output(&self) -> Option<Output>
         ensures { result ≡ last_output is_star_rule self.now }
     {

@@ -25,7 +25,7 @@ LeadsTo-append : (j : Joining) (p : Position) (xs : List Position) (q : Position
 LeadsTo-append j p [] q ys r h k = subst (λ (s : Position). LeadsTo j s ys r) (sym h) k
 LeadsTo-append j p (x ∷ xs) q ys r h k = (h.0, LeadsTo-append j x xs q ys r h.1 k)
 
--- the last cell of a way over cells of one category has it
+-- the last cell of a way over cells of the same category has it
 last_alike : (j : Joining) (m : Grid) (v : ℤ) (p : Position) (xs : List Position) (q : Position) → LeadsTo j p xs q → All (λ s. cell_at_position m s ≡ Some v) (p ∷ xs) → cell_at_position m q ≡ Some v
 last_alike j m v p [] q h all = ap (cell_at_position m) (sym h) ∙ All-head (λ s. cell_at_position m s ≡ Some v) p [] all
 last_alike j m v p (x ∷ xs) q h all = last_alike j m v x xs q h.1 (All-tail (λ s. cell_at_position m s ≡ Some v) p (x ∷ xs) all)
@@ -45,7 +45,7 @@ AreJoined-refl j m p v is = record {
   alike = All-cons (λ s. cell_at_position m s ≡ Some v) p [] is (All-nil (λ s. cell_at_position m s ≡ Some v));
 }
 
--- adjacent cells of one category are joined
+-- adjacent cells of the same category are joined
 pub AreJoined-adjacent : (j : Joining) (m : Grid) (p q : Position) (v : ℤ) → AreAdjacent j p q → cell_at_position m p ≡ Some v → cell_at_position m q ≡ Some v → AreJoined j m p q
 AreJoined-adjacent j m p q v near is also = record {
   category = v;
@@ -79,7 +79,7 @@ back j m v p (x ∷ xs) q h all =
 pub AreJoined-sym : (j : Joining) (m : Grid) (p q : Position) → AreJoined j m p q → AreJoined j m q p
 AreJoined-sym j m p q h = back j m h.category p h.others q h.leads h.alike
 
--- what is the same at adjacent cells of one category is the same at joined cells
+-- what is the same at adjacent cells of the same category is the same at joined cells
 along : (j : Joining) (m : Grid) (f : Position → ℕ) → ((p q : Position) (v : ℤ) → AreAdjacent j p q → cell_at_position m p ≡ Some v → cell_at_position m q ≡ Some v → f p ≡ f q) → (v : ℤ) (p : Position) (xs : List Position) (q : Position) → LeadsTo j p xs q → All (λ s. cell_at_position m s ≡ Some v) (p ∷ xs) → f p ≡ f q
 along j m f step v p [] q h all = ap f h
 along j m f step v p (x ∷ xs) q h all =

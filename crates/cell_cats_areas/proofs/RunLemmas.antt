@@ -170,7 +170,7 @@ module _ (j : Joining) (m : Grid) (kept : List (List ℕ)) (table : List ℕ) (r
           (next_are_near j m kept table done near.above rest r near w c_in) w.reading.cells.has_read.read (cell
           ∙ e) refl right)
 
-  -- so many of them
+  -- the same over n cells
   walked_over : (n : ℕ) (done rest : List Labelled)
       → IsWalked j m kept table done (replicate n near.above ++ rest) r near → length done + n ≤ m.region.cols →
       ((k : ℕ) → k < n → near.left.cell ≡ cell_at_position m (position r (length done + k)))

@@ -5,7 +5,7 @@ use Rattle.cell_core.specs.Grid.{Grid, CellValue, cell_at, no_labels}
 use Rattle.cell_cats_areas.specs.declared.clump.Joining.{Joining}
 use Rattle.cell_cats_areas.specs.declared.clump.Joining.TheVariants.{Edges, EdgesAndCorners}
 
--- where a cell is, by its row and its column from 0
+-- the position of a cell, as its row and its column from 0
 pub record Position : Type 0 where
   pub row : ℕ
   pub col : ℕ
@@ -18,7 +18,7 @@ cell_at_position m p = cell_at m p.row p.col
 abbrev pub IsEarlierCell : Position → Position → Type 0
 IsEarlierCell p q = (p.row < q.row) ⊎ ((p.row ≡ q.row) × (p.col < q.col))
 
--- two rows, or two columns, lie next to each other
+-- two rows, or two columns, are next to each other
 abbrev pub AreNeighbours : ℕ → ℕ → Type 0
 AreNeighbours i j = (i + 1 ≡ j) ⊎ (j + 1 ≡ i)
 
@@ -26,7 +26,7 @@ AreNeighbours i j = (i + 1 ≡ j) ⊎ (j + 1 ≡ i)
 abbrev pub ShareEdge : Position → Position → Type 0
 ShareEdge p q = ((p.row ≡ q.row) × AreNeighbours p.col q.col) ⊎ (AreNeighbours p.row q.row × (p.col ≡ q.col))
 
--- two cells touch at a corner alone
+-- two cells touch only at a corner
 abbrev pub ShareCorner : Position → Position → Type 0
 ShareCorner p q = AreNeighbours p.row q.row × AreNeighbours p.col q.col
 
@@ -35,12 +35,12 @@ abbrev pub AreAdjacent : Joining → Position → Position → Type 0
 AreAdjacent Edges p q = ShareEdge p q
 AreAdjacent EdgesAndCorners p q = ShareEdge p q ⊎ ShareCorner p q
 
--- a way from a cell over a list of others, each adjacent to the next, that ends at a cell
+-- a path from a cell over a list of others, each adjacent to the next, that ends at a cell
 abbrev pub LeadsTo : Joining → Position → List Position → Position → Type 0
 LeadsTo j p [] q = p ≡ q
 LeadsTo j p (next ∷ others) q = AreAdjacent j p next × LeadsTo j next others q
 
--- a path joins two cells: a way from one to the other over cells that all have one category, so none is null or outside the map
+-- a path joins two cells, and all its cells have the same category, so none is null or outside the map
 pub record AreJoined (j : Joining) (m : Grid) (p q : Position) : Type 0 where
   pub category : ℤ
   pub others : List Position
@@ -66,7 +66,7 @@ pub record HasNumber (j : Joining) (m : Grid) (p : Position) (n : ℕ) : Type 0 
   pub up_to : AreFirstsUpTo j m first firsts
   pub count : length firsts ≡ n
 
--- a map in which each cell that is not null has its number
+-- the map of clump numbers: each non-null cell has the number of its clump
 pub record IsClumping (j : Joining) (m numbers : Grid) : Type 0 where
   -- it covers what the map covers, and has no labels
   pub region : numbers.region ≡ m.region

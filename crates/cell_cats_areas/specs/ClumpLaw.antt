@@ -5,7 +5,7 @@ use Rattle.cell_core.specs.Grid.{Grid, IsFilled}
 use Rattle.cell_cats_areas.specs.declared.clump.Joining.{Joining}
 use Rattle.cell_cats_areas.specs.Areas.{Position, cell_at_position, IsEarlierCell, IsFirst, IsClumping}
 
--- two clumpings of a map by one adjacency are one map
+-- a map has at most one clumping for each adjacency
 abbrev pub ClumpingIsOne : Type 0
 ClumpingIsOne = (j : Joining) (m a b : Grid) → IsFilled a.region a.rows → IsFilled b.region b.rows → IsClumping j m a → IsClumping j m b → a ≡ b
 
@@ -13,7 +13,7 @@ ClumpingIsOne = (j : Joining) (m a b : Grid) → IsFilled a.region a.rows → Is
 abbrev pub Occurs : Grid → ℕ → Type 0
 Occurs numbers n = (p : Position) × (cell_at_position numbers p ≡ Some (pos n))
 
--- no number is left out: a cell that is not null has a number from 1 on, and each number from 1 to that one occurs
+-- no number is left out: a non-null cell has a number of at least 1, and each number from 1 to that one occurs
 abbrev pub NoNumberIsLeftOut : Type 0
 NoNumberIsLeftOut = (j : Joining) (m numbers : Grid) → IsClumping j m numbers → (p : Position) → IsSome (cell_at_position numbers p) → (n : ℕ) × (cell_at_position numbers p ≡ Some (pos n)) × (1 ≤ n) × ((k : ℕ) → 1 ≤ k → k ≤ n → Occurs numbers k)
 

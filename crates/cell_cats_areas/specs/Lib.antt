@@ -1,4 +1,4 @@
--- Connected areas: what public clauses cite; in parts, what private functions and proofs speak of.
+-- Connected areas: what public contracts use; in parts, what only private functions and proofs use.
 pub mod Areas
 pub mod ClumpLaw
 pub mod parts

@@ -1,4 +1,4 @@
--- Labels of cells, and the tables of them, by which areas are found.
+-- Labels of cells, and the tables of labels with which areas are found.
 pub mod Labels
 pub mod Meetings
 pub mod AreaNumbers

@@ -6,7 +6,7 @@ ghost use Rattle.cell_cats_areas.specs.parts.RunsOfLabels.{HaveLikeNeighbours, H
 use crate::clump::Joining;
 use crate::near::{Labelled, outside};
 
-// What is still to come of a line of labelled runs: so many cells alike, and the runs from a place on.
+// What is still to come of a line of labelled runs: `count` equal cells, then the runs from `place` on.
 #[derive(Clone, Copy)]
 pub(crate) struct Above {
     cell: Labelled,
@@ -15,7 +15,7 @@ pub(crate) struct Above {
 }
 
 impl Above {
-    // The whole line.
+    // The full line.
     pub(crate) fn of(line: &[(Labelled, u32)]) -> Above
         requires { All (λ run. 0 < run.1) line.now }
         ensures at { HasCellInHand result line.now }
@@ -58,7 +58,7 @@ impl Above {
         }
     }
 
-    // How many cells are alike from the next on, and have like neighbours in this row.
+    // The number of equal cells, from the next on, whose neighbours in this row are also equal.
     #[inline(always)]
     pub(crate) fn alike(&self, joining: Joining) -> u32
         requires { 0 < self.now.count }
@@ -71,7 +71,7 @@ impl Above {
         }
     }
 
-    // What is to come after so many of the cells alike.
+    // What is still to come after `count` of the equal cells.
     #[inline(always)]
     pub(crate) fn after(&self, line: &[(Labelled, u32)], count: u32) -> Above
         requires within { count ≤ self.now.count }

@@ -15,7 +15,7 @@ use cell_core::memory::Memory;
 use cell_core::region::Region;
 use std::alloc::Global;
 
-/// Which cells are adjacent (r.clump manual, four neighbours, or with the flag `d` eight).
+/// Which cells are adjacent (r.clump manual: four neighbours, or eight with the flag `d`).
 #[derive(Clone, Copy, Debug, PartialEq, Eq)]
 pub enum Joining {
     /// Cells that share an edge.
@@ -24,10 +24,10 @@ pub enum Joining {
     EdgesAndCorners,
 }
 
-// A map goes run by run if it has so many cells to a run: cell by cell is faster where runs are shorter.
+// A map is scanned run by run if its runs have at least this many cells on average: shorter runs cost more than cells.
 const CELLS_A_RUN: usize = 4;
 
-// How many runs a map has.
+// The number of runs of a map.
 fn number_of_runs(map: &CellMap) -> usize {
     let mut count: usize = 0;
     for row in 0..map.region().rows() {
@@ -36,12 +36,12 @@ fn number_of_runs(map: &CellMap) -> usize {
     count
 }
 
-// Whether a map of so many runs goes run by run.
+// Whether a map with this number of runs is scanned run by run.
 fn is_by_runs(region: Region, count_of_runs: usize) -> bool {
     count_of_runs <= (region.rows() as usize * region.cols() as usize) / CELLS_A_RUN
 }
 
-// Labels a map, by runs or by cells, as is faster.
+// Labels a map, by runs or by cells, whichever is faster.
 fn label_map(alloc: Global, map: &CellMap, joining: Joining) -> Result<MapLabels, Memory>
     ensures { IfOk result (λ labels. AreMapLabels joining map.now
         labels.table.items labels.rows.items) }
@@ -56,7 +56,7 @@ fn label_map(alloc: Global, map: &CellMap, joining: Joining) -> Result<MapLabels
 /// The map in which each cell that is not null has the number of its area, over the same region and
 /// without labels. Null stays null.
 ///
-/// Two cells are of one area if a path of adjacent cells of one category joins them (r.clump
+/// Two cells are in the same area if a path of adjacent cells of the same category joins them (r.clump
 /// manual). Areas are numbered 1, 2, .. in the order of their first cells, row by row from the top
 /// left (profile). The rows `1 2` and `2 1` give `1 2` and `3 4` by edges, and `1 2` and `2 1` by edges
 /// and corners.
@@ -66,7 +66,7 @@ fn label_map(alloc: Global, map: &CellMap, joining: Joining) -> Result<MapLabels
 ///
 /// # Errors
 ///
-/// [`Memory`] when out of memory.
+/// [`Memory`] if memory runs out.
 pub fn clump_with(alloc: Global, map: &CellMap, joining: Joining) -> Result<CellMap, Memory>
     ensures { IfOk result (IsClumping joining map.now) }
 {
@@ -82,7 +82,7 @@ pub fn clump_with(alloc: Global, map: &CellMap, joining: Joining) -> Result<Cell
 ///
 /// # Errors
 ///
-/// [`Memory`] when out of memory.
+/// [`Memory`] if memory runs out.
 pub fn clump(alloc: Global, map: &CellMap) -> Result<CellMap, Memory>
     ensures { IfOk result (IsClumping Edges map.now) }
 {

@@ -16,7 +16,8 @@ pub(crate) struct KeptLabels {
     kept: LabelForm,
 }
 
-// The labels of a row: each with how many cells side by side have it, or one by one, which takes less memory if most runs are short.
+// The labels of a row: each with its number of adjacent cells, or one per cell, which takes less memory if most runs
+// are short.
 #[derive(Debug, Drop)]
 enum LabelForm {
     Runs(Vec<(u32, u32)>),
@@ -42,7 +43,7 @@ impl KeptLabels {
         }
     }
 
-    // The labels of the cells of a line.
+    // The labels of the cells of a row.
     pub(crate) fn of_line(alloc: Global, line: &[Labelled]) -> Result<KeptLabels, Memory>
         ensures { IfOk result (λ labels. labels ≡ map (λ x. x.label) line.now) }
     {
@@ -53,8 +54,8 @@ impl KeptLabels {
         })
     }
 
-    // Writes the numbers of a row's cells, and lets its labels go. The table has the number of each label, and none of what null has
-    // for one.
+    // Writes the numbers of a row's cells, and frees its labels. The table has the number of each label, and none for
+    // null's.
     pub(crate) fn write_numbers(self, table: &[u32], cells: &mut [Cell])
         requires small { All (λ number. number < 2147483648) table.now }
         requires wide { length self ≡ length cells.old }
@@ -67,7 +68,7 @@ impl KeptLabels {
     }
 }
 
-// Copies the labels of a line into a slice of as many.
+// Copies the labels of a row into a slice of the same length.
 fn copy_labels(line: &[Labelled], labels: &mut [u32])
     requires { length labels.old ≡ length line.now }
     ensures { labels.new ≡ map (λ x. x.label) line.now }
@@ -88,7 +89,7 @@ fn number_of_label(table: &[u32], label: u32) -> Cell
     }
 }
 
-// Writes the numbers of labels, each so many times.
+// Writes the number of each label as many times as its run has cells.
 #[inline(never)]
 fn write_run_numbers(runs: &[(u32, u32)], table: &[u32], cells: &mut [Cell])
     requires small { All (λ number. number < 2147483648) table.now }
@@ -102,7 +103,7 @@ fn write_run_numbers(runs: &[(u32, u32)], table: &[u32], cells: &mut [Cell])
     }
 }
 
-// Writes the numbers of as many labels.
+// Writes the number of each label into a slice of the same length.
 #[inline(never)]
 fn write_cell_numbers(labels: &[u32], table: &[u32], cells: &mut [Cell])
     requires small { All (λ number. number < 2147483648) table.now }

@@ -2,12 +2,12 @@
 
 ghost use Rattle.cell_cats_areas.specs.ClumpLaw.{ClumpingIsOne, NoNumberIsLeftOut, NumbersCountAreas};
 
-/// Two clumpings of a map by one adjacency are one map.
+/// A map has at most one clumping for each adjacency.
 pub fn clumping_is_one()
     ensures { ClumpingIsOne }
 {}
 
-/// If a cell has a number, it is 1 or more, and some cell has each number from 1 to it.
+/// If a cell has a number, it is 1 or more, and each number from 1 up to it occurs.
 pub fn no_number_is_left_out()
     ensures { NoNumberIsLeftOut }
 {}

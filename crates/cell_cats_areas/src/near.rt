@@ -19,10 +19,10 @@ pub(crate) struct Labelled {
     pub(crate) label: u32,
 }
 
-// What null has for a label: no table is so long.
+// The label of null: no table is this long.
 pub(crate) const NO_LABEL: u32 = u32::MAX;
 
-// What is where the map ends.
+// What is beyond the edge of the map.
 pub(crate) fn outside() -> Labelled
     ensures { result ≡ no_neighbour }
 {
@@ -32,7 +32,7 @@ pub(crate) fn outside() -> Labelled
     }
 }
 
-// The neighbours of a cell that come before it, null where the map ends.
+// The earlier neighbours of a cell, null beyond the edge of the map.
 #[derive(Clone, Copy)]
 pub(crate) struct Near {
     pub(crate) left: Labelled,
@@ -42,7 +42,7 @@ pub(crate) struct Near {
 }
 
 impl Near {
-    // The neighbours before the first cell of a row: no_neighbour is there.
+    // The earlier neighbours at the start of a row: all are off the map.
     #[inline(always)]
     pub(crate) fn at_the_edge() -> Near
         ensures left { result.left.cell ≡ None }
@@ -56,8 +56,8 @@ impl Near {
         }
     }
 
-    // The neighbours of the cell at a column, of those in hand at the one before it, which itself is on the left by now,
-    // and of the line.
+    // The neighbours of the cell at a column, from the neighbours of the cell before it, which is now on the left, and
+    // the line.
     #[inline(always)]
     pub(crate) fn at_next_column(self, line: &[Labelled], col: usize) -> Near
         requires { col + 1 < length line.now }
@@ -66,7 +66,8 @@ impl Near {
         Near {
             left: self.left,
             upper_left: self.above,
-            // Part by part: copied whole, its two parts are read as one number, which costs a shift at each cell.
+            // Field by field: copied as a whole, its two fields are read as one number, which costs a shift at each
+            // cell.
             above: Labelled {
                 cell: line[col].cell,
                 label: line[col].label,
@@ -75,7 +76,7 @@ impl Near {
         }
     }
 
-    // The neighbours of the next cell, of those in hand at the one before it, and of what is to come of the row above.
+    // The neighbours of the next cell, from the neighbours of the cell before it and the rest of the row above.
     #[inline(always)]
     pub(crate) fn under(self, coming: &Above, line: &[(Labelled, u32)]) -> Near
         requires at { HasCellInHand coming.now line.now }
@@ -91,8 +92,8 @@ impl Near {
     }
 }
 
-// The label that a cell shares with a neighbour on an edge, if there is one. If there are two and no other cell has joined
-// them, their labels are joined.
+// The label that a cell shares with a neighbour on an edge, if there is one. If there are two, their labels are joined,
+// unless another cell has joined them.
 #[inline(always)]
 fn shared_by_edges(table: &mut [u32], cell: Cell, near: &Near) -> Option<u32>
     requires { CanShare cell table.old near.now }
@@ -113,8 +114,8 @@ fn shared_by_edges(table: &mut [u32], cell: Cell, near: &Near) -> Option<u32>
     Some(near.left.label)
 }
 
-// The label that a cell shares with a neighbour on an edge or at a corner, if there is one. If there are two that no other
-// cell has joined, their labels are joined. The one above touches each of the others.
+// The label that a cell shares with a neighbour on an edge or at a corner, if there is one. If there are two that no
+// other cell has joined, their labels are joined. The neighbour above touches each of the others.
 #[inline(always)]
 fn shared_by_corners(table: &mut [u32], cell: Cell, near: &Near) -> Option<u32>
     requires { CanShare cell table.old near.now }

@@ -15,7 +15,7 @@ use cell_core::memory::Memory;
 use std::alloc::Global;
 use std::mem::swap;
 
-// Labels the runs of a row. The line has the runs of the row above it, and the runs of this row are put below it.
+// Labels the runs of a row. The line has the runs of the row above; the runs of this row replace them.
 #[inline(never)]
 fn label_runs_of_row(
     alloc: Global,
@@ -67,7 +67,8 @@ pub(crate) struct MapLabels {
     pub(crate) rows: Vec<KeptLabels>,
 }
 
-// Labels the runs of a map, once the labels of each two adjacent cells of one category were joined. It has so many runs.
+// Labels the runs of a map and joins the labels of adjacent cells of the same category. The map has `count_of_runs`
+// runs.
 pub(crate) fn label_runs(
     alloc: Global,
     map: &CellMap,

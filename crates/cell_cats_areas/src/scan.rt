@@ -13,7 +13,7 @@ use cell_core::map::CellMap;
 use cell_core::memory::Memory;
 use std::alloc::Global;
 
-// Labels the cells of a row. The line holds the row above it, and then the row; what is after it is null.
+// Labels the cells of a row. The line holds the row above, and afterwards this row; what is after it is null.
 #[inline(never)]
 fn label_row(
     map: &CellMap,
@@ -48,7 +48,8 @@ fn label_row(
     Ok(())
 }
 
-// Labels the cells of a map, once the labels of each two adjacent cells of one category were joined. It has so many runs.
+// Labels the cells of a map and joins the labels of adjacent cells of the same category. The map has `count_of_runs`
+// runs.
 pub(crate) fn label_cells(
     alloc: Global,
     map: &CellMap,

@@ -200,7 +200,7 @@ turned-apart a b is = by (eq_by_cmp combination_cmp b a) refl
     by true e = let too = turned-equal b a e in cc
     by false e = refl
 
--- a lesser combination is no entry's
+-- a smaller combination has no entry
 mark-none : (k : Combination) (es : Pairs) → IsTrue (below_all combination_cmp k es) → sum_by (mark k) es ≡ 0
 mark-none k [] b = refl
 mark-none k (e ∷ es) b =

@@ -30,7 +30,7 @@ abbrev pub entries_of : ℤ → Pairs → Pairs
 entries_of category table =
     filter (λ pair. eq_by_cmp combination_cmp (Some category ∷ []) (take 1 pair.0)) table
 
--- for each category the counts of its areas add up to its count
+-- for each category, the counts of its areas add up to its count
 abbrev pub AreasDivideTheirCategory : Type 0
 AreasDivideTheirCategory = (j : Joining) (m numbers : Grid) → IsClumping j m numbers
     → (skip : Skip) (rows cols : ℕ) (table : Pairs) → IsTable skip (cells_of_both m numbers rows cols) table
@@ -51,7 +51,7 @@ abbrev pub IsWithout : Grid → Grid → ℤ → Grid → Type 0
 IsWithout m numbers number less = (p : Position)
     → cell_at_position less p ≡ (if cell_eq (cell_at_position numbers p) (Some number) then None else cell_at_position m p)
 
--- making one whole area null changes no other: two cells are of one area exactly if they were
+-- making one whole area null changes no other: any two other cells are in the same area exactly if they were before
 abbrev pub OtherAreasStay : Type 0
 OtherAreasStay = (j : Joining) (m numbers : Grid) → IsClumping j m numbers
     → (number : ℤ) (less renumbered : Grid) → IsWithout m numbers number less → IsClumping j less renumbered

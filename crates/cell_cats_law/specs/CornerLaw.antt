@@ -13,13 +13,13 @@ pub record AreBothClumpings (m edges corners : Grid) : Type 0 where
   pub by_edges : IsClumping Edges m edges
   pub by_corners : IsClumping EdgesAndCorners m corners
 
--- cells of one area by edges are of one area by corners
+-- cells in the same area by edges are in the same area by corners
 abbrev pub CornersOnlyJoin : Type 0
 CornersOnlyJoin = (m edges corners : Grid) → AreBothClumpings m edges corners → (p q : Position)
     → IsSome (cell_at_position edges p) → cell_at_position edges p ≡ cell_at_position edges q
     → cell_at_position corners p ≡ cell_at_position corners q
 
--- there are no more areas by corners than by edges: each number by corners is one by edges
+-- connecting corners gives no more areas: each number by corners is also one by edges
 abbrev pub CornersAddNoArea : Type 0
 CornersAddNoArea = (m edges corners : Grid) → AreBothClumpings m edges corners → (n : ℕ) → Occurs corners n
     → Occurs edges n

@@ -9,7 +9,7 @@ use Rattle.cell_stats.specs.CategoryTables.{Pairs, IsTable, rest_after}
 abbrev pub up_to : Combination → Pairs → Pairs
 up_to k pairs = filter (λ pair. is_le (combination_cmp pair.0 k)) pairs
 
--- the entries of a table up to a combination, and then its rest after it, are the table
+-- the entries of a table up to a combination, followed by the rest after it, are the table
 abbrev pub PagesJoin : Type 0
 PagesJoin = (skip : Skip) (cells : List Combination) (table : Pairs) → IsTable skip cells table
     → (k : Combination) → up_to k table ++ rest_after k table ≡ table

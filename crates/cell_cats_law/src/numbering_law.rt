@@ -1,8 +1,8 @@
-//! What is so of the areas of every map.
+//! A law of the areas of every map.
 
 ghost use Rattle.cell_cats_law.specs.ExistsLaw.{ClumpingExists};
 
-/// Each filled map has a clumping, by edges and by edges and corners.
+/// Each filled map has a clumping by edges, and one by edges and corners.
 pub fn clumping_exists()
     ensures { ClumpingExists }
 {}

@@ -1,4 +1,4 @@
--- What only private functions and proofs speak of.
+-- Definitions that only private functions and proofs use.
 pub mod GridCode
 pub mod MapRows
 pub mod RowForms

@@ -1,4 +1,4 @@
-//! Runs of cells that bytes stand for.
+//! Runs of cells kept as bytes.
 
 ghost use Rattle.std.specs.Prelude.{◌≡◌, ◌<◌, ◌≤◌, ◌^◌, ◌+◌, ◌++◌, length, drop, IfOk, slice_index_or};
 ghost use Rattle.cell_core_values.specs.SmallCells.{byte_cell, cells_of_bytes};
@@ -12,7 +12,7 @@ use cell_core_values::small_cells::{cell_of_byte, write_byte_cells};
 use std::alloc::Global;
 use std::simd::prelude::*;
 
-// How many bytes at the start stand for a cell.
+// The number of bytes at the start that stand for a cell.
 pub(crate) fn count_alike_bytes(cell: Cell, bytes: &[u8]) -> usize
     ensures value { result ≡ alike cell (cells_of_bytes bytes.now) }
     ensures within { result ≤ length bytes.now }
@@ -27,7 +27,7 @@ pub(crate) fn count_alike_bytes(cell: Cell, bytes: &[u8]) -> usize
     count
 }
 
-// Which of the 64 bytes after the first differ from the one before, as bits: bit k stands for the byte at place k + 1.
+// Which of the 64 bytes after the first differ from the byte before: bit k is for the byte at place k + 1.
 #[inline(always)]
 fn breaks_in_bytes(bytes: &[u8]) -> u64
     requires { 64 < length bytes.now }
@@ -37,7 +37,7 @@ fn breaks_in_bytes(bytes: &[u8]) -> u64
     u8x64::from_slice(&bytes[1..]).simd_ne(before).to_bitmask()
 }
 
-// How many runs the cells have that bytes stand for.
+// The number of runs of cells kept as bytes.
 pub(crate) fn number_of_byte_runs(bytes: &[u8]) -> usize
     requires { length bytes.now < 2 ^ 32 }
     ensures { result ≡ length (runs_in (cells_of_bytes bytes.now)) }
@@ -51,7 +51,7 @@ pub(crate) fn number_of_byte_runs(bytes: &[u8]) -> usize
     ended + number_of_last_runs(&bytes[at..])
 }
 
-// The same, a byte at a time: for the last bytes of a row.
+// The same, one byte at a time: for the last bytes of a row.
 fn number_of_last_runs(bytes: &[u8]) -> usize
     requires { length bytes.now < 2 ^ 32 }
     ensures { result ≡ length (runs_in (cells_of_bytes bytes.now)) }
@@ -59,7 +59,7 @@ fn number_of_last_runs(bytes: &[u8]) -> usize
     if bytes.is_empty() {
         return 0;
     }
-    // Of 32 bits, which a vector counts faster than 64. Bytes are alike if their cells are.
+    // With 32 bits, which vectors count faster than 64. Two bytes are equal exactly if their cells are.
     let mut alike: u32 = 0;
     let mut last = bytes[0];
     for byte in bytes {
@@ -71,8 +71,8 @@ fn number_of_last_runs(bytes: &[u8]) -> usize
     bytes.len() - alike as usize + 1
 }
 
-// Pushes the runs that end before the byte at place 64. The first byte stands for the nth cell of its run; the same of the
-// byte at place 64 is returned.
+// Pushes the runs that end before the byte at place 64. The first byte is the nth cell of its run. Returns the same
+// number for the byte at place 64.
 fn push_byte_block(runs: &mut Vec<(Cell, u32)>, nth: u32, bytes: &[u8]) -> Result<u32, Memory>
     requires size { 64 < length bytes.now }
     requires room { nth + 64 < 2 ^ 32 }
@@ -94,7 +94,7 @@ fn push_byte_block(runs: &mut Vec<(Cell, u32)>, nth: u32, bytes: &[u8]) -> Resul
     Ok(count + (BLOCK - at) as u32)
 }
 
-// The runs of the cells that bytes stand for, which are so many. Takes memory once.
+// The runs of cells kept as bytes; their number is `count_of_runs`. Allocates once.
 pub(crate) fn runs_of_bytes(
     alloc: Global,
     bytes: &[u8],

@@ -1,8 +1,8 @@
 //! Maps, and the shelf of maps by name that a script works on.
 //!
-//! Maps are the CELL maps of the GRASS manual; the shelf is our own choice (profile). Users of maps
-//! need this crate alone: it re-exports `cell`, `region`, `name` and `memory` of
-//! `cell_core_values`, and `source`, `sink`, `block` and `device` of `cell_core_devices`.
+//! Maps are the CELL maps of the GRASS manual; the shelf is our own choice (profile). Users of maps only need this
+//! crate: it re-exports `cell`, `region`, `name` and `memory` of `cell_core_values`, and `source`, `sink`, `block` and
+//! `device` of `cell_core_devices`.
 //!
 //! - `map`: `MapBuilder`, which takes rows from north to south; `CellMap`, its cells and labels
 //! - `runs`: `Runs`, the equal cells next to each other in a row, as (cell, number of columns)

@@ -18,9 +18,9 @@ use std::alloc::Global;
 use std::collections::BTreeMap;
 use std::marker::Model;
 
-/// A raster map of whole numbers (GRASS: a CELL map): its region, its rows from the top, and the
-/// labels of its categories. Rows and columns count from 0. A row is kept as its runs, or as
-/// its cells if these take less memory, in a byte each if they are null or from 0 to 254.
+/// A raster map of whole numbers (GRASS: a CELL map): its region, its rows from the top, and the labels of its
+/// categories. Rows and columns count from 0. A row is kept as its runs, or as its cells if these take less memory: in
+/// one byte each if all are null or from 0 to 254.
 #[derive(Debug, Drop)]
 pub struct CellMap {
     alloc: Global,
@@ -52,8 +52,8 @@ impl CellMap {
         self.rows.region()
     }
 
-    /// The cell at a row and a column. It walks the runs of the row, since a run keeps its length and not its end: to read many
-    /// cells, take `copy_row` or `runs`.
+    /// The cell at a row and a column. It walks the runs of the row, since a run stores its length and not its end: to
+    /// read many cells, use `copy_row` or `runs`.
     pub fn cell(&self, row: u32, col: u32) -> Cell
         requires row_in_range { row < self.now.region.rows }
         requires col_in_range { col < self.now.region.cols }
@@ -62,8 +62,8 @@ impl CellMap {
         self.rows.row(row).cell(col)
     }
 
-    /// Copies the cells of a row, from left to right. The slice has as many cells as the region
-    /// has columns. It stays out of the loops over its callers' cells, which the compiler makes faster without it.
+    /// Copies the cells of a row, from left to right, into a slice with one cell per column. Not inlined: the compiler
+    /// makes the loops over cells in its callers faster without it.
     #[inline(never)]
     pub fn copy_row(&self, row: u32, cells: &mut [Cell])
         requires row_in_range { row < self.now.region.rows }
@@ -83,7 +83,7 @@ impl CellMap {
         self.rows.row(row).runs()
     }
 
-    /// The stretches of a row, from left to right: its runs, or its cells one by one, as they are kept.
+    /// The stretches of a row, from left to right: its runs, or its cells one by one, depending on how they are kept.
     pub fn stretches(&self, row: u32) -> Stretches<'_>
         requires row_in_range { row < self.now.region.rows }
         ensures written { written_out result ≡ row_at self.now row }
@@ -93,7 +93,7 @@ impl CellMap {
         self.rows.row(row).stretches()
     }
 
-    /// The bytes that stand for the cells of a row, from left to right, if the row is kept so.
+    /// The bytes that stand for the cells of a row, from left to right, if the row is kept as bytes.
     pub fn bytes(&self, row: u32) -> Option<&[u8]>
         requires row_in_range { row < self.now.region.rows }
         ensures cells { IfSome result (λ bytes. cells_of_bytes bytes.now ≡ row_at self.now row) }
@@ -102,7 +102,7 @@ impl CellMap {
         self.rows.row(row).bytes()
     }
 
-    /// The cells of a row, from left to right, if the row is kept so.
+    /// The cells of a row, from left to right, if the row is kept as cells.
     pub fn cells(&self, row: u32) -> Option<&[Cell]>
         requires row_in_range { row < self.now.region.rows }
         ensures { IfSome result (λ cells. cells.now ≡ row_at self.now row) }
@@ -110,8 +110,8 @@ impl CellMap {
         self.rows.row(row).cells()
     }
 
-    /// Says that each cell of a map is null or a category. Does nothing. It is a call of its own, so that only a law that needs
-    /// the range carries the fact.
+    /// States that each cell of a map is null or a category. Does nothing. It is a call of its own, so that only laws
+    /// that need the range carry the fact.
     pub fn cells_are_in_range(&self)
         ensures { AreCells self.now.rows }
     {
@@ -119,7 +119,7 @@ impl CellMap {
         let _ = &self.rows;
     }
 
-    /// The label that was last set for a category, or None if none was.
+    /// The label last set for a category, or None if there is none.
     pub fn label(&self, category: i32) -> Option<&[u8]>
         ensures { option_map (λ text. text.now) result ≡ get self.now.labels category }
     {
@@ -129,7 +129,7 @@ impl CellMap {
         }
     }
 
-    /// Sets the label of a category to a copy of the text. All else of the map stays.
+    /// Sets the label of a category to a copy of the text. Everything else is unchanged.
     ///
     /// # Errors
     ///
@@ -140,14 +140,14 @@ impl CellMap {
             (self.new ≡ record self.old { labels = insert self.old.labels category text.now }) }
         ensures err { OnErr result (self.new ≡ self.old) }
     {
-        // The copy and the entry may both run out of memory, so the copy is made before the labels change.
+        // Both the copy and the entry may run out of memory, so the copy is made before the labels change.
         let label = Vec::from_slice(self.alloc, text)?;
         self.labels.insert(category, label)?;
         Ok(())
     }
 }
 
-/// A map that is filled row by row, from the top.
+/// A map that is being filled row by row, from the top.
 #[derive(Debug, Drop)]
 pub struct MapBuilder {
     alloc: Global,
@@ -173,7 +173,7 @@ impl MapBuilder {
         }
     }
 
-    /// How many rows are still to be pushed.
+    /// The number of rows still to be pushed.
     pub fn rows_left(&self) -> u32
         ensures count { result + length self.now.rows ≡ self.now.region.rows }
         ensures draft { IsDraft self.now.region self.now.rows }
@@ -181,7 +181,7 @@ impl MapBuilder {
         self.rows.region().rows() - self.rows.len()
     }
 
-    /// Puts a row of as many cells as the region has columns below the others. One is left.
+    /// Adds a row at the bottom, with one cell per column. One or more rows are left.
     ///
     /// # Errors
     ///
@@ -196,7 +196,7 @@ impl MapBuilder {
         self.rows.push_row(row)
     }
 
-    /// Puts the row of cells that bytes stand for below the others, as [`MapBuilder::push_row`] does.
+    /// Adds a row of cells kept as bytes at the bottom, as [`MapBuilder::push_row`] does.
     ///
     /// # Errors
     ///
@@ -211,8 +211,8 @@ impl MapBuilder {
         self.rows.push_bytes(bytes)
     }
 
-    /// Puts the row that runs make below the others, as [`MapBuilder::push_row`] does. It is kept as these runs, which takes less
-    /// memory than its cells if they are at most half as many.
+    /// Adds the row of some runs at the bottom, as [`MapBuilder::push_row`] does. It is kept as these runs, which take
+    /// less memory than its cells if there are at most half as many runs as cells.
     ///
     /// # Errors
     ///
@@ -228,7 +228,7 @@ impl MapBuilder {
         self.rows.push_runs(runs)
     }
 
-    /// The map of the rows pushed, without labels. No row is left to be pushed.
+    /// The map of the pushed rows, without labels. No row is left to be pushed.
     pub fn finish(self) -> CellMap
         requires { length self.rows ≡ self.region.rows }
         ensures { result ≡ record { region = self.region; rows = self.rows; labels = no_labels } }

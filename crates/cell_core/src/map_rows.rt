@@ -13,7 +13,7 @@ use cell_core_values::region::Region;
 use std::alloc::Global;
 use std::marker::Model;
 
-/// Some rows of a region, from the top.
+/// Rows of a region, from the top.
 #[derive(Debug, Drop)]
 pub(crate) struct Rows {
     region: Region,
@@ -33,7 +33,7 @@ impl Model for Rows {
 }
 
 impl Rows {
-    // None yet. Takes no memory.
+    // No rows yet. Takes no memory.
     pub(crate) fn new(alloc: Global, region: Region) -> Rows
         ensures { result ≡ record { region = region; rows = [] } }
     {
@@ -51,7 +51,7 @@ impl Rows {
         self.region
     }
 
-    // How many there are.
+    // The number of rows.
     pub(crate) fn len(&self) -> u32
         ensures count { result ≡ length self.now.rows }
         ensures draft { IsDraft self.now.region self.now.rows }
@@ -68,7 +68,7 @@ impl Rows {
         self.kept[place as usize].view()
     }
 
-    // Puts a row below the others.
+    // Adds a row at the bottom.
     pub(crate) fn push_row(&mut self, row: &[Cell]) -> Result<(), Memory>
         requires width { length row.now ≡ self.old.region.cols }
         requires room { length self.old.rows < self.old.region.rows }
@@ -80,7 +80,7 @@ impl Rows {
         Ok(())
     }
 
-    // Puts the row of cells that bytes stand for below the others.
+    // Adds a row of cells kept as bytes at the bottom.
     pub(crate) fn push_bytes(&mut self, row: &[u8]) -> Result<(), Memory>
         requires width { length row.now ≡ self.old.region.cols }
         requires room { length self.old.rows < self.old.region.rows }
@@ -92,7 +92,7 @@ impl Rows {
         Ok(())
     }
 
-    // Puts the row that runs make below the others.
+    // Appends the row that the runs encode.
     pub(crate) fn push_runs(&mut self, runs: &[(Cell, u32)]) -> Result<(), Memory>
         requires runs { AreRuns runs.now }
         requires width { length (written_out runs.now) ≡ self.old.region.cols }

@@ -14,19 +14,18 @@ use cell_core_values::small_cells::{are_small, bytes_of};
 use std::alloc::Global;
 use std::marker::Model;
 
-// A run takes as much memory as so many cells.
+// A run takes the memory of this many cells.
 const CELLS_A_RUN: usize = 2;
 
-/// A row of cells, kept in a form that takes little memory.
+/// A row of cells, kept in a compact form.
 #[derive(Debug, Drop)]
 pub(crate) struct Row {
     kept: RowForm,
 }
 
-/// A row as its runs, or, if most runs are short, as its cells: in a byte each, if these stand for all of them.
-/// It takes one growth of just its size, since its runs are counted first.
-/// One list of runs for a map took the same time and memory, and rows would have to be cut out of it. With runs alone, noise
-/// took 8 bytes a cell.
+/// A row as its runs, or as its cells if most runs are short: in one byte each, if all cells have bytes. One allocation
+/// of exactly the right size, since the runs are counted first. One list of runs for a whole map took the same time and
+/// memory, and rows would have to be cut out of it. With runs only, noise took 8 bytes per cell.
 #[derive(Debug, Drop)]
 enum RowForm {
     Runs(Vec<(Cell, u32)>),
@@ -47,7 +46,7 @@ impl Model for Row {
 }
 
 impl Row {
-    // Keeps a row of cells. Takes memory at most once.
+    // Keeps a row of cells. Allocates at most once.
     pub(crate) fn of(alloc: Global, cells: &[Cell]) -> Result<Row, Memory>
         requires { length cells.now < 2 ^ 32 }
         ensures value { IfOk result (λ row. row ≡ cells.now) }
@@ -64,7 +63,7 @@ impl Row {
         Ok(Row { kept })
     }
 
-    // Keeps the row of cells that bytes stand for. Takes memory at most once.
+    // Keeps a row of cells given as bytes. Allocates at most once.
     pub(crate) fn of_bytes(alloc: Global, bytes: &[u8]) -> Result<Row, Memory>
         requires { length bytes.now < 2 ^ 32 }
         ensures value { IfOk result (λ row. row ≡ cells_of_bytes bytes.now) }
@@ -79,7 +78,7 @@ impl Row {
         Ok(Row { kept })
     }
 
-    // Keeps the row that runs make. Takes memory at most once.
+    // Keeps the row of some runs. Allocates at most once.
     pub(crate) fn of_runs(alloc: Global, runs: &[(Cell, u32)]) -> Result<Row, Memory>
         requires { AreRuns runs.now }
         ensures value { IfOk result (λ row. row ≡ written_out runs.now) }
@@ -95,7 +94,7 @@ impl Row {
         })
     }
 
-    // The row, seen as it is kept.
+    // The row, as a view of the form in which it is kept.
     pub(crate) fn view(&self) -> RowView<'_>
         ensures { result ≡ self.now }
     {

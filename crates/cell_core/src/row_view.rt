@@ -1,4 +1,4 @@
-//! A row of a map, seen as it is kept.
+//! A row of a map, as a view of the form in which it is kept.
 
 ghost use Rattle.std.specs.Prelude.{◌≡◌, ◌<◌, ◌^◌, length, All, None, IfSome, slice_index_or};
 ghost use Rattle.cell_core_values.specs.SmallCells.{cells_of_bytes};
@@ -36,7 +36,7 @@ impl<'a> Model for RowView<'a> {
 }
 
 impl<'a> RowView<'a> {
-    // The row that runs make.
+    // The row of these runs.
     pub(crate) fn of_runs(runs: &'a [(Cell, u32)]) -> RowView<'a>
         requires { AreRuns runs.now }
         ensures { result ≡ written_out runs.now }
@@ -46,7 +46,7 @@ impl<'a> RowView<'a> {
         }
     }
 
-    // The row of cells that bytes stand for.
+    // The row of cells given as bytes.
     pub(crate) fn of_bytes(bytes: &'a [u8]) -> RowView<'a>
         requires { length bytes.now < 2 ^ 32 }
         ensures { result ≡ cells_of_bytes bytes.now }
@@ -56,7 +56,7 @@ impl<'a> RowView<'a> {
         }
     }
 
-    // The row of cells.
+    // The row of these cells.
     pub(crate) fn of_cells(cells: &'a [Cell]) -> RowView<'a>
         requires { length cells.now < 2 ^ 32 }
         ensures { result ≡ cells.now }
@@ -66,7 +66,7 @@ impl<'a> RowView<'a> {
         }
     }
 
-    // The cell at a column, or null after the end.
+    // The cell at a column, or null past the end.
     pub(crate) fn cell(self, col: u32) -> Cell
         ensures { result ≡ slice_index_or self.entry col None }
     {
@@ -83,7 +83,7 @@ impl<'a> RowView<'a> {
         }
     }
 
-    // Copies the cells into a slice of as many.
+    // Copies the cells into a slice of the same length.
     pub(crate) fn copy_to(self, cells: &mut [Cell])
         requires { length cells.old ≡ length self }
         ensures { cells.new ≡ self.entry }
@@ -107,7 +107,7 @@ impl<'a> RowView<'a> {
         }
     }
 
-    // The bytes that stand for the cells, if they are kept so.
+    // The bytes that stand for the cells, if the row is kept as bytes.
     pub(crate) fn bytes(self) -> Option<&'a [u8]>
         ensures { IfSome result (λ bytes. cells_of_bytes bytes.now ≡ self.entry) }
     {
@@ -117,7 +117,7 @@ impl<'a> RowView<'a> {
         }
     }
 
-    // The cells, if they are kept so.
+    // The cells, if the row is kept as cells.
     pub(crate) fn cells(self) -> Option<&'a [Cell]>
         ensures { IfSome result (λ cells. cells.now ≡ self.entry) }
     {

@@ -1,4 +1,4 @@
-//! The runs of a row: equal cells side by side, with their number.
+//! The runs of a row: adjacent equal cells, and their number.
 
 ghost use Rattle.std.specs.Prelude.{◌≡◌, ◌<◌, ◌≤◌, ◌+◌, ◌-◌, ◌++◌, ◌^◌, List, length, take, drop, replicate, All, None, IfOk, OnOk, slice_index_or};
 ghost use Rattle.std.specs.Iterator.{YieldsFirst, item_count};
@@ -16,10 +16,10 @@ use std::alloc::Global;
 use std::marker::Model;
 use std::simd::prelude::*;
 
-// So many cells are looked at together.
+// Cells compared at a time.
 pub(crate) const BLOCK: usize = 64;
 
-// Its category, or None for null: it is one of them.
+// Its category, or None for null: there are no other cells.
 pub(crate) fn category_of(cell: Cell) -> Option<i32>
     ensures value { result ≡ cell }
     ensures cell { IsCell cell }
@@ -27,7 +27,7 @@ pub(crate) fn category_of(cell: Cell) -> Option<i32>
     cell.get()
 }
 
-// How many runs a row has. Its cells are null or categories.
+// The number of runs of a row. Its cells are null or categories.
 pub(crate) fn number_of_runs(row: &[Cell]) -> usize
     requires { length row.now < 2 ^ 32 }
     ensures count { result ≡ length (runs_in row.now) }
@@ -36,11 +36,12 @@ pub(crate) fn number_of_runs(row: &[Cell]) -> usize
     if row.is_empty() {
         return 0;
     }
-    // Of 32 bits, so that a vector counts as many as it compares. It counts those that continue, for which it needs one step less.
+    // With 32 bits, so that a vector counts as many cells as it compares. Counts the cells that continue a run, which
+    // takes one step less.
     let mut alike: u32 = 0;
     let mut last = row[0];
     for cell in row {
-        // The proof looks at each category. The count compares cells alone, several at a time.
+        // The proof looks at each category. The count itself only compares cells, several at a time.
         let _ = category_of(*cell);
         if *cell == last {
             alike = alike.wrapping_add(1);
@@ -61,13 +62,13 @@ fn set_bits(flags: &[u8]) -> u64
         .to_bitmask()
 }
 
-// Which cells of a block differ from the one before, the first from a cell: bit k stands for the cell at place k.
+// Which cells of a block differ from the one before, the first from a given cell: bit k is for the cell at place k.
 #[inline(always)]
 fn breaks_in(cell: Cell, block: &[Cell]) -> u64
     requires { length block.now ≡ 64 }
     ensures { result ≡ mark_bits cell block.now }
 {
-    // A byte for each, so that a vector compares several.
+    // One byte for each, so that a vector compares several.
     let mut flags = [0u8; 64];
     let mut last = cell;
     for j in 0..BLOCK {
@@ -78,7 +79,7 @@ fn breaks_in(cell: Cell, block: &[Cell]) -> u64
     set_bits(&flags)
 }
 
-// Pushes the runs that end in a block, the first of which may have begun before it, and returns the one that continues.
+// Pushes the runs that end in a block, the first of which may have begun earlier. Returns the run that continues.
 fn push_block(
     runs: &mut Vec<(Cell, u32)>,
     run: (Cell, u32),
@@ -131,7 +132,7 @@ pub(crate) fn push_last(
     Ok(())
 }
 
-// The runs of a row, which are so many. Takes memory once.
+// The runs of a row; their number is `count_of_runs`. Allocates once.
 pub(crate) fn runs_of(
     alloc: Global,
     row: &[Cell],
@@ -154,7 +155,7 @@ pub(crate) fn runs_of(
     Ok(runs)
 }
 
-// The cell at a column of the row that the runs make, or null after its end.
+// The cell at a column of the row that runs make, or null past its end.
 pub(crate) fn cell_of_runs(runs: &[(Cell, u32)], col: u32) -> Cell
     ensures { result ≡ slice_index_or (written_out runs.now) col None }
 {
@@ -168,7 +169,7 @@ pub(crate) fn cell_of_runs(runs: &[(Cell, u32)], col: u32) -> Cell
     Cell::null()
 }
 
-/// Writes a run over the cells of a row from a column on.
+/// Writes a run over the cells of a row, from a column on.
 #[inline]
 pub fn fill_run(cells: &mut [Cell], at: usize, run: (Cell, u32))
     requires { at + run.1 ≤ length cells.old }
@@ -178,7 +179,7 @@ pub fn fill_run(cells: &mut [Cell], at: usize, run: (Cell, u32))
     cells[at..at + run.1 as usize].fill(run.0);
 }
 
-// Writes the row that the runs make. The slice is as long as that row.
+// Writes the row that runs make into a slice of the same length.
 pub(crate) fn write_out(runs: &[(Cell, u32)], cells: &mut [Cell])
     requires { length cells.old ≡ length (written_out runs.now) }
     ensures { cells.new ≡ written_out runs.now }
@@ -190,7 +191,7 @@ pub(crate) fn write_out(runs: &[(Cell, u32)], cells: &mut [Cell])
     }
 }
 
-// How many cells at the start are equal to a cell.
+// The number of cells at the start that equal a cell.
 fn count_alike(cell: Cell, cells: &[Cell]) -> usize
     ensures value { result ≡ alike cell cells.now }
     ensures within { result ≤ length cells.now }
@@ -205,14 +206,14 @@ fn count_alike(cell: Cell, cells: &[Cell]) -> usize
     count
 }
 
-/// The runs of a row, from left to right: a cell and its number of repeats, at least 1. No two neighbours have equal
-/// cells. It is seen as the list of the runs still to come.
+/// The runs of a row, from left to right: a cell and its number of repeats, at least 1. Neighbouring runs have
+/// different cells. In contracts it is the list of the runs still to come.
 #[derive(Drop)]
 pub struct Runs<'a> {
     rest: Rest<'a>,
 }
 
-// What the runs still to come are read from.
+// The form from which the runs are read.
 #[derive(Drop)]
 enum Rest<'a> {
     Runs(&'a [(Cell, u32)]),
@@ -233,7 +234,7 @@ impl<'a> Model for Runs<'a> {
 }
 
 impl<'a> Runs<'a> {
-    // Over runs.
+    // Over given runs.
     pub(crate) fn over(runs: &'a [(Cell, u32)]) -> Runs<'a>
         ensures { result ≡ runs.now }
     {
@@ -242,7 +243,7 @@ impl<'a> Runs<'a> {
         }
     }
 
-    /// How many runs are still to come.
+    /// The number of runs still to come.
     pub fn len(&self) -> usize
         ensures { result ≡ length self.now }
     {
@@ -253,7 +254,7 @@ impl<'a> Runs<'a> {
         }
     }
 
-    // Over the runs of the cells that bytes stand for.
+    // Over the runs of cells kept as bytes.
     pub(crate) fn of_bytes(bytes: &'a [u8]) -> Runs<'a>
         requires { length bytes.now < 2 ^ 32 }
         ensures { result ≡ runs_in (cells_of_bytes bytes.now) }

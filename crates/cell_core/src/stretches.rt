@@ -9,15 +9,15 @@ use cell_core_values::cell::Cell;
 use cell_core_values::small_cells::cell_of_byte;
 use std::marker::Model;
 
-/// The cells of a row in stretches, from left to right: a cell and its number of repeats. They are the runs of
-/// a row that is kept as runs, and the cells of another one by one, so that neighbours may have equal cells: where most runs are
-/// short, this is faster than finding where each ends. It is seen as the list of the stretches still to come.
+/// The cells of a row in stretches, from left to right: a cell and its number of repeats. For a row kept as runs these
+/// are its runs, for others its cells one by one, so neighbours may have equal cells: if most runs are short, this is
+/// faster than finding where each ends. In contracts it is the list of the stretches still to come.
 #[derive(Drop)]
 pub struct Stretches<'a> {
     rest: Unread<'a>,
 }
 
-// What the stretches still to come are read from.
+// The form from which the stretches are read.
 #[derive(Drop)]
 enum Unread<'a> {
     Runs(&'a [(Cell, u32)]),
@@ -36,7 +36,7 @@ impl<'a> Model for Stretches<'a> {
 }
 
 impl<'a> Stretches<'a> {
-    // Over runs.
+    // Over given runs.
     pub(crate) fn of_runs(runs: &'a [(Cell, u32)]) -> Stretches<'a>
         ensures { result ≡ runs.now }
     {
@@ -45,7 +45,7 @@ impl<'a> Stretches<'a> {
         }
     }
 
-    // Over the cells that bytes stand for.
+    // Over cells kept as bytes.
     pub(crate) fn of_bytes(bytes: &'a [u8]) -> Stretches<'a>
         ensures { result ≡ one_by_one (cells_of_bytes bytes.now) }
     {

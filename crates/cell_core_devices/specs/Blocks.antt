@@ -3,11 +3,11 @@ use Rattle.std.specs.Prelude.{ℕ, ◌≡◌, ◌+◌, ◌-◌, ◌^◌, ◌<◌
 use Rattle.cell_core_devices.specs.Device.{Faults, after_put, append_known}
 use Rattle.cell_core_devices.specs.declared.sink.WriteFault.{WriteFault}
 
--- how many bytes a block holds at most
+-- the capacity of a block in bytes
 abbrev pub room : ℕ
 room = 4096
 
--- a number of bytes, or the largest number of 64 bits if there are more
+-- a number of bytes, or the largest 64-bit number if there are more
 abbrev pub capped_count : ℕ → ℕ
 capped_count n = min n (2 ^ 64 - 1)
 
@@ -26,8 +26,8 @@ abbrev pub IsRest : Bool → List ℕ → List ℕ → Type 0
 IsRest false held rest = held ≡ rest
 IsRest true held rest = 0 < length rest
 
--- a text was appended: since it had taken `before`, with the errors `start`, the sink took a prefix of the text, and the
--- block holds the rest or has failed
+-- a text was appended: since the sink had taken `before`, with the errors `start`, it took a prefix of the text, and
+-- the block holds the rest or has failed
 pub record Appended (before : Option (List ℕ)) (start : Faults) (text : List ℕ) (now : Option (List ℕ)) (faults : Faults) (block : BlockValue) : Type 0 where
   pub front : List ℕ
   pub rest : List ℕ
@@ -37,11 +37,11 @@ pub record Appended (before : Option (List ℕ)) (start : Faults) (text : List �
   pub fails : faults ≡ after_put start block.failed
   pub held : IsRest block.failed block.held rest
 
--- whatever was appended before is followed by the text
+-- whatever was appended before, the text follows it
 pub record Appends {S : Type 0} (taken : S → Option (List ℕ)) (faults : S → Faults) (old : S) (block : BlockValue) (text : List ℕ) (now : S) (new : BlockValue) : Type 0 where
   pub adds : (before : Option (List ℕ)) (start : Faults) (all : List ℕ) → Appended before start all (taken old) (faults old) block → Appended before start (all ++ text) (taken now) (faults now) new
 
--- a block of whose bytes all were put, or the first of them until a put failed
+-- a block whose bytes were all put, or the first of them until a put failed
 abbrev pub settled_block : BlockValue → Result Unit WriteFault → ℕ → BlockValue
 settled_block block (Ok done) all = record { held = []; written = capped_count (block.written + all); failed = false }
 settled_block block (Err fault) all = record { held = []; written = capped_count (block.written + fault.written); failed = true }

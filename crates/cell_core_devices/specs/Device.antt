@@ -1,4 +1,4 @@
--- What is known of a source and of a sink, and what a call does to it.
+-- What is known about a source and a sink, and what a call does to it.
 use Rattle.std.specs.Prelude.{ℕ, min, ◌≡◌, ◌≤◌, ◌++◌, ◌||◌, Bool, false, true, List, [], length, take, drop, Option, Some, None, Result, MatchResult}
 use Rattle.cell_core_devices.specs.declared.sink.Flushes.{Flushes}
 use Rattle.cell_core_devices.specs.declared.sink.Flushes.TheVariants.{Never, Once, More}
@@ -13,7 +13,7 @@ pub record Coming : Type 0 where
 abbrev pub after_bytes : Coming → ℕ → Coming
 after_bytes c n = record { bytes = drop n c.bytes; fails = c.fails }
 
--- the first n bytes of the buffer are the next n; none only at the end of a source that does not fail
+-- the first n bytes of the buffer are the next n bytes; n is 0 only at the end of a source that does not fail
 pub record Gives (c : Coming) (new : Option Coming) (n : ℕ) (buf : List ℕ) : Type 0 where
   pub count : n ≤ length c.bytes
   pub bytes : take n buf ≡ take n c.bytes
@@ -21,7 +21,7 @@ pub record Gives (c : Coming) (new : Option Coming) (n : ℕ) (buf : List ℕ) :
   pub end : n ≡ 0 → c.bytes ≡ []
   pub ends : n ≡ 0 → c.fails ≡ false
 
--- nothing is left of a source that fails
+-- a source that fails has no bytes left
 pub record FailsNow (c : Coming) (new : Option Coming) : Type 0 where
   pub none : c.bytes ≡ []
   pub fails : c.fails ≡ true
@@ -37,7 +37,7 @@ abbrev pub append_known : Option (List ℕ) → List ℕ → Option (List ℕ)
 append_known None bs = None
 append_known (Some xs) bs = Some (xs ++ bs)
 
--- how often a sink was flushed, after one flush more
+-- how often a sink was flushed, after one more flush
 abbrev pub flushed_again : Flushes → Flushes
 flushed_again Never = Once
 flushed_again Once = More
@@ -53,12 +53,12 @@ pub record Faults : Type 0 where
 abbrev pub no_faults : Faults
 no_faults = record { refused = false; unflushed = false; flushes = Never }
 
--- after puts of which one failed, or none
+-- after puts, one of which failed or none
 abbrev pub after_put : Faults → Bool → Faults
 after_put faults false = faults
 after_put faults true = record { refused = true; unflushed = faults.unflushed; flushes = faults.flushes }
 
--- after one flush, which failed or did not
+-- after one more flush, which failed or not
 abbrev pub after_flush : Faults → Bool → Faults
 after_flush faults false = record { refused = faults.refused; unflushed = faults.unflushed; flushes = flushed_again faults.flushes }
 after_flush faults true = record { refused = faults.refused; unflushed = true; flushes = flushed_again faults.flushes }
@@ -67,8 +67,8 @@ after_flush faults true = record { refused = faults.refused; unflushed = true; f
 abbrev pub has_failed : Faults → Bool
 has_failed faults = faults.refused || faults.unflushed
 
--- a sink over memory: the bytes that it took, which calls failed, the room that is left,
--- the most bytes that one call moves, and whether a flush fails
+-- a sink over memory: the bytes that it took, which calls failed, the room that is left, the largest number of bytes
+-- per call, and whether a flush fails
 pub record Taken : Type 0 where
   pub bytes : List ℕ
   pub faults : Faults
@@ -76,18 +76,18 @@ pub record Taken : Type 0 where
   pub piece : ℕ
   pub flush_fails : Bool
 
--- a source over memory: its bytes to come, whether it then fails, the most bytes that one call moves, and how far it
--- was asked
+-- a source over memory: its bytes to come, whether it then fails, the largest number of bytes per call, and how far it
+-- was read
 pub record Stored : Type 0 where
   pub bytes : List ℕ
   pub fails : Bool
   pub piece : ℕ
   pub asked : Asked
 
--- what is to come of it
+-- what it still gives
 abbrev pub stored_coming : Stored → Coming
 stored_coming s = record { bytes = s.bytes; fails = s.fails }
 
--- how many bytes a call moves: as many as there are, at most a piece and at most the room for them
+-- the number of bytes that a call moves: all there are, but at most a piece and at most the room for them
 abbrev pub moved_count : ℕ → ℕ → ℕ → ℕ
 moved_count there piece room = min (min there piece) room

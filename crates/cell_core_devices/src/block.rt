@@ -1,5 +1,5 @@
-//! Output gathered in a block, so that each put carries a few KiB. The block remembers a failed put, so that those who write
-//! through it ask for the error once.
+//! Output gathered in a block, so that each put carries a few KiB. The block remembers a failed put, so that its users
+//! ask for the error only once.
 
 ghost use Rattle.std.specs.Prelude.{◌≡◌, ℕ, ◌+◌, ◌≤◌, List, [], ◌++◌, length, take, Option, false};
 ghost use Rattle.cell_core_devices.specs.Device.{Faults};
@@ -8,15 +8,15 @@ ghost use Rattle.cell_core_devices.specs.Blocks.{BlockValue, room, Appended, App
 use crate::sink::{Sink, WriteFault, put_bytes};
 use std::marker::Model;
 
-// The number of bytes that a block holds at most.
+// The capacity of a block in bytes.
 const ROOM: usize = 4096;
 
-/// Bytes held until they fill a block, the number of bytes that the sink took, and whether a put failed.
+/// Bytes that are held until they fill a block, the number of bytes that the sink took, and whether a put failed.
 ///
 /// It takes no memory. After a failed put nothing more is put.
 ///
-/// Functions that write through it return nothing. When each returned a failed put, it had four to six more clauses and three
-/// times the lines of proof. A buffered writer of std would count bytes that it merely holds.
+/// Functions that write through it return nothing. When each of them returned a failed put, it had four to six more
+/// clauses, and its proof was three times as long. A buffered writer of std would count bytes that it only holds.
 #[derive(Drop)]
 pub struct OutputBlock {
     bytes: [u8; ROOM],
@@ -37,7 +37,7 @@ impl Model for OutputBlock {
 }
 
 impl OutputBlock {
-    /// A block through which nothing was written.
+    /// A block through which nothing has been written.
     pub fn new() -> OutputBlock
         ensures value { result ≡ empty_block }
         ensures nothing { (before : Option (List ℕ)) (start : Faults)
@@ -51,7 +51,7 @@ impl OutputBlock {
         }
     }
 
-    /// The number of bytes that the sink took, or the largest `u64` if it took more.
+    /// The number of bytes that the sink took, or the largest `u64` if there were more.
     pub fn written(&self) -> u64
         ensures { result ≡ self.now.written }
     {
@@ -65,7 +65,7 @@ impl OutputBlock {
         self.failed
     }
 
-    /// Whether all went well.
+    /// Whether everything was written.
     ///
     /// # Errors
     ///
@@ -96,7 +96,7 @@ impl OutputBlock {
         &self.bytes[..self.len]
     }
 
-    // Holds the bytes.
+    // Adds the bytes to those held.
     fn hold_bytes(&mut self, bytes: &[u8])
         requires { length self.old.held + length bytes.now ≤ room }
         ensures { self.new ≡ record {
@@ -110,7 +110,7 @@ impl OutputBlock {
         self.len = end;
     }
 
-    // Holds nothing, after so many bytes were put or a put failed.
+    // Empties the block after a put: `all` bytes are written by now, or the put failed.
     fn settle(&mut self, put: Result<(), WriteFault>, all: u64)
         requires { self.old.failed ≡ false }
         ensures { self.new ≡ settled_block self.old put all }
@@ -126,7 +126,7 @@ impl OutputBlock {
         self.len = 0;
     }
 
-    /// Puts what is held on the sink, unless a put failed.
+    /// Puts the held bytes into the sink, unless a put failed.
     pub fn empty<W: Sink>(&mut self, out: &mut W)
         ensures appends { Appends W.taken W.faults out.old self.old [] out.new self.new }
         ensures held { self.new.failed ≡ false → self.new.held ≡ [] }
@@ -139,7 +139,7 @@ impl OutputBlock {
         self.settle(put, all);
     }
 
-    // Puts the bytes on the sink, past the block, which holds nothing.
+    // Puts the bytes directly into the sink; the block holds nothing.
     fn put_long<W: Sink>(&mut self, out: &mut W, bytes: &[u8])
         requires failed { self.old.failed ≡ false }
         requires held { self.old.held ≡ [] }
@@ -149,7 +149,7 @@ impl OutputBlock {
         self.settle(put, bytes.len() as u64);
     }
 
-    // Puts what is held on the sink, and then gathers the bytes, or also puts them if they are more than a block holds.
+    // Puts the held bytes into the sink, and then gathers the bytes, or puts them too if they exceed a block.
     #[cold]
     fn push_past<W: Sink>(&mut self, out: &mut W, bytes: &[u8])
         ensures { Appends W.taken W.faults out.old self.old bytes.now out.new self.new }
@@ -165,7 +165,7 @@ impl OutputBlock {
         self.hold_bytes(bytes);
     }
 
-    /// Gathers the bytes, of any number, and puts on the sink what does not fit the block, unless a put failed.
+    /// Gathers any number of bytes, and puts into the sink what does not fit into the block, unless a put failed.
     #[inline]
     pub fn push<W: Sink>(&mut self, out: &mut W, bytes: &[u8])
         ensures { Appends W.taken W.faults out.old self.old bytes.now out.new self.new }

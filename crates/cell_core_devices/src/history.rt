@@ -1,11 +1,11 @@
-//! Bytes that calls of the system took or gave. Only clauses read them: they take no memory.
+//! Bytes that system calls took or gave. Only contracts read them: they take no memory.
 
 ghost use Rattle.std.specs.Prelude.{◌≡◌, ℕ, List, [], ◌++◌};
 ghost use Rattle.std.specs.Borrow.{ftrue};
 
 use std::marker::{Model, PhantomData};
 
-/// The bytes so far, in order. It has no bytes of its own at run time.
+/// The bytes so far, in order. At run time it holds nothing.
 #[derive(Drop)]
 pub struct History {
     marker: PhantomData<u8>,
@@ -26,7 +26,7 @@ impl History {
         }
     }
 
-    /// These bytes too.
+    /// Adds these bytes.
     pub(crate) fn note(&mut self, _bytes: &[u8])
         ensures { self.new.bytes ≡ self.old.bytes ++ _bytes.now }
     {}

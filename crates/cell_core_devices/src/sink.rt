@@ -8,19 +8,19 @@ use crate::history::History;
 use std::io::Write;
 use std::marker::Model;
 
-/// How often a sink was flushed. A number would need a clause that nobody flushes 2^64 times.
+/// How often a sink was flushed. A number would need a clause that nobody flushes it 2^64 times.
 #[derive(Clone, Copy, Debug, PartialEq, Eq)]
 pub enum Flushes {
     /// Not yet.
     Never,
-    /// One time.
+    /// Once.
     Once,
-    /// Two times or more.
+    /// Twice or more.
     More,
 }
 
 impl Flushes {
-    /// How often after one flush more.
+    /// The same after one more flush.
     pub fn again(self) -> Flushes
         ensures { result ≡ flushed_again self }
     {
@@ -33,13 +33,13 @@ impl Flushes {
 
 /// Where bytes go.
 pub trait Sink {
-    /// The bytes taken, if they are known; None if they are not.
+    /// The bytes taken, or None if they are unknown.
     ghost taken: { Self → Option (List ℕ) };
 
-    /// Which of its calls returned an `Err`, whether a put and whether a flush, and how often it was flushed.
+    /// Which calls returned an `Err`: whether a put, and whether a flush; and how often it was flushed.
     ghost faults: { Self → Faults };
 
-    /// Takes the first bytes of a slice that is not empty, and returns how many: 1 or more.
+    /// Takes the first bytes of a slice that is not empty, and returns their number, at least 1.
     ///
     /// # Errors
     ///
@@ -52,7 +52,7 @@ pub trait Sink {
         ensures err { OnErr result (taken self.new ≡ taken self.old) }
         ensures faults { faults self.new ≡ after_put (faults self.old) (is_err result) };
 
-    /// Hands on what it holds back. It takes no bytes, and was flushed once more.
+    /// Passes on what it holds. It takes no bytes, and counts one more flush.
     ///
     /// # Errors
     ///
@@ -65,12 +65,12 @@ pub trait Sink {
 /// How many bytes went out before the sink failed.
 #[derive(Clone, Copy, Debug, PartialEq, Eq)]
 pub struct WriteFault {
-    /// The number of bytes that the sink took: of the slice or the text that was put, or, if a block gathers the
-    /// output, of all that was put through the block.
+    /// The number of bytes that the sink took: from the slice or the text that was put, or, if a block gathers the
+    /// output, from all that was put through the block.
     pub written: u64,
 }
 
-/// Puts all the bytes of a slice. An empty one makes no call.
+/// Puts all the bytes of a slice. An empty slice makes no call.
 ///
 /// # Errors
 ///
@@ -93,8 +93,8 @@ pub fn put_bytes<W: Sink>(out: &mut W, bytes: &[u8]) -> Result<(), WriteFault>
     Ok(())
 }
 
-/// A sink over std's writers. Its bytes are those that calls of the writer took. Each `Err` of the writer, of whatever
-/// kind, is returned as [`DeviceFault`], and so is a write of 0 bytes.
+/// A sink over std's writers. Its bytes are those that calls of the writer took. Each `Err` of the writer, of any kind,
+/// is returned as [`DeviceFault`], and so is a write of 0 bytes.
 #[derive(Drop)]
 pub struct WriteSink<W> {
     writer: W,
@@ -114,7 +114,7 @@ impl<W> Model for WriteSink<W> {
 }
 
 impl<W: Write + Drop> WriteSink<W> {
-    /// A sink that hands its bytes to the writer. Takes no memory.
+    /// A sink that passes its bytes to the writer. Takes no memory.
     pub fn new(writer: W) -> WriteSink<W>
         ensures value { result ≡ ((writer, []), no_faults) }
         ensures taken { ⟦<WriteSink<W> as Sink>⟧.taken result ≡ Some [] }
@@ -145,7 +145,7 @@ impl<W: Write> Sink for WriteSink<W> {
         ensures ok { IfOk result (λ n. self.new.0.1 ≡ self.old.0.1 ++ take n bytes.now) }
         ensures err { OnErr result (self.new.0.1 ≡ self.old.0.1) }
         ensures faults { self.new.1 ≡ after_put self.old.1 (is_err result) }
-        // What the writer holds, if that is known, has grown by what was taken.
+        // What the writer holds, if that is known, has grown by the bytes taken.
         ensures written { WriteAppends (W.contents self.old.0.0) (W.contents self.new.0.0)
             result bytes.now }
     {
@@ -177,7 +177,7 @@ impl<W: Write> Sink for WriteSink<W> {
     }
 }
 
-/// A sink that writes over memory of a fixed size, and fails when that is full.
+/// A sink that writes into memory of a fixed size, and fails when it is full.
 #[derive(Debug, Drop)]
 pub struct MemorySink {
     room: Vec<u8>,
@@ -201,8 +201,8 @@ impl Model for MemorySink {
 }
 
 impl MemorySink {
-    /// A sink that writes over `room`, of whose bytes one call takes at most `piece`, and whose
-    /// flush fails or not. Takes no memory.
+    /// A sink that writes into `room`. One call takes at most `piece` bytes, and its flush fails if `flush_fails` is
+    /// set. Takes no memory.
     pub fn new(room: Vec<u8>, piece: usize, flush_fails: bool) -> MemorySink
         requires { 0 < piece }
         ensures { result ≡ record {

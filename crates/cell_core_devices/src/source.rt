@@ -9,24 +9,24 @@ use crate::history::History;
 use std::io::Read;
 use std::marker::Model;
 
-/// How far a source was asked.
+/// How far a source was read.
 ///
-/// No `requires` forbids asking a source again after its end, since a caller may have reasons to. It is no invariant of a
-/// reader, since a reader may be given a source that has ended.
+/// No `requires` forbids asking a source again after its end, since a caller may have reasons to. It is not an
+/// invariant of a reader, since a reader may be given a source that has ended.
 #[derive(Clone, Copy, Debug, PartialEq, Eq)]
 pub enum Asked {
-    /// Each call gave bytes, or there was none yet.
+    /// Each call gave bytes, or there was no call yet.
     Going,
-    /// The last call reported the end, and it was the first that gave no bytes.
+    /// The last call reported the end, and was the first that gave no bytes.
     Ended,
-    /// The last call returned an `Err`, and it was the first that gave no bytes.
+    /// The last call returned an `Err`, and was the first that gave no bytes.
     Failed,
     /// It was asked again after its end or an `Err`.
     Again,
 }
 
 impl Asked {
-    /// How far it was asked after one more call, with this result.
+    /// How far it was read after one more call, with this result.
     pub fn after_answer(self, answer: Result<usize, DeviceFault>) -> Asked
         ensures { result ≡ after_take self answer }
     {
@@ -43,10 +43,10 @@ impl Asked {
 pub trait Source {
     ghost use Rattle.cell_core_devices.specs.declared.source.Asked.{Asked};
 
-    /// If they are known, its bytes to come, and whether it then fails; None if they are unknown.
+    /// The bytes to come, and whether it then fails; None if they are unknown.
     ghost coming: { Self → Option Coming };
 
-    /// How far it was asked: whether it has reported its end or failed, and whether it was asked after that.
+    /// How far it was read: whether it has reported its end or failed, and whether it was asked after that.
     ghost asked: { Self → Asked };
 
     /// Puts the next bytes at the start of a slice that is not empty, and returns how many: 0
@@ -62,8 +62,8 @@ pub trait Source {
         ensures asked { asked self.new ≡ after_take (asked self.old) result };
 }
 
-/// A source over std's readers. Nothing is known of its bytes to come, and each `Err` of the reader, of
-/// whatever kind, is returned as [`DeviceFault`]. The bytes that calls of the reader gave are remembered in proofs.
+/// A source over std's readers. Nothing is known about its bytes to come, and each `Err` of the reader, of any kind, is
+/// returned as [`DeviceFault`]. Proofs remember the bytes that calls of the reader gave.
 #[derive(Drop)]
 pub struct ReadSource<R> {
     reader: R,
@@ -107,7 +107,7 @@ impl<R: Read> Source for ReadSource<R> {
     fn take(&mut self, buf: &mut [u8]) -> Result<usize, DeviceFault>
         requires { 0 < length buf.old }
         ensures count { IfOk result (λ n. n ≤ length buf.new) }
-        // What the reader has left, if that is known, has lost what was taken.
+        // What the reader has left, if that is known, has shrunk by the bytes taken.
         ensures read { ReadConsumes (R.remaining self.old.0.0) (R.remaining self.new.0.0)
             result buf.new }
         ensures gave { IfOk result (λ n. self.new.0.1 ≡ self.old.0.1 ++ take n buf.new) }
@@ -150,8 +150,8 @@ impl Model for MemorySource {
 }
 
 impl MemorySource {
-    /// A source of these bytes, of which one call gives at most `piece`, and which then fails or
-    /// ends. Takes no memory.
+    /// A source of these bytes. One call gives at most `piece` bytes, and the source then fails or ends. Takes no
+    /// memory.
     pub fn new(bytes: Vec<u8>, piece: usize, fails: bool) -> MemorySource
         requires { 0 < piece }
         ensures { result
@@ -183,7 +183,7 @@ impl Source for MemorySource {
             result buf.new }
         ensures moved { IfOk result (λ n. n
             ≡ moved_count (length self.old.bytes) self.old.piece (length buf.old)) }
-        // After the bytes given the slice is as it was.
+        // After these bytes the slice is unchanged.
         ensures slice { IfOk result (λ n. buf.new ≡ take n self.old.bytes ++ drop n buf.old) }
         ensures unchanged { OnErr result (buf.new ≡ buf.old) }
         ensures rest { MatchResult result

@@ -1,4 +1,4 @@
-//! Maps of lists of categories, for the tests of the crates.
+//! Maps from lists of categories, for the tests of the crates.
 #![tactic(auto)]
 
 pub mod maps;

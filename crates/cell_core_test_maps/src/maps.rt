@@ -8,7 +8,7 @@ use cell_core::memory::Memory;
 use cell_core::region::Region;
 use std::alloc::Global;
 
-/// What stands for null in a list: the number that is no category.
+/// The number that stands for null in a list; it is not a category.
 pub const NULL: i32 = i32::MIN;
 
 fn cells_of(alloc: Global, categories: &[i32]) -> Result<Vec<Cell>, Memory> {
@@ -19,7 +19,7 @@ fn cells_of(alloc: Global, categories: &[i32]) -> Result<Vec<Cell>, Memory> {
     Ok(cells)
 }
 
-/// The map of these categories in rows of so many columns, or None if they fill no map.
+/// The map of these categories in rows of `cols` columns, or None if they do not fill whole rows.
 pub fn map_of(alloc: Global, categories: &[i32], cols: u32) -> Result<Option<CellMap>, Memory>
     requires { 0 < cols }
 {

@@ -1,4 +1,4 @@
-//! A reader and a writer that does what a list of steps says.
+//! A reader and a writer that follow a list of steps.
 
 ghost use Rattle.std.specs.Prelude.{◌≤◌, IfOk};
 
@@ -9,12 +9,12 @@ use std::io::{self, ErrorKind, Read, Write};
 pub enum Step {
     /// It fails.
     Refuses(ErrorKind),
-    /// It moves so many bytes, or as many as there is room for.
+    /// It moves this many bytes, or fewer if there is less room.
     Moves(usize),
 }
 
-/// A device that takes the steps in turn, and then moves all that it is given. Each byte that it gives is an `x`, and it
-/// takes no other.
+/// A device that follows the steps in turn, and then moves all that it is given. Each byte that it gives is an `x`, and
+/// it accepts no other.
 #[derive(Drop)]
 pub struct Device {
     steps: &'static [Step],

@@ -1,4 +1,4 @@
-//! Small maps, written as their categories row after row.
+//! Small maps, written as their categories row by row.
 
 ghost use Rattle.std.specs.Prelude.{◌≡◌};
 
@@ -21,7 +21,7 @@ pub fn cells(alloc: Global, numbers: &[i32]) -> Result<Vec<Cell>, AllocError> {
     numbers.iter().map(|number| cell(*number)).collect(alloc)
 }
 
-/// The map of these categories, from the upper left; an `Err` if they do not fill its rows.
+/// The map of these categories, from the top left; an `Err` if they do not fill its rows.
 pub fn map_of(alloc: Global, rows: u32, cols: u32, numbers: &[i32]) -> Result<CellMap, Fail> {
     let region = Region::new(1, 0, 1, 0, rows, cols)?;
     let cells = cells(alloc, numbers)?;

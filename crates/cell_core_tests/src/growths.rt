@@ -1,7 +1,7 @@
-//! Calls that run out of memory leave their object unchanged, and succeed when they are made again.
+//! Calls that run out of memory leave their object unchanged, and succeed when they are repeated.
 //!
-//! Every growth succeeds in a normal run. tools/hostile makes the growths fail in turn, one in each run, and checks
-//! that each call is made again in some of the runs.
+//! In a normal run every allocation succeeds. tools/hostile makes allocations fail in turn, one in each run, and checks
+//! that each call is repeated in some of the runs.
 
 ghost use Rattle.std.specs.Prelude.{◌≡◌, length};
 
@@ -20,7 +20,7 @@ const NAMES: [&[u8]; 15] = [
     b"a", b"b", b"c", b"d", b"e", b"f", b"g", b"h", b"i", b"j", b"k", b"l", b"m", b"n", b"o",
 ];
 
-// Reports that a call failed and is made again.
+// Reports that a call failed and is repeated.
 fn report_again<R: Eprint>(rt: &R) {
     let _ = eprintln!(rt; "made again");
 }
@@ -114,7 +114,7 @@ fn a_refused_label_is_set_again(rt: HostRuntime) -> Result<(), Fail> {
     Ok(())
 }
 
-// The list is unchanged after a name that it could not take, and takes it now.
+// Checks that a failed push left the list unchanged, then pushes the name again.
 fn push_again<R: Abort + Eprint>(
     rt: &R,
     names: &mut Names,
@@ -160,7 +160,7 @@ fn a_refused_name_is_pushed_again(rt: HostRuntime) -> Result<(), Fail> {
     Ok(())
 }
 
-// The shelf is unchanged after a map that it could not take, and takes it now.
+// The shelf is unchanged after a map that it could not store, and stores it now.
 fn add_again<R: Abort + Eprint>(
     rt: &R,
     shelf: &mut Shelf,

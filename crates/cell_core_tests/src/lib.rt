@@ -1,4 +1,5 @@
-//! Worked results of the calls of cell_core and cell_core_values, and what no clause says of a reader's and a writer's `Err`.
+//! Worked results of the calls of cell_core and cell_core_values, and what no clause says about an `Err` of a reader or
+//! writer.
 #![tactic(auto)]
 
 #[cfg(test)]

@@ -15,7 +15,7 @@ const COLS: u32 = 4;
 
 const GRID: [i32; 12] = [1, 1, 2, NULL, 1, 2, 2, 2, 3, 3, 1, 1];
 
-// The runs of a row are these, given as categories with their numbers.
+// The runs of a row are these, given as categories and their numbers of cells.
 fn expect_runs<R: Abort + AllocGlobal>(
     rt: &R,
     map: &CellMap,
@@ -80,10 +80,10 @@ fn cell_at(map: &CellMap, row: u32, col: u32) -> Option<Cell> {
     }
 }
 
-// Rows of as many runs as half their cells, and of one less.
+// A row with half as many runs as cells, and one with one run less.
 const AS_MANY_RUNS: [i32; 18] = [1, 1, 2, 2, 3, 3, 1, 1, 2, 3, 3, 3, 1, 1, 2, 2, 2, 2];
 
-// A row of as many runs as half its cells, and one of more.
+// A row with half as many runs as cells, and one with one run more.
 const MORE_RUNS: [i32; 12] = [1, 2, 2, 3, 3, 3, NULL, NULL, 1, 2, NULL, 3];
 
 #[test]
@@ -130,7 +130,7 @@ fn keeps_a_long_row_as_one_run(rt: HostRuntime) -> Result<(), Fail> {
     expect_runs(&rt, &map, 0, &[(5, 32767)])
 }
 
-// The stretches of a row are these, given as categories with their numbers.
+// The stretches of a row are these, given as categories and their numbers of cells.
 fn expect_stretches<R: Abort + AllocGlobal>(
     rt: &R,
     map: &CellMap,
@@ -155,7 +155,7 @@ const MANY_RUNS: [i32; 18] = [
     501, 502, 501, 502, 501, 502, 501, 502, 501, 502, 501, 502, 501, 502, 501, 502, 501, 502,
 ];
 
-// A row of few runs is in stretches as long, and another one cell by cell.
+// The stretches of a row with few runs are its runs; of another row they are its cells.
 #[test]
 fn gives_its_stretches(rt: HostRuntime) -> Result<(), Fail> {
     let map = map_of(rt.alloc(), 1, 18, &FEW_RUNS)?;

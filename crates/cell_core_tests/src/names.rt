@@ -9,7 +9,7 @@ use std::alloc::{AllocGlobal, Global};
 use std::process::Abort;
 use std::test::Fail;
 
-// Short texts that are names, and such as are none.
+// Short texts that are names, and some that are not.
 const TEXTS: [(&[u8], Option<NameFault>); 6] = [
     (b"1a", Some(NameFault::BadName)),
     (b"", Some(NameFault::BadName)),
@@ -78,7 +78,7 @@ fn finds_maps(rt: HostRuntime) -> Result<(), Fail> {
     Ok(())
 }
 
-// Checks why a shelf with one map rejects another, and that the name comes back.
+// Checks why a shelf with one map rejects another, and that the name is returned.
 fn expect_refused<R: Abort + AllocGlobal>(
     rt: &R,
     name: &[u8],

@@ -1,4 +1,4 @@
-//! Sinks: how much a call takes, and that an `Err` is reported once.
+//! Sinks: how many bytes a call takes, and that an `Err` is reported once.
 
 use crate::assertions::assert_same;
 use crate::devices::{Device, Step};

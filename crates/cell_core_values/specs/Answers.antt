@@ -1,7 +1,7 @@
 -- Results of functions that read a text and may run out of memory.
 use Rattle.std.specs.Prelude.{Result, Ok, Err, ◌≡◌, ◌≢◌}
 
--- what is returned, seen by `view`, is what the reading gives, and an error is the reading's error, unless memory ran out
+-- the result, seen through `view`, is what the reading gives, and an error is the reading's, unless memory ran out
 abbrev pub Answers : {A B F : Type 0} → F → (A → B) → Result A F → Result B F → Type 0
 Answers memory view (Ok x) reading = reading ≡ Ok (view x)
 Answers memory view (Err fault) reading = fault ≢ memory → reading ≡ Err fault

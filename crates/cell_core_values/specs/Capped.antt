@@ -1,4 +1,4 @@
--- Numbers as they are computed: those above 10^18, which are out of every range, count as 10^18.
+-- Numbers as they are computed: those beyond 10^18, which are out of every range, count as 10^18.
 use Rattle.std.specs.Prelude.{ℕ, ℤ, min, List, Option}
 use Rattle.std.specs.Option.{option_map}
 use Rattle.cell_core_values.specs.Digits.{digits_of}

@@ -1,4 +1,4 @@
--- Letters of texts, written as letters: `byte (codes ",")`, `is_one_of (codes "clnN1")`.
+-- Letters of texts, written as letters, for example `byte (codes ",")` or `is_one_of (codes "clnN1")`.
 use Rattle.std.specs.Prelude.{ℕ, Bool, ◌==◌, List, [], ◌∷◌}
 use Rattle.std.specs.List.{list_any}
 
@@ -7,6 +7,6 @@ abbrev pub byte : List ℕ → ℕ
 byte [] = 0
 byte (b ∷ bs) = b
 
--- a byte is one of a text's
+-- a byte occurs in a text
 abbrev pub is_one_of : List ℕ → ℕ → Bool
 is_one_of letters b = list_any (λ letter. letter == b) letters

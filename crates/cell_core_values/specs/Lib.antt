@@ -1,5 +1,4 @@
--- Cells, cells in a byte each, regions, names.
--- Blanks, whole numbers and words of texts.
+-- Cells, cells in one byte each, regions, names. Blanks, whole numbers and words of texts.
 pub mod Cell
 pub mod Name
 pub mod Region

@@ -3,11 +3,11 @@ use Rattle.std.specs.Prelude.{ℕ, Bool, false, ◌&&◌, ◌||◌, ◌==◌, �
 use Rattle.std.specs.List.{list_all, position_from}
 use Rattle.cell_core_values.specs.Letters.{byte}
 
--- the largest number of bytes of a name (profile)
+-- the maximum length of a name in bytes (profile)
 abbrev pub most_bytes : ℕ
 most_bytes = 64
 
--- a byte from the first to the second
+-- a byte from low to high
 abbrev pub is_from_to : ℕ → ℕ → ℕ → Bool
 is_from_to low high b = nat_le low b && nat_le b high
 
@@ -24,7 +24,7 @@ abbrev pub starts_name : List ℕ → Bool
 starts_name [] = false
 starts_name (b ∷ bs) = is_name_start b
 
--- 1 to 64 bytes, a letter or an underscore first, then such and digits and points
+-- 1 to 64 bytes: a letter or an underscore, then letters, underscores, digits and points
 abbrev pub is_name : List ℕ → Bool
 is_name bs = starts_name bs && (list_all is_name_byte bs && nat_le (length bs) most_bytes)
 

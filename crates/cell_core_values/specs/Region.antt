@@ -20,15 +20,15 @@ most_side = 65535
 abbrev pub most_cells : ℕ
 most_cells = 2147483647
 
--- the first edge lies above the second, and both have at most ten digits before the point (profile)
+-- the first edge is above the second, and both have at most ten digits before the point (profile)
 abbrev pub is_above : ℤ → ℤ → Bool
 is_above high low = int_lt low high && (int_le (negsuc 999999999999999998) low && int_le high (pos 999999999999999999))
 
--- what may be a number of rows or of columns (profile)
+-- a number that is allowed as a number of rows or columns (profile)
 abbrev pub is_side : ℕ → Bool
 is_side n = nat_le 1 n && nat_le n most_side
 
--- whether so many cells may be
+-- whether the number of cells is within the limit
 abbrev pub is_countable : RegionValue → Bool
 is_countable e = nat_le (e.rows * e.cols) most_cells
 
@@ -40,7 +40,7 @@ is_rectangle e = is_above e.north e.south && is_above e.east e.west
 abbrev pub region_fault : RegionValue → Result RegionValue RegionFault
 region_fault e = if not (is_rectangle e) then Err BadExtent else (if not (is_side e.rows) then Err BadRows else (if not (is_side e.cols) then Err BadCols else (if not (is_countable e) then Err TooManyCells else Ok e)))
 
--- what each region meets: its numbers are accepted, so its sides are 1 to 65535
+-- what every region satisfies: its numbers are accepted, so its sides are 1 to 65535
 pub record IsRegion (e : RegionValue) : Type 0 where
   pub rows_least : 0 < e.rows
   pub rows_most : e.rows ≤ most_side

@@ -1,4 +1,4 @@
--- Cells that a byte stands for.
+-- Cells kept as bytes.
 use Rattle.std.specs.Prelude.{ℕ, ℤ, pos, ◌≤ℤ◌, ◌==◌, List, map, Option, None, Some, if◌then◌else◌}
 
 -- the cell that a byte stands for

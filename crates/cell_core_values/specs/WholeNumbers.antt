@@ -22,7 +22,7 @@ whole_number bs = signed_number digits_of bs
 abbrev pub is_in_range : ℤ → Bool
 is_in_range n = int_le LEAST n && int_le n GREATEST
 
--- a whole number in range, or why it is none
+-- a whole number in range, or why the text is not one
 abbrev pub read_whole : List ℕ → Result ℤ WholeFault
 read_whole bs = within (whole_number bs)
   where

@@ -4,12 +4,12 @@ use Rattle.std.specs.List.{filter, slice_split, position_or_len, before_first, a
 use Rattle.cell_core_values.specs.Letters.{byte}
 use Rattle.cell_core_values.specs.Blanks.{is_blank}
 
--- a word has one byte or more
+-- a word has at least one byte
 abbrev pub is_word : List ℕ → Bool
 is_word [] = false
 is_word (b ∷ bs) = true
 
--- the longest runs of bytes that are no blanks
+-- the longest runs of bytes that are not blanks
 abbrev pub words_of : List ℕ → List (List ℕ)
 words_of line = filter is_word (slice_split is_blank line)
 
@@ -29,6 +29,6 @@ parts_of text = slice_split (λ b. b == byte (codes ",")) text
 abbrev pub is_equals : ℕ → Bool
 is_equals b = b == byte (codes "=")
 
--- what is before and after the first equals sign, if there is one
+-- the texts before and after the first equals sign, if there is one
 abbrev pub pair_of : List ℕ → Option (List ℕ × List ℕ)
 pair_of text = if nat_lt (position_or_len is_equals text) (length text) then Some (before_first is_equals text, after_first is_equals text) else None

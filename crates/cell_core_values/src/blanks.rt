@@ -43,8 +43,8 @@ pub fn trimmed_text<'a>(text: &'a [u8]) -> &'a [u8]
     before_blanks(after_blanks(text))
 }
 
-/// What is before the first blank, and what is after it: the full text and nothing if it has none.
-/// Takes no memory.
+/// The text before the first blank, and the text after it: the full text and nothing if it has no blank. Takes no
+/// memory.
 pub fn around_blank<'a>(text: &'a [u8]) -> (&'a [u8], &'a [u8])
     ensures before { result.0.now ≡ before_first is_blank text.now }
     ensures after { result.1.now ≡ after_first is_blank text.now }

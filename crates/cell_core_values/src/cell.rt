@@ -34,7 +34,7 @@ impl Cell {
         Cell { pattern: i32::MIN }
     }
 
-    /// The cell of a category, or None exactly for -2147483648, which is none.
+    /// The cell of a category, or None exactly for -2147483648, which is not a category.
     pub fn value(v: i32) -> Option<Cell>
         ensures { MatchOption result (v ≡ i32.MIN) (λ c. c ≡ Some v) }
     {
@@ -58,7 +58,7 @@ impl Cell {
     }
 }
 
-// Whether both are null, or both are one category.
+// Whether both are null, or both are the same category.
 fn is_same_cell(a: &Cell, b: &Cell) -> bool
     ensures { result ≡ cell_eq a.now b.now }
 {

@@ -9,13 +9,13 @@ use std::alloc::Global;
 use std::collections::BTreeMap;
 use std::marker::Model;
 
-// The largest number of bytes of a name.
+// Maximum length of a name in bytes.
 const MOST_BYTES: usize = 64;
 
 /// Why bytes were not read as a name.
 #[derive(Clone, Copy, Debug, PartialEq, Eq)]
 pub enum NameFault {
-    /// The bytes are no name.
+    /// The bytes are not a name.
     BadName,
     /// Memory ran out.
     Memory,
@@ -45,14 +45,14 @@ fn is_name_start(b: u8) -> bool
     (b'A' <= b && b <= b'Z') || (b'a' <= b && b <= b'z') || b == b'_'
 }
 
-/// Whether a byte is an ASCII letter, a digit, `_` or `.`, as the bytes of a name are. Takes no memory.
+/// Whether a byte may occur in a name: an ASCII letter, a digit, `_` or `.`. Takes no memory.
 pub fn is_name_byte(b: u8) -> bool
     ensures { result ≡ is_name_byte b }
 {
     is_name_start(b) || (b'0' <= b && b <= b'9') || b == b'.'
 }
 
-/// Whether the first byte is an ASCII letter or `_`, as the first byte of a name is. Takes no memory.
+/// Whether a name may begin with the first byte: an ASCII letter or `_`. Takes no memory.
 pub fn starts_name(text: &[u8]) -> bool
     ensures { result ≡ starts_name text.now }
 {
@@ -79,7 +79,7 @@ impl Name {
     ///
     /// # Errors
     ///
-    /// [`NameFault::BadName`] exactly if they are no name, else [`NameFault::Memory`] if
+    /// [`NameFault::BadName`] exactly if they are not a name, else [`NameFault::Memory`] if
     /// memory for a copy runs out.
     pub fn read(alloc: Global, text: &[u8]) -> Result<Name, NameFault>
         ensures text { IfOk result (λ name. name ≡ text.now) }
@@ -103,7 +103,7 @@ impl Name {
         &self.text
     }
 
-    /// An equal name.
+    /// A copy of the name.
     ///
     /// # Errors
     ///
@@ -122,7 +122,8 @@ impl Name {
 pub struct Names {
     alloc: Global,
     names: Vec<Name>,
-    // The place of each name, by a copy of its bytes. A script may make tens of thousands of maps, so the list is not searched.
+    // Maps a copy of each name's bytes to its place. A script may make tens of thousands of maps, so the list is not
+    // searched.
     places: BTreeMap<Vec<u8>, usize>,
 }
 
@@ -150,7 +151,7 @@ impl Names {
         }
     }
 
-    /// How many names there are.
+    /// The number of names.
     pub fn len(&self) -> usize
         ensures count { result ≡ length self.now }
         ensures distinct { AreDistinct self.now }
@@ -175,7 +176,7 @@ impl Names {
         &self.names[i]
     }
 
-    /// Puts a name last that is not there yet.
+    /// Adds a new name at the end.
     ///
     /// # Errors
     ///
@@ -191,14 +192,14 @@ impl Names {
         }
     }
 
-    /// Puts a name last that is not there yet, or gives it back if memory runs out.
+    /// Adds a new name at the end, or returns it if memory runs out.
     pub fn push_or_return(&mut self, name: Name) -> Result<(), Name>
         requires { place_of name self.old ≡ None }
         ensures ok { OnOk result (self.new ≡ self.old ++ name ∷ []) }
         ensures err { OnErr result (self.new ≡ self.old) }
         ensures given_back { IfErr result (λ back. back ≡ name) }
     {
-        // All memory is taken before the first change.
+        // All memory is allocated before the first change.
         let Ok(()) = self.names.reserve(1) else {
             return Err(name);
         };

@@ -6,11 +6,11 @@ ghost use Rattle.cell_core_values.specs.SameRegion.{is_same_region};
 
 use std::marker::Model;
 
-/// Why six numbers are no region: the first reason in this order (profile).
+/// Why six numbers are not a region: the first reason in this order (profile).
 #[derive(Clone, Copy, Debug, PartialEq, Eq)]
 pub enum RegionFault {
-    /// The north edge is not above the south edge, the east edge is not above the west edge, or
-    /// an edge lies beyond ±9999999999.99999999.
+    /// The north edge is not above the south edge, the east edge is not above the west edge, or an edge is beyond
+    /// ±9999999999.99999999.
     BadExtent,
     /// The number of rows is not from 1 to 65535.
     BadRows,
@@ -55,21 +55,21 @@ impl Model for Region {
     ghost inverse = { λ e. record { north = e.north; south = e.south; east = e.east; west = e.west; rows = e.rows; cols = e.cols } };
 }
 
-// Whether the first edge lies above the second, both within the limits.
+// Whether the first edge is above the second, both within the limits.
 fn is_above(high: i64, low: i64) -> bool
     ensures { result ≡ is_above high low }
 {
     low < high && -MOST_EDGE <= low && high <= MOST_EDGE
 }
 
-// Whether it may be a number of rows or of columns.
+// Whether a number is allowed as a number of rows or columns.
 fn is_side(count: u32) -> bool
     ensures { result ≡ is_side count }
 {
     1 <= count && count <= MOST_SIDE
 }
 
-// Whether so many rows of so many columns have no more cells than there are categories above 0.
+// Whether a map of this size has no more cells than there are categories above 0.
 fn is_countable(rows: u32, cols: u32) -> bool
     requires { (rows ≤ most_side) × (cols ≤ most_side) }
     ensures { result ≡ nat_le (rows * cols) most_cells }
@@ -90,7 +90,7 @@ impl Region {
     ///
     /// # Errors
     ///
-    /// The first [`RegionFault`] in the order that its variants have.
+    /// The first [`RegionFault`] in the order of its variants.
     pub fn new(
         north: i64,
         south: i64,

@@ -1,4 +1,4 @@
-//! Cells that are null or small categories, in a byte each.
+//! Cells that are null or small categories, in one byte each.
 
 ghost use Rattle.std.specs.Prelude.{◌≡◌, length, All, IfOk, true};
 ghost use Rattle.cell_core_values.specs.SmallCells.{byte_cell, cells_of_bytes, IsSmall};
@@ -7,13 +7,13 @@ use crate::cell::Cell;
 use crate::memory::Memory;
 use std::alloc::Global;
 
-// The byte that stands for null. Each other stands for the category of its number.
+// The byte that stands for null. Any other byte stands for the category of its number.
 const NULL: u8 = 255;
 
 // The largest category that a byte stands for.
 const GREATEST: i32 = 254;
 
-/// The cell that a byte stands for: null for 255, else the category of its number.
+/// The cell that a byte stands for: null for 255, otherwise the category of its number.
 #[inline(always)]
 pub fn cell_of_byte(byte: u8) -> Cell
     ensures { result ≡ byte_cell byte }
@@ -45,23 +45,24 @@ fn byte_of_cell(cell: Cell) -> u8
     ensures { byte_cell result ≡ cell }
 {
     match cell.get() {
-        // None is below 0 here. With this said again, null needs no case of its own where a vector takes several at a time.
+        // No category is below 0 here. Stating this again saves a case for null when a vector converts several cells at
+        // a time.
         Some(category) => category.max(-1) as u8,
         None => NULL,
     }
 }
 
-/// Whether bytes stand for all of the cells.
+/// Whether all of the cells have bytes.
 pub fn are_small(cells: &[Cell]) -> bool
     ensures { result ≡ true → All IsSmall cells.now }
 {
-    // If a row has larger categories, its first cell is most often one.
+    // If a row has larger categories, its first cell usually has one.
     if let Some(first) = cells.first() {
         if !is_small(*first) {
             return false;
         }
     }
-    // It looks at each, so that a vector looks at several at a time.
+    // It looks at every cell, so that a vector looks at several at a time.
     let mut all = true;
     for cell in cells {
         all = all & is_small(*cell);
@@ -69,7 +70,7 @@ pub fn are_small(cells: &[Cell]) -> bool
     all
 }
 
-/// The bytes that stand for cells. Takes memory once.
+/// The bytes that stand for cells. Allocates once.
 ///
 /// # Errors
 ///
@@ -83,7 +84,7 @@ pub fn bytes_of(alloc: Global, cells: &[Cell]) -> Result<Vec<u8>, Memory>
     Ok(bytes)
 }
 
-/// Writes the bytes that stand for cells, into a slice of as many.
+/// Writes the bytes that stand for cells into a slice of the same length.
 pub fn write_bytes(cells: &[Cell], bytes: &mut [u8])
     requires small { All IsSmall cells.now }
     requires size { length bytes.old ≡ length cells.now }
@@ -94,7 +95,7 @@ pub fn write_bytes(cells: &[Cell], bytes: &mut [u8])
     }
 }
 
-/// Writes the cells that bytes stand for, into a slice of as many.
+/// Writes the cells that bytes stand for into a slice of the same length.
 pub fn write_byte_cells(bytes: &[u8], cells: &mut [Cell])
     requires { length cells.old ≡ length bytes.now }
     ensures { cells.new ≡ cells_of_bytes bytes.now }

@@ -12,10 +12,10 @@ pub const LEAST: i32 = -2147483647;
 /// The largest whole number in range (GRASS: the largest category).
 pub const GREATEST: i32 = 2147483647;
 
-// What larger numbers count as. It is out of every range.
+// Larger numbers count as this one. It is out of every range.
 const CAP: u64 = 1000000000000000000;
 
-/// Why a text is no whole number in range.
+/// Why a text is not a whole number in range.
 #[derive(Clone, Copy, Debug, PartialEq, Eq)]
 pub enum WholeFault {
     /// It is not an optional sign and one or more digits.
@@ -61,8 +61,8 @@ fn digits_of(text: &[u8]) -> Option<u64>
     Some(value_of_digits(text))
 }
 
-/// The whole number that a text spells: an optional sign and one or more digits. One below -10^18 or above 10^18 comes as
-/// that bound. Takes no memory.
+/// The whole number that a text spells: an optional sign and one or more digits. Numbers beyond -10^18 or 10^18 are
+/// returned as that bound. Takes no memory.
 pub fn whole_number(text: &[u8]) -> Option<i64>
     ensures { result ≡ capped_number text.now }
 {

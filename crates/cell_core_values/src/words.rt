@@ -10,7 +10,7 @@ use crate::blanks::is_blank;
 use crate::memory::Memory;
 use std::alloc::{AllocError, Global};
 
-// The pieces between blanks, empty ones too.
+// The pieces between blanks, including empty ones.
 fn pieces_of<'a>(alloc: Global, line: &'a [u8]) -> Result<Vec<&'a [u8]>, AllocError>
     ensures { IfOk result (λ pieces. map (λ w. w.now) pieces.items
         ≡ slice_split is_blank line.now) }
@@ -24,7 +24,7 @@ fn is_list_gap(b: u8) -> bool
     is_blank(b) || b == b','
 }
 
-// The pieces between blanks and commas, empty ones too.
+// The pieces between blanks and commas, including empty ones.
 fn list_pieces_of<'a>(alloc: Global, line: &'a [u8]) -> Result<Vec<&'a [u8]>, AllocError>
     ensures { IfOk result (λ pieces. map (λ w. w.now) pieces.items
         ≡ slice_split is_list_gap line.now) }
@@ -46,7 +46,7 @@ fn words_among<'a>(alloc: Global, pieces: &[&'a [u8]]) -> Result<Vec<&'a [u8]>, 
     Ok(words)
 }
 
-/// The words of a line: the longest runs of bytes that are no blanks, in order.
+/// The words of a line: the longest runs of bytes that are not blanks, in order.
 ///
 /// # Errors
 ///
@@ -70,14 +70,14 @@ pub fn list_words_of<'a>(alloc: Global, line: &'a [u8]) -> Result<Vec<&'a [u8]>,
     words_among(alloc, &pieces)
 }
 
-// The parts between commas, with std's error.
+// The parts between commas, with std's error type.
 fn comma_parts_of<'a>(alloc: Global, text: &'a [u8]) -> Result<Vec<&'a [u8]>, AllocError>
     ensures { IfOk result (λ parts. map (λ w. w.now) parts.items ≡ parts_of text.now) }
 {
     text.split(|b| *b == b',').collect(alloc)
 }
 
-/// The parts of a text between commas, empty ones too, in order.
+/// The parts of a text between commas, including empty ones, in order.
 ///
 /// # Errors
 ///
@@ -89,7 +89,7 @@ pub fn parts_of<'a>(alloc: Global, text: &'a [u8]) -> Result<Vec<&'a [u8]>, Memo
     Ok(parts)
 }
 
-/// What is before and after the first equals sign, or None if there is none. Takes no memory.
+/// The texts before and after the first equals sign, or None if there is none. Takes no memory.
 pub fn pair_of<'a>(text: &'a [u8]) -> Option<(&'a [u8], &'a [u8])>
     ensures { option_map (λ pair. (pair.0.now, pair.1.now)) result ≡ pair_of text.now }
 {

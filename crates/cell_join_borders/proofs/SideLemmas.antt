@@ -32,7 +32,7 @@ from-places d xs n f long each =
     (λ i lt. let inside : i < n = omega (arith, lt, long) in
     each i inside ∙ sym (get_or-map-range_with_len f 0 n i i d inside (omega arith)))
 
--- a row that is null after so many cells is these, filled up
+-- a row that is null from column count on is its first count cells, filled up with null
 pub filled-of : (row : List CellValue) (count width : ℕ) → length row ≡ width → count ≤ width
     → AreNullFrom count row → row ≡ filled_row width (take count row)
 filled-of row count width long few ended =

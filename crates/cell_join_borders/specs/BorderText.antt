@@ -12,7 +12,7 @@ use Rattle.cell_cats_areas.specs.declared.clump.Joining.TheVariants.{Edges, Edge
 use Rattle.cell_join_tiles.specs.declared.border.Border.{Border}
 use Rattle.cell_join_tiles.specs.declared.border.Side.{Side}
 
--- the largest of the rows and the columns of a tile and 4
+-- the largest of 4 and the numbers of rows and columns of a tile
 abbrev pub border_width : RegionValue → ℕ
 border_width tile = max (max tile.rows tile.cols) 4
 
@@ -20,12 +20,12 @@ border_width tile = max (max tile.rows tile.cols) 4
 abbrev pub border_region : RegionValue → RegionValue
 border_region tile = record { north = tile.north; south = tile.south; east = tile.east; west = tile.west; rows = 10; cols = border_width tile }
 
--- how a connectivity is written
+-- the number that stands for a connectivity
 abbrev pub connectivity : Joining → ℕ
 connectivity Edges = 4
 connectivity EdgesAndCorners = 8
 
--- cells from the left on, filled up with nulls
+-- cells, padded with nulls on the right
 abbrev pub filled_row : ℕ → List CellValue → List CellValue
 filled_row width cells = map (λ col. slice_index_or cells col None) (range_with_len 0 width)
 
@@ -33,11 +33,11 @@ filled_row width cells = map (λ col. slice_index_or cells col None) (range_with
 abbrev pub size_line : Joining → RegionValue → ℕ → List CellValue
 size_line j tile clumps = Some (pos tile.rows) ∷ Some (pos tile.cols) ∷ Some (pos clumps) ∷ Some (pos (connectivity j)) ∷ []
 
--- how many clumps begin in each row
+-- the number of clumps that begin in each row
 abbrev pub count_line : List ℕ → List CellValue
 count_line begun = map (λ n. Some (pos n)) begun
 
--- the cells of a side, and below them their numbers
+-- the cells of a side, and in the next row their numbers
 abbrev pub side_rows : ℕ → Side → List (List CellValue)
 side_rows width side = filled_row width side.cells.items ∷ filled_row width side.numbers.items ∷ []
 
@@ -56,10 +56,10 @@ border_rows width j tile border =
 abbrev pub border_grid : Joining → RegionValue → Border → Grid
 border_grid j tile border = record { region = border_region tile; rows = border_rows (border_width tile) j tile border; labels = no_labels }
 
--- what is written of it
+-- the text of a border
 abbrev pub border_text : Joining → RegionValue → Border → List ℕ
 border_text j tile border = grid_text usual_null (border_grid j tile border)
 
--- a text is the border of a tile of this region, by this connectivity
+-- a text is the border of a tile with this region and this connectivity
 abbrev pub SpellsBorder : Coming → Joining → RegionValue → Border → Type 0
 SpellsBorder text j tile border = Denotes text (border_grid j tile border)

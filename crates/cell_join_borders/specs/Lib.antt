@@ -1,4 +1,4 @@
--- The border of a tile as a text, and what is wrong with texts of it.
+-- The border of a tile as a text, and what is wrong with such texts.
 pub mod BorderText
 pub mod PairFaults
 pub mod BorderFaults

@@ -1,30 +1,30 @@
--- Cells and the numbers of their clumps that do not go together.
+-- Cells and clump numbers that do not match.
 use Rattle.std.specs.Prelude.{ℕ, ℤ, pos, negsuc, ◌≡◌, ◌<◌, ◌==◌, List, length, Option, Some, None, nat_lt, if◌then◌else◌, slice_index, slice_index_or}
 use Rattle.cell_core.specs.Grid.{CellValue}
 use Rattle.cell_join_borders.specs.declared.pair_fault.PairKind.{PairKind}
 use Rattle.cell_join_borders.specs.declared.pair_fault.PairKind.TheVariants.{NoCell, NoNumber, BelowOne, TooLarge}
 
--- why a number is not one from 1 to the most
+-- why a number is not from 1 to a maximum
 abbrev pub number_fault : ℕ → ℤ → Option PairKind
 number_fault most (pos n) = if n == 0 then Some BelowOne else (if nat_lt most n then Some TooLarge else None)
 number_fault most (negsuc n) = Some BelowOne
 
--- why a cell and a number do not go together
+-- why a cell and a number do not match
 abbrev pub pair_fault : ℕ → (cell number : CellValue) → Option PairKind
 pair_fault most None None = None
 pair_fault most None (Some n) = Some NoCell
 pair_fault most (Some v) None = Some NoNumber
 pair_fault most (Some v) (Some n) = number_fault most n
 
--- the same of the cells at a column of two rows, where each column has a largest number of its own
+-- the same for the cells at a column of two rows, with one maximum per column
 abbrev pub column_fault : List ℕ → (cells numbers : List CellValue) → ℕ → Option PairKind
 column_fault most cells numbers col = pair_fault (slice_index most col) (slice_index_or cells col None) (slice_index_or numbers col None)
 
--- two rows go together, up to as many columns
+-- two rows match in all columns
 abbrev pub AreLinesFit : List ℕ → (cells numbers : List CellValue) → Type 0
 AreLinesFit most cells numbers = (col : ℕ) → col < length most → column_fault most cells numbers col ≡ None
 
--- up to a column they do, and there is why they do not
+-- they match up to a column, and here is why they do not match there
 pub record IsFirstPair (most : List ℕ) (cells numbers : List CellValue) (col : ℕ) (kind : PairKind) : Type 0 where
   pub within : col < length most
   pub wrong : column_fault most cells numbers col ≡ Some kind

@@ -1,4 +1,4 @@
--- The text of the border of a tile, made of the text of its map.
+-- The text of the border of a tile, made from the text of its map.
 use Rattle.std.specs.Prelude.{ℕ, ◌≡◌, ◌≤◌, List, length, take, Option, Some}
 use Rattle.cell_core_devices.specs.Device.{Coming, append_known}
 use Rattle.cell_core.specs.Grid.{Grid}
@@ -13,7 +13,7 @@ use Rattle.cell_join_borders.specs.BorderText.{border_text}
 use Rattle.cell_join_borders.specs.declared.map_fault.MapFault.{MapFault}
 use Rattle.cell_join_borders.specs.declared.map_fault.MapFault.TheVariants.{Text, Memory, Write}
 
--- a text denotes a map, and this is the border of it and of the numbers of its clumps, of which each cell and its number go together
+-- a text denotes a map, and this is the border of the map and of its clump numbers; each cell and its number match
 pub record IsBorderOfText (j : Joining) (text : Coming) (m : Grid) (border : Border) : Type 0 where
   pub denoted : Denotes text m
   pub numbers : Grid
@@ -36,7 +36,7 @@ pub record HasBorderPrefix (j : Joining) (text : Coming) (before now : Option (L
   pub taken : now ≡ append_known before (take written (border_text j m.region border))
   pub count : written ≤ length (border_text j m.region border)
 
--- why no border is written: the text's first error; of being out of memory and of a failed write nothing is said of the text
+-- why no border is written: the text's first error; lack of memory and a failed write say nothing about the text
 abbrev pub IsMapFault : Coming → MapFault → Type 0
 IsMapFault text (Text fault) = text_fault text ≡ Some fault
 IsMapFault text Memory = Unit {0}

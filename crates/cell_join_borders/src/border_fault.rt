@@ -1,26 +1,26 @@
-//! Why a text is no border of a tile.
+//! Why a text is not a border of a tile.
 
 use crate::cell_place::CellPlace;
 use crate::pair_fault::PairFault;
 use cell_ascii_meaning::grid_fault::GridFault;
 use cell_core::memory::Memory;
 
-/// Why a text is no border of a tile: the first reason in this order.
+/// Why a text is not a border of a tile: the first reason in this order.
 #[derive(Clone, Copy, Debug, PartialEq, Eq)]
 pub enum BorderFault {
-    /// It is no grid.
+    /// It is not a grid.
     Text(GridFault),
-    /// It has not ten rows.
+    /// It does not have ten rows.
     Rows,
-    /// The ninth row is not the rows, columns, number of clumps and connectivity of a tile whose border is as wide as the text.
+    /// The ninth row is not the size, number of clumps and connectivity of a tile whose border is as wide as the text.
     Size,
-    /// The tenth row is not a count for each row of the tile.
+    /// The tenth row does not have a count for each row of the tile.
     Counts,
     /// The counts do not add up to the number of clumps.
     Sum,
     /// A cell or a number after the end of a side.
     End(CellPlace),
-    /// A cell and a number of a side do not go together.
+    /// A cell of a side and its number do not match.
     Pair(PairFault),
     /// Memory ran out.
     Memory,

@@ -1,4 +1,4 @@
-//! The border of a tile, read of a text.
+//! The border of a tile, read from a text.
 
 ghost use Rattle.std.specs.Prelude.{◌≡◌, ◌≢◌, ◌≤◌, IfErr, IfOk, IfSome, sum};
 ghost use Rattle.cell_cats_areas.specs.declared.clump.Joining.{Joining};
@@ -19,7 +19,7 @@ use cell_core::source::Source;
 use cell_join_tiles::border::Border;
 use std::alloc::Global;
 
-/// What the text of a border says: the region of a tile, how its clumps are joined, and its border.
+/// The contents of the text of a border: the region of a tile, its connectivity, and its border.
 #[derive(Debug, Drop)]
 pub struct BorderText {
     /// The region of the tile.
@@ -30,7 +30,7 @@ pub struct BorderText {
     pub border: Border,
 }
 
-// The border of a tile whose clumps begin so.
+// The border of a tile with these counts of clumps by row.
 fn border_with(
     alloc: Global,
     map: &CellMap,
@@ -110,11 +110,11 @@ fn border_counted(
     Err(BorderFault::Sum)
 }
 
-/// The border of a tile, of its map.
+/// The border of a tile, from its map.
 ///
 /// # Errors
 ///
-/// The first [`BorderFault`] in the order that its variants have, but no [`BorderFault::Text`].
+/// The first [`BorderFault`] in the order of its variants, but no [`BorderFault::Text`].
 pub fn border_in(alloc: Global, map: &CellMap) -> Result<BorderText, BorderFault>
     ensures border { IfOk result
         (λ reported. IsGridOf map.now reported.joining reported.region reported.border) }
@@ -134,7 +134,7 @@ pub fn border_in(alloc: Global, map: &CellMap) -> Result<BorderText, BorderFault
     }
 }
 
-// The error of a text that is no grid, or memory.
+// The error of a text that is not a grid, or memory.
 fn of_border_text(fault: GridFault) -> BorderFault
     ensures { result ≡ of_border_text fault.kind fault }
 {
@@ -144,11 +144,11 @@ fn of_border_text(fault: GridFault) -> BorderFault
     }
 }
 
-/// Reads the border that a text is.
+/// Reads the border that a text denotes.
 ///
 /// # Errors
 ///
-/// [`BorderFault::Text`] with the first error of a text that is no grid, and then the errors of [`border_in`].
+/// [`BorderFault::Text`] with the first error of a text that is not a grid, and then the errors of [`border_in`].
 pub fn read_border<R: Source + Drop>(alloc: Global, source: R) -> Result<BorderText, BorderFault>
     ensures spelled { IfOk result (λ reported. IfSome (R.coming source)
         (λ text. SpellsBorder text reported.joining reported.region reported.border)) }

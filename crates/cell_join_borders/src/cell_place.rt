@@ -1,9 +1,9 @@
-//! Where a cell is in a map.
+//! The place of a cell in a map.
 
 use std::error::Error;
 use std::fmt;
 
-/// Where a cell is in a map: its row and its column, from 0. It is printed with both counted from 1.
+/// The place of a cell in a map: its row and its column, from 0. Both are printed counting from 1.
 #[derive(Clone, Copy, Debug, PartialEq, Eq)]
 pub struct CellPlace {
     /// The row, from 0.

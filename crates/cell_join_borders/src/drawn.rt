@@ -12,20 +12,20 @@ use cell_core::region::Region;
 use cell_join_tiles::border::{Border, Side};
 use std::alloc::Global;
 
-/// How many rows the map of a border has.
+/// The number of rows in the map of a border.
 pub(crate) const ROWS: u32 = 10;
 
-/// How many cells of the ninth row are not null: rows, columns, number of clumps and connectivity.
+/// The number of non-null cells in the ninth row: rows, columns, number of clumps and connectivity.
 pub(crate) const SIZE_CELLS: u32 = 4;
 
-/// How wide the map of the border of a tile is.
+/// The width of the map of a tile's border.
 pub(crate) fn border_width(tile: Region) -> u32
     ensures { result ≡ border_width tile }
 {
     tile.rows().max(tile.cols()).max(SIZE_CELLS)
 }
 
-/// How a connectivity is written.
+/// The number that stands for a connectivity.
 pub(crate) fn connectivity(joining: Joining) -> u64
     ensures { result ≡ connectivity joining }
 {
@@ -35,7 +35,7 @@ pub(crate) fn connectivity(joining: Joining) -> u64
     }
 }
 
-/// How many clumps begin in all rows.
+/// The number of clumps that begin in all rows.
 pub(crate) fn clumps_in(begun: &[u64]) -> u64
     requires { sum begun.now ≤ most_clumps }
     ensures { result ≡ sum begun.now }
@@ -65,7 +65,7 @@ fn border_region(tile: Region) -> Region
     }
 }
 
-// The cell at a column, null where the cells end.
+// The cell at a column, or null past the last cell.
 fn cell_at(cells: &[Cell], col: u32) -> Cell
     ensures { result ≡ slice_index_or cells.now col None }
 {
@@ -75,7 +75,7 @@ fn cell_at(cells: &[Cell], col: u32) -> Cell
     }
 }
 
-// Cells from the left on, filled up with nulls.
+// Cells, padded with nulls on the right.
 fn filled_row(alloc: Global, width: u32, cells: &[Cell]) -> Result<Vec<Cell>, Memory>
     ensures { IfOk result (λ row. row.items ≡ filled_row width cells.now) }
 {
@@ -109,7 +109,7 @@ fn count_line(alloc: Global, begun: &[u64]) -> Result<Vec<Cell>, Memory>
     Ok(line)
 }
 
-// Rows, columns, number of clumps and connectivity as cells.
+// Rows, columns, number of clumps and connectivity, as cells.
 fn size_line(
     alloc: Global,
     joining: Joining,
@@ -127,7 +127,7 @@ fn size_line(
     Ok(line)
 }
 
-// Puts cells, filled up with nulls, below a map.
+// Adds cells, padded with nulls, at the bottom of a map.
 fn push_line(
     alloc: Global,
     builder: &mut MapBuilder,
@@ -143,7 +143,7 @@ fn push_line(
     builder.push_row(row.as_slice())
 }
 
-// Puts the cells of a side and their numbers below a map.
+// Adds the cells of a side, and then their numbers, at the bottom of a map.
 fn push_side(alloc: Global, builder: &mut MapBuilder, width: u32, side: &Side) -> Result<(), Memory>
     requires width { width ≡ builder.old.region.cols }
     requires room { length builder.old.rows + 1 < builder.old.region.rows }
@@ -154,7 +154,7 @@ fn push_side(alloc: Global, builder: &mut MapBuilder, width: u32, side: &Side) -
     push_line(alloc, builder, width, &side.numbers)
 }
 
-// Puts the size of the tile below a map.
+// Adds the size of the tile at the bottom of a map.
 fn push_size(
     alloc: Global,
     builder: &mut MapBuilder,
@@ -174,7 +174,7 @@ fn push_size(
     push_line(alloc, builder, width, size.as_slice())
 }
 
-// Puts the counts of clumps by row below a map.
+// Adds the counts of clumps by row at the bottom of a map.
 fn push_counts(
     alloc: Global,
     builder: &mut MapBuilder,
@@ -192,7 +192,7 @@ fn push_counts(
     push_line(alloc, builder, width, counts.as_slice())
 }
 
-// Puts all rows below a map of none.
+// Adds all rows to an empty map.
 fn draw_rows(
     alloc: Global,
     builder: &mut MapBuilder,
@@ -217,7 +217,7 @@ fn draw_rows(
     push_counts(alloc, builder, width, &border.begun)
 }
 
-/// The map of the border of a tile of a region, whose clumps are joined so.
+/// The map of the border of a tile with this region and this connectivity.
 ///
 /// # Errors
 ///

@@ -1,4 +1,4 @@
-//! The text of the border of a tile, made of the text of the tile's map.
+//! The text of the border of a tile, made from the text of the tile's map.
 
 ghost use Rattle.std.specs.Prelude.{ℕ, ◌≡◌, ◌≢◌, ◌<◌, ◌≤◌, true, false, None, Some, IfErr, IfOk, IfSome, length, slice_index_or, sum};
 ghost use Rattle.cell_core_devices.specs.Device.{after_flush, has_failed};
@@ -28,12 +28,12 @@ use cell_join_tiles::begun::{begun_by_row, row_of};
 use cell_join_tiles::border::{Border, Side};
 use std::alloc::Global;
 
-/// What the writing of a border did.
+/// The outcome of writing a border.
 #[derive(Clone, Copy, Debug, PartialEq, Eq)]
 pub struct BorderOutcome {
     /// The number of bytes that the sink took.
     pub written: u64,
-    /// Why not all was written.
+    /// Why not everything was written.
     pub fault: Option<MapFault>,
 }
 
@@ -87,7 +87,7 @@ fn column_side(alloc: Global, map: &CellMap, numbers: &CellMap, col: u32) -> Res
     })
 }
 
-// The border of a tile, of its map and the numbers of its clumps.
+// The border of a tile, from its map and the numbers of its clumps.
 fn border_of(
     alloc: Global,
     joining: Joining,
@@ -118,7 +118,7 @@ fn border_of(
     })
 }
 
-// The map of the border of a tile, of its map.
+// The map of the border of a tile, from its map.
 fn border_drawn(alloc: Global, joining: Joining, map: &CellMap) -> Result<CellMap, Memory>
     ensures { IfOk result (IsMapOfBorder joining map.now) }
 {
@@ -128,7 +128,7 @@ fn border_drawn(alloc: Global, joining: Joining, map: &CellMap) -> Result<CellMa
     border_map(alloc, joining, map.region(), &border)
 }
 
-// The error of a text that is no grid, or memory.
+// The error of a text that is not a grid, or memory.
 fn of_map_text(fault: GridFault) -> MapFault
     ensures { result ≡ of_map_text fault.kind fault }
 {
@@ -160,7 +160,7 @@ fn border_made<R: Source + Drop>(
     }
 }
 
-/// Writes the text of the border of a tile from the text of its map: its clumps are numbered as r.clump numbers them.
+/// Writes the text of the border of a tile, from the text of its map: its clumps are numbered as r.clump numbers them.
 /// The sink is flushed once at the end, unless a put failed.
 pub fn write_border<R: Source + Drop, W: Sink>(
     alloc: Global,
@@ -168,19 +168,19 @@ pub fn write_border<R: Source + Drop, W: Sink>(
     map: R,
     out: &mut W,
 ) -> BorderOutcome
-    // Without an error the sink has taken exactly the text of the border of the map that the text denotes.
+    // Without an error, the sink has taken exactly the text of the border of the map that the text denotes.
     ensures written { result.fault ≡ None → IfSome (R.coming map) (λ text.
         HasWrittenBorder joining text (W.taken out.old) (W.taken out.new) result.written) }
-    // Any other error than a failed write is an error of the text, and the sink is as it was.
+    // Any error other than a failed write is an error of the text, and the sink is unchanged.
     ensures fault { IfSome result.fault (λ fault. IfSome (R.coming map)
         (λ text. IsMapFault text fault)) }
     ensures untouched { IfSome result.fault (λ fault. fault ≢ MapFault.Write
         → (out.new ≡ out.old) × (result.written ≡ 0)) }
-    // After a failed write it has taken the first bytes of that text.
+    // After a failed write, it has taken the first bytes of that text.
     ensures cut { result.fault ≡ Some MapFault.Write → IfSome (R.coming map) (λ text.
         HasBorderPrefix joining text (W.taken out.old) (W.taken out.new) result.written) }
-    // No error comes only if no call of the sink failed and it was flushed once; and, of a sink that had not failed before, Write
-    // only if it failed.
+    // Without an error, no call of the sink failed and it was flushed once. `Write` means that a call of the sink
+    // failed, if none had failed before.
     ensures sound { result.fault ≡ None
         → W.faults out.new ≡ after_flush (W.faults out.old) false }
     ensures write { result.fault ≡ Some MapFault.Write → has_failed (W.faults out.new) ≡ true }

@@ -1,9 +1,9 @@
-//! Why no border is written of the text of a map.
+//! Why no border is written for the text of a map.
 
 use cell_ascii_meaning::grid_fault::GridFault;
 use cell_core::memory::Memory;
 
-/// Why no border is written of the text of a map.
+/// Why no border is written for the text of a map.
 #[derive(Clone, Copy, Debug, PartialEq, Eq)]
 pub enum MapFault {
     /// The first error of the text.

@@ -1,4 +1,4 @@
-//! Cells and the numbers of their clumps that do not go together.
+//! Cells and clump numbers that do not match.
 
 ghost use Rattle.std.specs.Prelude.{◌≡◌, None, slice_index_or, IfNone, IfSome};
 ghost use Rattle.cell_join_borders.specs.PairFaults.{AreLinesFit, IsFirstPair, number_fault, pair_fault};
@@ -7,25 +7,25 @@ use cell_core::cell::Cell;
 use std::error::Error;
 use std::fmt;
 
-/// Why a cell and a number do not go together.
+/// Why a cell and a number do not match.
 #[derive(Clone, Copy, Debug, PartialEq, Eq, thiserror::Error)]
 pub enum PairKind {
-    /// The cell is null, and has a number.
+    /// The cell is null, but has a number.
     #[error("number of a null cell")]
     NoCell,
-    /// The cell has a category, and no number.
+    /// The cell has a category, but no number.
     #[error("cell without a number")]
     NoNumber,
     /// The number is below 1.
     #[error("number below 1")]
     BelowOne,
-    /// The number is above the count of clumps that begin in the row of the cell or above it.
+    /// The number is above the number of clumps that begin in the cell's row or above it.
     #[error("number above the count of clumps that begin up to its row")]
     TooLarge,
 }
 
-/// Where a cell and a number do not go together: the row and the column of the number, from 0, and why. It is printed with both
-/// counted from 1.
+/// Where a cell and a number do not match: the row and the column of the number, from 0, and why. Both are printed
+/// counting from 1.
 #[derive(Clone, Copy, Debug, PartialEq, Eq)]
 pub struct PairFault {
     /// The row, from 0.
@@ -47,7 +47,7 @@ impl fmt::Display for PairFault {
 
 impl Error for PairFault {}
 
-// The cell at a column, null where the row ends.
+// The cell at a column, or null past the end of the row.
 fn cell_at(cells: &[Cell], col: usize) -> Cell
     ensures { result ≡ slice_index_or cells.now col None }
 {
@@ -57,7 +57,7 @@ fn cell_at(cells: &[Cell], col: usize) -> Cell
     }
 }
 
-// Why a number is not one from 1 to the most.
+// Why a number is not from 1 to a maximum.
 fn number_fault(most: u64, number: i32) -> Option<PairKind>
     ensures { result ≡ number_fault most number }
 {
@@ -73,7 +73,7 @@ fn number_fault(most: u64, number: i32) -> Option<PairKind>
     None
 }
 
-// Why a cell and a number do not go together.
+// Why a cell and a number do not match.
 fn pair_fault(most: u64, cell: Cell, number: Cell) -> Option<PairKind>
     ensures { result ≡ pair_fault most cell number }
 {
@@ -89,7 +89,7 @@ fn pair_fault(most: u64, cell: Cell, number: Cell) -> Option<PairKind>
     }
 }
 
-/// The first column, of as many as there are largest numbers, where the cells of two rows do not go together, and why.
+/// The first column in which the cells of two rows do not match, and why. There is one maximum per column.
 pub fn first_of_lines(most: &[u64], cells: &[Cell], numbers: &[Cell]) -> Option<(usize, PairKind)>
     ensures none { IfNone result (AreLinesFit most.now cells.now numbers.now) }
     ensures some { IfSome result

@@ -1,4 +1,4 @@
-//! The sides of a tile, read of the map of its border.
+//! The sides of a tile, read from the map of its border.
 
 ghost use Rattle.std.specs.Prelude.{◌≡◌, ◌≢◌, ◌≤◌, ◌<◌, IfErr, IfOk, OnOk, length, replicate, slice_index, sum, take};
 ghost use Rattle.cell_core.specs.Grid.{row_at};
@@ -17,7 +17,8 @@ use cell_join_tiles::begun::row_of;
 use cell_join_tiles::border::Side;
 use std::alloc::Global;
 
-/// For each cell of the sides of a tile the largest number that it may have: of the clumps that begin in its row or above it.
+/// For each cell of the sides of a tile, the largest number allowed: the number of clumps that begin in its row or
+/// above it.
 #[derive(Debug, Drop)]
 pub(crate) struct SideMosts {
     pub(crate) first: Vec<u64>,
@@ -26,7 +27,7 @@ pub(crate) struct SideMosts {
     pub(crate) right: Vec<u64>,
 }
 
-// For each row, how many clumps begin in it or above it.
+// For each row, the number of clumps that begin in it or above it.
 fn most_down(alloc: Global, begun: &[u64]) -> Result<Vec<u64>, Memory>
     requires { sum begun.now ≤ most_clumps }
     ensures { IfOk result (λ most. most.items ≡ most_down begun.now) }
@@ -40,7 +41,7 @@ fn most_down(alloc: Global, begun: &[u64]) -> Result<Vec<u64>, Memory>
     Ok(most)
 }
 
-// The number of a row for each of so many cells.
+// The row's number, once for each of its `cols` cells.
 fn most_of_row(alloc: Global, cols: u32, down: &[u64], row: usize) -> Result<Vec<u64>, Memory>
     requires { row < length down.now }
     ensures { IfOk result (λ line. line.items ≡ replicate cols (slice_index down.now row)) }
@@ -48,7 +49,7 @@ fn most_of_row(alloc: Global, cols: u32, down: &[u64], row: usize) -> Result<Vec
     Ok(vec![in alloc; down[row]; cols as usize]?)
 }
 
-/// The largest numbers of a tile whose clumps begin so.
+/// The largest numbers allowed in a tile with these counts of clumps by row.
 pub(crate) fn side_mosts(alloc: Global, tile: Region, begun: &[u64]) -> Result<SideMosts, Memory>
     requires long { length begun.now ≡ tile.rows }
     requires few { sum begun.now ≤ most_clumps }
@@ -67,7 +68,7 @@ pub(crate) fn side_mosts(alloc: Global, tile: Region, begun: &[u64]) -> Result<S
     })
 }
 
-// The first so many cells and numbers of two rows.
+// The first `count` cells and numbers of two rows.
 fn cut_side(count: usize, cells: Vec<Cell>, numbers: Vec<Cell>) -> Side
     ensures cells { result.cells.items ≡ take count cells.items }
     ensures numbers { result.numbers.items ≡ take count numbers.items }
@@ -89,7 +90,7 @@ fn end_fault(row: u32, col: u32) -> BorderFault
     })
 }
 
-/// The side that a row and the one below it are, with a largest number for each of its cells.
+/// The side in a row and the row below it, given the largest number allowed for each of its cells.
 pub(crate) fn side_in(
     alloc: Global,
     map: &CellMap,
@@ -134,7 +135,7 @@ pub(crate) struct FourSides {
     pub(crate) right: Side,
 }
 
-/// The sides that the first eight rows are, with a largest number for each of their cells.
+/// The sides in the first eight rows, given the largest number allowed for each of their cells.
 pub(crate) fn sides_in(
     alloc: Global,
     map: &CellMap,

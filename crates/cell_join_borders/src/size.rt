@@ -1,4 +1,4 @@
-//! The size of a tile and the counts of its clumps by row, read of the map of its border.
+//! The size of a tile and the counts of its clumps by row, read from the map of its border.
 
 ghost use Rattle.std.specs.Prelude.{ℕ, ◌≡◌, ◌≢◌, ◌≤◌, ◌<◌, ◌↔◌, IfNone, IfOk, IfSome, IsTrue, List, None, Some, pos, length, sum};
 ghost use Rattle.cell_core_values.specs.Region.{IsRegion, RegionValue};
@@ -21,7 +21,7 @@ const SIZE_ROW: u32 = 8;
 
 const COUNTS_ROW: u32 = 9;
 
-/// What the ninth row says: the region of the tile, how its clumps are joined, and how many it has.
+/// The contents of the ninth row: the region of the tile, its connectivity, and its number of clumps.
 #[derive(Clone, Copy, Debug, PartialEq, Eq)]
 pub(crate) struct TileSize {
     pub(crate) region: Region,
@@ -29,7 +29,7 @@ pub(crate) struct TileSize {
     pub(crate) clumps: u64,
 }
 
-/// Says that a map is filled, and has a row and a column. Does nothing.
+/// States that a map is filled, and has a row and a column. Does nothing.
 pub(crate) fn map_is_filled(map: &CellMap)
     ensures filled { IsFilled map.now.region map.now.rows }
     ensures wide { 0 < map.now.region.cols }
@@ -39,7 +39,7 @@ pub(crate) fn map_is_filled(map: &CellMap)
     let _ = map.region().cols();
 }
 
-// The count that a cell is.
+// A cell as a count.
 fn count_of(cell: Cell) -> Option<u64>
     ensures some { IfSome result (λ n. cell ≡ Some (pos n)) }
     ensures few { IfSome result (λ n. n ≤ most_clumps) }
@@ -52,7 +52,7 @@ fn count_of(cell: Cell) -> Option<u64>
     }
 }
 
-// The connectivity that a cell is.
+// A cell as a connectivity.
 fn joining_of(cell: Cell) -> Option<Joining>
     ensures some { IfSome result (λ j. cell ≡ Some (pos (connectivity j))) }
     ensures none { IfNone result ((j : Joining) → cell ≢ Some (pos (connectivity j))) }
@@ -64,7 +64,7 @@ fn joining_of(cell: Cell) -> Option<Joining>
     }
 }
 
-/// The first column after so many with a cell that is not null.
+/// The first column from `count` on whose cell is not null.
 pub(crate) fn first_behind(map: &CellMap, row: u32, count: u32) -> Option<u32>
     requires { row < map.now.region.rows }
     ensures none { IfNone result (AreNullFrom count (row_at map.now row)) }
@@ -79,7 +79,7 @@ pub(crate) fn first_behind(map: &CellMap, row: u32, count: u32) -> Option<u32>
     None
 }
 
-// The region of a tile of so many rows and columns, if the border of such a tile is as wide as a map.
+// The region of a tile of this size, if the map is as wide as the border of such a tile.
 fn tile_of(map: &CellMap, rows: u64, cols: u64) -> Option<Region>
     requires rows { rows ≤ most_clumps }
     requires cols { cols ≤ most_clumps }
@@ -106,7 +106,7 @@ fn tile_of(map: &CellMap, rows: u64, cols: u64) -> Option<Region>
     }
 }
 
-/// The size that the ninth row says.
+/// The size in the ninth row.
 pub(crate) fn size_in(map: &CellMap) -> Option<TileSize>
     requires { map.now.region.rows ≡ 10 }
     ensures some { IfSome result (λ size. HasSize map.now size.joining size.region size.clumps) }
@@ -134,7 +134,7 @@ pub(crate) fn size_in(map: &CellMap) -> Option<TileSize>
     })
 }
 
-/// How many clumps begin in each of so many rows, as the tenth row says.
+/// How many clumps begin in each of the tile's rows, from the tenth row of the border.
 pub(crate) fn counts_in(alloc: Global, map: &CellMap, rows: u32) -> Result<Option<Vec<u64>>, Memory>
     requires ten { map.now.region.rows ≡ 10 }
     requires wide { rows ≤ map.now.region.cols }

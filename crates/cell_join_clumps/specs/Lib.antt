@@ -1,4 +1,4 @@
--- The texts of the borders of tiles, the grid that they lie in, and the numbering that they are joined to.
+-- The texts of the borders of tiles, the grid of these tiles, and the numbering to which they are joined.
 pub mod TileTexts
 pub mod Misfits
 pub mod BegunGrids

@@ -1,4 +1,4 @@
--- What only private functions and proofs cite.
+-- Definitions that only private functions and proofs use.
 pub mod Placements
 pub mod ReadTiles
 pub mod PutRuns

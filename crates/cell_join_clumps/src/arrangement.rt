@@ -8,7 +8,7 @@ ghost use Rattle.cell_join_clumps.specs.parts.Placements.{IsFirstRowPlacement, I
 use crate::clumps_fault::Misfit;
 use cell_core::region::Region;
 
-/// Where a tile goes after the tiles of a row that has begun, or why it goes nowhere.
+/// Where a tile goes after the tiles of a row that has begun, or why it has no place.
 #[derive(Clone, Copy, Debug, PartialEq, Eq)]
 pub(crate) enum TilePlacement {
     /// It is the next in the row.
@@ -19,18 +19,18 @@ pub(crate) enum TilePlacement {
     Apart { beside: Misfit, below: Misfit },
     /// It is not right of the last tile.
     NotBeside { misfit: Misfit },
-    /// It is not below a tile that came so many tiles before it.
+    /// It is not below the tile that came `back` tiles before it.
     NotBelow { misfit: Misfit, back: usize },
 }
 
-// Whether two edges are one.
+// Whether two edges are equal.
 fn is_same_edge(one: i64, other: i64) -> bool
     ensures { IsTrue result ↔ one ≡ other }
 {
     one == other
 }
 
-// Why a tile does not lie right of another.
+// Why a tile is not right of another.
 fn beside_misfit(left: Region, right: Region) -> Option<Misfit>
     ensures beside { IfNone result (IsBeside left right) }
     ensures misfit { IfSome result (IsBesideMisfit left right) }
@@ -54,7 +54,7 @@ fn beside_misfit(left: Region, right: Region) -> Option<Misfit>
     None
 }
 
-// Why a tile does not lie below another.
+// Why a tile is not below another.
 fn below_misfit(above: Region, below: Region) -> Option<Misfit>
     ensures below { IfNone result (IsBelow above below) }
     ensures misfit { IfSome result (IsBelowMisfit above below) }
@@ -78,7 +78,7 @@ fn below_misfit(above: Region, below: Region) -> Option<Misfit>
     None
 }
 
-// After tiles of the first row, from the first to the last.
+// After the tiles of the first row, given its first and its last tile.
 fn placement_in_first_row(first: Region, last: Region, tile: Region) -> TilePlacement
     ensures { IsFirstRowPlacement first last tile result }
 {
@@ -91,7 +91,7 @@ fn placement_in_first_row(first: Region, last: Region, tile: Region) -> TilePlac
     }
 }
 
-// After the last tile of a row, if there is a tile above, which came so many tiles before.
+// After the last tile of a row, if there is a tile above, which came `back` tiles before.
 fn placement_below(upper: Region, last: Region, tile: Region, back: usize) -> TilePlacement
     ensures { IsPlacementBelow upper last tile back result }
 {
@@ -104,7 +104,7 @@ fn placement_below(upper: Region, last: Region, tile: Region, back: usize) -> Ti
     }
 }
 
-// After a whole row that begins with this tile, which came so many tiles before.
+// After a full row that begins with the tile `first`, which came `back` tiles before.
 fn placement_in_next_row(first: Region, tile: Region, back: usize) -> TilePlacement
     ensures { IsNextRowPlacement first tile back result }
 {
@@ -114,7 +114,7 @@ fn placement_in_next_row(first: Region, tile: Region, back: usize) -> TilePlacem
     }
 }
 
-/// After the tiles of a row that has begun, below this one; above the first row is none.
+/// After the tiles of a row that has begun below another row; there is none above the first row.
 pub(crate) fn placement_of(above: &[Region], row: &[Region], tile: Region) -> TilePlacement
     requires { row.now ≡ [] → above.now ≡ [] }
     ensures { IsTilePlacement above.now row.now tile result }

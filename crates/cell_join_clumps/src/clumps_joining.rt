@@ -1,4 +1,4 @@
-//! The numbering of texts of the borders of tiles.
+//! The numbering of tiles, from the texts of their borders.
 
 ghost use Rattle.std.specs.Prelude.{◌≡◌, ◌≢◌, List, None, Some, IfErr, IfOk, IfSome, true, false};
 ghost use Rattle.cell_core_devices.specs.Device.{Coming, has_failed, after_flush};
@@ -18,12 +18,12 @@ use cell_join_lines::stretch::Stretch;
 use cell_join_lines::writing::write_stretches;
 use std::alloc::Global;
 
-/// What the joining did.
+/// The outcome of joining.
 #[derive(Clone, Copy, Debug, PartialEq, Eq)]
 pub struct ClumpsOutcome {
     /// The number of bytes that the sink took, at most `u64::MAX`.
     pub written: u64,
-    /// Why not all was written.
+    /// Why not everything was written.
     pub fault: Option<ClumpsFault>,
 }
 
@@ -107,35 +107,37 @@ fn put_runs<W: Sink>(out: &mut W, runs: &[Stretch]) -> ClumpsOutcome
     }
 }
 
-/// Joins tiles, of the texts of their borders, row by row of tiles from the top and in each row from the left, and writes the
-/// numbering: which number each clump of each tile has in the full map, of whatever size that is. The tiles are numbered in the order
-/// of the texts.
+/// Reads the borders of a grid of tiles, in rows from the top left, and writes the numbering: the number that each
+/// clump of each tile has in the full map. The full map may have any size. Tiles are numbered in the order of the
+/// texts.
 ///
-/// The texts are read one after the other. A tile is the next in its row if it lies right of the one before it, and begins the
-/// next row if it lies below the first tile of a full row. One row of tiles is held at a time; other memory grows only with the
-/// seams. Nothing is written before all texts are read. The sink is flushed once at the end, unless a put failed.
+/// The texts are read one after the other. A tile is the next in its row if it is right of the one before it, and
+/// begins the next row if it is below the first tile of a complete row. One row of tiles is held at a time; other
+/// memory grows only with the seams. Nothing is written before all texts are read. The sink is flushed once at the end,
+/// unless a put failed.
 pub fn join_border_texts<R: Source + Drop, W: Sink>(
     alloc: Global,
     joining: Joining,
     texts: Vec<R>,
     out: &mut W,
 ) -> ClumpsOutcome
-    // Without an error the texts are the borders of the tiles of a grid, and the sink has taken exactly the text of the numbers that
-    // their clumps have in each map that is cut into such tiles.
+    // Without an error, the texts are the borders of the tiles of a grid, and the sink has taken exactly the text of
+    // the numbers that their clumps have in every map that is cut into such tiles.
     ensures joined { (all : List Coming) → Give R.coming texts.items all → result.fault ≡ None
         → HasWrittenClumps joining all (W.taken out.old) (W.taken out.new) result.written }
-    // An error of a text is its own, and the texts before it are the borders of the tiles of a grid as far as it goes; or all
-    // texts are, and the last row has fewer tiles than that above, or there are too many clumps.
+    // An error of a text: the texts before it are the borders of a grid of tiles so far, and the text itself has the
+    // error. Or all texts are such borders, and the last row has fewer tiles than the one above, or there are too many
+    // clumps.
     ensures fault { (all : List Coming) → Give R.coming texts.items all
         → IfSome result.fault (IsClumpsFault joining all) }
-    // With any other error than a failed write the sink is as it was.
+    // With any error other than a failed write, the sink is unchanged.
     ensures untouched { IfSome result.fault (λ fault. fault ≢ ClumpsFault.Write
         → (out.new ≡ out.old) × (result.written ≡ 0)) }
-    // After a failed write it has taken a prefix of the numbering.
+    // After a failed write, it has taken a prefix of the numbering.
     ensures cut { (all : List Coming) → Give R.coming texts.items all
         → result.fault ≡ Some ClumpsFault.Write
         → HasClumpsPrefix joining all (W.taken out.old) (W.taken out.new) result.written }
-    // Without an error, no call of the sink failed and it was flushed once. Write: a call failed, now or before.
+    // Without an error, no call of the sink failed and it was flushed once. `Write`: a call failed, now or before.
     ensures sound { result.fault ≡ None
         → W.faults out.new ≡ after_flush (W.faults out.old) false }
     ensures write { result.fault ≡ Some ClumpsFault.Write

@@ -1,4 +1,4 @@
-//! Rows of tiles that are read from the texts of their borders, of which one row is held.
+//! Rows of tiles that are read from the texts of their borders; one row is held.
 
 ghost use Rattle.std.specs.Prelude.{◌≡◌, ◌≢◌, ◌↔◌, ◌++◌, ◌∷◌, [], List, IfErr, IfOk, IfSome, IsTrue};
 ghost use Rattle.cell_join_borders.specs.BorderFaults.{IsBorderFit};
@@ -19,7 +19,7 @@ use cell_join_tiles::border::Border;
 use cell_join_tiles::joiner::{JoinerFault, TileJoiner};
 use std::alloc::Global;
 
-// Why a text is no border, or memory.
+// Why a text is not a border, or memory.
 fn of_border(place: usize, fault: BorderFault) -> ClumpsFault
     ensures { result ≡ of_border place fault }
 {
@@ -29,14 +29,14 @@ fn of_border(place: usize, fault: BorderFault) -> ClumpsFault
     }
 }
 
-// Whether clumps are joined as was asked.
+// Whether the connectivity is the one asked for.
 fn is_as_asked(found: Joining, joining: Joining) -> bool
     ensures { IsTrue result ↔ found ≡ joining }
 {
     found == joining
 }
 
-// The tile whose border the text in a place is, if its clumps are joined so.
+// Reads the tile at a place. Fails if its connectivity is another one.
 fn read_tile<R: Source + Drop>(
     alloc: Global,
     joining: Joining,
@@ -63,7 +63,7 @@ fn read_tile<R: Source + Drop>(
     })
 }
 
-// Tiles that were joined and one more row of them.
+// Adds one more row to joined tiles.
 fn add_row(alloc: Global, joiner: TileJoiner, row: Vec<Border>) -> Result<TileJoiner, ClumpsFault>
     requires { IsEvenRow row.items }
     ensures joining { IfOk result (λ more. more.joining ≡ joiner.joining) }
@@ -79,20 +79,20 @@ fn add_row(alloc: Global, joiner: TileJoiner, row: Vec<Border>) -> Result<TileJo
     }
 }
 
-/// Rows of tiles from the top: whole rows, which are joined, and one that has begun below them.
+/// Rows of tiles from the top: complete rows, which are joined, and one that has begun below them.
 #[derive(Drop)]
 pub(crate) struct TileGrid {
-    // What was joined of the complete rows.
+    // The joiner of the complete rows.
     pub(crate) joiner: TileJoiner,
-    // The regions of the last whole row, from the left.
+    // The regions of the last complete row, from the left.
     above: Vec<Region>,
-    // The regions of the row below it as far as it goes, and the borders of its tiles. Only before the first tile it is empty.
+    // The regions so far of the row below it, and the borders of its tiles. Empty only before the first tile.
     row: Vec<Region>,
     borders: Vec<Border>,
 }
 
 impl TileGrid {
-    /// No tile yet. Takes no memory.
+    /// No tiles yet. Takes no memory.
     pub(crate) fn new(alloc: Global, joining: Joining) -> TileGrid
         ensures { AreNoTiles joining result }
     {
@@ -104,7 +104,7 @@ impl TileGrid {
         }
     }
 
-    // These tiles and one more after the last, in its row.
+    // Adds a tile at the end of its row.
     fn with_tile_in_row(self, tile: BorderText) -> Result<TileGrid, Memory>
         ensures { IfOk result (IsAddedInRow tile self) }
     {
@@ -124,7 +124,7 @@ impl TileGrid {
         })
     }
 
-    // One tile below a row of whole rows that were joined.
+    // A first tile below complete rows, which are joined.
     fn begun_below(
         alloc: Global,
         joiner: TileJoiner,
@@ -145,7 +145,7 @@ impl TileGrid {
         })
     }
 
-    // These tiles and one more that begins the next row.
+    // Adds a tile that begins the next row.
     fn with_tile_below(self, alloc: Global, tile: BorderText) -> Result<TileGrid, ClumpsFault>
         requires { IsEvenRow self.borders.items }
         ensures added { IfOk result (IsAddedBelow tile self) }
@@ -161,7 +161,7 @@ impl TileGrid {
         Ok(TileGrid::begun_below(alloc, joiner, row, tile)?)
     }
 
-    /// These tiles and the tile of the text in a place after them.
+    /// Adds the tile of the text in a place.
     pub(crate) fn with_text<R: Source + Drop>(
         self,
         alloc: Global,
@@ -196,7 +196,7 @@ impl TileGrid {
         }
     }
 
-    /// The whole rows joined, of so many texts, if the last is whole.
+    /// The joiner of all rows, after `texts` texts, if the last row is complete.
     pub(crate) fn finish(self, alloc: Global, texts: usize) -> Result<TileJoiner, ClumpsFault>
         requires { AreTilesKept self }
         ensures whole { IfOk result (AreFinished self) }

@@ -17,13 +17,13 @@ use Rattle.cell_parts.specs.AreaParts.{IsTile, moved_position}
 use Rattle.cell_join_tiles.specs.Beginnings.{tile_place}
 use Rattle.cell_join_law.specs.TileGrids.{NumberedTile, row_height, rows_beside, rows_of_tiles, tile_heights}
 
--- a tile of so many rows and columns
+-- a tile of height rows and width columns
 pub record IsSized (height : ℕ) (tile : NumberedTile) (width : ℕ) : Type 0 where
   pub filled : IsFilled tile.map.region tile.map.rows
   pub rows : tile.map.region.rows ≡ height
   pub cols : tile.map.region.cols ≡ width
 
--- tiles of rows of tiles, of so many rows, between columns of such widths
+-- rows of tiles; the tiles of each row have one height and the given widths
 abbrev pub AreSized : List ℕ → List (List NumberedTile) → Type 0
 AreSized widths [] = Unit {0}
 AreSized widths (row ∷ tiles) = AllZip (IsSized (row_height row)) row widths × AreSized widths tiles

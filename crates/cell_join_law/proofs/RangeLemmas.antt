@@ -107,7 +107,7 @@ denoted-filled text m denotes =
 pub number-in : (n : ℕ) → n ≤ 2147483647 → InRange (Some (pos n))
 number-in n few = le-leb n 2147483647 few
 
--- no category is spelled as this word, which is no number
+-- no category is spelled as this word, which is not a number
 module _ (null_text : List ℕ) (no_number : whole_number null_text ≡ None) where
   abbrev IsApart : CellValue → Type 0
   IsApart cell = IfSome cell (λ category. signed_decimal category ≢ null_text)

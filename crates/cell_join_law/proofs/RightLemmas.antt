@@ -83,7 +83,7 @@ same-counts (s ∷ stretches) = omega (
   same-counts stretches,
 )
 
--- how many of the numbers are among the first so many
+-- how many of the numbers are from 1 to n
 abbrev up_to : ℕ → List ℕ → ℕ
 up_to n numbers = sum_by (λ k. cond (nat_lt 0 k && nat_lt k (n + 1)) 1 0) numbers
 

@@ -1,4 +1,4 @@
--- Texts of borders that go together.
+-- Valid texts of borders.
 use Rattle.std.specs.Prelude.{◌≡◌, ◌⊎◌, ◌≤◌, ◌^◌, List, length}
 use Rattle.cell_core_devices.specs.Device.{Coming}
 use Rattle.cell_cats_areas.specs.declared.clump.Joining.{Joining}
@@ -8,6 +8,6 @@ use Rattle.cell_join_clumps.specs.ClumpsOfTiles.{IsClumpsFault}
 use Rattle.cell_join_clumps.specs.declared.clumps_fault.ClumpsFault.{ClumpsFault}
 use Rattle.cell_join_clumps.specs.declared.clumps_fault.ClumpsFault.TheVariants.{Memory, Write}
 
--- if at most 2^33 texts are the borders of the tiles of a grid, they are joined but for memory and the sink
+-- at most 2^33 texts that are the borders of the tiles of a grid are joined, unless memory runs out or the sink fails
 abbrev pub GoodBordersAreJoined : Type 0
 GoodBordersAreJoined = (j : Joining) (texts : List Coming) (rows : List (List BorderText)) → AreGridOf j texts rows → length texts ≤ 2 ^ 33 → (fault : ClumpsFault) → IsClumpsFault j texts fault → (fault ≡ Memory) ⊎ (fault ≡ Write)

@@ -13,17 +13,17 @@ use Rattle.cell_cats_law.specs.AreaLaw.{cells_of}
 use Rattle.cell_join_numbers.specs.Labelled.{HasAreas}
 use Rattle.cell_join_law.specs.SizeLaw.{sizes_of_areas}
 
--- the entries of numbers from one on, with the sizes of their clumps
+-- the entries of consecutive numbers from one on, with the sizes of their clumps
 abbrev pub entries_from : ℕ → List ℕ → Pairs
 entries_from n [] = []
 entries_from n (size ∷ sizes) = (Some (pos n) ∷ [], size) ∷ entries_from (n + 1) sizes
 
--- the entry of so many cells that are null, if there are any and the rule leaves them in
+-- the entry of null cells, if there are any and the rule leaves them in
 abbrev pub entry_of_null : Skip → ℕ → Pairs
 entry_of_null skip zero = []
 entry_of_null skip (suc n) = if is_left_out skip (None ∷ []) then [] else (None ∷ [], suc n) ∷ []
 
--- the entries of clumps of these sizes, numbered from 1 on, and after them the entry of null
+-- the entries of clumps of these sizes, numbered from 1, and then the entry of null
 abbrev pub number_table : Skip → List ℕ → ℕ → Pairs
 number_table skip sizes nulls = entries_from 1 sizes ++ entry_of_null skip nulls
 

@@ -1,4 +1,4 @@
--- Texts of borders that go together.
+-- Valid texts of borders.
 use Rattle.std.specs.Prelude.{◌≡◌, ◌≢◌}
 use Rattle.cell_core_devices.specs.Device.{Coming}
 use Rattle.cell_core_values.specs.Region.{RegionValue}
@@ -10,15 +10,15 @@ use Rattle.cell_join_borders.specs.BorderText.{SpellsBorder}
 use Rattle.cell_join_borders.specs.declared.border_fault.BorderFault.{BorderFault}
 use Rattle.cell_join_borders.specs.declared.border_fault.BorderFault.TheVariants.{Memory}
 
--- a text is a border whose cells and numbers go together
+-- a text is a border whose cells and numbers match
 pub record IsBorderText (text : Coming) (j : Joining) (tile : RegionValue) (border : Border) : Type 0 where
   pub spelled : SpellsBorder text j tile border
   pub fit : IsBorderFit tile border
 
--- no other error than being out of memory is one of such a text
+-- such a text has no error other than lack of memory
 abbrev pub SpelledBordersAreRead : Type 0
 SpelledBordersAreRead = (text : Coming) (j : Joining) (tile : RegionValue) (border : Border) → IsBorderText text j tile border → (fault : BorderFault) → fault ≢ Memory → ¬ IsBorderFault text fault
 
--- two borders of which one text is that are one
+-- two borders with the same text are equal
 abbrev pub OneBorderIsSpelled : Type 0
 OneBorderIsSpelled = (text : Coming) (i j : Joining) (one other : RegionValue) (a b : Border) → IsBorderText text i one a → IsBorderText text j other b → (i ≡ j) × (one ≡ other) × (border_value a ≡ border_value b)

@@ -1,4 +1,4 @@
--- Which texts' sizes are added up.
+-- Texts whose sizes are added up.
 use Rattle.std.specs.Prelude.{ℕ, ◌<◌, ◌^◌, List, All, map}
 use Rattle.cell_core_devices.specs.Device.{Coming}
 use Rattle.cell_stats.specs.TableText.{FormatValue}
@@ -9,7 +9,7 @@ use Rattle.cell_join_sizes.specs.SizeFaults.{IsSizesFault}
 use Rattle.cell_join_sizes.specs.declared.size_fault.SizesFault.{SizesFault}
 use Rattle.cell_join_sizes.specs.declared.size_fault.SizesFault.TheVariants.{Areas, NumberBeyond, NumberLeftOut, NoTable, Table, OtherArea, TooGreat, TooLong, Memory, Write}
 
--- an error for which no text is to blame
+-- an error that is not caused by a text
 abbrev pub IsOfNoText : SizesFault → Type 0
 IsOfNoText (Areas fault) = ⊥
 IsOfNoText (NumberBeyond line) = ⊥

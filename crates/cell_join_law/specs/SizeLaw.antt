@@ -5,10 +5,10 @@ use Rattle.cell_core.specs.Grid.{Grid}
 use Rattle.cell_stats_counts.specs.Counts.{count_of}
 use Rattle.cell_cats_law.specs.AreaLaw.{cells_of}
 
--- how many cells of a map of numbers have a number, in so many rows and columns
+-- how many of the first rows × cols cells of a map of numbers have a number
 abbrev pub size_of_number : Grid → (rows cols : ℕ) → ℕ → ℕ
 size_of_number numbers rows cols n = count_of (Some (pos n) ∷ []) (cells_of numbers rows cols)
 
--- the same of each number from 1 to the number of the last clump
+-- the same for each number from 1 to the number of the last clump
 abbrev pub sizes_of_areas : ℕ → Grid → (rows cols : ℕ) → List ℕ
 sizes_of_areas areas numbers rows cols = map (size_of_number numbers rows cols) (range_with_len 1 areas)

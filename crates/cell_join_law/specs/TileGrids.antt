@@ -11,7 +11,7 @@ pub record NumberedTile : Type 0 where
   pub map : Grid
   pub numbers : Grid
 
--- they are such, and the map is one of a region
+-- the numbers are the clumping of the map, and the map fills a valid region
 pub record IsNumberedTile (j : Joining) (tile : NumberedTile) : Type 0 where
   pub region : IsRegion tile.map.region
   pub filled : IsFilled tile.map.region tile.map.rows
@@ -28,7 +28,7 @@ map_regions row = map (λ (tile : NumberedTile). tile.map.region) row
 abbrev pub tile_regions : List (List NumberedTile) → List (List RegionValue)
 tile_regions tiles = map map_regions tiles
 
--- the rows that the tiles of each row of tiles have, and the columns that the tiles of each column have
+-- the number of rows of each row of tiles, and the number of columns of each column of tiles
 abbrev pub row_height : List NumberedTile → ℕ
 row_height [] = 0
 row_height (tile ∷ row) = tile.map.region.rows

@@ -1,4 +1,4 @@
--- Sizes, and tables of the numbers, of the clumps of tiles that have each cell of a map once.
+-- Sizes, and tables of clump numbers, of tiles that contain each cell of a map once.
 use Rattle.std.specs.Prelude.{ℕ, pos, ◌-◌, ◌≡◌, ◌↔◌, List, [], ◌∷◌, map, flat_map, length, All, Some, None, sum_by}
 use Rattle.std.specs.Prelude.{slice_index}
 use Rattle.std.specs.List.{AllZip}
@@ -16,7 +16,7 @@ use Rattle.cell_join_sizes.specs.Sizes.{AddUp}
 use Rattle.cell_join_law.specs.SizeLaw.{sizes_of_areas}
 use Rattle.cell_join_law.specs.NumberTables.{number_table, listed_sizes}
 
--- a tile with the numbers of its clumps, and the number in the full map of each of them
+-- a tile with its clump numbers, and the number of each clump in the full map
 pub record JoinedTile : Type 0 where
   pub numbered : Numbered
   pub there : List ℕ
@@ -24,7 +24,7 @@ pub record JoinedTile : Type 0 where
 abbrev pub place_of_tile : JoinedTile → Rectangle
 place_of_tile t = t.numbered.tile.place
 
--- so many clumps, and each cell has in the full map the number that is there for its own
+-- a tile with its clumps, and each cell has in the full map the number that is listed for its clump
 pub record IsJoinedTile (j : Joining) (whole : Grid) (t : JoinedTile) : Type 0 where
   pub cells : IsTile whole t.numbered.tile
   pub clumping : IsClumping j t.numbered.tile.map t.numbered.numbers
@@ -32,7 +32,7 @@ pub record IsJoinedTile (j : Joining) (whole : Grid) (t : JoinedTile) : Type 0 w
   pub reports : (p : Position) (k : ℕ) → cell_at_position t.numbered.numbers p ≡ Some (pos k)
       → HasNumber j whole (moved_position (place_of_tile t) p) (slice_index t.there (k - 1))
 
--- tiles that have each cell of so many rows and columns once
+-- tiles that contain each of rows × cols cells once
 pub record AreTilesOfWhole (j : Joining) (whole : Grid) (rows cols : ℕ) (tiles : List JoinedTile) : Type 0 where
   pub tiling : AreTiling rows cols (map place_of_tile tiles)
   pub joined : All (IsJoinedTile j whole) tiles

@@ -1,4 +1,4 @@
--- Texts that were written of the borders of maps.
+-- Written texts of the borders of maps.
 use Rattle.std.specs.Prelude.{ℕ, ◌≡◌, ◌≢◌, false, List, [], Some}
 use Rattle.cell_core_devices.specs.Device.{Coming}
 use Rattle.cell_core_values.specs.Region.{RegionValue}
@@ -14,11 +14,11 @@ use Rattle.cell_join_borders.specs.declared.border_fault.BorderFault.{BorderFaul
 use Rattle.cell_join_borders.specs.declared.border_fault.BorderFault.TheVariants.{Memory}
 use Rattle.cell_join_law.specs.ReadBorders.{IsBorderText}
 
--- a text that was written, as one to be read: complete, and with no failure after it
+-- a written text, as one to be read: complete, without a failure at its end
 abbrev pub written_text : List ℕ → Coming
 written_text text = record { bytes = text; fails = false }
 
--- a text denotes the border of a map: it is a text of that border, and of no other, and but for memory it is read
+-- a text denotes the border of a map: it is the text of that border and no other, and it is read unless memory runs out
 pub record DenotesBorder (j : Joining) (m : Grid) (text : Coming) : Type 0 where
   pub border : Border
   pub numbers : Grid
@@ -27,6 +27,6 @@ pub record DenotesBorder (j : Joining) (m : Grid) (text : Coming) : Type 0 where
   pub alone : (i : Joining) (tile : RegionValue) (other : Border) → IsBorderText text i tile other → (i ≡ j) × (tile ≡ m.region) × (border_value other ≡ border_value border)
   pub read : (fault : BorderFault) → fault ≢ Memory → ¬ IsBorderFault text fault
 
--- what is written of the border of a map denotes it
+-- the text written for the border of a map denotes that border
 abbrev pub WrittenBordersDenote : Type 0
 WrittenBordersDenote = (j : Joining) (source : Coming) (m : Grid) → Denotes source m → (text : List ℕ) (written : ℕ) → HasWrittenBorder j source (Some []) (Some text) written → DenotesBorder j m (written_text text)

@@ -50,7 +50,7 @@ module _ (separator : ℕ) (null_text rest : List ℕ) where
       ap (with_cells cells) (cut h ∙ ap (λ c. cell_before c (entry_of_line separator null_text (after_first is_separator rest))) is)
       ∙ with_cells-one cells cell (entry_of_line separator null_text (after_first is_separator rest))
 
-  -- a field that is no cell
+  -- a field that is not a cell
   pub fields-bad : (cells : Combination) → position_or_len is_separator rest < length rest → cell_of_field null_text (before_first is_separator rest) ≡ None → with_cells cells (entry_of_line separator null_text rest) ≡ Err BadCell
   fields-bad cells h is = ap (with_cells cells) (cut h ∙ ap (λ c. cell_before c (entry_of_line separator null_text (after_first is_separator rest))) is)
 

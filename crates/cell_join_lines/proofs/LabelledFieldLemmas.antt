@@ -63,7 +63,7 @@ module _ (separator : ℕ) (null_text : List ℕ) where
       labelled-more cells cell so = ap (with_cells cells) (cut-both ∙ ap (λ c. cell_before c (spells behind)) so)
           ∙ with_cells-one cells cell (spells behind)
 
-      -- fields that are no cell
+      -- fields that are not cells
       pub labelled-bad : (cells : Combination) → labelled_cell null_text field label ≡ None
           → with_cells cells (spells rest) ≡ Err BadCell
       labelled-bad cells so = ap (with_cells cells) (cut-both ∙ ap (λ c. cell_before c (spells behind)) so)

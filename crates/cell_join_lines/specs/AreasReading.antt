@@ -18,11 +18,11 @@ use Rattle.cell_join_lines.specs.declared.areas_fault.AreasFault.{AreasFault}
 use Rattle.cell_join_lines.specs.declared.areas_fault.AreasKind.{AreasKind}
 use Rattle.cell_join_lines.specs.declared.areas_fault.AreasKind.TheVariants as areas_kinds
 
--- four fields with a space between two; null is no field of a numbering
+-- four fields separated by single spaces; null is not a field of a numbering
 abbrev pub areas_format : FormatValue
 areas_format = record { separator = byte (codes " "); null_text = codes "*"; labels = false; counts = true }
 
--- what an error of a table of three columns is of a numbering
+-- an error of a table of three columns, as an error of a numbering
 abbrev pub areas_kind : TableKind → AreasKind
 areas_kind table_kind.BadCell = areas_kinds.NotNumbers
 areas_kind table_kind.BadCount = areas_kinds.NotNumbers
@@ -34,7 +34,7 @@ areas_kind table_kind.CutOff = areas_kinds.CutOff
 areas_kind table_kind.Read = areas_kinds.Read
 areas_kind table_kind.Memory = areas_kinds.Memory
 
--- whether it says that the text cannot be read on
+-- whether it says that the text cannot be read any further
 abbrev pub is_read_areas : AreasKind → Bool
 is_read_areas areas_kinds.NotNumbers = false
 is_read_areas areas_kinds.Reversed = false
@@ -47,7 +47,7 @@ is_read_areas areas_kinds.Memory = false
 abbrev pub areas_fault : TableFault → AreasFault
 areas_fault fault = record { line = fault.line; kind = areas_kind fault.kind }
 
--- the number that a cell is, above 0
+-- a cell as a number above 0
 abbrev pub number_of_cell : CellValue → Option ℕ
 number_of_cell None = None
 number_of_cell (Some (negsuc n)) = None
@@ -56,7 +56,7 @@ number_of_cell (Some (pos n)) = if nat_lt 0 n then Some n else None
 abbrev pub number_in_column : Combination → ℕ → Option ℕ
 number_in_column cells place = number_of_cell (slice_index_or cells place None)
 
--- a run of numbers that may be
+-- a valid run of numbers
 abbrev pub stretch_if : (band first last : Option ℕ) → ℕ → Result Stretch AreasKind
 stretch_if None first last number = Err areas_kinds.NotNumbers
 stretch_if (Some band) None last number = Err areas_kinds.NotNumbers
@@ -67,7 +67,7 @@ stretch_if (Some band) (Some first) (Some last) number = Ok (record { band = ban
 abbrev pub stretch_of_entry : Combination × ℕ → Result Stretch AreasKind
 stretch_of_entry entry = stretch_if (number_in_column entry.0 0) (number_in_column entry.0 1) (number_in_column entry.0 2) entry.1
 
--- the first clump of a tile comes next, or the clump after the clumps of another run of it; a run that could continue the one before is accepted, since it says the same
+-- a tile's first clump comes next, or the clump after another of its runs; a run may continue the one before
 abbrev pub comes_next : Option Stretch → Stretch → Bool
 comes_next None s = s.first == 1
 comes_next (Some before) s = if before.band == s.band then s.first == before.last + 1 else s.first == 1
@@ -79,20 +79,21 @@ in_sequence before s = if nat_lt s.last s.first then Err areas_kinds.Reversed el
 abbrev pub next_stretch : Option Stretch → Combination × ℕ → Result Stretch AreasKind
 next_stretch before entry = stretch_of_entry entry >>= in_sequence before
 
--- what a numbering is read as: the runs before its first error, and that error; no count of tiles, since a tile without clumps has no line
+-- how a numbering is read: the runs before its first error, and that error; there is no count of tiles, since a tile
+-- without clumps has no line
 pub record AreasReading : Type 0 where
   pub stretches : List Stretch
   pub fault : Option AreasFault
 
--- nothing more
+-- no more runs
 abbrev pub areas_ended : AreasReading
 areas_ended = record { stretches = []; fault = None }
 
--- an error of this line
+-- an error in this line
 abbrev pub areas_stopped : ℕ → AreasKind → AreasReading
 areas_stopped line kind = record { stretches = []; fault = Some (record { line = line; kind = kind }) }
 
--- a run, and then what else is read
+-- a run, and then the rest
 abbrev pub with_stretch : Stretch → AreasReading → AreasReading
 with_stretch s others = record { stretches = s ∷ others.stretches; fault = others.fault }
 

@@ -1,4 +1,4 @@
--- The numbers that the clumps of tiles have in the full map, as lines (profile).
+-- The numbers of the clumps of tiles in the full map, as lines (profile).
 use Rattle.std.specs.Prelude.{ℕ, ◌≡◌, ◌+◌, ◌-◌, ◌==◌, length, sum, List, [], ◌∷◌, ◌++◌, flat_map, take, drop, codes, decimal, if◌then◌else◌}
 use Rattle.std.specs.List.{join_with_byte, range_with_len}
 use Rattle.cell_core_values.specs.Letters.{byte}
@@ -8,7 +8,7 @@ use Rattle.cell_join_lines.specs.declared.stretch.Stretch.{Stretch}
 abbrev pub stretch_fields : Stretch → List (List ℕ)
 stretch_fields s = decimal s.band ∷ decimal s.first ∷ decimal s.last ∷ decimal s.number ∷ []
 
--- with a space between two, then a line feed
+-- separated by single spaces, then a line feed
 abbrev pub stretch_line : Stretch → List ℕ
 stretch_line s = join_with_byte (byte (codes " ")) (stretch_fields s) ++ codes "\n"
 
@@ -16,7 +16,7 @@ stretch_line s = join_with_byte (byte (codes " ")) (stretch_fields s) ++ codes "
 abbrev pub areas_text : List Stretch → List ℕ
 areas_text stretches = flat_map stretch_line stretches
 
--- the runs of a tile after one that continues: it takes the next clump in if its number is the next one
+-- the runs of a tile after one that may continue: it is extended by the next clump if the clump has the next number
 abbrev pub stretches_behind : (band first last number previous : ℕ) → List ℕ → List Stretch
 stretches_behind band first last number previous [] = record { band = band; first = first; last = last; number = number } ∷ []
 stretches_behind band first last number previous (n ∷ ns) =
@@ -28,7 +28,7 @@ abbrev pub stretches_in : ℕ → List ℕ → List Stretch
 stretches_in band [] = []
 stretches_in band (n ∷ ns) = stretches_behind band 1 1 n n ns
 
--- the runs of tiles from one on, which have so many clumps
+-- the runs of all tiles in order, from the number of clumps of each tile
 abbrev pub stretches_from : ℕ → (areas numbers : List ℕ) → List Stretch
 stretches_from band [] numbers = []
 stretches_from band (count ∷ areas) numbers = stretches_in band (take count numbers) ++ stretches_from (band + 1) areas (drop count numbers)
@@ -44,6 +44,6 @@ stretch_numbers s = range_with_len s.number (s.last + 1 - s.first)
 abbrev pub numbers_read : List Stretch → List ℕ
 numbers_read stretches = flat_map stretch_numbers stretches
 
--- the runs of tiles show their numbers, if there is one for each clump
+-- the runs of tiles show the tiles' numbers, if there is one for each clump
 abbrev pub NumbersAreRead : Type 0
 NumbersAreRead = (areas numbers : List ℕ) → length numbers ≡ sum areas → numbers_read (stretches_of areas numbers) ≡ numbers

@@ -7,11 +7,12 @@ use Rattle.cell_stats.specs.TableText.{FormatValue}
 use Rattle.cell_join_lines.specs.LineFields.{category_of_field}
 use Rattle.cell_join_lines.specs.LineReading.{is_newline}
 
--- a byte that no number is printed with, and no line feed
+-- a byte that is neither printed in numbers nor a line feed
 abbrev pub is_clear_byte : ℕ → Bool
 is_clear_byte b = not (is_digit b || (b == byte (codes "-") || is_newline b))
 
--- a separator that is in no field, nor in the label of null where labels are printed, and a null text that is no category
+-- a separator that is in no field, nor in the label of null if labels are printed, and a null text that is not a
+-- category
 abbrev pub is_clear : FormatValue → Bool
 is_clear format =
     is_clear_byte format.separator

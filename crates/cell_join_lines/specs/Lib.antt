@@ -1,4 +1,4 @@
--- Texts of tables and of numberings: what their lines are, and how they are read.
+-- Texts of tables and of numberings: their lines, and how they are read.
 pub mod AreasReading
 pub mod AreasText
 pub mod ClearFormats

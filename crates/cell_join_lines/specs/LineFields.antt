@@ -1,4 +1,4 @@
--- What a line spells: a field is what is printed so, and nothing else.
+-- What a line spells: a field is exactly its printed form.
 use Rattle.std.specs.Prelude.{ℕ, ℤ, ◌^◌, ◌-◌, ◌==◌, ◌&&◌, nat_lt, min, bytes_eq, codes, List, [], ◌∷◌, decimal, Option, Some, None, Result, Ok, Err, if◌then◌else◌}
 use Rattle.std.specs.Fmt.{signed_decimal}
 use Rattle.std.specs.List.{slice_split}
@@ -11,34 +11,34 @@ use Rattle.cell_stats.specs.TableText.{FormatValue}
 use Rattle.cell_join_lines.specs.declared.table_fault.TableKind.{TableKind}
 use Rattle.cell_join_lines.specs.declared.table_fault.TableKind.TheVariants.{BadCell, BadCount}
 
--- the category that is printed so
+-- the category with this printed form
 abbrev pub category_of_field : List ℕ → Option ℤ
 category_of_field field = option_and_then (λ n. if bytes_eq (signed_decimal n) field then Some n else None) (whole_in_range field)
 
--- the cell that is printed so
+-- the cell with this printed form
 abbrev pub cell_of_field : List ℕ → List ℕ → Option CellValue
 cell_of_field null_text field = if bytes_eq field null_text then Some None else option_map Some (category_of_field field)
 
--- the value of digits, or the largest number of 64 bits if it is larger
+-- the value of digits, or the largest 64-bit number if it is larger
 abbrev pub capped_value : List ℕ → ℕ
 capped_value field = min (value_of_digits field) (2 ^ 64 - 1)
 
--- the count above 0 that is printed so
+-- the count above 0 with this printed form
 abbrev pub count_of_field : List ℕ → Option ℕ
 count_of_field field = if nat_lt 0 (capped_value field) && bytes_eq (decimal (capped_value field)) field then Some (capped_value field) else None
 
--- a cell before what the fields after it spell
+-- a cell, followed by what the later fields spell
 abbrev pub cell_before : Option CellValue → Result (Combination × ℕ) TableKind → Result (Combination × ℕ) TableKind
 cell_before None others = Err BadCell
 cell_before (Some cell) (Err kind) = Err kind
 cell_before (Some cell) (Ok entry) = Ok (cell ∷ entry.0, entry.1)
 
--- a count alone
+-- only a count
 abbrev pub with_count : Option ℕ → Result (Combination × ℕ) TableKind
 with_count None = Err BadCount
 with_count (Some n) = Ok ([], n)
 
--- the entry of fields: all but the last are cells, and the last is a count; the first that is none is reported
+-- the entry of fields: all but the last are cells, and the last is a count; the first invalid field is reported
 abbrev pub entry_of_fields : List ℕ → List (List ℕ) → Result (Combination × ℕ) TableKind
 entry_of_fields null_text [] = Err BadCount
 entry_of_fields null_text (field ∷ []) = with_count (count_of_field field)
@@ -48,7 +48,7 @@ entry_of_fields null_text (field ∷ next ∷ fields) = cell_before (cell_of_fie
 abbrev pub entry_of_line : ℕ → List ℕ → List ℕ → Result (Combination × ℕ) TableKind
 entry_of_line separator null_text line = entry_of_fields null_text (slice_split (λ b. b == separator) line)
 
--- the cell of a field with a label after it: null has no data (profile), and a category any label
+-- the cell of a field and the label after it: the label of null is no data (profile), and a category has any label
 abbrev pub labelled_cell : List ℕ → List ℕ → List ℕ → Option CellValue
 labelled_cell null_text field label = if bytes_eq field null_text then (if bytes_eq label (codes "no data") then Some None else None) else option_map Some (category_of_field field)
 

@@ -19,17 +19,17 @@ use Rattle.cell_join_lines.specs.declared.table_fault.TheConstants.{MOST_BYTES}
 abbrev pub is_newline : ℕ → Bool
 is_newline b = b == byte (codes "\n")
 
--- whether so many cells are as many as wanted, or at least one if none are wanted
+-- whether there are as many cells as wanted, or at least one if any number is wanted
 abbrev pub is_as_wide : ℕ → ℕ → Bool
 is_as_wide wanted count = if wanted == 0 then nat_lt 0 count else count == wanted
 
--- an entry after one that is so ordered to it
+-- an entry after another, if the two are in this order
 abbrev pub ordered_entry : Ordering → Combination × ℕ → Result (Combination × ℕ) TableKind
 ordered_entry Less entry = Ok entry
 ordered_entry Equal entry = Err ListedTwice
 ordered_entry Greater entry = Err OutOfOrder
 
--- an entry after the one before it, if there is one: as many cells, and a larger combination
+-- an entry after the one before it, if there is one: the same number of cells, and a larger combination
 abbrev pub in_order : ℕ → Option Combination → Combination × ℕ → Result (Combination × ℕ) TableKind
 in_order width None entry = if is_as_wide width (length entry.0) then Ok entry else Err BadWidth
 in_order width (Some last) entry = if length entry.0 == length last then ordered_entry (combination_cmp last entry.0) entry else Err BadWidth
@@ -38,28 +38,28 @@ in_order width (Some last) entry = if length entry.0 == length last then ordered
 abbrev pub next_entry : FormatValue → ℕ → Option Combination → List ℕ → Result (Combination × ℕ) TableKind
 next_entry format width last line = spelled_entry format line >>= in_order width last
 
--- what a text is read as: the entries before its first error, and that error
+-- how a text is read: the entries before its first error, and that error
 pub record TableReading : Type 0 where
   pub entries : Pairs
   pub fault : Option TableFault
 
--- nothing more
+-- no more entries
 abbrev pub ended : TableReading
 ended = record { entries = []; fault = None }
 
--- an error of this line
+-- an error in this line
 abbrev pub stopped : ℕ → TableKind → TableReading
 stopped line kind = record { entries = []; fault = Some (record { line = line; kind = kind }) }
 
--- an entry, and then what else is read
+-- an entry, and then the rest
 abbrev pub with_entry : Combination × ℕ → TableReading → TableReading
 with_entry entry others = record { entries = entry ∷ others.entries; fault = others.fault }
 
--- the number of the line after a line, or the largest number of 64 bits
+-- the number of the next line, or the largest 64-bit number
 abbrev pub line_after : ℕ → ℕ
 line_after line = min (line + 1) (2 ^ 64 - 1)
 
--- bytes without a line feed after them: there are none at the end of a text
+-- bytes that no line feed follows: at the end of a text there are none
 abbrev pub at_text_end : Bool → ℕ → List ℕ → TableReading
 at_text_end fails line bytes = if fails then stopped line Read else (if length bytes == 0 then ended else stopped line CutOff)
 
@@ -78,6 +78,6 @@ reading_of_lines format width fails number last (line ∷ next ∷ lines) = if n
 abbrev pub reading_of_rest : FormatValue → ℕ → ℕ → Option Combination → Coming → TableReading
 reading_of_rest format width number last coming = reading_of_lines format width coming.fails number last (slice_split is_newline coming.bytes)
 
--- a text of combinations of so many cells, or of any number if that is 0
+-- a text of combinations of width cells, or of any number of cells if width is 0
 abbrev pub reading_of : FormatValue → ℕ → Coming → TableReading
 reading_of format width coming = reading_of_rest format width 1 None coming

@@ -9,8 +9,7 @@ use Rattle.cell_join_lines.specs.declared.table_fault.TableKind.{TableKind}
 use Rattle.cell_join_lines.specs.declared.table_fault.TableKind.TheVariants.{BadCell, BadCount, BadWidth, ListedTwice, OutOfOrder, LongLine, CutOff, Read, Memory}
 use Rattle.cell_join_lines.specs.declared.table_fault.TheConstants.{MOST_BYTES}
 
--- the bytes that a buffer holds, what its source still gives, if that is known, the line that was read last, and what was
--- heard of the source
+-- the bytes in a buffer, what its source has left, if that is known, the line read last, and the state of the source
 pub record LinesValue : Type 0 where
   pub held : List ℕ
   pub rest : Option Coming
@@ -25,7 +24,7 @@ held_before bytes coming = record { bytes = bytes ++ coming.bytes; fails = comin
 abbrev pub lines_coming : LinesValue → Option Coming
 lines_coming lines = option_map (held_before lines.held) lines.rest
 
--- a source whose bytes are known to be at their end
+-- a source whose known bytes are used up
 abbrev pub HasEnded : Bool → Option Coming → Type 0
 HasEnded fails known = IfSome known (λ coming. (coming.bytes ≡ []) × (coming.fails ≡ fails))
 
@@ -37,18 +36,18 @@ first_line coming =
     else (if coming.fails then Err Read
     else (if length coming.bytes == 0 then Ok None else Err CutOff)))
 
--- what is reported of the first line: it was read, there is none, or an error
+-- what is reported about the first line: it was read, there is none, or an error
 abbrev pub IsFirstLine : Option Coming → Result Bool TableKind → LinesValue → Type 0
 IsFirstLine old (Ok true) new = option_map first_line old ≡ option_map (λ rest. Ok (Some (new.line, rest))) (lines_coming new)
 IsFirstLine old (Ok false) new = option_map first_line old ≡ option_map (λ rest. Ok None) (lines_coming new)
 IsFirstLine old (Err kind) new = kind ≢ Memory → IfSome old (λ coming. first_line coming ≡ Err kind)
 
--- what was added to a line from the bytes that are held: those before the first line feed, which is passed too, or all
+-- what is added to a line from the bytes held: those before the first line feed, which is skipped, or all of them
 abbrev pub IsPassed : LinesValue → Bool → LinesValue → Type 0
 IsPassed old true new = (position_or_len is_newline old.held ≢ length old.held) × (new.line ≡ old.line ++ before_first is_newline old.held) × (new.held ≡ after_first is_newline old.held)
 IsPassed old false new = (position_or_len is_newline old.held ≡ length old.held) × (new.line ≡ old.line ++ old.held) × (new.held ≡ [])
 
--- whether an error says that the text cannot be read on
+-- whether an error says that the text cannot be read any further
 abbrev pub is_read_fault : TableKind → Bool
 is_read_fault BadCell = false
 is_read_fault BadCount = false
@@ -60,7 +59,7 @@ is_read_fault CutOff = false
 is_read_fault Read = true
 is_read_fault Memory = false
 
--- whether a result says so
+-- whether a result says that the text cannot be read any further
 abbrev pub says_read : {X : Type 0} → Result X TableKind → Bool
 says_read (Ok x) = false
 says_read (Err kind) = is_read_fault kind

@@ -1,4 +1,4 @@
--- The text of a table with counts, without labels and with them (r.stats manual, flags -c and -l), whichever maps it is of.
+-- The text of a table with counts, without labels and with them (r.stats manual, flags -c and -l), for any maps.
 use Rattle.std.specs.Prelude.{ℕ, ℤ, ◌+◌, List, [], ◌∷◌, ◌++◌, map, flat_map, codes, decimal, Some, None}
 use Rattle.cell_core.specs.Grid.{CellValue}
 use Rattle.cell_core.specs.Text.{cell_text}
@@ -22,12 +22,12 @@ entries_text format entries = flat_map (entry_line format) entries
 abbrev pub Labelling : Type 0
 Labelling = ℕ → ℤ → List ℕ
 
--- the label of a cell in a column; null has no data
+-- the label of a cell in a column; the label of null is no data
 abbrev pub label_in : Labelling → ℕ → CellValue → List ℕ
 label_in labels column None = codes "no data"
 label_in labels column (Some category) = labels column category
 
--- cells from a column on, each with its label after it
+-- cells from a column on, each followed by its label
 abbrev pub labelled_fields : List ℕ → Labelling → ℕ → Combination → List (List ℕ)
 labelled_fields null_text labels column [] = []
 labelled_fields null_text labels column (cell ∷ cells) = cell_text null_text cell ∷ label_in labels column cell ∷ labelled_fields null_text labels (column + 1) cells

@@ -1,4 +1,4 @@
--- What a text is still read as, its head first.
+-- What is still to be read of a text, from its head on.
 use Rattle.std.specs.Prelude.{ℕ, ◌≡◌, Bool, false, List, [], ◌++◌, Option, Some, None, Result, Ok, Err, IfSome, codes}
 use Rattle.std.specs.Option.{option_map}
 use Rattle.cell_core_devices.specs.Asking.{Heard}
@@ -10,8 +10,8 @@ use Rattle.cell_join_lines.specs.SourceLines.{is_read_fault}
 use Rattle.cell_join_lines.specs.declared.table_fault.TableFault.{TableFault}
 use Rattle.cell_join_lines.specs.LineReading.{TableReading, ended, reading_of_rest, with_entry}
 
--- how many cells each line has, or 0, the entry that was read last, its line, the number of the line after it, what is to come
--- after it, if that is known, and what was heard of the source
+-- the number of cells per line, or 0, the entry read last, its line, the number of the line after it, what is to come
+-- after it, if that is known, and the state of the source
 pub record TextValue : Type 0 where
   pub width : ℕ
   pub head : Option (Combination × ℕ)
@@ -20,7 +20,7 @@ pub record TextValue : Type 0 where
   pub coming : Option Coming
   pub heard : Heard
 
--- the combination of an entry that may be
+-- the combination of an entry, if there is one
 abbrev pub combination_of : Option (Combination × ℕ) → Option Combination
 combination_of head = option_map (λ entry. entry.0) head
 
@@ -52,7 +52,7 @@ bytes_behind text = option_map (λ coming. coming.bytes) text.coming
 abbrev pub IsSpelled : FormatValue → TextValue → Type 0
 IsSpelled format text = IfSome text.head (λ entry. spelled_entry format text.line ≡ Ok entry)
 
--- whether a result says that the text cannot be read on
+-- whether a result says that the text cannot be read any further
 abbrev pub says_read_fault : {X : Type 0} → Result X TableFault → Bool
 says_read_fault (Ok x) = false
 says_read_fault (Err fault) = is_read_fault fault.kind

@@ -1,4 +1,4 @@
--- What only private functions and proofs speak of.
+-- Definitions that only private functions and proofs use.
 pub mod FirstLine
 pub mod HeadStretch
 pub mod LineParts

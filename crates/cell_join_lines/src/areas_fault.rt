@@ -1,4 +1,4 @@
-//! Why a text is no numbering.
+//! Why a text is not a numbering.
 
 ghost use Rattle.std.specs.Prelude.{◌≡◌};
 ghost use Rattle.cell_join_lines.specs.AreasReading.{areas_kind, is_read_areas};
@@ -10,23 +10,23 @@ use thiserror::Error;
 /// What is wrong with a numbering.
 #[derive(Clone, Copy, Debug, PartialEq, Eq, Error)]
 pub enum AreasKind {
-    /// Other than four numbers as they are printed, of which the first three are from 1 to 2147483647, and the last is from 1 to
-    /// 2^64 - 1.
+    /// Not four numbers as they are printed, of which the first three are from 1 to 2147483647, and the last is from 1
+    /// to 2^64 - 1.
     #[error("not four numbers")]
     NotNumbers,
-    /// A first clump that is above the last.
+    /// The first clump is above the last.
     #[error("first clump above the last")]
     Reversed,
-    /// A tile or a clump that does not come next: one is left out, comes twice or too late.
+    /// A tile or clump is out of order: missing, repeated or late.
     #[error("clumps out of order")]
     NotNext,
-    /// A line of more bytes than the text of a table may have.
+    /// A line that is longer than a line of a table may be.
     #[error("line too long")]
     LongLine,
     /// A last line without a line feed.
     #[error("line cut off")]
     CutOff,
-    /// The text cannot be read on.
+    /// The text cannot be read any further.
     #[error("read failed")]
     Read,
     /// Memory ran out.
@@ -42,7 +42,7 @@ pub struct AreasFault {
     pub kind: AreasKind,
 }
 
-// What an error of a table of three columns is of a numbering.
+// An error of a table of three columns, as an error of a numbering.
 pub(crate) fn areas_kind(kind: TableKind) -> AreasKind
     ensures value { result ≡ areas_kind kind }
     ensures read { is_read_areas result ≡ is_read_fault kind }

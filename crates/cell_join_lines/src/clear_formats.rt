@@ -7,23 +7,23 @@ ghost use Rattle.cell_join_lines.specs.ClearFormats.{is_clear, is_clear_byte};
 use crate::line_fields::category_of;
 use cell_stats::format::Format;
 
-// Whether a byte is neither of a number nor a line feed.
+// Whether a byte is neither part of a number nor a line feed.
 fn is_clear_byte(byte: u8) -> bool
     ensures { result ≡ is_clear_byte byte }
 {
     !((b'0' <= byte && byte <= b'9') || (byte == b'-' || byte == b'\n'))
 }
 
-// Whether a byte is nowhere in a text.
+// Whether a byte does not occur in a text.
 fn is_without(text: &[u8], byte: u8) -> bool
     ensures { result ≡ list_all (λ b. not (b == byte)) text.now }
 {
     text.iter().all(|b| *b != byte)
 }
 
-/// Whether what is printed so can be read back: the separator is in no field, nor in the label of null where labels are
-/// printed, and the null text is no category. With labels a blank is no separator that can be read back, since the label of null
-/// is `no data`.
+/// Whether the printed text can be read back: the separator is in no field, nor in the label of null if labels are
+/// printed, and the null text is not a category. With labels, a blank cannot be read back as a separator, since the
+/// label of null is `no data`.
 pub fn is_clear(format: &Format) -> bool
     ensures { result ≡ is_clear format.now }
 {

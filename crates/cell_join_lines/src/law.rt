@@ -2,7 +2,7 @@
 
 ghost use Rattle.cell_join_lines.specs.AreasText.{NumbersAreRead};
 
-/// The runs of tiles show the numbers that they were made of.
+/// The runs of tiles show the numbers from which they were made.
 pub fn numbers_are_read()
     ensures { NumbersAreRead }
 {}

@@ -11,7 +11,7 @@ use cell_core_values::whole_numbers::whole_in_range;
 use cell_stats::format::Format;
 use itoa::Buffer;
 
-// The category that is printed so.
+// The category with this printed form.
 pub(crate) fn category_of(field: &[u8]) -> Option<i32>
     ensures { result ≡ category_of_field field.now }
 {
@@ -21,7 +21,7 @@ pub(crate) fn category_of(field: &[u8]) -> Option<i32>
     }
 }
 
-// The cell that is printed so.
+// The cell with this printed form.
 fn cell_of(null_text: &[u8], field: &[u8]) -> Option<Cell>
     ensures { result ≡ cell_of_field null_text.now field.now }
 {
@@ -34,7 +34,7 @@ fn cell_of(null_text: &[u8], field: &[u8]) -> Option<Cell>
     }
 }
 
-// The value of digits, or the largest number of 64 bits if it is larger.
+// The value of digits, or the largest 64-bit number if it is larger.
 fn capped_value(field: &[u8]) -> u64
     ensures { result ≡ capped_value field.now }
 {
@@ -47,7 +47,7 @@ fn capped_value(field: &[u8]) -> u64
     value
 }
 
-// The count above 0 that is printed so.
+// The count above 0 with this printed form.
 fn count_of(field: &[u8]) -> Option<u64>
     ensures { result ≡ count_of_field field.now }
 {
@@ -58,7 +58,7 @@ fn count_of(field: &[u8]) -> Option<u64>
     None
 }
 
-// The cell that is printed so with a label after it.
+// The cell with this printed form, with a label after it.
 fn labelled_cell_of(null_text: &[u8], field: &[u8], label: &[u8]) -> Option<Cell>
     ensures { result ≡ labelled_cell null_text.now field.now label.now }
 {
@@ -138,12 +138,12 @@ fn read_labelled_line(
     }
 }
 
-/// The entry that a line spells, without its line feed: its cells are put in the place of those that are given, and its
-/// count is returned. Where labels are printed, each cell has one after it.
+/// The entry that a line, without its line feed, spells: its cells replace those that are given, and its count is
+/// returned. If labels are printed, each cell is followed by its label.
 ///
 /// # Errors
 ///
-/// The first field that is no cell or, at the end, no count; [`TableKind::Memory`] if memory runs out.
+/// The first field that is not a cell, or a last one that is not a count; [`TableKind::Memory`] if memory runs out.
 pub fn read_line(format: &Format, line: &[u8], cells: &mut Vec<Cell>) -> Result<u64, TableKind>
     ensures ok { IfOk result
         (λ count. spelled_entry format.now line.now ≡ Ok (cells.new.items, count)) }

@@ -1,4 +1,4 @@
-//! The numbering read.
+//! Reading a numbering.
 
 ghost use Rattle.std.specs.Prelude.{◌≡◌, ◌≢◌, ◌-◌, None, IfErr, IfOk, IfSome, OnOk, Ok, Err, option_map, slice_index_or};
 ghost use Rattle.cell_core_devices.specs.Asking.{hears, heard_first};
@@ -19,14 +19,14 @@ use cell_stats_combinations::combination::Combo;
 use std::alloc::Global;
 use std::marker::Model;
 
-// Four fields with a space between two.
+// Four fields separated by single spaces.
 fn areas_format<'a>() -> Format<'a>
     ensures { result ≡ areas_format }
 {
     Format::new(b' ', b"*", false, true)
 }
 
-// The number that a cell is, above 0.
+// A cell as a number above 0.
 fn number_of(cell: Cell) -> Option<u64>
     ensures { result ≡ number_of_cell cell }
 {
@@ -37,7 +37,7 @@ fn number_of(cell: Cell) -> Option<u64>
     }
 }
 
-// That of the cell at a place.
+// The same for the cell at a place.
 fn number_in_column(cells: &[Cell], place: usize) -> Option<u64>
     ensures { result ≡ number_in_column cells.now place }
 {
@@ -69,7 +69,7 @@ fn stretch_of(combo: &Combo, number: u64) -> Result<Stretch, AreasKind>
     })
 }
 
-// Whether a run begins where the one before it says.
+// Whether a run begins where the one before it requires.
 fn comes_next(before: Option<Stretch>, stretch: Stretch) -> bool
     ensures { result ≡ comes_next before stretch }
 {
@@ -111,7 +111,7 @@ fn stretch_of_head(
     }
 }
 
-// What an error of a table is of a numbering.
+// An error of a table, as an error of a numbering.
 fn of_table(fault: TableFault) -> AreasFault
     ensures value { result ≡ areas_fault fault }
     ensures read { is_read_areas result.kind ≡ is_read_fault fault.kind }
@@ -122,7 +122,7 @@ fn of_table(fault: TableFault) -> AreasFault
     }
 }
 
-/// A numbering that is read as it goes: the run that was read last, and what is to come after it.
+/// A numbering that is read run by run: the run read last, and what is to come after it.
 #[derive(Drop)]
 pub struct AreasText<R: Source> {
     text: TableText<R>,
@@ -146,7 +146,7 @@ impl<R: Source> Model for AreasText<R> {
 }
 
 impl<R: Source> AreasText<R> {
-    /// A text of which the first run was read. It takes the memory of a block and a line.
+    /// A text whose first run was read. It takes the memory of a block and a line.
     ///
     /// # Errors
     ///
@@ -161,7 +161,7 @@ impl<R: Source> AreasText<R> {
         ensures line { IfOk result (λ areas. areas.line ≡ 2) }
         ensures sequence { IfOk result (λ areas. IfSome areas.head
             (λ stretch. in_sequence None stretch ≡ Ok stretch)) }
-        // The source is asked only while it continues, and an `Err` of it is reported as Read: so far none was.
+        // The source is asked only while it continues, and its `Err` is reported as `Read`; so far there was none.
         ensures heard { IfOk result (λ areas. areas.heard ≡ heard_first (R.asked source)) }
     {
         let text = match TableText::from_source(alloc, &areas_format(), 3, source) {
@@ -178,14 +178,14 @@ impl<R: Source> AreasText<R> {
         }
     }
 
-    /// The run that was read last, or None at the end of the text.
+    /// The run read last, or None at the end of the text.
     pub fn stretch(&self) -> Option<Stretch>
         ensures { result ≡ self.now.head }
     {
         self.head
     }
 
-    /// The number of the line of the run that was read last.
+    /// The line number of the run read last.
     pub fn stretch_line(&self) -> u64
         ensures { result ≡ self.now.line - 1 }
     {
@@ -204,7 +204,7 @@ impl<R: Source> AreasText<R> {
         ensures line { OnOk result (self.new.line ≡ line_after self.old.line) }
         ensures sequence { OnOk result (IfSome self.new.head
             (λ stretch. in_sequence self.old.head stretch ≡ Ok stretch)) }
-        // The source is asked only while it continues, and an `Err` of it is reported as Read.
+        // The source is asked only while it continues, and its `Err` is reported as `Read`.
         ensures heard { self.new.heard ≡ hears (says_read_areas result) self.old.heard }
     {
         let line = self.line;

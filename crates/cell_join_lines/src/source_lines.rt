@@ -12,10 +12,10 @@ use cell_core::source::Source;
 use std::alloc::Global;
 use std::marker::Model;
 
-// How many bytes are asked for at once.
+// Number of bytes requested at a time.
 const BLOCK: usize = 65536;
 
-/// A block of the bytes of a source, and the line that was read last.
+/// A block of the bytes of a source, and the line read last.
 #[derive(Drop)]
 pub struct Lines<R: Source> {
     source: R,
@@ -47,7 +47,7 @@ impl<R: Source> Model for Lines<R> {
 }
 
 impl<R: Source> Lines<R> {
-    /// The lines of a source of which nothing was read. It takes the memory of a block.
+    /// The lines of an unread source. It takes the memory of a block.
     ///
     /// # Errors
     ///
@@ -74,15 +74,15 @@ impl<R: Source> Lines<R> {
         })
     }
 
-    /// The line that was read last, without its line feed.
+    /// The line read last, without its line feed.
     pub fn last_line(&self) -> &[u8]
         ensures { result.now ≡ self.now.line }
     {
         self.line.as_slice()
     }
 
-    // Whether there are more bytes, of which it then holds some. The source is not asked again after its end, nor after an `Err`,
-    // which is reported from then on.
+    // Whether there are more bytes; if so, it then holds some. The source is not asked again after its end or after an
+    // `Err`, which is then returned from every call.
     fn fill(&mut self) -> Result<bool, DeviceFault>
         ensures same { lines_coming self.new ≡ lines_coming self.old }
         ensures line { self.new.line ≡ self.old.line }
@@ -113,7 +113,7 @@ impl<R: Source> Lines<R> {
         Ok(0 < filled)
     }
 
-    // Adds the bytes held to the line, up to the first line feed, and returns whether there is one.
+    // Adds the held bytes to the line, up to the first line feed, and returns whether there is one.
     fn pass(&mut self) -> Result<bool, Memory>
         ensures passed { IfOk result (λ whole. IsPassed self.old whole self.new) }
         ensures rest { self.new.rest ≡ self.old.rest }
@@ -144,14 +144,14 @@ impl<R: Source> Lines<R> {
         Err(TableKind::CutOff)
     }
 
-    // Whether the line has no more bytes than a line may have.
+    // Whether the line is within the limit on its length.
     fn is_short(&self) -> bool
         ensures { result ≡ nat_le (length self.now.line) MOST_BYTES }
     {
         self.line.len() <= MOST_BYTES
     }
 
-    // Whether the line that was read is short enough.
+    // Whether the line read last is short enough.
     fn whole(&self) -> Result<bool, TableKind>
         ensures { result ≡ (if nat_lt MOST_BYTES (length self.now.line) then Err
             TableKind.LongLine else Ok true) }
@@ -170,7 +170,7 @@ impl<R: Source> Lines<R> {
     /// to be asked again.
     pub fn next_line(&mut self) -> Result<bool, TableKind>
         ensures first { IsFirstLine (lines_coming self.old) result self.new }
-        // The source is asked only while it continues, and an `Err` of it is reported as Read.
+        // The source is asked only while it continues, and its `Err` is reported as `Read`.
         ensures heard { self.new.heard ≡ hears (says_read result) self.old.heard }
     {
         self.line.clear();

@@ -1,8 +1,8 @@
-//! Clumps of a tile whose numbers in the full map follow one another.
+//! Clumps of a tile with consecutive numbers in the full map.
 
 ghost use Rattle.std.specs.Prelude.{◌≡◌, ◌==◌, ◌+◌};
 
-/// The clumps from one to another of a tile, which in the full map have a number, the one after it, and so on.
+/// Clumps of a tile, from a first to a last one, that have consecutive numbers in the full map.
 #[derive(Clone, Copy, Debug, PartialEq, Eq)]
 pub struct Stretch {
     /// The place of the tile, counted from 1.
@@ -15,7 +15,7 @@ pub struct Stretch {
     pub number: u64,
 }
 
-/// Whether a number is the one after another.
+/// Whether a number is one more than another.
 pub fn is_next(previous: u64, number: u64) -> bool
     ensures { result ≡ (number == previous + 1) }
 {

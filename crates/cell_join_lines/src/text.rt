@@ -22,7 +22,7 @@ use std::alloc::Global;
 use std::cmp::Ordering;
 use std::marker::Model;
 
-// Whether cells are as many as wanted, or at least one if none are wanted.
+// Whether there are as many cells as wanted, or at least one if any number is wanted.
 fn is_as_wide(width: usize, cells: &[Cell]) -> bool
     ensures { result ≡ is_as_wide width (length cells.now) }
 {
@@ -32,7 +32,7 @@ fn is_as_wide(width: usize, cells: &[Cell]) -> bool
     cells.len() == width
 }
 
-// Whether cells may be after a combination, if there is one.
+// Whether cells may follow a combination, if there is one.
 fn check_order(width: usize, last: Option<&Combo>, cells: &[Cell]) -> Result<(), TableKind>
     ensures order { MatchResult result
         (λ done. (n : ℕ) → in_order width (option_map (λ k. k.now) last.entry) (cells.now, n) ≡ Ok (cells.now, n))
@@ -55,7 +55,7 @@ fn check_order(width: usize, last: Option<&Combo>, cells: &[Cell]) -> Result<(),
     }
 }
 
-// The entry of a line after a combination, if there is one. It has the cells for its work.
+// The entry of a line after a combination, if there is one. The cells are scratch space.
 fn entry_of(
     alloc: Global,
     format: &Format,
@@ -121,7 +121,7 @@ fn read_entry<R: Source>(
     }
 }
 
-/// A text of a table that is read as it goes: the entry that was read last, and what is to come after it.
+/// A text of a table that is read entry by entry: the entry read last, and what is to come after it.
 #[derive(Drop)]
 pub struct TableText<R: Source> {
     lines: Lines<R>,
@@ -147,7 +147,7 @@ impl<R: Source> Model for TableText<R> {
     } };
 }
 
-// The combination of an entry that may be.
+// The combination of an entry, if there is one.
 fn combination_of(head: &Option<(Combo, u64)>) -> Option<&Combo>
     ensures { option_map (λ k. k.now) result ≡ combination_of head.now }
 {
@@ -158,7 +158,7 @@ fn combination_of(head: &Option<(Combo, u64)>) -> Option<&Combo>
 }
 
 impl<R: Source> TableText<R> {
-    /// A text of which the first entry was read. Its lines have so many cells, or any number of them if that is 0.
+    /// A text whose first entry was read. Its lines have `width` cells, or any number of cells if `width` is 0.
     ///
     /// # Errors
     ///
@@ -181,7 +181,7 @@ impl<R: Source> TableText<R> {
             ≡ labelled_from format.now text) }
         ensures width { IfOk result (λ text. text.width ≡ width) }
         ensures number { IfOk result (λ text. text.number ≡ 2) }
-        // The source is asked only while it continues, and an `Err` of it is reported as Read: so far none was.
+        // The source is asked only while it continues, and its `Err` is reported as `Read`; so far there was none.
         ensures heard { IfOk result (λ text. text.heard ≡ heard_first (R.asked source)) }
         ensures fault { IfErr result (λ fault. fault.kind ≢ TableKind.Memory → IfSome (R.coming
             source) (λ coming. reading_of format.now width coming ≡ stopped fault.line
@@ -207,22 +207,21 @@ impl<R: Source> TableText<R> {
         Ok(text)
     }
 
-    /// The entry that was read last, or None at the end of the text.
+    /// The entry read last, or None at the end of the text.
     pub fn head(&self) -> &Option<(Combo, u64)>
         ensures { result.now ≡ self.now.head }
     {
         &self.head
     }
 
-    /// What is on the line of the entry that was read last up to its last separator, included: its cells as they are
-    /// printed, and their labels.
+    /// The line of the entry read last, up to and including its last separator: its printed cells and their labels.
     pub fn before_count(&self, separator: u8) -> &[u8]
         ensures { result.now ≡ before_count separator self.now.line }
     {
         before_last(separator, self.lines.last_line())
     }
 
-    /// The number of the line after the entry that was read last, or the largest `u64`.
+    /// The number of the line after the entry read last, or the largest `u64`.
     pub fn next_number(&self) -> u64
         ensures { result ≡ self.now.number }
     {
@@ -243,7 +242,7 @@ impl<R: Source> TableText<R> {
             (labelled_behind format.now self.old ≡ labelled_from format.now self.new) }
         ensures width { self.new.width ≡ self.old.width }
         ensures number { OnOk result (self.new.number ≡ line_after self.old.number) }
-        // The source is asked only while it continues, and an `Err` of it is reported as Read.
+        // The source is asked only while it continues, and its `Err` is reported as `Read`.
         ensures heard { self.new.heard ≡ hears (says_read_fault result) self.old.heard }
         ensures fault { IfErr result (λ fault. fault.kind ≢ TableKind.Memory → IfSome
             (reading_behind format.now self.old) (λ reading. reading ≡ stopped fault.line

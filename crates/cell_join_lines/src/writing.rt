@@ -1,4 +1,4 @@
-//! The numbering written.
+//! Writing a numbering.
 
 ghost use Rattle.cell_core_devices.specs.Blocks.{Appends};
 ghost use Rattle.cell_join_lines.specs.AreasText.{areas_text, stretch_line};

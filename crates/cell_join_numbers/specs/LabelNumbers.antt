@@ -1,15 +1,15 @@
--- The numbers of labels, in place of them.
+-- The numbers that replace labels.
 use Rattle.std.specs.Prelude.{ℕ, zero, suc, Bool, List, [], ◌∷◌, ◌++◌, length, nat_eq, slice_index, if◌then◌else◌}
 
 -- a label is open
 abbrev pub is_open : List ℕ → ℕ → Bool
 is_open table k = nat_eq (slice_index table k) k
 
--- the open ones of the first labels
+-- the open labels among the first ones
 abbrev pub open_below : List ℕ → ℕ → List ℕ
 open_below table zero = []
 open_below table (suc k) = if is_open table k then open_below table k ++ k ∷ [] else open_below table k
 
--- how many labels up to an open one are open
+-- the number of open labels up to an open one
 abbrev pub label_number : List ℕ → ℕ → ℕ
 label_number table k = length (open_below table (suc k))

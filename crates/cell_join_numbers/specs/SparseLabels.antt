@@ -1,4 +1,4 @@
--- Labels of those areas of tiles alone that touch a cut: the others need none, and all numbers in the full map follow.
+-- Labels of only those areas of tiles that touch a seam: the others need none, and all numbers in the full map follow.
 use Rattle.std.specs.Prelude.{ℕ, Bool, ◌+◌, ◌-◌, ◌<◌, ◌≡◌, List, length, map, All, Contains, count_by}
 use Rattle.std.specs.Prelude.{nat_eq, nat_lt, slice_index, IsSome, if◌then◌else◌}
 use Rattle.std.specs.List.{AllPairs, list_any}
@@ -10,13 +10,13 @@ use Rattle.cell_join_numbers.specs.Labelled.{AreLabelled}
 use Rattle.cell_join_numbers.specs.UnionFind.{LeadTo, after_all}
 use Rattle.cell_join_numbers.specs.LabelNumbers.{open_below, label_number}
 
--- some of so many labels, in their order, and among them each that is paired
+-- some of the labels, in order; each label of a pair is one of them
 pub record AreTouching (labels : ℕ) (pairs : List (ℕ × ℕ)) (touching : List ℕ) : Type 0 where
   pub in_order : AllPairs ◌<◌ touching
   pub few : All (λ l. l < labels) touching
   pub paired : All (λ pair. Contains touching pair.0 × Contains touching pair.1) pairs
 
--- how many of them come before a label, which is the place of one of them
+-- the number of them before a label, which is the place of the label if it is one of them
 abbrev pub labels_before : List ℕ → ℕ → ℕ
 labels_before touching label = count_by (λ l. nat_lt l label) touching
 
@@ -24,11 +24,11 @@ labels_before touching label = count_by (λ l. nat_lt l label) touching
 abbrev pub pair_places : List ℕ → ℕ × ℕ → ℕ × ℕ
 pair_places touching pair = (labels_before touching pair.0, labels_before touching pair.1)
 
--- where places lead to, once the places of each pair were joined
+-- what places lead to, after the places of each pair were joined
 abbrev pub joined_places : List ℕ → List (ℕ × ℕ) → ℕ → ℕ
 joined_places touching pairs = after_all (λ k. k) (map (pair_places touching) pairs)
 
--- a table of the places alone, joined
+-- a union-find table over the touching labels only, with every pair united
 pub record IsSparse (pairs : List (ℕ × ℕ)) (touching table : List ℕ) : Type 0 where
   pub long : length table ≡ length touching
   pub leads : LeadTo table (joined_places touching pairs)
@@ -37,29 +37,30 @@ pub record IsSparse (pairs : List (ℕ × ℕ)) (touching table : List ℕ) : Ty
 abbrev pub is_touching : List ℕ → ℕ → Bool
 is_touching touching label = list_any (nat_eq label) touching
 
--- the label that one leads to: one of them to that at the place where its own leads to, and another to itself
+-- the label that a label leads to: for a touching label, the one at the place that its own place leads to; any other
+-- leads to itself
 abbrev pub label_led_to : List ℕ → List (ℕ × ℕ) → ℕ → ℕ
 label_led_to touching pairs label =
     if is_touching touching label
     then slice_index touching (joined_places touching pairs (labels_before touching label))
     else label
 
--- the number of a label that leads to itself: how many come before it that are none of them, how many of them come
--- before it and lead to themselves, and one
+-- the number of a label that leads to itself: the number of labels before it that do not touch, plus the number of
+-- those that do and lead to themselves, plus one
 abbrev pub number_among : (touching table : List ℕ) → ℕ → ℕ
 number_among touching table label =
     (label - labels_before touching label) + length (open_below table (labels_before touching label)) + 1
 
--- and of whichever label
+-- and the number of any label
 abbrev pub sparse_number : List (ℕ × ℕ) → (touching table : List ℕ) → ℕ → ℕ
 sparse_number pairs touching table label = number_among touching table (label_led_to touching pairs label)
 
--- how many labels lead to themselves
+-- the number of labels that lead to themselves
 abbrev pub sparse_areas : ℕ → (touching table : List ℕ) → ℕ
 sparse_areas labels touching table = (labels - length touching) + length (open_below table (length table))
 
--- the number of the label at a place, by the number of the place among the places: as many more as come before the label
--- that it leads to and are none of them
+-- the number of the label at a place, from the number of the place: add the labels that do not touch and come before
+-- the label that it leads to
 abbrev pub SparsePlacesNumber : Type 0
 SparsePlacesNumber = (labels : ℕ) (pairs : List (ℕ × ℕ)) (touching table : List ℕ)
     → AreTouching labels pairs touching → IsSparse pairs touching table
@@ -68,7 +69,7 @@ SparsePlacesNumber = (labels : ℕ) (pairs : List (ℕ × ℕ)) (touching table 
     ≡ (slice_index touching (joined_places touching pairs place) - joined_places touching pairs place)
     + label_number table (joined_places touching pairs place)
 
--- tiles of whatever shape: the number of each cell, and how many areas there are
+-- tiles of any shape: the number of each cell, and the number of areas
 abbrev pub SparseLabelsNumber : Type 0
 SparseLabelsNumber = (j : Joining) (m : Grid) (starts : List Position) (label_of : Position → ℕ)
     (pairs : List (ℕ × ℕ)) → AreLabelled j m starts label_of pairs → (touching table : List ℕ)

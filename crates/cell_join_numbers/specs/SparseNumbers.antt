@@ -1,4 +1,4 @@
--- Numbers of labels, of which only those that are paired are held.
+-- Numbers of labels, of which only the paired ones are held.
 use Rattle.std.specs.Prelude.{ℕ, false, ◌+◌, ◌-◌, ◌<◌, ◌≤◌, ◌≡◌, ◌↔◌, List, [], ◌∷◌, length, All, AllPairs, Contains, slice_index}
 use Rattle.cell_join_numbers.specs.LabelNumbers.{open_below}
 use Rattle.cell_join_numbers.specs.Labelled.{NumberLabels, CountLabels}
@@ -13,7 +13,7 @@ labels_of_pairs (pair ∷ pairs) = pair.0 ∷ pair.1 ∷ labels_of_pairs pairs
 abbrev pub AreLabelsOf : List (ℕ × ℕ) → List ℕ → Type 0
 AreLabelsOf pairs paired = (label : ℕ) → Contains paired label ↔ Contains (labels_of_pairs pairs) label
 
--- a table of nodes in which the first are replaced by the numbers of their labels, from 0
+-- a table of nodes in which the first ones are replaced by the numbers of their labels, from 0
 pub record ArePlacesNumbered (labels : ℕ) (pairs : List (ℕ × ℕ)) (paired joined : List ℕ) (place : ℕ) (table : List ℕ) (count : ℕ) : Type 0 where
   pub touching : AreTouching labels pairs paired
   pub is : IsSparse pairs paired joined
@@ -21,7 +21,7 @@ pub record ArePlacesNumbered (labels : ℕ) (pairs : List (ℕ × ℕ)) (paired 
   pub done : (k : ℕ) → k < place → slice_index table k + 1 ≡ sparse_number pairs paired joined (slice_index paired k)
   pub counted : count ≡ length (open_below joined place)
 
--- labels in order, for each a number from 0 that is no larger, and how many roots come before each of them and in all
+-- labels in order, for each a number from 0 that is at most the label, and how many roots come before each of them and in all
 pub record AreInPlaces (paired numbers roots : List ℕ) : Type 0 where
   pub in_order : AllPairs ◌<◌ paired
   pub long : length numbers ≡ length paired
@@ -29,17 +29,17 @@ pub record AreInPlaces (paired numbers roots : List ℕ) : Type 0 where
   pub low : (place : ℕ) → place < length paired → slice_index numbers place ≤ slice_index paired place
   pub few : (place : ℕ) → place ≤ length paired → slice_index roots place ≤ place
 
--- a number for each label, from 1: for a label that is not paired it is how many others like it come before it, and how many
--- roots, and one
+-- a number for each label, from 1: for a label that is not paired, the number of unpaired labels before it, plus the
+-- number of roots before it, plus one
 pub record AreNumbersOf (number : ℕ → ℕ) (paired numbers roots : List ℕ) : Type 0 where
   pub at : (place : ℕ) → place < length paired → slice_index numbers place + 1 ≡ number (slice_index paired place)
   pub alone : (label : ℕ) → is_touching paired label ≡ false → number label ≡ (label - labels_before paired label) + slice_index roots (labels_before paired label) + 1
 
--- both labels of each pair are among so many
+-- both labels of each pair are below the number of labels
 abbrev pub AreBelow : ℕ → List (ℕ × ℕ) → Type 0
 AreBelow labels pairs = All (λ pair. (pair.0 < labels) × (pair.1 < labels)) pairs
 
--- they are the numbers of labels that are paired so, whatever others there are
+-- the numbers of the labels in these pairs, whatever other labels there are
 pub record NumberPairs (pairs : List (ℕ × ℕ)) (paired numbers roots : List ℕ) : Type 0 where
   pub number : ℕ → ℕ
   pub are : AreNumbersOf number paired numbers roots

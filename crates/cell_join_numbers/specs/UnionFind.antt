@@ -1,17 +1,17 @@
--- Labels of the areas of bands, and what they lead to once some were joined. A label is a number from 0 on.
+-- Labels of the areas of tiles, and what they lead to after some were joined. A label is a number from 0 on.
 use Rattle.std.specs.Prelude.{ℕ, ◌≤◌, ◌≡◌, List, [], ◌∷◌, length}
 use Rattle.cell_cats_areas.specs.parts.Labels.{LeadsToOpen, after_join}
 
--- a function shows which open label each label leads to, and a label that the table does not have leads to itself
+-- a function gives the open label that each label leads to; a label that is not in the table leads to itself
 pub record LeadTo (table : List ℕ) (open_of : ℕ → ℕ) : Type 0 where
   pub reports : LeadsToOpen table open_of
   pub beyond : (k : ℕ) → length table ≤ k → open_of k ≡ k
 
--- whatever shows where labels led shows it still
+-- a function that gave what labels led to still does
 abbrev pub Keeps : (old new : List ℕ) → Type 0
 Keeps old new = (open_of : ℕ → ℕ) → LeadTo old open_of → LeadTo new open_of
 
--- what labels lead to once the labels of each pair were joined, one pair after another
+-- what labels lead to after the labels of each pair were joined, one pair after another
 abbrev pub after_all : (ℕ → ℕ) → List (ℕ × ℕ) → ℕ → ℕ
 after_all open_of [] = open_of
 after_all open_of (pair ∷ pairs) = after_all (after_join open_of pair.0 pair.1) pairs

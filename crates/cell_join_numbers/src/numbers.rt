@@ -11,19 +11,19 @@ use crate::union_find::add_nodes;
 use cell_core::memory::Memory;
 use std::alloc::Global;
 
-/// The paired labels and their numbers: 24 bytes for each.
+/// The paired labels and their numbers: 24 bytes per label.
 #[derive(Debug, Drop)]
 pub struct SparseNumbers {
     /// The labels that are paired, in order.
     pub paired: Vec<u64>,
-    /// The number of each of them, from 0.
+    /// Their numbers, from 0.
     pub numbers: Vec<u64>,
-    /// How many roots come before each of them, and how many there are.
+    /// The number of roots before each of them, and the number of all roots.
     pub roots: Vec<u64>,
 }
 
-// Numbers the label at a place: a root has the number after those before it, another the number of the node it points to.
-// Returns how many roots there are up to it.
+// Numbers the label at a place: a root gets the next number, any other label the number of the node it points to.
+// Returns the number of roots up to it.
 fn number_place(table: &mut [u64], paired: &[u64], place: usize, count: u64) -> u64
     requires in_order { AllPairs ◌<◌ paired.now }
     requires long { length table.old ≡ length paired.now }
@@ -72,14 +72,14 @@ fn number_places(alloc: Global, table: &mut [u64], paired: &[u64]) -> Result<Vec
     Ok(roots)
 }
 
-/// The numbers in the full map of labels that are paired so. The labels stand for the clumps of tiles that cover it,
-/// from 0 on in the order of their first cells; the pairs for the cells of one category that meet at the seams.
+/// The numbers in the full map of labels with these pairs. The labels stand for the clumps of tiles that cover it, from
+/// 0 in the order of their first cells; the pairs stand for cells of the same category that meet at the seams.
 ///
-/// It takes 16 bytes for each label of a pair while it works, and 24 for each that is paired.
+/// It takes 16 bytes per label of a pair while it works, and 24 for each paired label.
 ///
 /// # Errors
 ///
-/// [`Memory`] when out of memory.
+/// [`Memory`] if memory runs out.
 pub fn number_pairs(alloc: Global, pairs: &[(u64, u64)]) -> Result<SparseNumbers, Memory>
     ensures ready { IfOk result (λ sparse.
         AreInPlaces sparse.paired.items sparse.numbers.items sparse.roots.items) }

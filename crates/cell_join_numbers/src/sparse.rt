@@ -1,4 +1,4 @@
-//! The labels that are paired, each once and in order, and the table of their nodes.
+//! The paired labels, each once and in order, and the table of their nodes.
 
 ghost use Rattle.std.specs.Prelude.{◌≡◌, ◌<◌, AllPairs, IfOk, length, map};
 ghost use Rattle.cell_cats_areas.specs.parts.Labels.{PointDown};
@@ -33,7 +33,7 @@ pub(crate) fn paired_labels(alloc: Global, pairs: &[(u64, u64)]) -> Result<Vec<u
     Ok(paired)
 }
 
-/// How many of some labels in order come before one.
+/// How many labels of an ordered list come before a label.
 pub fn place_of(paired: &[u64], label: u64) -> usize
     requires { AllPairs ◌<◌ paired.now }
     ensures { result ≡ labels_before paired.now label }

@@ -1,4 +1,4 @@
--- Sizes added up of a numbering and of tables.
+-- Sizes added up from a numbering and tables.
 pub mod Sizes
 pub mod SizeFaults
 pub mod SizeTexts

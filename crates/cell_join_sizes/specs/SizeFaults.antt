@@ -1,4 +1,5 @@
--- Why sizes are not added up: the numbering is read, then it and the tables side by side, and the first that is wrong is reported.
+-- Why sizes are not added up: the numbering is read, then it and the tables side by side, and the first error is
+-- reported.
 use Rattle.std.specs.Prelude.{ℕ, pos, ◌≡◌, ◌≢◌, ◌+◌, ◌-◌, ◌^◌, ◌<◌, ◌≤◌, ◌⊎◌, min, List, [], ◌∷◌, ◌++◌, length, slice_get, slice_index, sum_by, All, Option, Some, None}
 use Rattle.std.specs.List.{Contains, range_with_len}
 use Rattle.cell_stats_combinations.specs.Combinations.{Combination}
@@ -15,8 +16,8 @@ use Rattle.cell_join_sizes.specs.declared.size_fault.SizesFault.TheVariants.{Are
 
 -- ---- how far they are read
 
--- what of the numbering is not counted yet, from this line on; what of the table in a place is not counted yet, from this line on;
--- the sizes of the clumps that are counted of the next run; and the sizes in the full map of all that are counted
+-- what is not counted yet of the numbering, from this line on; what is not counted yet of the table in a place, from
+-- this line on; the sizes of the counted clumps of the next run; and the sizes in the full map of all counted clumps
 pub record ReadingPlace : Type 0 where
   pub areas : AreasReading
   pub areas_line : ℕ
@@ -26,7 +27,7 @@ pub record ReadingPlace : Type 0 where
   pub counted : List ℕ
   pub sizes : List ℕ
 
--- the line of a numbering after so many; from 2^64 - 2 on they are not distinguished
+-- the line of a numbering after count lines; from 2^64 - 2 on they are not distinguished
 abbrev pub areas_line_behind : ℕ → ℕ
 areas_line_behind count = min (count + 1) (2 ^ 64 - 2)
 
@@ -39,14 +40,14 @@ abbrev pub first_number : List Stretch → ℕ
 first_number [] = 0
 first_number (s ∷ stretches) = s.number
 
--- so many clumps of the next run, which is of this tile, or none
+-- the clumps of a tile are the next run of the numbering, if the tile has any
 abbrev pub AreOfNextStretch : ℕ → List ℕ → List Stretch → Type 0
 AreOfNextStretch band [] stretches = Unit {0}
 AreOfNextStretch band (size ∷ counted) [] = ⊥
 AreOfNextStretch band (size ∷ counted) (s ∷ stretches) = (s.band ≡ band) × (length (size ∷ counted) ≤ stretch_areas s)
 
--- up to here nothing is wrong: the tables before belong to their tiles, this one begins with the entries of the clumps of runs
--- of its tile, and of the first clumps of the next; and the sizes of all of these are added up by the numbers that the text shows
+-- no error up to here: the earlier tables belong to their tiles, this one begins with the entries of the clumps of its
+-- tile's runs and of the first clumps of the next run; and the sizes of all of these are added up by the text's numbers
 pub record AreReadTo (areas : AreasReading) (tables : List TableReading) (place : ReadingPlace) : Type 0 where
   pub before : List TableReading
   pub table : TableReading
@@ -70,7 +71,7 @@ pub record AreReadTo (areas : AreasReading) (tables : List TableReading) (place 
 
 -- ---- what comes next
 
--- no error comes next: lines without one, or the end
+-- no error comes next: lines without an error, or the end
 abbrev pub IsReadOn : {X F : Type 0} → List X → Option F → Type 0
 IsReadOn [] fault = fault ≡ None
 IsReadOn (x ∷ xs) fault = Unit {0}
@@ -105,7 +106,7 @@ pub record HasOtherArea (place : ReadingPlace) (line : ℕ) : Type 0 where
   pub other : IsOtherEntry area place.left.entries place.left.fault
   pub at : line ≡ place.table_line
 
--- all clumps of the tile are counted, and the table has an entry more, which is not the entry of null after them
+-- all clumps of the tile are counted, and the table has one more entry, which is not a final entry of null
 pub record HasEntryMore (place : ReadingPlace) (line : ℕ) : Type 0 where
   pub over : IsBandOver (place.table + 1) place.areas.stretches place.areas.fault
   pub none : place.counted ≡ []
@@ -117,13 +118,13 @@ pub record HasEntryMore (place : ReadingPlace) (line : ℕ) : Type 0 where
   pub most : nulls ≡ [] → entry.0 ≢ None ∷ []
   pub at : line ≡ place.table_line + length nulls
 
--- the next line of the table has an error, or that after the entry of null where all clumps of the tile are counted
+-- the next line of the table has an error, or the line after the entry of null if all clumps of the tile are counted
 pub record HasTableFault (place : ReadingPlace) (fault : TableFault) : Type 0 where
   pub on : IsReadOn place.areas.stretches place.areas.fault
   pub fault_is : place.left.fault ≡ Some fault
   pub behind : (place.left.entries ≡ []) ⊎ (IsNullEntry place.left.entries × IsBandOver (place.table + 1) place.areas.stretches place.areas.fault × place.counted ≡ [])
 
--- the next clump has its entry, but with its size the size of its number comes to 2^64 or more
+-- the next clump has its entry, but with its size the sum for its number reaches 2^64
 pub record HasSumTooGreat (place : ReadingPlace) (number : ℕ) : Type 0 where
   pub area : ℕ
   pub next : IsNextArea (place.table + 1) (length place.counted) place.areas.stretches area number
@@ -132,7 +133,7 @@ pub record HasSumTooGreat (place : ReadingPlace) (number : ℕ) : Type 0 where
   pub one : (0 < number) × (number ≤ length place.sizes)
   pub great : 2 ^ 64 ≤ slice_index place.sizes (number - 1) + size
 
--- the next run reaches clump 2^64 - 2, or 2^64 - 3 lines of the numbering or more are before it
+-- the next run reaches clump 2^64 - 2, or it comes after at least 2^64 - 3 lines of the numbering
 abbrev pub IsTooLong : List Stretch → ℕ → Type 0
 IsTooLong [] line = line ≡ 2 ^ 64 - 2
 IsTooLong (s ∷ stretches) line = (2 ^ 64 - 2 ≤ s.last) ⊎ (line ≡ 2 ^ 64 - 2)
@@ -151,14 +152,14 @@ IsFaultAt place Write = ⊥
 
 -- ---- the first error
 
--- nothing is wrong up to a place, and that is wrong there
+-- there is no error up to a place, and there is one at this place
 pub record IsFirstSizesFault (areas : AreasReading) (tables : List TableReading) (fault : SizesFault) : Type 0 where
   pub place : ReadingPlace
   pub read : AreReadTo areas tables place
   pub wrong : IsFaultAt place fault
 
--- all tables belong to their tiles, after which these runs of the numbering are left; and the sizes of all clumps of
--- these tiles are added up by the numbers that the text shows
+-- all tables belong to their tiles, and these runs of the numbering are left after them; and the sizes of all clumps of
+-- these tiles are added up by the text's numbers
 pub record AreAllRead (areas : AreasReading) (tables : List TableReading) (left : List Stretch) : Type 0 where
   pub parts : List BandSizes
   pub good : AreTablesOfBands 1 parts tables
@@ -166,7 +167,7 @@ pub record AreAllRead (areas : AreasReading) (tables : List TableReading) (left 
   pub sizes : List ℕ
   pub sums : HasSums (numbers_read (stretches_of_parts parts)) (sizes_of_parts parts) sizes
 
--- all tables are read, and the numbering continues with a run of another tile than the last of them
+-- all tables are read, and the numbering continues with a run of a later tile
 pub record HasNoTable (areas : AreasReading) (tables : List TableReading) (line : ℕ) : Type 0 where
   pub stretch : Stretch
   pub others : List Stretch
@@ -174,7 +175,8 @@ pub record HasNoTable (areas : AreasReading) (tables : List TableReading) (line 
   pub other : 0 < length tables → stretch.band ≢ length tables
   pub at : line ≡ areas_line_behind (length (stretches_of_parts read.parts))
 
--- all tables are read, and the numbering ends there; this number, below the largest, belongs to no clump, and each before it to one
+-- all tables are read, and the numbering ends there; this number, below the largest, is the first that belongs to no
+-- clump
 pub record HasNumberLeftOut (areas : AreasReading) (tables : List TableReading) (number : ℕ) : Type 0 where
   pub read : AreAllRead areas tables []
   pub ended : areas.fault ≡ None
@@ -182,7 +184,7 @@ pub record HasNumberLeftOut (areas : AreasReading) (tables : List TableReading) 
   pub none : Contains (numbers_read areas.stretches) number → ⊥
   pub before : (n : ℕ) → 0 < n → n < number → Contains (numbers_read areas.stretches) n
 
--- how many clumps runs list
+-- the number of clumps that runs list
 abbrev pub listed_count : List Stretch → ℕ
 listed_count stretches = sum_by stretch_areas stretches
 
@@ -190,7 +192,7 @@ listed_count stretches = sum_by stretch_areas stretches
 abbrev pub last_number : Stretch → ℕ
 last_number s = s.number + (s.last - s.first)
 
--- the run of this line shows a number above the count of all clumps that are listed, and none before it does
+-- the run in this line is the first to show a number above the number of clumps listed
 pub record IsLineBeyond (stretches : List Stretch) (line : ℕ) : Type 0 where
   pub place : ℕ
   pub stretch : Stretch
@@ -199,7 +201,7 @@ pub record IsLineBeyond (stretches : List Stretch) (line : ℕ) : Type 0 where
   pub beyond : listed_count stretches < last_number stretch
   pub before : (i : ℕ) (other : Stretch) → i < place → slice_get stretches i ≡ Some other → last_number other ≤ listed_count stretches
 
--- why sizes are not added up; of being out of memory and of a failed write nothing is said of the texts
+-- why sizes are not added up; lack of memory and a failed write say nothing about the texts
 abbrev pub IsSizesFault : AreasReading → List TableReading → SizesFault → Type 0
 IsSizesFault areas tables (Areas fault) = areas.fault ≡ Some fault
 IsSizesFault areas tables (NumberBeyond line) = (areas.fault ≡ None) × IsLineBeyond areas.stretches line

@@ -1,4 +1,4 @@
--- A numbering and the tables of the numbers of its tiles: how their lines go together, and what is written of them.
+-- A numbering and the tables of its tiles' clump numbers: how their lines correspond, and what is written for them.
 use Rattle.std.specs.Prelude.{ℕ, pos, ◌≡◌, ◌+◌, ◌-◌, ◌<◌, ◌≤◌, List, [], ◌∷◌, ◌++◌, length, take, drop, flat_map, All, Option, Some, None}
 use Rattle.std.specs.List.{Contains}
 use Rattle.cell_stats.specs.CategoryTables.{Pairs}
@@ -14,12 +14,12 @@ use Rattle.cell_join_sizes.specs.declared.size_fault.SizesFault.TheVariants.{Are
 use Rattle.cell_join_lines.specs.AreasReading.{AreasReading}
 use Rattle.cell_join_lines.specs.AreasText.{numbers_read}
 
--- entries of numbers from one on, with the sizes of their clumps
+-- entries of consecutive numbers from one on, with the sizes of their clumps
 abbrev pub number_entries : ℕ → List ℕ → Pairs
 number_entries n [] = []
 number_entries n (size ∷ sizes) = (Some (pos n) ∷ [], size) ∷ number_entries (n + 1) sizes
 
--- how many clumps a run has
+-- the number of clumps of a run
 abbrev pub stretch_areas : Stretch → ℕ
 stretch_areas s = s.last + 1 - s.first
 
@@ -40,7 +40,7 @@ pub record BandSizes : Type 0 where
   pub stretches : List Stretch
   pub sizes : List ℕ
 
--- a table, to its end, of the clumps of the tile in this place and of no others, and of null
+-- a complete table of the clumps of the tile in this place, of no others, and of null
 pub record IsTableOfBand (band : ℕ) (part : BandSizes) (reading : TableReading) : Type 0 where
   pub own : All (λ (s : Stretch). s.band ≡ band) part.stretches
   pub many : length part.sizes ≡ length (numbers_read part.stretches)
@@ -56,26 +56,26 @@ stretches_of_parts parts = flat_map (λ (part : BandSizes). part.stretches) part
 abbrev pub sizes_of_parts : List BandSizes → List ℕ
 sizes_of_parts parts = flat_map (λ (part : BandSizes). part.sizes) parts
 
--- tables of tiles, of which the first has this place
+-- tables of tiles; the first one has this place
 abbrev pub AreTablesOfBands : ℕ → List BandSizes → List TableReading → Type 0
 AreTablesOfBands band [] [] = Unit {0}
 AreTablesOfBands band (part ∷ parts) (reading ∷ readings) = IsTableOfBand band part reading × AreTablesOfBands (band + 1) parts readings
 AreTablesOfBands band parts readings = ⊥
 
--- as many sizes as numbers were added up, for each number up to the largest of these
+-- equally many sizes and numbers were added up, for each number up to the largest
 pub record HasSums (numbers sizes whole : List ℕ) : Type 0 where
   pub same : length sizes ≡ length numbers
   pub adds : AddUp numbers sizes (length whole) whole
   pub within : All (λ n. (0 < n) × (n ≤ length whole)) numbers
   pub greatest : 0 < length whole → Contains numbers (length whole)
 
--- as many sizes as numbers were added up, and each number up to the largest is one of these
+-- the same, and each number up to the largest occurs
 pub record HasTally (numbers sizes whole : List ℕ) : Type 0 where
   pub sums : HasSums numbers sizes whole
   pub each : (n : ℕ) → n < length whole → Contains numbers (n + 1)
 
--- a numbering to its end, and a table for each of its tiles: the sizes of the clumps of all tiles, added up by the numbers that the text
--- shows, each up to the largest
+-- a complete numbering, and a table for each of its tiles: the sizes of the clumps of all tiles, added up by the text's
+-- numbers, for each number up to the largest
 pub record HaveSizes (areas : AreasReading) (tables : List TableReading) (sizes : List ℕ) : Type 0 where
   pub whole : areas.fault ≡ None
   pub parts : List BandSizes
@@ -104,7 +104,7 @@ pub record HasSizesPrefix (format : FormatValue) (areas : AreasReading) (tables 
 abbrev pub NothingWritten : Option (List ℕ) → Option (List ℕ) → ℕ → Type 0
 NothingWritten before now written = (now ≡ before) × (written ≡ 0)
 
--- what was written where not all sizes are
+-- what was written if not all sizes are
 abbrev pub HasStopped : FormatValue → AreasReading → List TableReading → Option (List ℕ) → Option (List ℕ) → ℕ → SizesFault → Type 0
 HasStopped format areas tables before now written (Areas fault) = NothingWritten before now written
 HasStopped format areas tables before now written (NumberBeyond line) = NothingWritten before now written

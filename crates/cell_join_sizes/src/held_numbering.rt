@@ -1,4 +1,4 @@
-//! A numbering that is held in memory: its runs, which are read one after the other along with the tables.
+//! A numbering that is held in memory: its runs, which are read one after the other together with the tables.
 
 ghost use Rattle.std.specs.Prelude.{◌≡◌, ◌≢◌, ◌≤◌, ◌^◌, ◌-◌, nat_lt, None, Ok, Some, IfErr, IfOk, IfSome, IsSome, MatchOption};
 ghost use Rattle.cell_join_lines.specs.AreasReading.{areas_reading_of, in_sequence};
@@ -14,7 +14,7 @@ use cell_join_lines::stretch::Stretch;
 use std::alloc::Global;
 use std::marker::Model;
 
-// How many clumps a run has; None if there are 2^64 or more.
+// The number of clumps of a run; None if there are 2^64 or more.
 fn areas_of(stretch: Stretch) -> Option<u64>
     ensures { MatchOption result (2 ^ 64 ≤ stretch_areas stretch)
         (λ count. count ≡ stretch_areas stretch) }
@@ -25,7 +25,7 @@ fn areas_of(stretch: Stretch) -> Option<u64>
     (stretch.last - stretch.first).checked_add(1)
 }
 
-// How many clumps all runs have; None if there are 2^64 or more.
+// The number of clumps of all runs; None if there are 2^64 or more.
 fn count_areas(stretches: &[Stretch]) -> Option<u64>
     ensures { MatchOption result (2 ^ 64 ≤ listed_count stretches.now)
         (λ count. count ≡ listed_count stretches.now) }
@@ -68,12 +68,12 @@ fn first_beyond(stretches: &[Stretch], count: u64) -> Option<usize>
     None
 }
 
-/// The runs of a numbering, of which one is read now, and those after it.
+/// The runs of a numbering: the current one, and those after it.
 #[derive(Drop)]
 pub(crate) struct HeldNumbering {
     stretches: Vec<Stretch>,
     at: usize,
-    // The number of the line after the run that is read now.
+    // The number of the line after the current run.
     line: u64,
 }
 
@@ -94,7 +94,7 @@ impl Model for HeldNumbering {
 }
 
 impl HeldNumbering {
-    /// All of a numbering. It takes 32 bytes for each line.
+    /// A full numbering. It takes 32 bytes per line.
     ///
     /// # Errors
     ///
@@ -138,8 +138,8 @@ impl HeldNumbering {
         })
     }
 
-    /// The line of the first run whose last clump has a number above the count of all clumps that the numbering lists: no clump of
-    /// the full map has such a number.
+    /// The line of the first run whose last clump has a number above the number of clumps that the numbering lists: no
+    /// clump of the full map has such a number.
     pub(crate) fn line_beyond(&self) -> Option<u64>
         ensures { IfSome result (IsLineBeyond self.now.all) }
     {
@@ -151,21 +151,21 @@ impl HeldNumbering {
         }
     }
 
-    /// The run that is read now, or None at the end.
+    /// The current run, or None at the end.
     pub(crate) fn stretch(&self) -> Option<Stretch>
         ensures { result ≡ self.now.head }
     {
         self.stretches.get(self.at).copied()
     }
 
-    /// The number of its line.
+    /// Its line number.
     pub(crate) fn stretch_line(&self) -> u64
         ensures { result ≡ self.now.line - 1 }
     {
         self.line.saturating_sub(1)
     }
 
-    /// Continues with the next run.
+    /// Moves to the next run.
     pub(crate) fn next(&mut self)
         requires { IsSome self.old.head }
         ensures read { held_behind self.old ≡ held_from self.new }

@@ -8,19 +8,19 @@ use cell_join_lines::table_fault::TableFault;
 pub enum SizesFault {
     /// The first error of the numbering.
     Areas(AreasFault),
-    /// This line of the numbering shows a number above the count of all clumps that the text lists.
+    /// This line of the numbering shows a number above the number of clumps that the text lists.
     NumberBeyond { line: u64 },
-    /// No clump has this number, but some clump a larger one.
+    /// No clump has this number, but some clump has a larger one.
     NumberLeftOut { number: u64 },
-    /// From this line on the numbering is of a tile without a table.
+    /// From this line on, the numbering is about a tile without a table.
     NoTable { line: u64 },
     /// The first error of this table.
     Table { table: usize, fault: TableFault },
-    /// From this line on the table has other clumps than its tile, or something else, or it ends before it.
+    /// From this line on, the table has other clumps than its tile, or other entries, or it ends too early.
     OtherArea { table: usize, line: u64 },
     /// The clump of this number in the full map has more than 2^64 - 1 cells.
     TooGreat { number: u64 },
-    /// A tile has 2^64 - 1 clumps or runs, or more.
+    /// A tile has at least 2^64 - 1 clumps or runs.
     TooLong,
     /// Memory ran out.
     Memory,

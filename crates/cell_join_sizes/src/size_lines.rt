@@ -34,7 +34,7 @@ fn write_size<W: Sink>(
     block.push(out, b"\n");
 }
 
-/// Writes a line for each size, with its number before it, from 1 on. It takes no memory.
+/// Writes a line for each size, with its number before it, starting at 1. It takes no memory.
 pub fn write_sizes<W: Sink>(out: &mut W, block: &mut OutputBlock, format: &Format, sizes: &[u64])
     ensures { Appends W.taken W.faults out.old block.old
         (entries_text format.now (number_entries 1 sizes.now)) out.new block.new }

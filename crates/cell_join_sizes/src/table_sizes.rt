@@ -1,4 +1,4 @@
-//! Sizes of the clumps of the full map, of a numbering and the tables of the numbers of tiles.
+//! Sizes of the clumps of the full map, from a numbering and the tables of the tiles' clump numbers.
 
 ghost use Rattle.std.specs.Prelude.{◌≡◌, ◌≢◌, ◌+◌, ◌-◌, ◌<◌, ◌≤◌, ◌^◌, ◌∷◌, [], ℕ, List, None, Some, IfErr, IfOk, IfSome, MatchOption, OnOk, map, pos, option_map, false, true};
 ghost use Rattle.cell_core_devices.specs.Blocks.{Appends};
@@ -28,7 +28,7 @@ use cell_stats::format::Format;
 use cell_stats_combinations::combination::Combo;
 use std::alloc::Global;
 
-/// What adding sizes did.
+/// The outcome of adding sizes.
 #[derive(Clone, Copy, Debug, PartialEq, Eq)]
 pub struct SizesOutcome {
     /// The number of bytes that the sink took, at most `u64::MAX`.
@@ -67,7 +67,7 @@ fn of_tally(number: u64, fault: TallyFault) -> SizesFault
     }
 }
 
-// The only cell of a combination, if it has one and that is a number.
+// The only cell of a combination, if it has just one and that is a number.
 fn number_of(combo: &Combo) -> Option<u64>
     ensures { MatchOption result ((n : ℕ) → combo.now ≢ Some (pos n) ∷ [])
         (λ n. combo.now ≡ Some (pos n) ∷ []) }
@@ -81,7 +81,7 @@ fn number_of(combo: &Combo) -> Option<u64>
     }
 }
 
-// The size of a clump, if the head is its entry.
+// The size of a clump, if the head is the clump's entry.
 fn size_of(head: &Option<(Combo, u64)>, area: u64) -> Option<u64>
     ensures { MatchOption result (IsHeadOfOther area head.now)
         (λ size. head.now ≡ Some (area_entry area size)) }
@@ -92,7 +92,7 @@ fn size_of(head: &Option<(Combo, u64)>, area: u64) -> Option<u64>
     }
 }
 
-// Whether the head is an entry of null.
+// Whether the head is the entry of null.
 fn is_null(head: &Option<(Combo, u64)>) -> bool
     ensures null { result ≡ true → IsHeadOfNull head.now }
     ensures other { result ≡ false → IfSome head.now (λ entry. entry.0 ≢ None ∷ []) }
@@ -106,7 +106,7 @@ fn is_null(head: &Option<(Combo, u64)>) -> bool
     }
 }
 
-// Reads the clumps of a run from the table of the tile in a place, and adds their sizes.
+// Reads the clumps of a run from the table of a tile, and adds their sizes.
 fn add_stretch<R: Source>(
     alloc: Global,
     format: &Format,
@@ -137,7 +137,7 @@ fn add_stretch<R: Source>(
             });
         };
         let Some(number) = stretch.number.checked_add(area - stretch.first) else {
-            // No memory has a place for this number.
+            // No memory is large enough for this number.
             return Err(SizesFault::Memory);
         };
         if let Err(fault) = add_size(sizes, number, size) {
@@ -189,7 +189,7 @@ fn add_stretches<R: Source>(
     Err(SizesFault::TooLong)
 }
 
-// Reads what is left of a table, which may be an entry of null, and nothing else.
+// Reads the rest of a table, which may be an entry of null, and nothing else.
 fn end_table<R: Source>(
     alloc: Global,
     format: &Format,
@@ -219,7 +219,7 @@ fn end_table<R: Source>(
     Ok(())
 }
 
-// Reads the runs of the tile in a place, and its table.
+// Reads the runs of a tile, and its table.
 fn add_band<R: Source + Drop>(
     alloc: Global,
     format: &Format,
@@ -325,14 +325,14 @@ fn put_sizes<W: Sink>(out: &mut W, format: &Format, sizes: &[u64]) -> SizesOutco
     }
 }
 
-/// Adds up the sizes of the clumps of tiles by the numbers that a numbering shows, and writes a line for each number, from
-/// 1 on, with the size of its clump in the full map: the table of the numbers of the full map, without null.
+/// Adds up the sizes of the clumps of tiles by their numbers in a numbering, and writes one line per number, from 1 on,
+/// with the size of its clump in the full map: the table of the numbers of the full map, without null.
 ///
-/// The tables are of the numbers of the tiles, in order, each with its counts; an entry of null is passed over. The numbers may
-/// come in any order. The numbering is read first, 32 bytes of memory for each of its lines, and a number above the count of clumps
-/// that it lists is rejected then; eight bytes are taken for each number up to the largest, and a block for the table that is read.
-/// Nothing is written before all is read, and whether a number is left out is seen then. The sink is flushed once at the end, unless
-/// a put failed.
+/// The tables are about the tiles' clump numbers, in order, each with its counts; entries of null are skipped. The
+/// numbers may come in any order. The numbering is read first, with 32 bytes of memory per line, and a number above the
+/// number of clumps that it lists is rejected then. Each number up to the largest takes eight bytes, and the current
+/// table takes a block. Nothing is written before everything is read; a number that is left out is found then. The sink
+/// is flushed once at the end, unless a put failed.
 pub fn join_table_sizes<R: Source + Drop, W: Sink>(
     alloc: Global,
     format: &Format,
@@ -340,22 +340,22 @@ pub fn join_table_sizes<R: Source + Drop, W: Sink>(
     tables: Vec<R>,
     out: &mut W,
 ) -> SizesOutcome
-    // Without an error the numbering is one to its end, each table lists the clumps of its tile, and the sink has taken
-    // exactly the lines of the sums.
+    // Without an error, the numbering is valid to its end, each table lists the clumps of its tile, and the sink has
+    // taken exactly the lines of the sums.
     ensures joined { (text : Coming) (texts : List Coming) → R.coming areas ≡ Some text
         → Give R.coming tables.items texts → result.fault ≡ None
         → HasWrittenSizes format.now (areas_reading_of text) (map (reading_of format.now 1) texts)
         (W.taken out.old) (W.taken out.new) result.written }
-    // If a write failed, the sink has taken a prefix of them; with any other error nothing.
+    // If a write failed, the sink has taken a prefix of them; with any other error, nothing.
     ensures written { (text : Coming) (texts : List Coming) → R.coming areas ≡ Some text
         → Give R.coming tables.items texts → IfSome result.fault
         (HasStopped format.now (areas_reading_of text) (map (reading_of format.now 1) texts)
         (W.taken out.old) (W.taken out.new) result.written) }
-    // An error is an error of the numbering, or the first that is met when it and the tables are read side by side.
+    // An error is an error of the numbering, or the first one met when it and the tables are read side by side.
     ensures fault { (text : Coming) (texts : List Coming) → R.coming areas ≡ Some text
         → Give R.coming tables.items texts → IfSome result.fault
         (IsSizesFault (areas_reading_of text) (map (reading_of format.now 1) texts)) }
-    // With any error but a failed write the sink is not called, whatever the sources are.
+    // With any error other than a failed write, the sink is not called, whatever the sources are.
     ensures untouched { IfSome result.fault (λ fault. fault ≢ SizesFault.Write
         → (out.new ≡ out.old) × (result.written ≡ 0)) }
     // Without an error, no call of the sink failed and it was flushed once.

@@ -597,7 +597,7 @@ module _ (format : FormatValue) (k : Combination) where
       (begins format k texts readings known (starts-least texts n starts) all)) starts.first n fault starts.goes
       (first-has texts n starts) is
 
--- the text that continues with an entry of the combination, where so many of it are counted
+-- the first text that continues with an entry of the combination, if n cells of it are counted
 pub record Counted (k : Combination) (texts : List TextValue) (n : ℕ) : Type 0 where
   pub first : ℕ
   pub goes : GoesFirst (heads_of texts) first

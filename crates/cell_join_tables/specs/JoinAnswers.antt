@@ -9,13 +9,13 @@ use Rattle.cell_join_tables.specs.TextHeads.{past_first}
 use Rattle.cell_join_tables.specs.declared.join_fault.JoinFault.{JoinFault}
 use Rattle.cell_join_tables.specs.declared.join_fault.JoinFault.TheVariants.{Text, TooMany, TooLong, Memory, Write}
 
--- the text at this place has an error right after the combination, and the texts before it continued after theirs
+-- the text at this place has an error right after the combination, and the earlier texts continued after their own
 pub record StopsBehind (k : Combination) (readings : List TableReading) (text : ℕ) (fault : TableFault) : Type 0 where
   pub has : HasFault readings text fault
   pub place : slice_get (map fault_place readings) text ≡ Some (Some (Some k))
   pub others : (other : ℕ) (reading : TableReading) → other < text → slice_get readings other ≡ Some reading → past_first k reading.entries ≡ [] → reading.fault ≡ None
 
--- of an error of a text, that it stops there; of any other nothing
+-- for an error of a text, that the text stops there; for any other error, nothing
 abbrev pub IsFaultOfText : Combination → List TableReading → JoinFault → Type 0
 IsFaultOfText k readings (Text text fault) = StopsBehind k readings text fault
 IsFaultOfText k readings (TooMany j) = Unit {0}
@@ -31,11 +31,11 @@ IsOpeningFault readings TooLong = ⊥
 IsOpeningFault readings Memory = Unit {0}
 IsOpeningFault readings Write = ⊥
 
--- a result, by whether the block has failed
+-- a result, depending on whether the block has failed
 abbrev pub settled : Bool → Result Unit JoinFault → Result Unit JoinFault
 settled failed answer = if failed then Err Write else answer
 
--- the error of a result, by whether the flush failed: a failed flush turns what is done into a failed write
+-- the error of a result, depending on whether the flush failed: a failed flush turns success into a failed write
 abbrev pub answered : Result Unit JoinFault → Bool → Option JoinFault
 answered (Ok unit) fails = if fails then Some Write else None
 answered (Err fault) fails = Some fault

@@ -1,4 +1,4 @@
--- Texts of tables with labels joined to one: which labels an entry of the merge has, and what is written of it.
+-- Texts of tables with labels joined to one: the labels of an entry of the merge, and what is written.
 use Rattle.std.specs.Prelude.{ℕ, ◌≡◌, ◌≢◌, ◌<◌, List, ◌++◌, length, map, flat_map, codes, decimal, slice_get, Option, Some, None}
 use Rattle.std.specs.List.{AllByRecursion, Contains}
 use Rattle.cell_core_devices.specs.Blocks.{capped_count}
@@ -32,7 +32,7 @@ plain_entries entries = map plain_entry entries
 abbrev pub labelled_of : List LabelledEntry → List Labelled
 labelled_of entries = map (λ entry. entry.0) entries
 
--- the line of an entry: its cells and labels as the texts have them, then its count
+-- the line of an entry: its cells and labels as in the texts, then its count
 abbrev pub counted_line : LabelledEntry → List ℕ
 counted_line entry = ((entry.0).1 ++ decimal entry.1) ++ codes "\n"
 
@@ -40,11 +40,11 @@ counted_line entry = ((entry.0).1 ++ decimal entry.1) ++ codes "\n"
 abbrev pub counted_text : List LabelledEntry → List ℕ
 counted_text entries = flat_map counted_line entries
 
--- what the lines of texts have before their counts
+-- the lines of texts up to their counts
 abbrev pub labels_of_texts : FormatValue → List Coming → List (List Labelled)
 labels_of_texts format texts = map (λ text. labelled_in format text.bytes) texts
 
--- each line of each text is among these entries with its labels, so that no two texts label one combination differently
+-- each line of each text is one of these entries with its labels, so no two texts label one combination differently
 abbrev pub AreLabelledSo : List (List Labelled) → List LabelledEntry → Type 0
 AreLabelledSo texts entries = AllByRecursion (λ lines. AllByRecursion (λ line. Contains (labelled_of entries) line) lines) texts
 
@@ -56,7 +56,8 @@ IsOfTexts texts line = (lines : List Labelled) × (Contains texts lines × Conta
 abbrev pub AreOfTexts : List (List Labelled) → List LabelledEntry → Type 0
 AreOfTexts texts entries = AllByRecursion (λ entry. IsOfTexts texts entry.0) entries
 
--- each text is a table to its end, and the sink took exactly the lines of their merge, each with the labels that all texts have
+-- each text is a complete table, and the sink took exactly the lines of their merge, each with the labels that all
+-- texts have
 pub record AreJoinedLabels (format : FormatValue) (texts : List Coming) (before now : Option (List ℕ)) (written : ℕ) : Type 0 where
   pub tables : AreTables (readings_of format texts)
   pub merged : List LabelledEntry
@@ -66,7 +67,7 @@ pub record AreJoinedLabels (format : FormatValue) (texts : List Coming) (before 
   pub taken : now ≡ append_known before (counted_text merged)
   pub count : written ≡ capped_count (length (counted_text merged))
 
--- each text is a table to its end, and these are the entries of their merge, with the labels that all texts have
+-- each text is a complete table, and these are the entries of their merge, with the labels that all texts have
 pub record IsLabelledMerge (format : FormatValue) (texts : List Coming) (merged : List LabelledEntry) : Type 0 where
   pub whole : IsMergeOf (readings_of format texts) (plain_entries merged)
   pub labels : AreLabelledSo (labels_of_texts format texts) merged
@@ -75,7 +76,7 @@ pub record IsLabelledMerge (format : FormatValue) (texts : List Coming) (merged 
 abbrev pub HasLine : List (List Labelled) → ℕ → Labelled → Type 0
 HasLine texts text line = (lines : List Labelled) × ((slice_get texts text ≡ Some lines) × Contains lines line)
 
--- two texts have the combination with other labels, the first of them before the second, and no error comes after a lesser
+-- two texts give the combination different labels, the first text before the second, and no error comes after a smaller
 -- combination
 pub record HasOtherLabel (readings : List TableReading) (texts : List (List Labelled)) (reported : OtherLabel) : Type 0 where
   pub before : reported.first < reported.text
@@ -88,7 +89,7 @@ pub record HasOtherLabel (readings : List TableReading) (texts : List (List Labe
 abbrev pub HasNumberedLine : List (List Labelled) → (text number : ℕ) → Labelled → Type 0
 HasNumberedLine texts text number line = (lines : List Labelled) × ((slice_get texts text ≡ Some lines) × IsNumberedLine lines number line)
 
--- other labels are on the line that is reported
+-- different labels are on the line that is reported
 abbrev pub IsOnLine : List (List Labelled) → LabelFault → Type 0
 IsOnLine texts (faults.Join fault) = Unit {0}
 IsOnLine texts (faults.OtherLabel reported) = HasNumberedLine texts reported.text reported.line (reported.combo, reported.other.items)
@@ -98,7 +99,7 @@ abbrev pub IsLabelFault : FormatValue → List Coming → LabelFault → Type 0
 IsLabelFault format texts (faults.Join fault) = IsJoinFault (readings_of format texts) fault
 IsLabelFault format texts (faults.OtherLabel reported) = HasOtherLabel (readings_of format texts) (labels_of_texts format texts) reported
 
--- the first entries of the merge of all that was read, with the labels of their lines
+-- the first entries of the merge of everything that was read, with the labels of their lines
 pub record AreFirst (format : FormatValue) (texts : List Coming) (first : List LabelledEntry) : Type 0 where
   pub others : Pairs
   pub merge : IsMerge (tables_of (readings_of format texts)) (plain_entries first ++ others)
@@ -121,7 +122,7 @@ pub record HasLabelledPrefix (format : FormatValue) (texts : List Coming) (befor
   pub taken : now ≡ append_known before prefix
   pub count : written ≡ capped_count (length prefix)
 
--- what was written if the texts are not joined: full lines, but a prefix if a write failed
+-- what was written if the texts are not joined: complete lines, but a prefix if a write failed
 abbrev pub HasJoinWritten : FormatValue → List Coming → Option (List ℕ) → Option (List ℕ) → ℕ → JoinFault → Type 0
 HasJoinWritten format texts before now written (Text text fault) = HasLabelledLines format texts before now written
 HasJoinWritten format texts before now written (TooMany k) = HasLabelledLines format texts before now written
@@ -133,12 +134,12 @@ abbrev pub HasLabelledWritten : FormatValue → List Coming → Option (List ℕ
 HasLabelledWritten format texts before now written (faults.Join fault) = HasJoinWritten format texts before now written fault
 HasLabelledWritten format texts before now written (faults.OtherLabel reported) = HasLabelledLines format texts before now written
 
--- what is reported of texts with labels, and what the sink took
+-- what is reported for texts with labels, and what the sink took
 abbrev pub IsReported : FormatValue → List Coming → (before now : Option (List ℕ)) → (written : ℕ) → Option LabelFault → Type 0
 IsReported format texts before now written None = AreJoinedLabels format texts before now written
 IsReported format texts before now written (Some fault) = IsLabelFault format texts fault × HasLabelledWritten format texts before now written fault
 
--- the same of texts without labels, which are never reported to have other ones
+-- the same for texts without labels, which are never reported to have different ones
 abbrev pub IsPlainly : FormatValue → List Coming → (before now : Option (List ℕ)) → (written : ℕ) → Option LabelFault → Type 0
 IsPlainly format texts before now written None = AreJoinedTexts format (readings_of format texts) before now written
 IsPlainly format texts before now written (Some (faults.Join fault)) = IsJoinFault (readings_of format texts) fault × HasWritten format (readings_of format texts) before now written fault

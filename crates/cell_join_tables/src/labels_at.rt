@@ -1,4 +1,4 @@
-//! The labels that texts have for the combination that they continue with.
+//! The labels that texts have for the combination with which they continue.
 
 ghost use Rattle.std.specs.Prelude.{◌≡◌, ◌<◌, ◌-◌, not, bytes_eq, length, map, slice_get, slice_index_or, All, None, Some, IfOk, IfErr, IfSome, true};
 ghost use Rattle.cell_join_lines.specs.LineLabels.{before_count};
@@ -23,7 +23,7 @@ fn goes_on_with<R: Source>(text: &TableText<R>, combo: &Combo) -> bool
     }
 }
 
-// Whether its line has other labels.
+// Whether its line has different labels.
 fn has_other<R: Source>(format: &Format, text: &TableText<R>, labelled: &[u8]) -> bool
     ensures { result
         ≡ not (bytes_eq (before_count format.now.separator text.now.line) labelled.now) }
@@ -31,7 +31,8 @@ fn has_other<R: Source>(format: &Format, text: &TableText<R>, labelled: &[u8]) -
     text.before_count(format.separator()) != labelled
 }
 
-/// The first of texts at places in order that has other labels for the combination, of those that continue with it.
+/// The first of the texts that continue with the combination, in the order of `places`, that has different labels for
+/// it.
 pub(crate) fn other_at<R: Source>(
     format: &Format,
     texts: &[TableText<R>],
@@ -59,7 +60,7 @@ pub(crate) fn other_at<R: Source>(
     None
 }
 
-/// What shows that two texts have other labels for the combination.
+/// The evidence that two texts have different labels for the combination.
 ///
 /// # Errors
 ///

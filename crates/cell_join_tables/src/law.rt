@@ -1,14 +1,14 @@
-//! The laws of a merge of many tables at once.
+//! The laws of merging many tables at once.
 
 ghost use Rattle.cell_join_tables.specs.MergedTables.{LeastGoesFirst, MergesAll};
 
-/// Tables merged, each with all after it, are the merge of all.
+/// Merging each table with all later ones gives the merge of all tables.
 pub fn merges_all()
     ensures { MergesAll }
 {}
 
-/// The merge of tables begins with the smallest combination that any begins with, and with the sum of its counts, and continues as the
-/// merge of what is left.
+/// The merge of tables begins with the smallest combination with which any of them begins, and the sum of its counts.
+/// It continues as the merge of the rest.
 pub fn least_goes_first()
     ensures { LeastGoesFirst }
 {}

@@ -1,4 +1,4 @@
-//! The smallest entry that texts continue with.
+//! The smallest entry with which texts continue.
 
 ghost use Rattle.std.specs.Prelude.{◌≡◌, ◌≢◌, ℕ, List, [], ◌∷◌, All, IfErr, IfOk, IfSome, None, Ok, OnOk, Some, map, option_map};
 ghost use Rattle.cell_join_lines.specs.LineLabels.{Labelled, labelled_from};
@@ -19,7 +19,7 @@ use cell_stats::format::Format;
 use cell_stats_combinations::combination::Combo;
 use std::alloc::Global;
 
-// The count of an entry, if there is one and it is of the combination.
+// The count of an entry, if there is one and it has the combination.
 fn count_of(entry: Option<&(Combo, u64)>, combo: &Combo) -> Option<u64>
     ensures { result ≡ head_count combo.now (option_map (λ e. e.now) entry.entry) }
 {
@@ -29,7 +29,7 @@ fn count_of(entry: Option<&(Combo, u64)>, combo: &Combo) -> Option<u64>
     }
 }
 
-// Takes the other entries of a combination, of which the first was taken, and returns the counts of all together.
+// Takes the other entries of a combination, of which one was taken, and returns the sum of all counts.
 fn take_others<R: Source>(
     alloc: Global,
     format: &Format,
@@ -69,8 +69,8 @@ fn take_others<R: Source>(
     Ok(total)
 }
 
-/// Takes the smallest entry of all, with the counts of all texts that continue with its combination together; None where each text
-/// is at its end.
+/// Takes the smallest entry of all, with the sum of the counts of all texts that continue with its combination; None if
+/// each text is at its end.
 ///
 /// # Errors
 ///

@@ -1,4 +1,4 @@
-//! Texts in the order in which a merge continues with them.
+//! Texts in the order in which a merge reads them.
 
 ghost use Rattle.std.specs.Prelude.{◌≡◌, ◌≢◌, ◌<◌, ◌≤◌, ℕ, List, All, drop, length, slice_index, IfErr, IfOk, IfSome, MatchOption, None, Ok, OnOk, Some};
 ghost use Rattle.std.specs.List.{Contains, insert};
@@ -21,7 +21,7 @@ use std::alloc::Global;
 use std::cmp::Ordering;
 use std::marker::Model;
 
-// Whether of two texts at these places the first one goes before the other.
+// Whether the text at one place goes before the text at another.
 fn goes_before(
     head: &Option<(Combo, u64)>,
     place: usize,
@@ -43,7 +43,8 @@ fn goes_before(
     }
 }
 
-// How many of the texts at places in order go before the one at another place. It tries one of them first, and then by halves.
+// How many of the texts at ordered places go before the one at another place. It tries one of them first, and then
+// bisects.
 fn count_before<R: Source>(
     texts: &[TableText<R>],
     places: &[usize],
@@ -71,8 +72,8 @@ fn count_before<R: Source>(
     low
 }
 
-// Puts the first place after so many others. Places move by one, 8 bytes a text, as in GNU `sort -m`. A heap moves fewer and
-// looks at twice as many heads.
+// Inserts the first place into `others` places in order. Places move by one, 8 bytes per text, as in GNU `sort -m`. A
+// heap moves fewer places, but looks at twice as many heads.
 fn put_first(places: &mut [usize], others: usize)
     requires { others < length places.old }
     ensures { places.new ≡ insert (drop 1 places.old) others (slice_index places.old 0) }
@@ -80,14 +81,14 @@ fn put_first(places: &mut [usize], others: usize)
     places[..others + 1].rotate_left(1);
 }
 
-/// Texts, and the order in which a merge continues with them: by what they continue with, and of two that continue with the same
-/// combination the earlier one first. Those at their ends are last.
+/// Texts, and the order in which a merge reads them: by the combination with which they continue, and in their own
+/// order if it is the same. Texts at their ends are last.
 #[derive(Drop)]
 pub(crate) struct OrderedTexts<R: Source> {
     texts: Vec<TableText<R>>,
     // The places of the texts, in order.
     order: Vec<usize>,
-    // After how many others the last text was put: the next one often goes there too.
+    // How many texts went before the last one that was inserted: the next one often goes there too.
     last_put: usize,
 }
 
@@ -130,14 +131,15 @@ impl<R: Source> OrderedTexts<R> {
         })
     }
 
-    /// How many texts there are.
+    /// The number of texts.
     pub(crate) fn len(&self) -> usize
         ensures { result ≡ length self.now }
     {
         self.texts.len()
     }
 
-    /// The entry that the first text continues with, which is of the smallest combination; None where each text is at its end.
+    /// The entry with which the first text continues, which has the smallest combination; None if each text is at its
+    /// end.
     pub(crate) fn first(&self) -> Option<&(Combo, u64)>
         ensures { MatchOption result
             (All (λ text. text.head ≡ None) self.now)

@@ -1,4 +1,4 @@
-//! Texts of tables joined to one text.
+//! Joins texts of tables into one text.
 
 ghost use Rattle.std.specs.Prelude.{◌≡◌, ◌≢◌, List, All, Ok, Err, None, Some, IfErr, IfOk, IfSome, OnErr, map, false, true};
 ghost use Rattle.std.specs.List.{Contains};
@@ -30,7 +30,7 @@ use cell_stats::format::Format;
 use itoa::Buffer;
 use std::alloc::Global;
 
-/// What joining texts did.
+/// The outcome of joining texts.
 #[derive(Debug, Drop)]
 pub struct JoinOutcome {
     /// The number of bytes that the sink took, at most `u64::MAX`.
@@ -39,7 +39,7 @@ pub struct JoinOutcome {
     pub fault: Option<LabelFault>,
 }
 
-// What a step of the merge did.
+// The outcome of a step of the merge.
 #[derive(Debug, Drop)]
 enum JoinStep {
     Line,
@@ -47,7 +47,7 @@ enum JoinStep {
     Other(OtherLabel),
 }
 
-// Writes a line: what is before its count, and the count.
+// Writes a line: the part before its count, and the count.
 fn write_counted<W: Sink>(out: &mut W, block: &mut OutputBlock, labelled: &[u8], count: u64)
     ensures { (k : Combination) → Appends W.taken W.faults out.old block.old
         (counted_line ((k, labelled.now), count)) out.new block.new }
@@ -57,7 +57,8 @@ fn write_counted<W: Sink>(out: &mut W, block: &mut OutputBlock, labelled: &[u8],
     block.push(out, b"\n");
 }
 
-// Takes the smallest entry of all, writes its line with the labels that all texts have. Returns whether there was one.
+// Takes the smallest entry of all, and writes its line with the labels that all texts have. Returns whether there was
+// one.
 fn write_least<R: Source, W: Sink>(
     alloc: Global,
     format: &Format,
@@ -96,7 +97,8 @@ fn write_least<R: Source, W: Sink>(
     }
 }
 
-// Writes the lines of the merge, from the smallest entry on, up to the first whose labels differ, and returns these.
+// Writes the lines of the merge, from the smallest entry on, up to the first whose labels differ, and returns these
+// labels.
 fn merge_texts<R: Source, W: Sink>(
     alloc: Global,
     format: &Format,
@@ -124,7 +126,7 @@ fn merge_texts<R: Source, W: Sink>(
     Err(JoinFault::TooLong)
 }
 
-// The same of texts that are not in order yet.
+// The same for texts that are not in order yet.
 fn merge_opened<R: Source + Drop, W: Sink>(
     alloc: Global,
     format: &Format,
@@ -143,7 +145,7 @@ fn merge_opened<R: Source + Drop, W: Sink>(
     }
 }
 
-// The result of a merge, and the other labels that it met.
+// The result of a merge, and the different labels that it met.
 fn parted(
     merged: Result<Option<OtherLabel>, JoinFault>,
 ) -> (Result<(), JoinFault>, Option<OtherLabel>)
@@ -156,7 +158,7 @@ fn parted(
     }
 }
 
-// The error that is reported: other labels if there is no error else.
+// The error that is reported: different labels only if there is no other error.
 fn label_fault(fault: Option<JoinFault>, other: Option<OtherLabel>) -> Option<LabelFault>
     ensures { result ≡ label_fault_of fault other }
 {
@@ -167,7 +169,7 @@ fn label_fault(fault: Option<JoinFault>, other: Option<OtherLabel>) -> Option<La
     }
 }
 
-// Joins texts of which the first entries were read.
+// Joins texts whose first entries were read.
 fn join_opened<R: Source + Drop, W: Sink>(
     alloc: Global,
     format: &Format,
@@ -199,36 +201,36 @@ fn join_opened<R: Source + Drop, W: Sink>(
     }
 }
 
-/// Joins the texts of tables to the text of their merge: each combination that some text lists, once, in order, with the sum of
-/// its counts and, if labels are printed, with the labels that it has in all texts that list it. It holds a block of each
-/// source, the line and the entry that each text continues with, and no table.
+/// Joins the texts of tables to the text of their merge: each combination that any text lists, once, in order, with the
+/// sum of its counts and, if labels are printed, with the labels that all texts listing it give it. It holds a block of
+/// each source, the current line and entry of each text, and no table.
 ///
 /// The first entry of each text is read before the first byte is written. The sink is flushed once at the end, unless a
-/// put failed. Texts that have one combination with other labels are reported if no error comes after a smaller one.
+/// put failed. Texts that give a combination different labels are reported if no error comes after a smaller one.
 pub fn join_texts<R: Source + Drop, W: Sink>(
     alloc: Global,
     format: &Format,
     sources: Vec<R>,
     out: &mut W,
 ) -> JoinOutcome
-    // Without an error each text is a table to its end, and the sink has taken exactly the lines of their merge, each with what
-    // every text that lists its combination has before the count.
+    // Without an error, each text is a complete table, and the sink has taken exactly the lines of their merge, each
+    // with what every text that lists its combination has before the count.
     ensures joined { (texts : List Coming) → Give R.coming sources.items texts
         → result.fault ≡ None
         → AreJoinedLabels format.now texts (W.taken out.old) (W.taken out.new) result.written }
-    // An error of a text is its first one, and of all texts' errors it comes after the smallest combination, or after none, and
-    // of these in the first text; counts or entries that are too many are in the merge, and no error comes after a
-    // lesser combination than one whose counts are; or two texts have other labels for a combination.
+    // An error of a text is its first one. Of all texts' errors, it is the one after the smallest combination, or
+    // before any entry, and of several such errors the one in the first text. Or counts or entries of the merge are too
+    // many, and no error comes after a smaller combination. Or two texts give a combination different labels.
     ensures fault { (texts : List Coming) → Give R.coming sources.items texts
         → IfSome result.fault (IsLabelFault format.now texts) }
-    // Other labels are reported with the line that has them in its text.
+    // Different labels are reported with their line in the text.
     ensures line { (texts : List Coming) → Give R.coming sources.items texts
         → IfSome result.fault (IsOnLine (labels_of_texts format.now texts)) }
-    // With an error the sink has taken the lines of the first entries, or a prefix of them if a write failed.
+    // With an error, the sink has taken the lines of the first entries, or a prefix of them if a write failed.
     ensures written { (texts : List Coming) → Give R.coming sources.items texts
         → IfSome result.fault (HasLabelledWritten format.now texts (W.taken out.old)
         (W.taken out.new) result.written) }
-    // Without labels the same in plain words: exactly the text of the merge, or an error of tables and what it says.
+    // Without labels, the output is exactly the merged text, or there is a table error with its meaning.
     ensures plain { (texts : List Coming) → Give R.coming sources.items texts
         → format.now.labels ≡ false
         → IsPlainly format.now texts (W.taken out.old) (W.taken out.new) result.written
@@ -243,8 +245,8 @@ pub fn join_texts<R: Source + Drop, W: Sink>(
         → W.faults out.new ≡ after_flush (W.faults out.old) false }
     ensures write { result.fault ≡ Some (LabelFault.Join JoinFault.Write)
         → has_failed (W.faults out.new) ≡ true }
-    // If each text is a table to its end, all have the same labels, the sums fit in 64 bits, memory lasts and the sink takes
-    // everything, exactly the text of the merge is written.
+    // If each text is a complete table, all have the same labels, the sums fit in 64 bits, memory suffices and the sink
+    // takes everything, then exactly the text of the merge is written.
     ensures headline { (texts : List Coming) (merged : List LabelledEntry)
         → Give R.coming sources.items texts → IsLabelledMerge format.now texts merged
         → result.fault ≢ Some (LabelFault.Join JoinFault.Memory)

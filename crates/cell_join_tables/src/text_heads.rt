@@ -1,4 +1,4 @@
-//! What the first error of a text, and counts that are too many, are of texts that are joined.
+//! The first error of a text, and counts that are too large, as errors of joining.
 
 ghost use Rattle.std.specs.Prelude.{◌≡◌, ◌≢◌, List};
 ghost use Rattle.cell_stats_combinations.specs.Combinations.{Combination};
@@ -10,7 +10,7 @@ use cell_join_lines::table_fault::{TableFault, TableKind};
 use cell_stats_combinations::combination::Combo;
 use std::alloc::Global;
 
-/// The error of the text at a place, if it is not of memory.
+/// The error of the text at a place, unless it is lack of memory.
 pub fn of_text(text: usize, fault: TableFault) -> JoinFault
     ensures memory { fault.kind ≡ TableKind.Memory → result ≡ JoinFault.Memory }
     ensures text { fault.kind ≢ TableKind.Memory → result ≡ JoinFault.Text text fault }
@@ -22,7 +22,7 @@ pub fn of_text(text: usize, fault: TableFault) -> JoinFault
     }
 }
 
-/// The error of counts of a combination that are beyond 64 bits, or of memory.
+/// The error that the counts of a combination do not fit in 64 bits, or lack of memory.
 pub fn too_many(alloc: Global, combo: &Combo) -> JoinFault
     ensures fault { (readings : List TableReading) → IsFaultOfText combo.now readings result }
     ensures many { (k : Combination) → result ≡ JoinFault.TooMany k → k ≡ combo.now }

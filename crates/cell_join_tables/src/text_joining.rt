@@ -1,4 +1,4 @@
-//! How the joining of texts begins and ends.
+//! How joining texts begins and ends.
 
 ghost use Rattle.std.specs.Prelude.{◌≡◌, ◌≢◌, [], List, All, MatchOption, Some, IfErr, IfOk, IfSome, map, false, true};
 ghost use Rattle.std.specs.List.{Contains};
@@ -21,7 +21,7 @@ use cell_stats::format::Format;
 use cell_stats_combinations::combination::Combo;
 use std::alloc::Global;
 
-// How many cells are wanted after a text that begins so.
+// The number of cells required after a text with this first entry.
 fn width_behind(width: usize, head: &Option<(Combo, u64)>) -> usize
     ensures { result ≡ width_behind width head.now }
 {
@@ -34,7 +34,7 @@ fn width_behind(width: usize, head: &Option<(Combo, u64)>) -> usize
     }
 }
 
-/// The texts of sources, of each of which the first entry was read; all have as many cells as the first entry of all.
+/// The texts of sources, after reading their first entries; all have the same number of cells.
 ///
 /// # Errors
 ///
@@ -73,7 +73,7 @@ pub fn open_texts<R: Source + Drop>(
     Ok(texts)
 }
 
-/// Puts what the block holds, unless a put failed, and changes the result if one fails.
+/// Puts the bytes that the block holds, unless a put failed, and changes the result if this put fails.
 ///
 /// # Errors
 ///
@@ -98,7 +98,7 @@ pub fn settle<W: Sink>(
     merged
 }
 
-/// Flushes the sink unless a put failed, and returns the result. A flush that fails turns what is done into a failed write, and
+/// Flushes the sink unless a put failed, and returns the result. A failed flush turns success into a failed write, and
 /// changes no other result.
 pub fn finish<W: Sink>(merged: Result<(), JoinFault>, out: &mut W) -> Option<JoinFault>
     ensures taken { W.taken out.new ≡ W.taken out.old }

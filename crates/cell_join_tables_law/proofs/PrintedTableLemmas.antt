@@ -29,7 +29,7 @@ use Rattle.cell_join_lines.proofs.TextLemmas.{more-lines, one_line}
 use Rattle.cell_join_tables_law.specs.PrintedTables.{IsClear, IsPrintedEntry, PrintedReadsAsItself, PrintsAsTables, ClearIsTested}
 use Rattle.cell_join_tables_law.proofs.PrintedFieldLemmas.{fields-back, fields-free, joined-free, null-free, split-joined}
 
--- a byte that is apart is no digit, no minus sign and no line feed
+-- a byte that is apart is not a digit, a minus sign or a line feed
 pub digit-apart : (c : ℕ) → is_clear_byte c ≡ true → (b : ℕ) → is_digit b ≡ true → (b == c) ≡ false
 digit-apart c apart b digit = by (b == c) refl
   where

@@ -1,4 +1,4 @@
--- Texts printed with labels of the tables of parts of maps, joined, are the text printed of the table of the full map.
+-- Tables of parts of maps, printed with labels and joined, are the printed table of the full map.
 use Rattle.std.specs.Prelude.{ℕ, ℤ, ◌≡◌, ◌<◌, ◌≤◌, ◌+◌, ◌-◌, ◌*◌, ◌^◌, max, true, List, All, length, map, Option}
 use Rattle.cell_core_devices.specs.Blocks.{capped_count}
 use Rattle.cell_core_devices.specs.Device.{Coming, append_known}
@@ -11,9 +11,9 @@ use Rattle.cell_join_tables_law.specs.PrintedTables.{AreClearLabels, IsClear, la
 use Rattle.cell_join_tables_law.specs.PrintedParts.{text_of_maps, text_of_part}
 use Rattle.cell_join_tables.specs.JoinedLabels.{AreJoinedLabels, IsLabelledMerge, LabelledEntry, counted_text}
 
--- lines with labels that can be read back: counts and labels (r.stats manual, flags -c and -l), fields that can be distinguished, a
--- cell at least, labels of no more bytes than this, and no line that is too long if a cell takes 11 bytes, or as many as the
--- null text, its label so many, or 7 as null's, and a count 20
+-- lines with labels that can be read back: counts and labels (r.stats manual, flags -c and -l), fields that can be
+-- distinguished, at least one cell, no label longer than most bytes, and no line that is too long if each cell takes 11
+-- bytes or the length of the null text, each label most bytes (7 for null), and a count 20
 pub record CanBeReadLabelled (format : FormatValue) (picks : List ℕ) (maps : List Grid) (most : ℕ) : Type 0 where
   pub clear : IsClear format
   pub labels : format.labels ≡ true
@@ -29,14 +29,14 @@ pub record HasLabels (whole : List Grid) (picks : List ℕ) (part : Part) : Type
   pub within : All (λ pick. pick < length part.maps) picks
   pub same : (column : ℕ) (category : ℤ) → labels_of_maps part.maps picks column category ≡ labels_of_maps whole picks column category
 
--- texts with labels that are tables to their ends, whose merge has this text: it is what the joining of texts writes of them
+-- complete texts of tables with labels whose merge has this text: the text is what joining them writes
 pub record JoinLabelledTo (format : FormatValue) (texts : List Coming) (text : List ℕ) : Type 0 where
   pub merged : List LabelledEntry
   pub merge : IsLabelledMerge format texts merged
   pub whole : counted_text merged ≡ text
 
--- however maps of fewer than 2^64 - 1 cells are cut: what is printed with labels of the parts joins to what is printed of the
--- whole
+-- however maps of fewer than 2^64 - 1 cells are cut: the texts printed with labels for the parts join to the text
+-- printed for the full map
 abbrev pub LabelledPartsJoin : Type 0
 LabelledPartsJoin = (format : FormatValue) (picks : List ℕ) (rows cols : ℕ) (whole : List Grid) (most : ℕ)
     → CanBeReadLabelled format picks whole most
@@ -45,7 +45,7 @@ LabelledPartsJoin = (format : FormatValue) (picks : List ℕ) (rows cols : ℕ) 
     → (skip : Skip) → JoinLabelledTo format (map (text_of_part format skip picks) parts)
     (text_of_maps format skip picks rows cols whole)
 
--- if texts join to a text, a sink that took what they were joined to without an error took exactly this text
+-- if texts join to a text, a sink that took the result of joining them without an error took exactly this text
 abbrev pub LabelledAsOne : Type 0
 LabelledAsOne = (format : FormatValue) (texts : List Coming) (text : List ℕ) → JoinLabelledTo format texts text
     → (before now : Option (List ℕ)) (written : ℕ) → AreJoinedLabels format texts before now written

@@ -1,4 +1,4 @@
--- What is printed of tables, read and joined.
+-- Printed tables, read and joined.
 pub mod LabelledParts
 pub mod PrintedParts
 pub mod PrintedTables

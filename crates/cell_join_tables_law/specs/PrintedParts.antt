@@ -1,4 +1,4 @@
--- Texts printed of the tables of parts of maps, joined, are the text printed of the table of the full map.
+-- Printed tables of parts of maps, joined, are the printed table of the full map.
 use Rattle.std.specs.Prelude.{ℕ, ◌≡◌, ◌<◌, ◌≤◌, ◌+◌, ◌-◌, ◌*◌, ◌^◌, max, true, false, List, All, length, map, Option}
 use Rattle.cell_core_devices.specs.Blocks.{capped_count}
 use Rattle.cell_core_devices.specs.Device.{Coming, append_known}
@@ -13,20 +13,21 @@ use Rattle.cell_join_lines.specs.declared.table_fault.TheConstants.{MOST_BYTES}
 use Rattle.cell_join_tables_law.specs.PrintedTables.{IsClear}
 use Rattle.cell_join_tables.specs.JoinedTexts.{AreJoinedTexts, IsMergeOf, readings_of}
 
--- what is printed of the table of the picked maps, of so many rows and columns
+-- the printed table of the picked maps of this size
 abbrev pub text_of_maps : FormatValue → Skip → List ℕ → (rows cols : ℕ) → List Grid → List ℕ
 text_of_maps format skip picks rows cols maps =
     table_text format maps picks (table_of skip (all_combinations maps picks rows cols))
 
--- the same of a part, whole and with no failure after it
+-- the same for a part, complete and without a failure at its end
 abbrev pub text_of_part : FormatValue → Skip → List ℕ → Part → Coming
 text_of_part format skip picks part = record {
   bytes = text_of_maps format skip picks part.place.rows part.place.cols part.maps;
   fails = false;
 }
 
--- lines that can be read back: counts and no labels (r.stats manual, flags -c and -l), fields that can be distinguished,
--- at least one cell, and no line that is too long if a cell takes 11 bytes, or as many as the null text, and a count 20
+-- lines that can be read back: counts and no labels (r.stats manual, flags -c and -l), fields that can be
+-- distinguished, at least one cell, and no line that is too long if each cell takes 11 bytes or the length of the null
+-- text, and a count 20
 pub record CanBeReadBack (format : FormatValue) (picks : List ℕ) : Type 0 where
   pub clear : IsClear format
   pub labels : format.labels ≡ false
@@ -34,13 +35,14 @@ pub record CanBeReadBack (format : FormatValue) (picks : List ℕ) : Type 0 wher
   pub some : 0 < length picks
   pub short : length picks * (max 11 (length format.null_text) + 1) + 20 ≤ MOST_BYTES
 
--- texts that are tables to their ends, whose merge has this text: it is what the joining of texts writes of them
+-- complete texts of tables whose merge has this text: the text is what joining them writes
 pub record JoinTo (format : FormatValue) (texts : List Coming) (text : List ℕ) : Type 0 where
   pub merged : Pairs
   pub merge : IsMergeOf (readings_of format texts) merged
   pub whole : entries_text format merged ≡ text
 
--- however maps of fewer than 2^64 - 1 cells are cut: what is printed of the parts joins to what is printed of the full map
+-- however maps of fewer than 2^64 - 1 cells are cut: the texts printed for the parts join to the text printed for the
+-- full map
 abbrev pub PrintedPartsJoin : Type 0
 PrintedPartsJoin = (format : FormatValue) (picks : List ℕ) → CanBeReadBack format picks
     → (rows cols : ℕ) (whole : List Grid) (parts : List Part) → AreParts rows cols whole parts
@@ -48,7 +50,7 @@ PrintedPartsJoin = (format : FormatValue) (picks : List ℕ) → CanBeReadBack f
     → (skip : Skip) → JoinTo format (map (text_of_part format skip picks) parts)
     (text_of_maps format skip picks rows cols whole)
 
--- if texts join to a text, a sink that took what they were joined to without an error took exactly this text
+-- if texts join to a text, a sink that took the result of joining them without an error took exactly this text
 abbrev pub JoinedAsOne : Type 0
 JoinedAsOne = (format : FormatValue) (texts : List Coming) (text : List ℕ) → JoinTo format texts text
     → (before now : Option (List ℕ)) (written : ℕ)

@@ -1,10 +1,10 @@
--- Which stretches are written so that they are read back.
+-- Which runs can be read back after writing.
 use Rattle.std.specs.Prelude.{ℕ, ◌≡◌, ◌+◌, ◌<◌, ◌≤◌, ◌^◌, ◌⊎◌, false, List, [], ◌∷◌, All, length, Option, Some, None}
 use Rattle.cell_join_lines.specs.declared.stretch.Stretch.{Stretch}
 use Rattle.cell_join_lines.specs.AreasReading.{areas_reading_of}
 use Rattle.cell_join_lines.specs.AreasText.{areas_text, stretches_of}
 
--- numbers from 1 on that are read: of a band and its areas as far as the areas of a map go
+-- numbers from 1 on that can be read: of a tile and its areas, up to the number of areas that a map can have
 pub record IsReadable (s : Stretch) : Type 0 where
   pub some_band : 0 < s.band
   pub band : s.band < 2 ^ 31
@@ -19,17 +19,17 @@ abbrev pub Follows : Option Stretch → Stretch → Type 0
 Follows None s = s.first ≡ 1
 Follows (Some before) s = ((before.band ≡ s.band) × (s.first ≡ before.last + 1)) ⊎ ((before.band < s.band) × (s.first ≡ 1))
 
--- stretches in order after one, if there is one
+-- runs in order after another one, if there is one
 abbrev pub AreReadable : Option Stretch → List Stretch → Type 0
 AreReadable before [] = Unit {0}
 AreReadable before (s ∷ stretches) = IsReadable s × Follows before s × AreReadable (Some s) stretches
 
--- their text is read as these stretches
+-- their text is read back as these runs
 abbrev pub TextReadsAsItself : Type 0
 TextReadsAsItself = (stretches : List Stretch) → AreReadable None stretches
     → areas_reading_of (record { bytes = areas_text stretches; fails = false }) ≡ record { stretches = stretches; fault = None }
 
--- the stretches of bands are such
+-- the runs of tiles are in order
 abbrev pub StretchesAreReadable : Type 0
 StretchesAreReadable = (areas numbers : List ℕ) → length areas < 2 ^ 31 → All (λ n. n < 2 ^ 31) areas
     → All (λ n. (0 < n) × (n < 2 ^ 64)) numbers → AreReadable None (stretches_of areas numbers)

@@ -13,7 +13,7 @@ const HEADER: usize = 51;
 
 const ROW: usize = 8;
 
-// The small border with another row in place of one, counted from 1, and its error.
+// The small border with one row, counted from 1, replaced, and its error.
 fn fault_with(alloc: Global, row: usize, line: &[u8]) -> Result<Option<BorderFault>, Memory> {
     let at = HEADER.saturating_add(ROW.saturating_mul(row.saturating_sub(1)));
     let mut text = Vec::new(alloc);

@@ -12,14 +12,14 @@ use std::alloc::Global;
 /// Room for each text of a small map.
 pub(crate) const ROOM: usize = 1024;
 
-// The most bytes that one call of a source gives, and of a sink takes.
+// The largest number of bytes that a source gives, or a sink takes, per call.
 const PIECE: usize = 7;
 
 /// The border of the rows `1 1` and `1 2`, by edges.
 pub(crate) const SMALL: &[u8] = b"north: 3\nsouth: 1\neast: 2\nwest: 0\nrows: 10\ncols: 4\n\
 1 1 * *\n1 1 * *\n1 2 * *\n1 2 * *\n1 1 * *\n1 1 * *\n1 2 * *\n1 2 * *\n2 2 2 4\n1 1 * *\n";
 
-/// What writing a border did, and the bytes that the sink took.
+/// The outcome of writing a border, and the bytes that the sink took.
 #[derive(Drop)]
 pub(crate) struct Written {
     pub(crate) outcome: BorderOutcome,
@@ -32,7 +32,7 @@ fn source_of(alloc: Global, text: &[u8]) -> Result<MemorySource, Memory> {
     Ok(MemorySource::new(bytes, PIECE, false))
 }
 
-/// The border of the text of a map, written to a sink of so much room, whose flush fails or not.
+/// Writes the border of the text of a map to a sink with this much room, whose flush fails or not.
 pub(crate) fn written_to(
     alloc: Global,
     joining: Joining,
@@ -47,7 +47,7 @@ pub(crate) fn written_to(
     Ok(Written { outcome, bytes })
 }
 
-/// What a text of a border is read as.
+/// The border that a text is read as.
 pub(crate) fn read(alloc: Global, text: &[u8]) -> Result<Result<BorderText, BorderFault>, Memory> {
     Ok(read_border(alloc, source_of(alloc, text)?))
 }

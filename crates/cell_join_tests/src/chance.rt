@@ -1,16 +1,16 @@
-//! Maps that look like chance.
+//! Pseudo-random maps.
 
 use cell_core::memory::Memory;
 use cell_core_test_maps::maps::NULL;
 use std::alloc::Global;
 
-/// The next number of a sequence that looks like chance (Knuth's multiplier).
+/// The next pseudo-random number (Knuth's multiplier).
 pub(crate) fn next_random(seed: u64) -> u64 {
     seed.wrapping_mul(6364136223846793005)
         .wrapping_add(1442695040888963407)
 }
 
-/// So many categories below a number; one number of four stands for null.
+/// `count` random categories; of four numbers one is null.
 pub(crate) fn categories_by(
     alloc: Global,
     seed: &mut u64,

@@ -1,4 +1,4 @@
-//! Borders of tiles that make no grid, and texts that are no borders of them.
+//! Borders of tiles that do not make a grid, and texts that are not borders.
 
 use crate::border_texts::ROOM;
 use crate::tile_texts::{A, B, C, D, DEEP, NARROW, TALL, WIDE, border, borders, joined_to};
@@ -26,7 +26,7 @@ fn fault_of(
     Ok(joined.outcome.fault)
 }
 
-// Tiles of which one lies neither right of the one before it nor below the first, its place, and why.
+// Tiles with one that is neither right of the one before it nor below the first, its place, and why.
 const APART: [(&[&[u8]], usize, Misfit, Misfit); 3] = [
     (
         &[A, D, C, B],
@@ -77,7 +77,7 @@ fn tiles_apart(rt: HostRuntime) -> Result<(), Fail> {
     Ok(())
 }
 
-// Tiles of which one is not right of another.
+// Tiles with one that is not right of another.
 const NOT_BESIDE: [(&[u8], Misfit); 2] = [
     (
         C,
@@ -102,7 +102,7 @@ fn tiles_not_beside(rt: HostRuntime) -> Result<(), Fail> {
     Ok(())
 }
 
-// How a tile after the first does not fit next to it, if it has as many rows.
+// Why a later tile does not fit to the right of the one before it, if it has as many rows.
 const EDGES: [(&[u8], Misfit); 2] = [
     (
         TALL,
@@ -139,7 +139,7 @@ fn tiles_at_other_edges(rt: HostRuntime) -> Result<(), Fail> {
     Ok(())
 }
 
-// Tiles of which one is not below another, the places of both, and why.
+// Tiles with one that is not below another, the places of both, and why.
 const NOT_BELOW: [(&[&[u8]], usize, usize, Misfit); 3] = [
     (&[A, B, C, NARROW], 3, 1, Misfit::Cols { cols: 1, other: 2 }),
     (

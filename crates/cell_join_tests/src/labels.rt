@@ -1,4 +1,4 @@
-//! Texts with labels, and what they are joined to.
+//! Texts with labels, and the result of joining them.
 
 use cell_core::sink::MemorySink;
 use cell_core::source::MemorySource;
@@ -10,10 +10,10 @@ use std::alloc::{AllocError, AllocGlobal, Global};
 use std::process::Abort;
 use std::test::Fail;
 
-// How many bytes a sink has room for.
+// The room of a sink in bytes.
 const ROOM: usize = 4096;
 
-// The sources of texts, which give at most so many bytes at once.
+// Sources of texts that give at most `piece` bytes at a time.
 fn sources_of(
     alloc: Global,
     texts: &[&[u8]],
@@ -27,7 +27,7 @@ fn sources_of(
     Ok(sources)
 }
 
-// Joins texts whose fields are parted by semicolons.
+// Joins texts whose fields are separated by semicolons.
 fn join(
     alloc: Global,
     texts: &[&[u8]],
@@ -39,7 +39,7 @@ fn join(
     Ok(join_texts(alloc, &format, sources, out))
 }
 
-// Joins texts without labels, whose fields are parted by spaces.
+// Joins texts without labels, whose fields are separated by spaces.
 fn join_plain(
     alloc: Global,
     texts: &[&[u8]],
@@ -50,7 +50,7 @@ fn join_plain(
     Ok(join_texts(alloc, &format, sources, out))
 }
 
-// What other labels were reported.
+// The different labels that were reported.
 fn other_labels(outcome: &JoinOutcome) -> Option<(usize, usize, u64, &[u8], &[u8])> {
     match &outcome.fault {
         Some(LabelFault::OtherLabel(reported)) => Some((
@@ -64,7 +64,7 @@ fn other_labels(outcome: &JoinOutcome) -> Option<(usize, usize, u64, &[u8], &[u8
     }
 }
 
-// The table of two texts that label the same, and of one that is empty.
+// The table of two texts with the same labels, and one empty text.
 const CARRIED: &[u8] = b"1;forest;12\n2;lake;1\n3;;2\n*;no data;4\n";
 
 fn expect_carried<R: Abort + AllocGlobal>(rt: &R, piece: usize) -> Result<(), Fail> {

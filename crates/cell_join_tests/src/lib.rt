@@ -1,6 +1,6 @@
-//! Tests of maps in grids of tiles: the clumps of the full map compared with the joined ones.
-//! Tests of what joins tables, clumps and sizes: worked texts, each error with its place, texts that come in small pieces, texts that are
-//! cut short, sinks that fail, and random sizes compared with a plain count.
+//! Tests of maps in grids of tiles: the clumps of the full map compared with the joined ones. Tests of joining tables,
+//! clumps and sizes: worked texts, each error with its place, texts in small pieces, truncated texts, failing sinks,
+//! and random sizes compared with a plain count.
 #![tactic(auto)]
 
 #[cfg(test)]

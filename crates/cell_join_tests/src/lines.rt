@@ -1,4 +1,4 @@
-//! Texts and what they are read as.
+//! Texts, and how they are read.
 
 ghost use Rattle.std.specs.Prelude.{◌≡◌, ◌<◌, ◌≤◌, length, IfOk};
 
@@ -36,7 +36,7 @@ const TEXTS: [(&[u8], Result<u64, (u64, TableKind)>); 21] = [
     (b"1 5\r\n", Err((1, TableKind::BadCount))),
 ];
 
-// What a text adds up to, of which a source gives at most so many bytes at once, and then fails or ends.
+// The sum of the counts of a text whose source gives at most `piece` bytes at a time, and then fails or ends.
 fn sum_of(alloc: Global, text: &[u8], piece: usize, fails: bool) -> Result<u64, (u64, TableKind)> {
     let Ok(bytes) = Vec::from_slice(alloc, text) else {
         return Err((0, TableKind::Memory));
@@ -48,7 +48,7 @@ fn sum_of(alloc: Global, text: &[u8], piece: usize, fails: bool) -> Result<u64, 
     }
 }
 
-// What the text of a source adds up to.
+// The sum of the counts of a source's text.
 fn add_up(alloc: Global, source: MemorySource) -> Result<u64, TableFault> {
     let format = Format::new(b' ', b"*", false, true);
     let mut text = TableText::from_source(alloc, &format, 0, source)?;
@@ -93,7 +93,7 @@ fn a_line_has_a_greatest_length(rt: HostRuntime) -> Result<(), Fail> {
     Ok(())
 }
 
-// A source of one byte a call, of which one call fails, or reports the end, before it continues. It counts its calls.
+// A source that gives one byte per call. One call fails, or reports the end, before it continues. It counts its calls.
 #[derive(Drop)]
 struct OddSource<'a> {
     text: &'a [u8],
@@ -104,7 +104,7 @@ struct OddSource<'a> {
 }
 
 impl<'a> OddSource<'a> {
-    // What a call gives.
+    // What a call returns.
     fn give(&mut self, buf: &mut [u8]) -> Result<usize, DeviceFault>
         requires { 0 < length buf.old }
         ensures count { IfOk result (λ n. n ≤ length buf.new) }
@@ -134,8 +134,8 @@ impl<'a> Source for OddSource<'a> {
     }
 }
 
-// What the second line is read as if a call for it fails or reports the end, how often the source was asked till then, and how
-// often when the text was asked twice more.
+// How the second line is read if a call for it fails or reports the end, how many calls the source had by then, and how
+// many after two more requests for a line.
 fn asked_oddly(
     alloc: Global,
     odd_call: usize,

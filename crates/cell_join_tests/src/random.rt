@@ -8,7 +8,7 @@ use std::alloc::AllocGlobal;
 use std::process::Abort;
 use std::test::Fail;
 
-/// However a map is cut into a grid, by edges and by corners, its clumps have the numbers of the full map.
+/// However a map is cut into a grid, its clumps, by edges and by corners, have the numbers of the full map.
 pub(crate) fn expect_as_whole<R: Abort + AllocGlobal>(
     rt: &R,
     categories: &[i32],
@@ -43,7 +43,7 @@ fn expect_random_maps<R: Abort + AllocGlobal>(rt: &R, mut seed: u64) -> Result<(
     Ok(())
 }
 
-// Four tests and not one, since a test has a minute.
+// Four tests instead of one, since a test may take at most a minute.
 
 #[test]
 fn random_maps_in_every_grid(rt: HostRuntime) -> Result<(), Fail> {

@@ -7,17 +7,17 @@ use itoa::Buffer;
 use std::alloc::{AllocGlobal, Global};
 use std::test::Fail;
 
-// How many tiles a map has at most.
+// Maximum number of tiles of a map.
 const BANDS: u64 = 6;
 
-// How many runs a tile has at most.
+// Maximum number of runs of a tile.
 const STRETCHES: u64 = 3;
 
-// The largest number that a run begins with.
+// The largest number with which a run begins.
 const NUMBERS: u64 = 5;
 
-// The texts of tiles, how many clumps they have, the largest number of each line of the numbering, and the sizes of the clumps of the
-// whole, by their numbers: 0 if a number is left out.
+// The texts of tiles, the number of their clumps, the largest number in each line of the numbering, and the sizes of
+// the clumps of the full map, by number: 0 if a number is left out.
 #[derive(Drop)]
 struct Bands {
     areas: Vec<u8>,
@@ -27,7 +27,7 @@ struct Bands {
     sizes: Vec<u64>,
 }
 
-// The next number of a sequence that looks like chance, below a bound.
+// The next pseudo-random number, below a bound.
 fn below(seed: &mut u64, bound: u64) -> u64 {
     *seed = seed
         .wrapping_mul(6364136223846793005)
@@ -35,7 +35,7 @@ fn below(seed: &mut u64, bound: u64) -> u64 {
     (*seed >> 33) % bound.max(1)
 }
 
-// A line of numbers, with a space between two.
+// A line of numbers, separated by spaces.
 fn push_line(text: &mut Vec<u8>, numbers: &[u64]) -> Result<(), Memory> {
     for (place, number) in numbers.iter().enumerate() {
         if 0 < place {
@@ -47,7 +47,7 @@ fn push_line(text: &mut Vec<u8>, numbers: &[u64]) -> Result<(), Memory> {
     Ok(())
 }
 
-// A size more of the clump of a number.
+// Adds a size to the size of a number.
 fn count(sizes: &mut Vec<u64>, number: u64, size: u64) -> Result<(), Memory> {
     for _ in sizes.len() as u64..number {
         sizes.push(0)?;
@@ -58,7 +58,7 @@ fn count(sizes: &mut Vec<u64>, number: u64, size: u64) -> Result<(), Memory> {
     Ok(())
 }
 
-// So many clumps of a tile from one on, with numbers from one on.
+// Adds the sizes of `areas` clumps of a tile, from clump `area` on, to the numbers from `number` on.
 fn push_areas(
     seed: &mut u64,
     table: &mut Vec<u8>,
@@ -75,7 +75,7 @@ fn push_areas(
     Ok(())
 }
 
-// A tile in a place, of runs of up to three clumps, with numbers at random.
+// A tile in a place, with runs of up to three clumps and random numbers.
 fn push_band(alloc: Global, seed: &mut u64, band: u64, bands: &mut Bands) -> Result<(), Memory> {
     let mut table = Vec::new(alloc);
     let mut area = 1u64;
@@ -101,7 +101,7 @@ fn push_band(alloc: Global, seed: &mut u64, band: u64, bands: &mut Bands) -> Res
     Ok(())
 }
 
-// Bands at random.
+// Random tiles.
 fn bands_by(alloc: Global, mut seed: u64) -> Result<Bands, Memory> {
     let mut bands = Bands {
         areas: Vec::new(alloc),

@@ -1,4 +1,4 @@
-//! Shapes that cross the seams between tiles: what meets only far away is one clump.
+//! Shapes that cross the seams between tiles: parts that meet only far away are one clump.
 
 use crate::assertions::assert_same;
 use crate::random::expect_as_whole;

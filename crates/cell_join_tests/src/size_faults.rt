@@ -1,4 +1,4 @@
-//! The errors of texts, each with its place: nothing is written then.
+//! The errors of texts, each with its place; nothing is written.
 
 use crate::sizes::{ROOM, join_to};
 use crate::worked_sizes::{AREAS, FIRST, SECOND};

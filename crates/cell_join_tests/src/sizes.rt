@@ -7,13 +7,13 @@ use cell_join_sizes::table_sizes::{SizesOutcome, join_table_sizes};
 use cell_stats::format::Format;
 use std::alloc::Global;
 
-// The most bytes that one call of a source gives, and of a sink takes.
+// The largest number of bytes that a source gives, or a sink takes, per call.
 const PIECE: usize = 7;
 
-/// More than any sizes here take.
+/// More bytes than the sizes of any test take.
 pub(crate) const ROOM: usize = 4096;
 
-/// What joining did, and the bytes that the sink took.
+/// The outcome of joining, and the bytes that the sink took.
 #[derive(Drop)]
 pub(crate) struct Joined {
     pub(crate) outcome: SizesOutcome,
@@ -34,7 +34,7 @@ fn sources_of(alloc: Global, texts: &[&[u8]]) -> Result<Vec<MemorySource>, Memor
     Ok(sources)
 }
 
-/// The sizes of a numbering and of tables, to a sink of so much room.
+/// Writes the sizes of a numbering and tables to a sink with this much room.
 pub(crate) fn join_to(
     alloc: Global,
     areas: &[u8],

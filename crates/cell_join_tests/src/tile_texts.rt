@@ -22,29 +22,29 @@ pub(crate) const C: &[u8] = b"north: 1\nsouth: 0\neast: 2\nwest: 0\nrows: 1\ncol
 
 pub(crate) const D: &[u8] = b"north: 1\nsouth: 0\neast: 4\nwest: 2\nrows: 1\ncols: 2\n1 1\n";
 
-/// The last one with a column less, and at another east edge.
+/// The last one with one column less, and with another east edge.
 pub(crate) const NARROW: &[u8] = b"north: 1\nsouth: 0\neast: 3\nwest: 2\nrows: 1\ncols: 1\n1\n";
 
 pub(crate) const WIDE: &[u8] = b"north: 1\nsouth: 0\neast: 5\nwest: 2\nrows: 1\ncols: 2\n1 1\n";
 
-/// The second one at another north edge, and at another south edge.
+/// The second one with another north edge, and with another south edge.
 pub(crate) const TALL: &[u8] =
     b"north: 4\nsouth: 1\neast: 4\nwest: 2\nrows: 2\ncols: 2\n2 2\n2 1\n";
 
 pub(crate) const DEEP: &[u8] =
     b"north: 3\nsouth: 0\neast: 4\nwest: 2\nrows: 2\ncols: 2\n2 2\n2 1\n";
 
-// The most bytes that one call of a source gives, and of a sink takes.
+// The largest number of bytes that a source gives, or a sink takes, per call.
 const PIECE: usize = 7;
 
-/// What joining did, and the bytes that the sink took.
+/// The outcome of joining, and the bytes that the sink took.
 #[derive(Drop)]
 pub(crate) struct Joined {
     pub(crate) outcome: ClumpsOutcome,
     pub(crate) bytes: Vec<u8>,
 }
 
-/// Joins texts, to a sink of so much room, whose flush fails or not. Reading the last text fails or not.
+/// Joins texts, into a sink with this much room, whose flush fails or not. Reading the last text fails or not.
 pub(crate) fn joined_to(
     alloc: Global,
     joining: Joining,

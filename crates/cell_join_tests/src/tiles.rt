@@ -52,7 +52,7 @@ fn cut_out(
     Ok(cells)
 }
 
-// The cells of a row or a column of a map and of its numbers, from one of both on.
+// The cells of a row or a column of a map, and their numbers, from one cell on.
 fn side_of(
     alloc: Global,
     map: &CellMap,
@@ -77,7 +77,7 @@ fn side_of(
     Ok(side)
 }
 
-// The border of the tile of these categories, and the numbers of its cells.
+// The border of the tile with these categories, and the numbers of its cells.
 fn tile_of(
     alloc: Global,
     categories: &[i32],
@@ -100,7 +100,7 @@ fn tile_of(
     Ok((border, categories_of(alloc, &clumps)?))
 }
 
-// The borders of the tiles of a row of tiles, whose numbers go after the numbers of the others.
+// The borders of the tiles of a row of tiles; their numbers follow the numbers of the others.
 fn row_of_tiles(
     alloc: Global,
     whole: Whole<'_>,
@@ -130,7 +130,7 @@ fn row_of_tiles(
     Ok(tiles)
 }
 
-// The number in the full map of a clump of a part, by the runs of a numbering.
+// The number in the full map of a clump of a tile, from the runs of a numbering.
 fn number_in(runs: &[Stretch], part: u64, clump: u64) -> u64 {
     for run in runs {
         if run.band == part && run.first <= clump && clump <= run.last {
@@ -140,7 +140,7 @@ fn number_in(runs: &[Stretch], part: u64, clump: u64) -> u64 {
     u64::MAX
 }
 
-// Puts the numbers of a tile's cells in their places in the full map.
+// Writes the numbers of a tile's cells to their places in the full map.
 fn put_numbers(found: &mut [u64], cols: u32, tile: &Numbered, runs: &[Stretch]) {
     let mut at: u32 = 0;
     for number in tile.numbers.as_slice() {
@@ -160,7 +160,7 @@ fn put_numbers(found: &mut [u64], cols: u32, tile: &Numbered, runs: &[Stretch]) 
     }
 }
 
-// What a joiner rejects, as a test does.
+// The error of a joiner, as a test failure.
 fn joined(answer: Result<TileJoiner, JoinerFault>) -> Result<TileJoiner, Fail> {
     match answer {
         Ok(joiner) => Ok(joiner),
@@ -168,8 +168,8 @@ fn joined(answer: Result<TileJoiner, JoinerFault>) -> Result<TileJoiner, Fail> {
     }
 }
 
-/// The numbers of all cells of a map in a grid of tiles of these heights and widths, 0 for null, as they are joined, and how
-/// many clumps there are.
+/// The numbers of all cells of a map, joined from a grid of tiles of these heights and widths, 0 for null; and the
+/// number of clumps.
 pub(crate) fn joined_numbers(
     alloc: Global,
     whole: Whole<'_>,
@@ -193,7 +193,7 @@ pub(crate) fn joined_numbers(
     Ok((found, all.clumps))
 }
 
-/// The numbers of all cells of the full map, 0 for null, and how many clumps there are.
+/// The numbers of all cells of the full map, 0 for null; and the number of clumps.
 pub(crate) fn whole_numbers(
     alloc: Global,
     whole: Whole<'_>,

@@ -1,4 +1,4 @@
-//! Worked borders, and all that a border may be cut to.
+//! Worked borders, and all prefixes of a border.
 
 use crate::border_texts::{ROOM, SMALL, read, written_to};
 use cell_cats_areas::clump::Joining;
@@ -34,7 +34,7 @@ fn borders_are_read(rt: HostRuntime) -> Result<(), Fail> {
     Ok(())
 }
 
-// No proper prefix is a border, but that the last line feed may be left out.
+// No proper prefix is a border, except the one without the last line feed.
 #[test]
 fn prefixes_are_none(rt: HostRuntime) -> Result<(), Fail> {
     for length in 0..SMALL.len() {

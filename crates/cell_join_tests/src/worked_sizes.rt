@@ -1,5 +1,5 @@
-//! Two tiles, of two clumps and of three: in the full map the second of the first is one clump with the first of the other, and the first
-//! with its last.
+//! Two tiles, with two clumps and with three: in the full map the second clump of the first tile is one with the first
+//! of the other, and the first with its last.
 
 use crate::sizes::{ROOM, join_to};
 use cell_join_sizes::size_fault::SizesFault;
@@ -16,8 +16,7 @@ pub(crate) const SECOND: &[u8] = b"1 20\n2 30\n3 40\n";
 
 const SIZES: &[u8] = b"1 45\n2 27\n3 30\n";
 
-// With a null where there was none and the other way round, with tiles after these that have no clumps, with numbers downwards, and
-// without tiles.
+// With a null in the other table only, with more tiles that have no clumps, with descending numbers, and without tiles.
 #[test]
 fn sizes_are_added_up(rt: HostRuntime) -> Result<(), Fail> {
     let cases: [(&[u8], &[&[u8]], &[u8]); 5] = [

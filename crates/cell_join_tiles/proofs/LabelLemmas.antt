@@ -121,7 +121,7 @@ module _ (grid : List (List Begun)) where
   begins-of : (r c k : ℕ) → IsClump r c k → Begins (get_or grid r []) (line_of r c k) c k
   begins-of r c k x = record { c_in = x.c_in; at = lies (get_or (get_or grid r []) c []) k x.k_in }
 
-  -- the tiles of a row of tiles have so many rows
+  -- the tiles of a row of tiles have equally many rows
   module _ (high : ℕ → ℕ) (short : (r c : ℕ) → r < length grid → c < length (get_or grid r []) → length (get_or (get_or grid r []) c []) ≤ high r) where
     whole-of : (r : ℕ) → r < length grid → begun_above (get_or grid r []) (high r) ≡ clumps_in_row (get_or grid r [])
     whole-of r lt = above-whole (get_or grid r []) (high r) (λ c c_in. short r c lt c_in)

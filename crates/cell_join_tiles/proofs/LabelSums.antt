@@ -1,4 +1,4 @@
--- Sums of the first so many, and between which of them a number lies.
+-- Sums of the first n terms, and between which two of these sums a number is.
 use Rattle.std.proofs.Common.{◌≡◌, ℕ, zero, suc, ◌+◌, ◌<◌, ◌≤◌, List, [], ◌∷◌, take, length, get_or, arith, ⊎_elim}
 use Rattle.std.specs.Prelude.{sum, sum_by}
 use Rattle.std.proofs.lemmas.Bool.{cases_lt}

@@ -11,7 +11,7 @@ use Rattle.cell_join_tiles.specs.Beginnings.{Begun, clumps_in_grid, IsCutIntoTil
 use Rattle.cell_join_tiles.specs.Borders.{Rises, cell_label}
 use Rattle.cell_join_tiles.specs.SeamLines.{Line, line_meetings, HasSide, side_marks, row_line}
 
--- of a tile of so many rows and columns
+-- the border of a tile of rows × cols cells
 pub record HasBorder (j : Joining) (rows cols : ℕ) (m numbers : Grid) (border : BorderValue) : Type 0 where
   pub clumping : IsClumping j m numbers
   pub first : HasSide m numbers cols (position 0) border.first.cells border.first.numbers
@@ -24,7 +24,7 @@ pub record HasBorder (j : Joining) (rows cols : ℕ) (m numbers : Grid) (border 
 abbrev pub border_at : List (List BorderValue) → (r c : ℕ) → BorderValue
 border_at grid r c = slice_index_or (slice_index_or grid r []) c no_border
 
--- the same of each tile of a grid, none of them empty
+-- the same for each tile of a grid, none of them empty
 pub record HaveBorders (j : Joining) (heights widths : List ℕ) (map_of numbers_of : ℕ → ℕ → Grid) (grid : List (List BorderValue)) : Type 0 where
   pub some_rows : All (λ n. 0 < n) heights
   pub some_cols : All (λ n. 0 < n) widths
@@ -32,7 +32,7 @@ pub record HaveBorders (j : Joining) (heights widths : List ℕ) (map_of numbers
   pub wide : (r : ℕ) → r < length heights → length (slice_index_or grid r []) ≡ length widths
   pub tiles : (r c : ℕ) → r < length heights → c < length widths → HasBorder j (slice_index heights r) (slice_index widths c) (map_of r c) (numbers_of r c) (border_at grid r c)
 
--- what begins in each row of each tile
+-- the counts of clumps that begin in each row of each tile
 abbrev pub begun_in : List (List BorderValue) → List (List Begun)
 begun_in grid = map (λ row. map (λ border. border.begun) row) grid
 
@@ -56,6 +56,6 @@ side_pairs j grid r = flat_map (λ c. line_meetings j (right_line grid r c) (lef
 abbrev pub border_pairs : Joining → List (List BorderValue) → List (ℕ × ℕ)
 border_pairs j grid = flat_map (side_pairs j grid) (range_with_len 0 (length grid)) ++ flat_map (λ r. line_meetings j (last_line grid r) (first_seam_line grid (suc r))) (range_with_len 0 (length grid - 1))
 
--- from borders alone: the cells of the full map are labelled as a joining by pairs of labels asks
+-- from only borders: the cells of the full map are labelled as joining by pairs of labels requires
 abbrev pub GridsAreLabelled : Type 0
 GridsAreLabelled = (j : Joining) (whole : Grid) (heights widths : List ℕ) (map_of numbers_of : ℕ → ℕ → Grid) (grid : List (List BorderValue)) → IsCutIntoTiles whole heights widths map_of → HaveBorders j heights widths map_of numbers_of grid → (starts : List Position) × (length starts ≡ clumps_in_grid (begun_in grid)) × AreLabelled j whole starts (cell_label heights widths numbers_of (begun_in grid)) (border_pairs j grid)

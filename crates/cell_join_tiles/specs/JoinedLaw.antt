@@ -1,4 +1,5 @@
--- What is held of rows of tiles that were joined is enough for the next row, and for the numbering of each map that is cut so.
+-- What is kept of joined rows of tiles is enough for the next row, and for the numbering of each map that is cut this
+-- way.
 use Rattle.std.specs.Prelude.{ℕ, ◌≡◌, ◌+◌, ◌-◌, List, [], ◌∷◌, ◌++◌, length, slice_index}
 use Rattle.cell_join_lines.specs.declared.stretch.Stretch.{Stretch}
 use Rattle.cell_join_numbers.specs.SparseNumbers.{NumberPairs}
@@ -17,6 +18,6 @@ RowsJoin = (grid : List (List BorderValue)) (row : List BorderValue) (old new : 
 abbrev pub JoinedTilesNumber : Type 0
 JoinedTilesNumber = (grid : List (List BorderValue)) (joiner : TileJoinerValue) → AreJoinedTiles grid joiner → (paired numbers roots : List ℕ) (h : NumberPairs joiner.pairs paired numbers roots) (runs : List Stretch) → runs ≡ runs_of_tiles h.number 1 joiner.tiles → AreRunsOf joiner.joining grid runs
 
--- and each such map has so many clumps
+-- and each such map has the number of clumps that the joiner counts
 abbrev pub JoinedTilesCount : Type 0
 JoinedTilesCount = (grid : List (List BorderValue)) (joiner : TileJoinerValue) → AreJoinedTiles grid joiner → (paired numbers roots : List ℕ) (h : NumberPairs joiner.pairs paired numbers roots) (n : ℕ) → n ≡ (joiner.clumps - length paired) + slice_index roots (length paired) → GridClumps joiner.joining grid n

@@ -1,4 +1,4 @@
--- Rows of tiles that were joined, and what their numbering says of each map that is cut into such tiles.
+-- Joined rows of tiles, and what their numbering says about each map that is cut into such tiles.
 use Rattle.std.specs.Prelude.{ℕ, zero, suc, pos, ◌≡◌, ◌↔◌, ◌+◌, ◌-◌, ◌<◌, List, [], ◌++◌, length, map, flat_map, take, sum, sum_by, Contains, Some, slice_index, slice_index_or}
 use Rattle.std.specs.List.{range_with_len}
 use Rattle.cell_core.specs.Grid.{Grid}
@@ -16,10 +16,10 @@ use Rattle.cell_join_tiles.specs.JoinedBorders.{HaveBorders, begun_in}
 use Rattle.cell_join_tiles.specs.parts.RowLabels.{labels_in_tile}
 use Rattle.cell_join_tiles.specs.parts.RowMarks.{begun_of, first_in, last_in, pairs_within}
 
--- ---- what is held of rows of tiles
+-- ---- what is kept of rows of tiles
 
--- by which adjacency they are joined, how many clumps they have, the pairs of labels that meet at seams, the last row of cells with
--- its labels, and the labels of the clumps of each tile
+-- the adjacency by which they are joined, the number of their clumps, the pairs of labels that meet at seams, the last
+-- row of cells with its labels, and the labels of the clumps of each tile
 pub record TileJoinerValue : Type 0 where
   pub joining : Joining
   pub clumps : ℕ
@@ -39,7 +39,7 @@ abbrev pub above_at : List (List BorderValue) → ℕ → Line
 above_at grid zero = []
 above_at grid (suc r) = last_in (base_at grid r) (tile_row_at grid r) (length (tile_row_at grid r))
 
--- the pairs at the seam above a row of tiles and at those within it
+-- the pairs at the seam above a row of tiles, and those at the seams within it
 abbrev pub pairs_of : Joining → (above : Line) (base : ℕ) (row : List BorderValue) → List (ℕ × ℕ)
 pairs_of j above base row = line_meetings j above (first_in base row (length row)) ++ pairs_within j base row (length row)
 
@@ -62,16 +62,16 @@ pub record AreJoinedTiles (grid : List (List BorderValue)) (joiner : TileJoinerV
 
 -- ---- the numbering
 
--- how many clumps each tile has, row by row of tiles
+-- the number of clumps of each tile, row by row of tiles
 abbrev pub clumps_by_tile : List (List BorderValue) → List ℕ
 clumps_by_tile grid = flat_map (λ row. map (λ border. sum border.begun) row) grid
 
--- numbers of the clumps of tiles, tile by tile: in each map that is cut into tiles of these borders each cell has the number of its
--- clump in its tile
+-- the numbers of the clumps of tiles, tile by tile: in each map that is cut into tiles with these borders, each cell
+-- has the number of its clump
 abbrev pub GridNumbers : Joining → List (List BorderValue) → List ℕ → Type 0
 GridNumbers j grid numbers = (whole : Grid) (heights widths : List ℕ) (map_of numbers_of : ℕ → ℕ → Grid) → IsCutIntoTiles whole heights widths map_of → HaveBorders j heights widths map_of numbers_of grid → (r c : ℕ) → r < length heights → c < length widths → (p : Position) (k : ℕ) → cell_at_position (numbers_of r c) p ≡ Some (pos k) → HasNumber j whole (moved_position (tile_place heights widths r c) p) (slice_index numbers (clumps_before_tile (begun_in grid) r c + (k - 1)))
 
--- and each such map has so many clumps
+-- and each such map has this number of clumps
 abbrev pub GridClumps : Joining → List (List BorderValue) → ℕ → Type 0
 GridClumps j grid n = (whole : Grid) (heights widths : List ℕ) (map_of numbers_of : ℕ → ℕ → Grid) → IsCutIntoTiles whole heights widths map_of → HaveBorders j heights widths map_of numbers_of grid → HasAreas j whole n
 

@@ -17,26 +17,27 @@ use Rattle.cell_join_tiles.specs.Borders.{ArePairedAtSeams, number_of, cell_labe
 abbrev pub Line : Type 0
 Line = List (Option Mark)
 
--- the labels of two cells, if they are of one category
+-- the labels of two cells, if they have the same category
 abbrev pub line_meeting : Option Mark → Option Mark → List (ℕ × ℕ)
 line_meeting None other = []
 line_meeting (Some one) None = []
 line_meeting (Some one) (Some other) = if int_eq one.category other.category then (one.label, other.label) ∷ [] else []
 
--- the pairs of the cell at a place of one line with the cells that touch it in the next, and of the cell after it with the one at the place
+-- the pairs of the cell at a place of one line with the cells that touch it in the next, and of the cell after it with
+-- the one at the place
 abbrev pub line_meetings_at : Joining → (one other : Line) → ℕ → List (ℕ × ℕ)
 line_meetings_at Edges one other k = line_meeting (slice_index_or one k None) (slice_index_or other k None)
 line_meetings_at EdgesAndCorners one other k = (line_meeting (slice_index_or one k None) (slice_index_or other k None) ++ line_meeting (slice_index_or one k None) (slice_index_or other (k + 1) None)) ++ line_meeting (slice_index_or one (k + 1) None) (slice_index_or other k None)
 
--- all of two lines that lie side by side
+-- all pairs of two adjacent lines
 abbrev pub line_meetings : Joining → (one other : Line) → List (ℕ × ℕ)
 line_meetings j one other = flat_map (line_meetings_at j one other) (range_with_len 0 (length one))
 
--- what is at a cell of the full map: its category, and the label that it bears
+-- the mark of a cell of the full map: its category and its label
 abbrev pub seam_mark_of : Grid → (Position → ℕ) → Position → Option Mark
 seam_mark_of whole label_of p = option_map (λ v. record { category = v; label = label_of p }) (cell_at_position whole p)
 
--- what is at so many cells
+-- a line of count cells of the full map, with their labels
 pub record IsLineOf (whole : Grid) (label_of : Position → ℕ) (count : ℕ) (at : ℕ → Position) (line : Line) : Type 0 where
   pub long : length line ≡ count
   pub each : (k : ℕ) → k < count → slice_index_or line k None ≡ seam_mark_of whole label_of (at k)
@@ -55,23 +56,23 @@ IsAtSide j heights widths left right pair = (r : ℕ) × (c : ℕ) × (r < lengt
 abbrev pub IsAtRow : Joining → List ℕ → (first last : ℕ → Line) → ℕ × ℕ → Type 0
 IsAtRow j heights first last pair = (r : ℕ) × (suc r < length heights) × Contains (line_meetings j (last r) (first (suc r))) pair
 
--- the pairs of all seams are those that are asked
+-- the pairs of all seams are those that are required
 abbrev pub SeamLinesPair : Type 0
 SeamLinesPair = (j : Joining) (whole : Grid) (heights widths : List ℕ) (label_of : Position → ℕ) (left right : ℕ → ℕ → Line) (first last : ℕ → Line) (pairs : List (ℕ × ℕ)) → All (λ n. 0 < n) heights → All (λ n. 0 < n) widths → ((p : Position) → IsSome (cell_at_position whole p) → (p.row < sum heights) × (p.col < sum widths)) → AreSeamLines whole heights widths label_of left right first last → ((pair : ℕ × ℕ) → Contains pairs pair ↔ (IsAtSide j heights widths left right pair ⊎ IsAtRow j heights first last pair)) → ArePairedAtSeams j whole heights widths label_of pairs
 
 -- ---- lines from borders
 
--- the cells of a tile at so many positions, and their numbers
+-- a side of a tile: its cells at count positions, and their numbers
 pub record HasSide (m numbers : Grid) (count : ℕ) (at : ℕ → Position) (cells ids : List CellValue) : Type 0 where
   pub long : length cells ≡ count
   pub each_cell : (k : ℕ) → k < count → slice_index_or cells k None ≡ cell_at_position m (at k)
   pub each_number : (k : ℕ) → k < count → slice_index_or ids k None ≡ cell_at_position numbers (at k)
 
--- what is at a cell of the tile in a row and a column of tiles, by its number in the tile
+-- the mark of a cell of the tile in a row and a column of tiles, given its number in the tile
 abbrev pub side_mark : List (List Begun) → (r c : ℕ) → (cell number : CellValue) → Option Mark
 side_mark grid r c cell number = option_map (λ v. record { category = v; label = clump_label grid r c (number_of number - 1) }) cell
 
--- what is at the cells of a side
+-- the marks of the cells of a side
 abbrev pub side_marks : List (List Begun) → (r c : ℕ) → (cells ids : List CellValue) → Line
 side_marks grid r c cells ids = map (λ k. side_mark grid r c (slice_index_or cells k None) (slice_index_or ids k None)) (range_with_len 0 (length cells))
 

@@ -9,7 +9,7 @@ pub record SideValue : Type 0 where
   pub cells : List CellValue
   pub numbers : List CellValue
 
--- the border of a tile: its four sides, and for each of its rows how many of its clumps begin in it
+-- the border of a tile: its four sides, and for each of its rows the number of its clumps that begin in it
 pub record BorderValue : Type 0 where
   pub first : SideValue
   pub last : SideValue

@@ -14,7 +14,7 @@ use std::alloc::Global;
 ///
 /// # Errors
 ///
-/// [`Memory`] when out of memory.
+/// [`Memory`] if memory runs out.
 pub fn row_of(alloc: Global, map: &CellMap, row: u32) -> Result<Vec<Cell>, Memory>
     requires { row < map.now.region.rows }
     ensures { IfOk result (λ cells. cells.items ≡ row_at map.now row) }
@@ -48,11 +48,11 @@ fn greatest_in(most: u64, cells: &[Cell]) -> u64
     greatest
 }
 
-/// For each row of the numbers of the clumps of a tile, as many as begin in it.
+/// For each row of the clump numbers of a tile, the number of clumps that begin in it.
 ///
 /// # Errors
 ///
-/// [`Memory`] when out of memory.
+/// [`Memory`] if memory runs out.
 pub fn begun_by_row(alloc: Global, numbers: &CellMap) -> Result<Vec<u64>, Memory>
     ensures { IfOk result (λ begun. Rises numbers.now.region.rows numbers.now begun.items) }
 {

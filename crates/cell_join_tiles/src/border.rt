@@ -11,17 +11,17 @@ pub struct Side {
     pub numbers: Vec<Cell>,
 }
 
-/// What a joining needs of a tile.
+/// What joining needs from a tile.
 #[derive(Debug, Drop)]
 pub struct Border {
     /// The first row.
     pub first: Side,
-    /// The last row, which is the first if the tile has one.
+    /// The last row, which is also the first if the tile has one row.
     pub last: Side,
     /// The first column.
     pub left: Side,
     /// The last column.
     pub right: Side,
-    /// For each row of the tile, how many of its clumps begin in it.
+    /// For each row of the tile, the number of its clumps that begin in it.
     pub begun: Vec<u64>,
 }

@@ -1,4 +1,4 @@
-//! Rows of tiles joined one below the other.
+//! Rows of tiles, joined from top to bottom.
 
 ghost use Rattle.std.specs.Prelude.{ℕ, ◌≡◌, ◌≤◌, ◌^◌, ◌+◌, ◌++◌, ◌∷◌, [], List, IfErr, IfOk};
 ghost use Rattle.cell_join_tiles.specs.Beginnings.{clumps_in_row};
@@ -22,9 +22,9 @@ use std::marker::Model;
 /// Why a row of tiles is not joined to those above it.
 #[derive(Clone, Copy, Debug, PartialEq, Eq)]
 pub enum JoinerFault {
-    /// Its tiles do not all have as many rows.
+    /// Its tiles do not have equally many rows.
     OtherRows,
-    /// With its clumps there are more than a `u64` counts.
+    /// With its clumps, there are more than fit in a `u64`.
     TooManyClumps,
     /// Memory ran out.
     Memory,
@@ -41,23 +41,24 @@ impl From<Memory> for JoinerFault {
     }
 }
 
-/// The clumps of the full map of tiles.
+/// The clumps of the full map, as clumps of tiles.
 #[derive(Debug, Drop)]
 pub struct JoinedTiles {
-    /// The clumps of the tiles in their order, as runs whose numbers in the full map follow one another.
+    /// The clumps of the tiles in their order, as runs with consecutive numbers in the full map.
     pub runs: Vec<Stretch>,
-    /// How many clumps the full map has.
+    /// The number of clumps of the full map.
     pub clumps: u64,
 }
 
-/// Tiles of a map, joined row by row of tiles from the top.
+/// Tiles of a map, joined row by row from the top.
 ///
-/// It takes 16 bytes for each pair of clumps that meet at a seam, and for each row of each tile in which clumps begin; where
-/// a row of tiles has one tile, 16 bytes for all of its rows. Of the borders it keeps the last row of cells.
+/// It takes 16 bytes for each pair of clumps that meet at a seam, and for each row of each tile in which clumps begin.
+/// If a row of tiles has only one tile, it takes 16 bytes for all of the tile's rows. Of the borders it keeps the last
+/// row of cells.
 #[derive(Drop)]
 pub struct TileJoiner {
     joining: Joining,
-    // How many clumps the tiles have, which are the labels.
+    // The number of clumps of the tiles, which is the number of labels.
     clumps: u64,
     // The pairs of labels that meet at seams.
     pairs: Vec<(u64, u64)>,
@@ -79,7 +80,7 @@ impl Model for TileJoiner {
 }
 
 impl TileJoiner {
-    /// No tile yet. Takes no memory.
+    /// No tiles yet. Takes no memory.
     pub fn new(alloc: Global, joining: Joining) -> TileJoiner
         ensures joining { result.joining ≡ joining }
         ensures none { AreJoinedTiles [] result }
@@ -93,7 +94,7 @@ impl TileJoiner {
         }
     }
 
-    /// The tiles with one more row of tiles below them, from the left.
+    /// Adds one more row of tiles, from the left.
     ///
     /// # Errors
     ///
@@ -103,7 +104,7 @@ impl TileJoiner {
         ensures joined { IfOk result (λ more. (grid : List (List BorderValue))
             → AreJoinedTiles grid self
             → AreJoinedTiles (grid ++ border_values row.items ∷ []) more) }
-        // A row is rejected for an error of its own.
+        // A row is rejected because of an error of its own.
         ensures other_rows { IfErr result (λ fault. fault ≡ JoinerFault.OtherRows
             → (rows : ℕ) → AreEven rows (border_values row.items) → ⊥) }
         ensures many { IfErr result (λ fault. fault ≡ JoinerFault.TooManyClumps
@@ -149,11 +150,11 @@ impl TileJoiner {
         })
     }
 
-    /// The number that each clump of each tile has in the full map, and how many clumps that has.
+    /// The number that each clump of each tile has in the full map, and the number of clumps there.
     ///
     /// # Errors
     ///
-    /// [`Memory`] when out of memory.
+    /// [`Memory`] if memory runs out.
     pub fn finish(self, alloc: Global) -> Result<JoinedTiles, Memory>
         ensures runs { IfOk result (λ joined. (grid : List (List BorderValue))
             → AreJoinedTiles grid self → AreRunsOf self.joining grid joined.runs.items) }

@@ -1,4 +1,4 @@
-//! The runs of the numbering: clumps of a tile whose numbers in the full map follow one another.
+//! The runs of the numbering: clumps of a tile with consecutive numbers in the full map.
 
 ghost use Rattle.std.specs.Prelude.{ℕ, ◌≡◌, ◌≤◌, ◌<◌, ◌+◌, ◌-◌, ◌++◌, ◌^◌, ◌↔◌, List, IfOk, IsTrue, OnOk, length, map, slice_index};
 ghost use Rattle.std.specs.List.{range_with_len};
@@ -29,7 +29,7 @@ fn has_label_before(paired: &[u64], place: usize, end: u64) -> bool
     }
 }
 
-// Numbers labels of which none is paired: each has the next number.
+// Numbers labels that are not paired: each has the next number.
 fn add_lone(
     runs: &mut Vec<Stretch>,
     part: u64,
@@ -84,7 +84,7 @@ fn add_paired(
     add_run(runs, part, line, run)
 }
 
-// How far the labels of a span were numbered.
+// How far the labels of a span are numbered.
 #[derive(Clone, Copy)]
 pub(crate) struct Walk {
     pub(crate) label: u64,
@@ -92,7 +92,7 @@ pub(crate) struct Walk {
     pub(crate) line: Option<Line>,
 }
 
-// Numbers the labels up to the next paired one, and that one.
+// Numbers the labels up to the next paired one, and the paired one too.
 fn walk_label(
     runs: &mut Vec<Stretch>,
     part: u64,
@@ -160,7 +160,7 @@ fn walk_span(
     add_lone(runs, part, walk.line, sparse, walk.place, rest)
 }
 
-// Puts the runs of a tile whose clumps have these labels after others.
+// Adds the runs of a tile whose clumps have these labels.
 fn add_tile(
     runs: &mut Vec<Stretch>,
     part: u64,

@@ -8,17 +8,17 @@ ghost use Rattle.cell_join_tiles.specs.JoinedLaw.{JoinedTilesCount, JoinedTilesN
 ghost use Rattle.cell_join_tiles.specs.LabelLines.{LabelLinesLabel, LabelLinesPass};
 ghost use Rattle.cell_join_tiles.specs.TileNumbers.{TileNumbersAreListed};
 
-/// Of two clumps of tiles the one with the smaller label has the earlier first cell in the full map.
+/// Of two clumps of tiles, the one with the smaller label has the earlier first cell in the full map.
 pub fn labels_follow_first_cells()
     ensures { LabelsFollowFirstCells }
 {}
 
-/// Cells that bear the labels of their clumps are labelled as a joining by pairs of labels asks.
+/// Cells with the labels of their clumps satisfy what joining by pairs of labels requires.
 pub fn clump_labels_are_labels()
     ensures { ClumpLabelsAreLabels }
 {}
 
-/// As many clumps begin in a row as the largest of the numbers so far rises in it.
+/// The number of clumps that begin in a row is the rise of the largest number so far.
 pub fn rises_count_begun()
     ensures { RisesCountBegun }
 {}
@@ -28,12 +28,12 @@ pub fn cells_bear_labels()
     ensures { CellsBearLabels }
 {}
 
-/// Numbers of the labels, by the pairs at the seams alone, are the numbers of the full map.
+/// Numbers of the labels that use only the pairs at the seams are the numbers of the full map.
 pub fn borders_number_the_whole()
     ensures { BordersNumberTheWhole }
 {}
 
-/// And their count is the number of the areas of the full map.
+/// And their number is the number of areas of the full map.
 pub fn borders_count_the_whole()
     ensures { BordersCountTheWhole }
 {}
@@ -43,7 +43,7 @@ pub fn seam_lines_pair()
     ensures { SeamLinesPair }
 {}
 
-/// Borders of tiles label the cells of the full map as a joining by pairs of labels asks.
+/// Borders of tiles label the cells of the full map as joining by pairs of labels requires.
 pub fn borders_are_labelled()
     ensures { BordersAreLabelled }
 {}
@@ -58,37 +58,37 @@ pub fn rows_are_lines()
     ensures { RowsAreLines }
 {}
 
-/// The line of the labels of the first clumps of each row of a tile gives the label of each of its clumps.
+/// From the labels of the first clumps of each row of a tile follows the label of each of its clumps.
 pub fn label_lines_label()
     ensures { LabelLinesLabel }
 {}
 
-/// And passes on to the tile on the right.
+/// And the same for the tile to its right.
 pub fn label_lines_pass()
     ensures { LabelLinesPass }
 {}
 
-/// From the borders of tiles alone: the cells of the full map are labelled as a joining by pairs of labels asks.
+/// From only the borders of tiles: the cells of the full map are labelled as joining by pairs of labels requires.
 pub fn grids_are_labelled()
     ensures { GridsAreLabelled }
 {}
 
-/// Numbers that are listed tile by tile: where the number of each clump is.
+/// Numbers that are listed tile by tile: where the number of each clump is listed.
 pub fn tile_numbers_are_listed()
     ensures { TileNumbersAreListed }
 {}
 
-/// What is held of rows of tiles that were joined is enough for the next row.
+/// What is kept of the joined rows of tiles is enough for the next row.
 pub fn rows_join()
     ensures { RowsJoin }
 {}
 
-/// And for the numbering: in each map that is cut into these tiles each cell has the number of its clump.
+/// And for the numbering: in each map that is cut into these tiles, each cell has the number of its clump.
 pub fn joined_tiles_number()
     ensures { JoinedTilesNumber }
 {}
 
-/// And for the count of the clumps of each such map.
+/// And for the number of clumps of each such map.
 pub fn joined_tiles_count()
     ensures { JoinedTilesCount }
 {}

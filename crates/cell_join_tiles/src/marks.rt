@@ -11,14 +11,14 @@ use cell_core::cell::Cell;
 use cell_core::memory::Memory;
 use std::alloc::Global;
 
-// A category, and the label of the clump of a cell that has it.
+// The category of a cell, and the label of its clump.
 #[derive(Clone, Copy, Debug, PartialEq, Eq)]
 pub(crate) struct Mark {
     pub(crate) category: i32,
     pub(crate) label: u64,
 }
 
-// The cell at a place, null past the end.
+// The cell at a place, or null past the end.
 fn cell_at(cells: &[Cell], place: usize) -> Cell
     ensures { result ≡ slice_index_or cells.now place None }
 {
@@ -28,7 +28,7 @@ fn cell_at(cells: &[Cell], place: usize) -> Cell
     }
 }
 
-// The clump that has a number, counted from 0.
+// The clump with a number, counted from 0.
 fn clump_of_mark(number: Cell) -> Option<u64>
     ensures { result ≡ clump_of_mark number }
 {
@@ -42,7 +42,7 @@ fn clump_of_mark(number: Cell) -> Option<u64>
     Some(number - 1)
 }
 
-// What is at a cell of a tile, if it is not null.
+// The mark of a cell of a tile, if it is not null.
 fn mark_in(firsts: &[u64], begun: &[u64], ends: &[u64], cell: Cell, number: Cell) -> Option<Mark>
     requires long { length firsts.now ≡ length begun.now }
     requires ends { AreEnds begun.now ends.now }
@@ -56,7 +56,7 @@ fn mark_in(firsts: &[u64], begun: &[u64], ends: &[u64], cell: Cell, number: Cell
     Some(Mark { category, label })
 }
 
-// Puts what is at the cells of a side of a tile after a line.
+// Adds the marks of the cells of a side of a tile to a line.
 pub(crate) fn add_marks(
     line: &mut Vec<Option<Mark>>,
     firsts: &[u64],

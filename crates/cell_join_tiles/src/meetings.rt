@@ -9,14 +9,14 @@ use crate::marks::Mark;
 use cell_cats_areas::clump::Joining;
 use cell_core::memory::Memory;
 
-// Whether two cells are of one category.
+// Whether two cells have the same category.
 fn are_alike(one: Mark, other: Mark) -> bool
     ensures { result ≡ int_eq one.category other.category }
 {
     one.category == other.category
 }
 
-// What is at a place of a line.
+// The mark at a place of a line.
 fn mark_on(line: &[Option<Mark>], place: usize) -> Option<Mark>
     ensures { result ≡ slice_index_or line.now place None }
 {
@@ -26,7 +26,7 @@ fn mark_on(line: &[Option<Mark>], place: usize) -> Option<Mark>
     }
 }
 
-// Whether a pair was the last to be put there.
+// Whether a pair was the last one added.
 fn is_last(pairs: &[(u64, u64)], one: u64, other: u64) -> bool
     ensures { IsTrue result → Contains pairs.now (one, other) }
 {
@@ -36,7 +36,7 @@ fn is_last(pairs: &[(u64, u64)], one: u64, other: u64) -> bool
     }
 }
 
-// Puts a pair after others, but once if it comes again and again along a seam.
+// Adds a pair to others, but only once if it is repeated along a seam.
 fn add_pair(pairs: &mut Vec<(u64, u64)>, one: u64, other: u64) -> Result<(), Memory>
     ensures { OnOk result (Adds pairs.old.items pairs.new.items ((one, other) ∷ [])) }
 {
@@ -47,7 +47,7 @@ fn add_pair(pairs: &mut Vec<(u64, u64)>, one: u64, other: u64) -> Result<(), Mem
     Ok(())
 }
 
-// Puts the labels of two cells after other pairs, if the cells are of one category.
+// Adds the labels of two cells to other pairs, if the cells have the same category.
 fn add_meeting(
     pairs: &mut Vec<(u64, u64)>,
     one: Option<Mark>,
@@ -67,8 +67,8 @@ fn add_meeting(
     Ok(())
 }
 
-// Puts the pairs of a cell of one line and the cells that touch it in the other after others; of the cell after it and the one
-// next to it too, where corners join.
+// Adds the pairs of a cell of one line and the cells that touch it in the other; if corners connect, also the pair of
+// the next cell and the one opposite this cell.
 fn add_meetings_at(
     pairs: &mut Vec<(u64, u64)>,
     joining: Joining,
@@ -88,7 +88,7 @@ fn add_meetings_at(
     Ok(())
 }
 
-// Puts the pairs of two lines that lie side by side after others.
+// Adds the pairs of two adjacent lines to others.
 pub(crate) fn add_meetings(
     pairs: &mut Vec<(u64, u64)>,
     joining: Joining,

@@ -1,4 +1,4 @@
-//! The runs of a tile, made of areas whose numbers follow one another.
+//! The runs of a tile, made from areas with consecutive numbers.
 
 ghost use Rattle.std.specs.Prelude.{◌≡◌, ◌+◌, ◌<◌, ◌^◌, ◌++◌, ℕ, List, IfOk};
 ghost use Rattle.std.specs.List.{range_with_len};
@@ -8,14 +8,14 @@ ghost use Rattle.cell_join_tiles.specs.parts.RunLines.{AreInLines, areas_of_line
 use cell_core::memory::Memory;
 use cell_join_lines::stretch::{Stretch, is_next};
 
-// The last stretch of a tile so far, which may continue, and the number of its last area.
+// The last run of a tile so far, which may continue, and the number of its last area.
 #[derive(Clone, Copy)]
 pub(crate) struct Line {
     pub(crate) stretch: Stretch,
     pub(crate) previous: u64,
 }
 
-// So many areas with the numbers from one to another.
+// `count` clumps with the numbers `first` to `last`.
 #[derive(Clone, Copy)]
 pub(crate) struct Run {
     pub(crate) first: u64,
@@ -23,7 +23,7 @@ pub(crate) struct Run {
     pub(crate) count: u64,
 }
 
-// Takes areas after the areas of a line in: the line continues, or its stretch is put after others and another begins.
+// Adds areas after the areas of a line: they extend the line, or its run is finished and another one begins.
 pub(crate) fn add_run(
     stretches: &mut Vec<Stretch>,
     part: u64,

@@ -1,4 +1,4 @@
-//! The labels of the clumps of a tile, as spans of labels that follow one another.
+//! The labels of the clumps of a tile, as spans of consecutive labels.
 
 ghost use Rattle.std.specs.Prelude.{ℕ, ◌≡◌, ◌++◌, ◌+◌, ◌<◌, ◌^◌, All, IfOk, length, map, sum, slice_index};
 ghost use Rattle.std.specs.List.{range_with_len};
@@ -8,14 +8,14 @@ ghost use Rattle.cell_join_tiles.specs.parts.Spans.{SpanFits, SpansFit, labels_i
 use cell_core::memory::Memory;
 use std::alloc::Global;
 
-// So many labels from one on.
+// `count` labels from `first` on.
 #[derive(Clone, Copy, Debug, PartialEq, Eq)]
 pub(crate) struct Span {
     pub(crate) first: u64,
     pub(crate) count: u64,
 }
 
-// Takes the next labels in: the last span continues, or is put after others and a new one begins.
+// Adds the next labels: they extend the last span, or the span is finished and a new one begins.
 fn add_labels(spans: &mut Vec<Span>, from: Span, next: Span) -> Result<Span, Memory>
     requires from { SpanFits from }
     requires next { SpanFits next }

@@ -18,7 +18,7 @@ use cell_cats_areas::clump::Joining;
 use cell_core::memory::Memory;
 use std::alloc::Global;
 
-// How many rows each tile of a row of tiles has, if they have as many.
+// The number of rows of each tile of a row of tiles, if it is the same for all.
 pub(crate) fn rows_of(row: &[Border]) -> Option<usize>
     ensures some { IfSome result (λ rows. AreEven rows (border_values row.now)) }
     ensures none { IfNone result ((rows : ℕ) → AreEven rows (border_values row.now) → ⊥) }
@@ -35,7 +35,7 @@ pub(crate) fn rows_of(row: &[Border]) -> Option<usize>
     Some(rows)
 }
 
-// How many clumps there are, the clumps of a tile included.
+// The number of clumps, including a tile's own.
 fn clumps_with(clumps: u64, begun: &[u64]) -> Option<u64>
     ensures some { IfSome result (λ all. all ≡ clumps + sum begun.now) }
     ensures none { IfNone result (2 ^ 64 ≤ clumps + sum begun.now) }
@@ -47,7 +47,7 @@ fn clumps_with(clumps: u64, begun: &[u64]) -> Option<u64>
     Some(all)
 }
 
-// How many clumps there are, the clumps of a row of tiles included.
+// The number of clumps, including the clumps of a row of tiles.
 pub(crate) fn clumps_with_row(clumps: u64, row: &[Border]) -> Option<u64>
     ensures some { IfSome result (λ all.
         all ≡ clumps + clumps_in_row (begun_of (border_values row.now))) }
@@ -61,7 +61,7 @@ pub(crate) fn clumps_with_row(clumps: u64, row: &[Border]) -> Option<u64>
     Some(all)
 }
 
-// How many clumps begin in a row of a tile.
+// The number of clumps that begin in a row of a tile.
 fn begun_at(begun: &[u64], row: usize) -> u64
     ensures { result ≡ slice_index begun.now row }
 {
@@ -71,7 +71,7 @@ fn begun_at(begun: &[u64], row: usize) -> u64
     }
 }
 
-// How many begin in a row of a row of tiles, in any of its tiles.
+// The number of clumps that begin in a row of a row of tiles, in any of its tiles.
 fn begun_in_row(tiles: &[Border], row: usize) -> u64
     requires { clumps_in_row (begun_of (border_values tiles.now)) < 2 ^ 64 }
     ensures { result ≡ in_each (begun_of (border_values tiles.now)) row }
@@ -83,7 +83,8 @@ fn begun_in_row(tiles: &[Border], row: usize) -> u64
     all
 }
 
-// For each row of the first tile of a row of tiles, whose labels begin at a base: the label of the first clump that begins in it.
+// For each row of the first tile of a row of tiles whose labels begin at a base, the label of the first clump that
+// begins in it.
 fn first_labels(alloc: Global, base: u64, rows: usize, tiles: &[Border]) -> Result<Vec<u64>, Memory>
     requires fits { base + clumps_in_row (begun_of (border_values tiles.now)) < 2 ^ 64 }
     requires even { AreEven rows (border_values tiles.now) }
@@ -103,9 +104,9 @@ fn first_labels(alloc: Global, base: u64, rows: usize, tiles: &[Border]) -> Resu
 // A row of tiles, as far as it is joined.
 #[derive(Drop)]
 pub(crate) struct RowJoin {
-    // The pairs of labels at the seams, with the pairs of the rows above.
+    // The pairs of labels at the seams, including the pairs of the rows above.
     pub(crate) pairs: Vec<(u64, u64)>,
-    // The labels of each tile, with the labels of the rows above.
+    // The labels of each tile, including the rows above.
     pub(crate) tiles: Vec<Vec<Span>>,
     // The first and the last rows of its tiles.
     pub(crate) first: Vec<Option<Mark>>,
@@ -170,7 +171,7 @@ fn join_tile(
     })
 }
 
-// Joins the tiles of a row of tiles, whose labels begin at a base and which have as many rows, from the left.
+// Joins the tiles of a row of tiles, whose labels begin at a base and which have equally many rows, from the left.
 pub(crate) fn join_row(
     alloc: Global,
     joining: Joining,

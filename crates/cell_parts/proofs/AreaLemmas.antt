@@ -133,7 +133,7 @@ module _ (whole : Grid) (t : Tile) (tile : IsTile whole t) where
       let col : s.col - t.place.left < t.place.cols = omega (arith, within.from_left, within.before_end) in
       tile.cells (inside-of t.place s) row col ∙ ap (cell_at_position whole) (sym (moved-inside t.place s is_within)) ∙ is
 
-  -- adjacent cells of one category that both lie in the tile are joined in it
+  -- adjacent cells of the same category that both lie in the tile are joined in it
   step-in : (j : Joining) (p q : Position) (v : ℤ) → AreAdjacent j p q → cell_at_position whole p ≡ Some v → cell_at_position whole q ≡ Some v → IsIn t.place p → IsIn t.place q → AreJoinedIn j t p q
   step-in j p q v near first second in_p in_q =
       let a = inside-of t.place p in

@@ -17,7 +17,7 @@ use Rattle.cell_parts.proofs.BlockLemmas.{block, part-block}
 
 -- ---- sums along a line
 
--- the sum of so many terms, from the a-th on
+-- the sum of n terms, from the a-th on
 abbrev pub line : (ℕ → ℕ) → ℕ → ℕ → ℕ
 line g a zero = 0
 line g a (suc n) = g a + line g (a + 1) n
@@ -46,7 +46,7 @@ line-add : (g h : ℕ → ℕ) (a n : ℕ) → line (λ i. g i + h i) a n ≡ li
 line-add g h a zero = refl
 line-add g h a (suc n) = omega (arith, line-add g h (a + 1) n)
 
--- whether a number lies among so many from a on
+-- whether i is one of the n numbers from a on
 abbrev pub among : ℕ → ℕ → ℕ → Bool
 among a n i = leb a i && ltb i (a + n)
 
@@ -68,7 +68,7 @@ among-before a n i lt = ap (λ b. b && ltb i (a + n)) (not-leb a i lt)
         by true e = absurd (let le = leb-true a i e in omega (arith, le, lt))
         by false e = refl
 
--- a sum of so many terms is the sum of a longer line with the other terms left out
+-- a sum of n terms is the sum of a longer line without its other terms
 line-within : (g : ℕ → ℕ) (a n total : ℕ) → a + n ≤ total → line g a n ≡ line (λ i. cond (among a n i) (g i) 0) 0 total
 line-within g a n total fits =
     let h = λ (i : ℕ). cond (among a n i) (g i) 0 in

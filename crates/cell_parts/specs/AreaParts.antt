@@ -15,11 +15,11 @@ pub record Tile : Type 0 where
   pub place : Rectangle
   pub map : Grid
 
--- where a cell of a tile lies in the full map
+-- the position of a cell of a tile in the full map
 abbrev pub moved_position : Rectangle → Position → Position
 moved_position r p = record { row = r.top + p.row; col = r.left + p.col }
 
--- a cell of the full map lies in a rectangle
+-- a cell of the full map is inside a rectangle
 abbrev pub IsIn : Rectangle → Position → Type 0
 IsIn r p = IsTrue (is_in r p.row p.col)
 
@@ -32,7 +32,7 @@ pub record IsTile (whole : Grid) (t : Tile) : Type 0 where
 abbrev pub AreJoinedIn : Joining → Tile → Position → Position → Type 0
 AreJoinedIn j t p q = (a b : Position) × (p ≡ moved_position t.place a) × (q ≡ moved_position t.place b) × AreJoined j t.map a b
 
--- two adjacent cells of one category meet at a border: no tile has both
+-- two adjacent cells of the same category meet at a border: no tile contains both
 pub record MeetAtBorder (j : Joining) (whole : Grid) (tiles : List Tile) (p q : Position) : Type 0 where
   pub category : ℤ
   pub adjacent : AreAdjacent j p q
@@ -40,7 +40,7 @@ pub record MeetAtBorder (j : Joining) (whole : Grid) (tiles : List Tile) (p q : 
   pub second : cell_at_position whole q ≡ Some category
   pub apart : All (λ t. IsIn t.place p → ¬ IsIn t.place q) tiles
 
--- a link: a path within one of the tiles, or a step over a border
+-- a link: a path within one of the tiles, or a step across a border
 abbrev pub AreLinked : Joining → Grid → List Tile → Position → Position → Type 0
 AreLinked j whole tiles p q = ((t : Tile) × Contains tiles t × AreJoinedIn j t p q) ⊎ MeetAtBorder j whole tiles p q
 
@@ -53,15 +53,16 @@ pub record Numbered : Type 0 where
   pub tile : Tile
   pub numbers : Grid
 
--- two cells of the full map have one number in a tile
+-- two cells of the full map have the same number in a tile
 abbrev pub HaveOneNumber : Numbered → Position → Position → Type 0
 HaveOneNumber n p q = (a b : Position) × (p ≡ moved_position n.tile.place a) × (q ≡ moved_position n.tile.place b) × IsSome (cell_at_position n.tile.map a) × IsSome (cell_at_position n.tile.map b) × (cell_at_position n.numbers a ≡ cell_at_position n.numbers b)
 
--- a link of numbers: one number in one of the tiles, or a step over a border
+-- a link of numbers: one number in one of the tiles, or a step across a border
 abbrev pub AreLinkedByNumbers : Joining → Grid → List Numbered → Position → Position → Type 0
 AreLinkedByNumbers j whole numbered p q = ((n : Numbered) × Contains numbered n × HaveOneNumber n p q) ⊎ MeetAtBorder j whole (map (λ n. n.tile) numbered) p q
 
--- the numbers of the tiles' areas, and the steps over their borders, determine which cells of the full map a path joins
+-- the numbers of the tiles' areas, and the steps across their borders, determine which cells of the full map a path
+-- joins
 abbrev pub NumbersJoin : Type 0
 NumbersJoin = (j : Joining) (whole : Grid) (numbered : List Numbered) → All (λ n. IsTile whole n.tile × IsClumping j n.tile.map n.numbers) numbered → (p q : Position) → IsSome (cell_at_position whole p) → AreJoined j whole p q ↔ ((others : List Position) × IsChain (AreLinkedByNumbers j whole numbered) p others q)
 
@@ -69,11 +70,11 @@ NumbersJoin = (j : Joining) (whole : Grid) (numbered : List Numbered) → All (�
 abbrev pub FirstsAreFirsts : Type 0
 FirstsAreFirsts = (j : Joining) (whole : Grid) (t : Tile) → IsTile whole t → (p : Position) → p.row < t.place.rows → p.col < t.place.cols → IsFirst j whole (moved_position t.place p) → IsFirst j t.map p
 
--- if each cell that is not null lies in a tile: a first cell of the full map is a first cell of its tile that no
--- earlier first cell of a tile is joined to
+-- if each non-null cell is in a tile: a first cell of the full map is a first cell of its tile that is not joined to an
+-- earlier first cell of a tile
 abbrev pub FirstsOfTheWhole : Type 0
 FirstsOfTheWhole = (j : Joining) (whole : Grid) (numbered : List Numbered) → All (λ n. IsTile whole n.tile × IsClumping j n.tile.map n.numbers) numbered → ((p : Position) → IsSome (cell_at_position whole p) → (n : Numbered) × Contains numbered n × IsIn n.tile.place p) → (n : Numbered) → Contains numbered n → (p : Position) → p.row < n.tile.place.rows → p.col < n.tile.place.cols → IsFirst j whole (moved_position n.tile.place p) ↔ (IsFirst j n.tile.map p × ((m : Numbered) → Contains numbered m → (q : Position) → IsFirst j m.tile.map q → IsEarlierCell (moved_position m.tile.place q) (moved_position n.tile.place p) → ¬ AreJoined j whole (moved_position m.tile.place q) (moved_position n.tile.place p)))
 
--- whatever rectangle is cut out, it is a tile
+-- any rectangle that is cut out is a tile
 abbrev pub CutOutsAreTiles : Type 0
 CutOutsAreTiles = (r : Rectangle) (whole part : Grid) → part.rows ≡ cut_out r whole.rows → IsTile whole (record { place = r; map = part })

@@ -1,4 +1,4 @@
--- Tables as they are merged, and merges of merges.
+-- Tables that are merged, and merges of merges.
 use Rattle.std.specs.Prelude.{List, All, map, flat_map}
 use Rattle.std.specs.List.Sorted.{IsStrictlySortedBy}
 use Rattle.cell_stats_combinations.specs.Combinations.{combination_cmp}
@@ -11,11 +11,11 @@ pub record IsListing (pairs : Pairs) : Type 0 where
   pub ascending : IsStrictlySortedBy combination_cmp (map (λ pair. pair.0) pairs)
   pub no_zero : HasNoZero pairs
 
--- tables in a group, and what merges them
+-- a group of tables, and their merge
 pub record PartGroup : Type 0 where
   pub tables : List Pairs
   pub merged : Pairs
 
--- what merges the merges of groups merges all tables
+-- merging the merges of groups merges all tables
 abbrev pub MergesMerge : Type 0
 MergesMerge = (groups : List PartGroup) → All (λ group. IsMerge group.tables group.merged) groups → (pairs : Pairs) → IsMerge (map (λ group. group.merged) groups) pairs → IsMerge (flat_map (λ group. group.tables) groups) pairs

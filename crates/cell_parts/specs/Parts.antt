@@ -3,18 +3,18 @@ use Rattle.std.specs.Prelude.{ℕ, Bool, ◌&&◌, nat_le, nat_lt, ◌≡◌, �
 use Rattle.cell_core.specs.Grid.{Grid, CellValue}
 use Rattle.cell_stats_combinations.specs.Combinations.{cell_of_map}
 
--- a rectangle of cells: its first row and column, and how many of each
+-- a rectangle of cells: its first row and column, and the number of each
 pub record Rectangle : Type 0 where
   pub top : ℕ
   pub left : ℕ
   pub rows : ℕ
   pub cols : ℕ
 
--- whether the cell at a row and a column lies in it
+-- whether the cell at a row and a column is inside it
 abbrev pub is_in : Rectangle → ℕ → ℕ → Bool
 is_in r row col = (nat_le r.top row && nat_lt row (r.top + r.rows)) && (nat_le r.left col && nat_lt col (r.left + r.cols))
 
--- rectangles that cover so many rows and columns: each cell lies in one, and none reaches outside
+-- rectangles that cover rows × cols cells: each cell is in exactly one, and none reaches outside
 pub record AreTiling (rows cols : ℕ) (places : List Rectangle) : Type 0 where
   pub within : All (λ r. (r.top + r.rows ≤ rows) × (r.left + r.cols ≤ cols)) places
   pub once : (row col : ℕ) → row < rows → col < cols → count_by (λ r. is_in r row col) places ≡ 1
@@ -24,11 +24,11 @@ abbrev pub stretches : ℕ → List ℕ → List (ℕ × ℕ)
 stretches from [] = []
 stretches from (n ∷ lengths) = (from, n) ∷ stretches (from + n) lengths
 
--- cuts across the full map, between rows of so many heights and columns of so many widths: the rectangles row by row
+-- the full map, cut into rows of the given heights and columns of the given widths: the rectangles row by row
 abbrev pub grid_of_cuts : (heights widths : List ℕ) → List Rectangle
 grid_of_cuts heights widths = flat_map (λ h. map (λ w. record { top = h.0; left = w.0; rows = h.1; cols = w.1 }) (stretches 0 widths)) (stretches 0 heights)
 
--- whatever the heights and the widths, each cell lies in one of them
+-- for any heights and widths, each cell is in exactly one of them
 abbrev pub GridsCover : Type 0
 GridsCover = (heights widths : List ℕ) → AreTiling (sum heights) (sum widths) (grid_of_cuts heights widths)
 
@@ -40,10 +40,10 @@ IsPart r whole part = (row col place : ℕ) → row < r.rows → col < r.cols �
 abbrev pub cut_out : Rectangle → List (List CellValue) → List (List CellValue)
 cut_out r rows = map (λ row. take r.cols (drop r.left row)) (take r.rows (drop r.top rows))
 
--- maps whose rows are those cells of the full maps
+-- maps whose rows are these cells of the full maps
 abbrev pub AreCutOut : Rectangle → (whole part : List Grid) → Type 0
 AreCutOut r whole part = map (λ m. m.rows) part ≡ map (λ m. cut_out r m.rows) whole
 
--- whatever rectangle is cut out, it is a part
+-- any rectangle that is cut out is a part
 abbrev pub CutOutsAreParts : Type 0
 CutOutsAreParts = (r : Rectangle) (whole part : List Grid) → AreCutOut r whole part → IsPart r whole part

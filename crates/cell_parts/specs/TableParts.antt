@@ -14,7 +14,8 @@ use Rattle.cell_parts.specs.Parts.{Rectangle, AreTiling, IsPart}
 abbrev pub count_in : Combination → Pairs → ℕ
 count_in k pairs = unwrap_or (find combination_cmp k pairs) 0
 
--- tables merged: the combinations strictly ascend, and each that some table lists is listed once, with the sum of its counts
+-- tables merged: the combinations strictly ascend, and each that any table lists is listed once, with the sum of its
+-- counts
 pub record IsMerge (tables : List Pairs) (merged : Pairs) : Type 0 where
   pub ascending : IsStrictlySortedBy combination_cmp (map (λ pair. pair.0) merged)
   pub counted : (k : Combination) (n : ℕ) → Contains merged (k, n) ↔ ((0 < n) × (n ≡ sum_by (count_in k) tables))
@@ -24,7 +25,7 @@ pub record Part : Type 0 where
   pub place : Rectangle
   pub maps : List Grid
 
--- parts that cover maps of so many rows and columns
+-- parts that cover maps of rows × cols cells
 pub record AreParts (rows cols : ℕ) (whole : List Grid) (parts : List Part) : Type 0 where
   pub tiling : AreTiling rows cols (map (λ part. part.place) parts)
   pub cells : All (λ part. IsPart part.place whole part.maps) parts
@@ -33,10 +34,10 @@ pub record AreParts (rows cols : ℕ) (whole : List Grid) (parts : List Part) : 
 abbrev pub combinations_of_part : List ℕ → Part → List Combination
 combinations_of_part picks part = all_combinations part.maps picks part.place.rows part.place.cols
 
--- however maps are cut: each combination has as many cells in the full maps as in all parts
+-- however maps are cut: the count of each combination is the same in the full maps and in all parts
 abbrev pub PartsAddUp : Type 0
 PartsAddUp = (rows cols : ℕ) (whole : List Grid) (parts : List Part) → AreParts rows cols whole parts → (picks : List ℕ) (k : Combination) → count_of k (all_combinations whole picks rows cols) ≡ sum_by (λ part. count_of k (combinations_of_part picks part)) parts
 
--- however maps are cut: the table of the full maps is the merge of the tables of the parts, and no other list is
+-- however maps are cut: the table of the full maps is the merge of the tables of the parts, and the only such merge
 abbrev pub TablesMerge : Type 0
 TablesMerge = (rows cols : ℕ) (whole : List Grid) (parts : List Part) → AreParts rows cols whole parts → (picks : List ℕ) (skip : Skip) (pairs : Pairs) → IsMerge (map (λ part. table_of skip (combinations_of_part picks part)) parts) pairs ↔ IsTable skip (all_combinations whole picks rows cols) pairs

@@ -37,7 +37,7 @@ is_eq-reverse Greater = refl
 eq-swap : (a b : Combination) → eq_by_cmp combination_cmp a b ≡ eq_by_cmp combination_cmp b a
 eq-swap a b = ap is_eq (combination_cmp_total.antisymm a b) ∙ is_eq-reverse (combination_cmp b a)
 
--- a lesser combination is no entry's
+-- a smaller combination has no entry
 mark-none : (k : Combination) (es : Pairs) → below_all combination_cmp k es ≡ true → sum_by (mark k) es ≡ 0
 mark-none k [] b = refl
 mark-none k (e ∷ es) b =

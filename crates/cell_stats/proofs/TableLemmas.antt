@@ -53,7 +53,7 @@ unfolding IsStrictlySortedBy
 ascending_to [] h = refl
 ascending_to (e ∷ es) h = rw (below_to e.0 es h.0) (ascending_to es h.1)
 
--- a count of nothing is no entry
+-- a count of nothing is not an entry
 abbrev pub found : ℕ → Option ℕ
 found zero = None
 found (suc n) = Some (suc n)

@@ -13,7 +13,7 @@ use Rattle.cell_stats_combinations.specs.LeftOut.{is_left_out, kept_cells}
 abbrev pub Pairs : Type 0
 Pairs = List (Combination × ℕ)
 
--- the combinations strictly ascend, and one is paired with n exactly if it is not left out, n cells have it, and n is above 0
+-- combinations strictly ascend; one is paired with n exactly if it is not left out, n cells have it, and n is above 0
 pub record IsTable (skip : Skip) (cells : List Combination) (pairs : Pairs) : Type 0 where
   pub ascending : IsStrictlySortedBy combination_cmp (map (λ pair. pair.0) pairs)
   pub counted : (k : Combination) (n : ℕ) → Contains pairs (k, n) ↔ ((is_left_out skip k ≡ false) × ((0 < n) × (n ≡ count_of k cells)))
@@ -30,7 +30,7 @@ table_of skip cells = counts_of (kept_cells skip cells)
 abbrev pub rest_after : Combination → Pairs → Pairs
 rest_after k pairs = filter (λ pair. is_lt (combination_cmp k pair.0)) pairs
 
--- a table, and of how many maps it is
+-- a table, and its number of maps
 pub record TableValue : Type 0 where
   pub width : ℕ
   pub pairs : Pairs

@@ -1,4 +1,4 @@
--- What a table means: there is one, its counts add up, and a skip rule only leaves entries out of it.
+-- What a table means: there is exactly one, its counts add up, and a skip rule only leaves entries out of it.
 use Rattle.std.specs.Prelude.{◌≡◌, ℕ, ◌*◌, List, [], ◌∷◌, filter, sum_by, not, None}
 use Rattle.std.specs.Ordering.{eq_by_cmp}
 use Rattle.cell_core.specs.Grid.{Grid}
@@ -8,15 +8,15 @@ use Rattle.cell_stats_combinations.specs.Combinations.{Combination, combination_
 use Rattle.cell_stats.specs.CategoryTables.{Pairs, IsTable, table_of}
 use Rattle.cell_stats_combinations.specs.LeftOut.{is_left_out}
 
--- it makes a table of the cells, and there is no other
+-- it is a table of the cells, and the only one
 abbrev pub TableAgrees : Type 0
 TableAgrees = (skip : Skip) (cells : List Combination) → IsTable skip cells (table_of skip cells) × ((pairs : Pairs) → IsTable skip cells pairs → pairs ≡ table_of skip cells)
 
--- the counts of a table of which nothing is left out add up to the number of cells
+-- the counts of a table that leaves nothing out add up to the number of cells
 abbrev pub CountsAddUp : Type 0
 CountsAddUp = (maps : List Grid) (picks : List ℕ) (rows cols : ℕ) → sum_by (λ pair. pair.1) (table_of Nothing (all_combinations maps picks rows cols)) ≡ rows * cols
 
--- what a rule leaves out is left out of the full table, and no count changes
+-- the entries that a rule leaves out are missing from the full table, and no count changes
 abbrev pub RuleLeavesOut : Type 0
 RuleLeavesOut = (skip : Skip) (cells : List Combination) → table_of skip cells ≡ filter (λ pair. not (is_left_out skip pair.0)) (table_of Nothing cells)
 

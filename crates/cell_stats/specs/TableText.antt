@@ -10,14 +10,14 @@ use Rattle.cell_stats_combinations.specs.Combinations.{Combination, all_combinat
 use Rattle.cell_stats.specs.CategoryTables.{Pairs, rest_after}
 use Rattle.cell_stats_combinations.specs.LeftOut.{kept_cells}
 
--- the byte between two fields, the text of null, and whether labels and counts are printed
+-- the byte between two fields, the null text, and whether labels and counts are printed
 pub record FormatValue : Type 0 where
   pub separator : ℕ
   pub null_text : List ℕ
   pub labels : Bool
   pub counts : Bool
 
--- the label of a category of a map, empty if it has none; null has no data
+-- the label of a category of a map, empty if it has none; the label of null is no data
 abbrev pub label_text : Grid → CellValue → List ℕ
 label_text map None = codes "no data"
 label_text map (Some category) = unwrap_or (finmap.get map.labels category) []
@@ -26,7 +26,7 @@ label_text map (Some category) = unwrap_or (finmap.get map.labels category) []
 abbrev pub label_of_cell : List Grid → ℕ → CellValue → List ℕ
 label_of_cell maps place cell = option_map_or (λ map. label_text map cell) (slice_get maps place) []
 
--- the category in decimal or the null text; with labels, its label follows
+-- the category in decimal or the null text, followed by its label if labels are printed
 abbrev pub cell_fields : FormatValue → List Grid → ℕ → CellValue → List (List ℕ)
 cell_fields format maps place cell = cell_text format.null_text cell ∷ (if format.labels then label_of_cell maps place cell ∷ [] else [])
 
@@ -34,7 +34,7 @@ cell_fields format maps place cell = cell_text format.null_text cell ∷ (if for
 abbrev pub combination_fields : FormatValue → List Grid → List ℕ → Combination → List (List ℕ)
 combination_fields format maps picks k = flat_map (λ p. cell_fields format maps p.0 p.1) (zip picks k)
 
--- with counts, the count
+-- the count, if counts are printed
 abbrev pub count_fields : FormatValue → ℕ → List (List ℕ)
 count_fields format n = if format.counts then decimal n ∷ [] else []
 

@@ -4,8 +4,8 @@ ghost use Rattle.std.specs.Prelude.{◌≡◌};
 
 use std::marker::Model;
 
-/// How lines are printed: the byte between two fields, the text of null, and whether labels and counts are (r.stats manual,
-/// flags `-l` and `-c`).
+/// How lines are printed: the byte between two fields, the null text, and whether labels and counts are printed
+/// (r.stats manual, flags `-l` and `-c`).
 #[derive(Drop)]
 pub struct Format<'a> {
     separator: u8,
@@ -50,7 +50,7 @@ impl<'a> Format<'a> {
         self.separator
     }
 
-    /// The text of null.
+    /// The null text.
     pub fn null_text(&self) -> &[u8]
         ensures { result.now ≡ self.now.null_text }
     {

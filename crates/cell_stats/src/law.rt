@@ -2,13 +2,13 @@
 
 ghost use Rattle.cell_stats.specs.TableLaw.{CountsAddUp, NullLeftOut, RuleLeavesOut, TableAgrees};
 
-/// The table of cells strictly ascends, has exactly the combinations that occur and are not left out, each with its true
-/// count, and no other list does (r.stats manual).
+/// The table of cells strictly ascends and has exactly the combinations that occur and are not left out, each with its
+/// true count; it is the only such list (r.stats manual).
 pub fn table_lists_what_occurs()
     ensures { TableAgrees }
 {}
 
-/// The counts of a table of which nothing is left out add up to the number of cells of the region.
+/// The counts of a table that leaves nothing out add up to the number of cells of the region.
 pub fn counts_add_up()
     ensures { CountsAddUp }
 {}

@@ -20,7 +20,7 @@ use cell_stats_combinations::skip::{Skip, is_left_out};
 use std::alloc::Global;
 use std::marker::Model;
 
-/// The memory for a walk over the cells of several maps of a shelf. It is seen as their number.
+/// The memory for a walk over the cells of several maps of a shelf. In contracts it is their number.
 ///
 /// It is taken before the walk, since `-1` of r.stats prints during it, and a statement that runs out of memory has written
 /// nothing.
@@ -41,7 +41,7 @@ impl<'a> Model for CellWalk<'a> {
 }
 
 impl<'a> CellWalk<'a> {
-    /// The memory for a walk over the picked maps, which are places on the shelf.
+    /// The memory for a walk over the picked maps, given by their places on the shelf.
     ///
     /// # Errors
     ///
@@ -56,7 +56,7 @@ impl<'a> CellWalk<'a> {
     }
 }
 
-// Writes a line for each of so many equal cells, or nothing if they are left out.
+// Writes a line for each of `count` equal cells, or nothing if they are left out.
 fn write_lines<W: Sink>(
     out: &mut W,
     block: &mut OutputBlock,

@@ -41,7 +41,7 @@ fn write_next<W: Sink>(out: &mut W, block: &mut OutputBlock, separator: u8, fiel
     block.push(out, field);
 }
 
-// Writes a cell of a map, and its label with labels.
+// Writes a cell of a map, followed by its label if labels are printed.
 fn write_pick<W: Sink>(
     out: &mut W,
     block: &mut OutputBlock,
@@ -61,7 +61,7 @@ fn write_pick<W: Sink>(
     write_next(out, block, format.separator(), label_of(shelf, place, cell));
 }
 
-// Writes a separator and a cell of a map, and its label with labels.
+// Writes a separator and a cell of a map, followed by its label if labels are printed.
 fn write_next_pick<W: Sink>(
     out: &mut W,
     block: &mut OutputBlock,
@@ -116,7 +116,7 @@ fn write_combination<W: Sink>(
     write_others(out, block, shelf, &picks[1..], &cells[1..], format);
 }
 
-// Writes the count after a separator, with counts.
+// Writes a separator and the count, if counts are printed.
 fn write_count<W: Sink>(out: &mut W, block: &mut OutputBlock, count: u64, format: &Format)
     ensures { Appends W.taken W.faults out.old block.old
         (preceded_texts format.now.separator (count_fields format.now count)) out.new block.new }

@@ -1,4 +1,4 @@
-//! Tables, and what is listed of them.
+//! Tables, and listings of their entries.
 
 ghost use Rattle.std.specs.Prelude.{◌≡◌, ◌≤◌, length, map, drop, All, IfSome};
 ghost use Rattle.std.specs.Iterator.{YieldsFirstBy, item_count};
@@ -36,7 +36,7 @@ impl Model for Table {
     ghost invariant = { λ t. IsStrictlySortedBy combination_cmp (map (λ pair. pair.0) t.entries.items) × All (λ pair. length pair.0 ≡ t.width) t.entries.items };
 }
 
-// The place of the first entry after a combination, found by halving.
+// The place of the first entry after a combination, found by bisection.
 fn place_after(entries: &[(Combo, u64)], combo: &Combo) -> usize
     requires { AreAscending entries.now }
     ensures rest { drop result entries.now ≡ rest_after combo.now entries.now }
@@ -71,7 +71,7 @@ impl Table {
         self.entries.len()
     }
 
-    /// Of how many maps it is: each combination has so many cells.
+    /// The number of maps of the table: each combination has this many cells.
     pub fn width(&self) -> usize
         ensures value { result ≡ self.now.width }
         ensures wide { All (λ pair. length pair.0 ≡ self.now.width) self.now.pairs }
@@ -88,7 +88,7 @@ impl Table {
         }
     }
 
-    /// Its entries after a combination, which need not occur but has as many cells as the table has maps.
+    /// Its entries after a combination, which need not occur but must have one cell per map.
     pub fn after(&self, combo: &Combo) -> Listing<'_>
         requires { length combo.now ≡ self.now.width }
         ensures { result ≡ rest_after combo.now self.now.pairs }
@@ -122,7 +122,7 @@ pub struct Entry<'a> {
     pub count: u64,
 }
 
-/// Entries of a table, in ascending order. It is seen as the list of those still to come.
+/// Entries of a table, in ascending order. In contracts it is the list of those still to come.
 #[derive(Drop)]
 pub struct Listing<'a> {
     rest: &'a [(Combo, u64)],

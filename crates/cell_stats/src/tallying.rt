@@ -11,8 +11,8 @@ use cell_stats_combinations::skip::Skip;
 use cell_stats_counts::counts::count_cells;
 use std::alloc::Global;
 
-/// The table of the combinations of the cells of the picked maps, which are places on the shelf. There are 1 to 16 picks,
-/// and a map may be picked twice.
+/// The table of the combinations of the cells of the picked maps, given by their places on the shelf. There are 1 to 16
+/// picks, and a map may be picked twice.
 ///
 /// # Errors
 ///

@@ -96,7 +96,7 @@ passed-on maps row col n old new picks e f = e ∙ twice old picks f
 
 -- ---- its combinations
 
--- so many columns of one combination
+-- n columns of one combination
 pub stretch : (f : ℕ → Combination) (k : Combination) (col n : ℕ) → ((j : ℕ) → j < n → f (col + j) ≡ k) → map f (range_with_len 0 (col + n)) ≡ map f (range_with_len 0 col) ++ replicate n k
 stretch f k col zero same = ap (λ c. map f (range_with_len 0 c)) (add-zero col) ∙ sym (append-nil (map f (range_with_len 0 col)))
 stretch f k col (suc n) same =

@@ -9,7 +9,7 @@ use Rattle.cell_core_values.specs.Cell.{cell_cmp, cell_cmp_total}
 use Rattle.cell_core.specs.Grid.{Grid, CellValue, cell_at}
 use Rattle.cell_core.specs.Shelf.{ShelfValue}
 
--- a cell of each picked map
+-- one cell from each picked map
 abbrev pub Combination : Type 0
 Combination = List CellValue
 
@@ -37,7 +37,7 @@ row_combinations maps picks cols row = map (combination_at maps picks row) (rang
 abbrev pub all_combinations : List Grid → List ℕ → ℕ → ℕ → List Combination
 all_combinations maps picks rows cols = flat_map (row_combinations maps picks cols) (range_with_len 0 rows)
 
--- the combinations of all cells of maps of a shelf, which are in these places
+-- the combinations of all cells of the maps of a shelf in these places
 abbrev pub shelf_combinations : ShelfValue → List ℕ → List Combination
 shelf_combinations shelf picks = all_combinations shelf.maps picks shelf.region.rows shelf.region.cols
 

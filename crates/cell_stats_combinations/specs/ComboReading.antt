@@ -1,4 +1,4 @@
--- How the combination that a text spells is read from it, and the errors of other texts (profile).
+-- How a combination is read from the text that spells it, and the errors of other texts (profile).
 use Rattle.std.specs.Prelude.{ℕ, ◌≡◌, ◌↔◌, ◌==◌, List, [], ◌∷◌, length, Option, Some, None, Result, Ok, Err, if◌then◌else◌, bytes_eq, codes}
 use Rattle.std.specs.Option.{option_map, option_and_then}
 use Rattle.cell_core.specs.Grid.{CellValue}
@@ -9,21 +9,21 @@ use Rattle.cell_stats_combinations.specs.ComboText.{SpellsCombination}
 use Rattle.cell_stats_combinations.specs.declared.combination_text.ComboFault.{ComboFault}
 use Rattle.cell_stats_combinations.specs.declared.combination_text.ComboFault.TheVariants.{BadCombo, BadWidth}
 
--- the cell of a part: null of an asterisk, else a whole number in range
+-- the cell of a part: null for an asterisk, or else a whole number in range
 abbrev pub cell_of_part : List ℕ → Option CellValue
 cell_of_part part = if bytes_eq part (codes "*") then Some None else option_map Some (whole_in_range part)
 
--- the cells of parts if each has one
+-- the cells of parts, if each part is a cell
 abbrev pub cells_of_parts : List (List ℕ) → Option Combination
 cells_of_parts [] = Some []
 cells_of_parts (part ∷ parts) = option_and_then (λ cell. option_map (λ cells. cell ∷ cells) (cells_of_parts parts)) (cell_of_part part)
 
--- cells of this width
+-- the cells, if their number is this width
 abbrev pub as_wide : ℕ → Option Combination → Result Combination ComboFault
 as_wide width None = Err BadCombo
 as_wide width (Some cells) = if length cells == width then Ok cells else Err BadWidth
 
--- the combination of a text: a part that is none comes before another number of parts
+-- the combination of a text: a part that is not a cell is reported before a wrong number of parts
 abbrev pub combo_of : ℕ → List ℕ → Result Combination ComboFault
 combo_of width text = as_wide width (cells_of_parts (parts_of text))
 

@@ -1,4 +1,4 @@
--- A place in the row of a map, as a walk over its runs has it.
+-- A place in the row of a map, as seen by a walk over its runs.
 use Rattle.std.specs.Prelude.{ℕ, ◌≡◌, ◌<◌, List, [], ◌++◌, length, All, replicate, slice_get, refl}
 use Rattle.std.specs.Coded.{Coded, code_by, coded×, coded_ℕ, coded_ℤ, coded_list, coded_option}
 use Rattle.std.specs.Option.{option_map_or}
@@ -6,7 +6,7 @@ use Rattle.cell_core.specs.Grid.{Grid, CellValue, row_at}
 use Rattle.cell_core.specs.Runs.{RunValue, written_out}
 use Rattle.cell_core.specs.Shelf.{ShelfValue}
 
--- the cell at the place, in how many columns from there on it is the same, and the runs after these
+-- the cell at the place, the number of columns from there on that have the same cell, and the runs after these
 pub record CursorValue : Type 0 where
   pub runs : List RunValue
   pub cell : CellValue
@@ -16,7 +16,7 @@ pub record CursorValue : Type 0 where
 abbrev pub to_come : CursorValue → List CellValue
 to_come c = replicate c.left c.cell ++ written_out c.runs
 
--- no run to come is empty, and the present run is empty only if no run is to come
+-- no later run is empty, and the current run is empty only if there is no later run
 pub record AreCursorsReady (c : CursorValue) : Type 0 where
   pub runs : All (λ run. 0 < run.1) c.runs
   pub present : c.left ≡ 0 → c.runs ≡ []

@@ -6,7 +6,7 @@ use Rattle.cell_stats_combinations.specs.declared.skip.Skip.{Skip}
 use Rattle.cell_stats_combinations.specs.declared.skip.Skip.TheVariants.{Nothing, AnyNull, AllNull}
 use Rattle.cell_stats_combinations.specs.Combinations.{Combination}
 
--- which combinations are left out: none, combinations with a null, or combinations of nulls only
+-- which combinations are left out: none, those with a null, or those that consist of nulls
 abbrev pub is_left_out : Skip → Combination → Bool
 is_left_out Nothing k = false
 is_left_out AnyNull k = list_any is_none k

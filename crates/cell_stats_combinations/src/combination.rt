@@ -1,4 +1,4 @@
-//! A cell of each of several maps.
+//! One cell from each of several maps.
 
 ghost use Rattle.std.specs.Prelude.{◌≡◌, ◌<◌, ◌↔◌, IfOk, IsTrue, Some, length, slice_get};
 ghost use Rattle.cell_stats_combinations.specs.Combinations.{combination_cmp};
@@ -9,18 +9,18 @@ use std::alloc::Global;
 use std::cmp::Ordering;
 use std::marker::Model;
 
-// How many cells are kept without an allocation.
+// Number of cells that are kept without an allocation.
 const FEW: usize = 4;
 
-// The cells of a combination: few of them with their number, or many.
+// The cells of a combination: a few of them with their number, or many.
 #[derive(Debug, Drop)]
 enum Cells {
     Few([Cell; FEW], usize),
     Many(Vec<Cell>),
 }
 
-/// A cell of each of several maps, in the order in which the maps were picked. Combinations are ordered by their first
-/// cell, then by the second, and so on (r.stats manual; null is last: profile).
+/// One cell from each of several maps, in the order in which the maps were picked. Combinations are ordered by their
+/// first cell, then by the second, and so on (r.stats manual; null is last: profile).
 #[derive(Debug, Drop)]
 pub struct Combo {
     cells: Cells,
@@ -46,7 +46,7 @@ impl Combo {
         }
     }
 
-    /// The combination of a copy of the cells.
+    /// The combination of these cells, which are copied.
     ///
     /// # Errors
     ///
@@ -67,7 +67,7 @@ impl Combo {
         })
     }
 
-    /// How many cells it has.
+    /// The number of its cells.
     pub fn len(&self) -> usize
         ensures { result ≡ length self.now }
     {
@@ -93,7 +93,7 @@ impl Combo {
         }
     }
 
-    /// Writes other cells over its own, as many as it has.
+    /// Overwrites its cells with others of the same number.
     #[inline(always)]
     pub fn write(&mut self, cells: &[Cell])
         requires { length cells.now ≡ length self.old }

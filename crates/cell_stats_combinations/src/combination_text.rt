@@ -11,12 +11,12 @@ use cell_core_values::whole_numbers::whole_in_range;
 use cell_core_values::words::parts_of;
 use std::alloc::{AllocFailed, Global};
 
-/// Why a text is no combination: the first reason in this order (profile).
+/// Why a text is not a combination: the first reason in this order (profile).
 #[derive(Clone, Copy, Debug, PartialEq, Eq)]
 pub enum ComboFault {
     /// A part is neither an asterisk nor a whole number in range.
     BadCombo,
-    /// There is another number of parts.
+    /// The number of parts is wrong.
     BadWidth,
     /// Memory ran out.
     Memory,
@@ -63,7 +63,7 @@ impl Combo {
     ///
     /// # Errors
     ///
-    /// The first [`ComboFault`] in the order that its variants have.
+    /// The first [`ComboFault`] in the order of its variants.
     pub fn read(alloc: Global, text: &[u8], width: usize) -> Result<Combo, ComboFault>
         requires { (1 ≤ width) × (width ≤ 16) }
         ensures { Answers ComboFault.Memory (λ combo. combo) result (combo_of width text.now) }

@@ -14,7 +14,8 @@ use cell_core::stretches::Stretches;
 use std::alloc::Global;
 use std::marker::Model;
 
-/// A place in a row: the cell there, in how many columns from there on it is the same, and the runs after these.
+/// A place in a row: the cell there, the number of columns from there on that have the same cell, and the runs after
+/// these.
 #[derive(Drop)]
 pub struct Cursor<'a> {
     runs: Stretches<'a>,
@@ -49,7 +50,7 @@ impl<'a> Cursor<'a> {
         }
     }
 
-    // Moves on by some columns of the present run.
+    // Moves on by some columns of the current run.
     #[inline(always)]
     fn pass(&mut self, count: u32)
         requires within { count ≤ self.old.left }
@@ -98,7 +99,7 @@ fn start_all<'a>(
     Ok(cursors)
 }
 
-/// Cursors over the picked maps, in the last row. They are moved from row to row, so that memory is taken once.
+/// Cursors over the picked maps, in the last row. They are moved from row to row, so that memory is allocated once.
 ///
 /// # Errors
 ///
@@ -115,7 +116,7 @@ pub fn cursors_of<'a>(
     start_all(alloc, shelf, picks, row)
 }
 
-/// Moves all to the first cells of a row.
+/// Moves all cursors to the first cells of a row.
 pub fn restart_all<'a>(cursors: &mut [Cursor<'a>], shelf: &'a Shelf, picks: &[usize], row: u32)
     requires picked { ArePicks shelf.now picks.now }
     requires row_in_range { row < shelf.now.region.rows }
@@ -129,7 +130,7 @@ pub fn restart_all<'a>(cursors: &mut [Cursor<'a>], shelf: &'a Shelf, picks: &[us
     }
 }
 
-// The lesser of two numbers of columns.
+// The smaller of two numbers of columns.
 fn lesser(a: u32, b: u32) -> u32
     ensures first { result ≤ a }
     ensures second { result ≤ b }
@@ -138,8 +139,8 @@ fn lesser(a: u32, b: u32) -> u32
     a.min(b)
 }
 
-/// Moves all on by some columns of their present runs, and writes the cells there. Returns in how many columns from there on
-/// they are the same, at most so many as are left.
+/// Moves all cursors on by `count` columns of their present runs, and writes the cells there. Returns for how many of
+/// the `left` columns from there on they are the same.
 #[inline(always)]
 pub fn pass_all(cursors: &mut [Cursor], count: u32, left: u32, cells: &mut [Cell]) -> u32
     requires within { All (λ c. count ≤ c.left) cursors.old }

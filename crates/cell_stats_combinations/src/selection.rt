@@ -1,9 +1,9 @@
-//! What of a shelf is looked at.
+//! The maps of a shelf that are tabulated.
 
 use crate::skip::Skip;
 use cell_core::shelf::Shelf;
 
-/// Maps of a shelf that are looked at together, and which of their combinations are left out.
+/// Maps of a shelf that are tabulated together, and which of their combinations are left out.
 #[derive(Clone, Copy)]
 pub struct Selection<'a, 'b> {
     /// The shelf.

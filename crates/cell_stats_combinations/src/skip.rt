@@ -14,11 +14,11 @@ pub enum Skip {
     Nothing,
     /// Combinations with a null.
     AnyNull,
-    /// Combinations of nulls only.
+    /// Combinations that consist of nulls.
     AllNull,
 }
 
-// Whether it is null.
+// Whether a cell is null.
 #[inline(always)]
 fn is_null_cell(cell: &Cell) -> bool
     ensures { result ≡ is_none cell.now }
@@ -26,7 +26,7 @@ fn is_null_cell(cell: &Cell) -> bool
     cell.get().is_none()
 }
 
-// Whether there is a null.
+// Whether any cell is null.
 #[inline(always)]
 fn has_null(cells: &[Cell]) -> bool
     ensures { result ≡ list_any is_none cells.now }
@@ -34,7 +34,7 @@ fn has_null(cells: &[Cell]) -> bool
     cells.iter().any(|cell| is_null_cell(cell))
 }
 
-// Whether there are nulls only.
+// Whether all cells are null.
 #[inline(always)]
 fn has_nulls_only(cells: &[Cell]) -> bool
     ensures { result ≡ list_all is_none cells.now }
@@ -42,7 +42,7 @@ fn has_nulls_only(cells: &[Cell]) -> bool
     cells.iter().all(|cell| is_null_cell(cell))
 }
 
-/// Whether the combination is left out. It is inlined, as it is called for each run.
+/// Whether the combination is left out. Inlined, since it is called for each run.
 #[inline(always)]
 pub fn is_left_out(skip: Skip, cells: &[Cell]) -> bool
     ensures { result ≡ is_left_out skip cells.now }

@@ -3,6 +3,6 @@ use Rattle.std.specs.Prelude.{ℕ, List, count_by}
 use Rattle.std.specs.Ordering.{eq_by_cmp}
 use Rattle.cell_stats_combinations.specs.Combinations.{Combination, combination_cmp}
 
--- how many cells have the combination
+-- the number of cells that have the combination
 abbrev pub count_of : Combination → List Combination → ℕ
 count_of k cells = count_by (eq_by_cmp combination_cmp k) cells

@@ -13,19 +13,19 @@ Counts = List (Combination × ℕ)
 abbrev pub entry_of : Combination → Combination × ℕ → ℕ
 entry_of k entry = cond (eq_by_cmp combination_cmp k entry.0) entry.1 0
 
--- how many the list counts, all entries of the combination together
+-- how many cells the list counts, with all entries of the combination added
 abbrev pub listed_of : Combination → Counts → ℕ
 listed_of k entries = sum_by (entry_of k) entries
 
--- no entry counts nothing
+-- no entry has a count of 0
 abbrev pub HasNoZero : Counts → Type 0
 HasNoZero entries = All (λ entry. 0 < entry.1) entries
 
--- each combination comes once, in ascending order
+-- each combination is listed once, in ascending order
 abbrev pub AreAscending : Counts → Type 0
 AreAscending entries = IsStrictlySortedBy combination_cmp (map (λ entry. entry.0) entries)
 
--- the counts of cells: of each combination that occurs among them, once and in order
+-- the counts of cells: each combination that occurs among them, once and in order
 pub record AreCountsOf (cells : List Combination) (entries : Counts) : Type 0 where
   pub ascending : AreAscending entries
   pub counts : (k : Combination) → listed_of k entries ≡ count_of k cells

@@ -1,4 +1,4 @@
--- Combinations of one map, counts on their way to the list, the list in order.
+-- Combinations of one map, intermediate counts, and the sorted list.
 pub mod Alone
 pub mod ByteCounts
 pub mod CountsUnderWay

@@ -1,4 +1,4 @@
-//! The cells of one map counted.
+//! Counting the cells of one map.
 
 ghost use Rattle.std.specs.Prelude.{◌≡◌, ◌+◌, ◌<◌, ◌^◌, ℕ, [], ◌∷◌, OnOk, length, map, sum_by};
 ghost use Rattle.cell_core_values.specs.Region.{IsRegion};
@@ -22,7 +22,7 @@ use cell_stats_combinations::combination::Combo;
 use cell_stats_combinations::skip::{Skip, is_left_out};
 use std::alloc::Global;
 
-// How many bytes there are.
+// The number of different bytes.
 const BYTES: usize = 256;
 
 // Counts the cells of stretches.
@@ -50,7 +50,7 @@ fn count_stretches(
     Ok(())
 }
 
-// Counts bytes, each in its place: what is summed over the bytes is summed over these counts.
+// Counts bytes, each in its own place: a sum over the bytes is a sum over these counts.
 #[inline(always)]
 fn add_bytes(bytes: &[u8], counts: &mut [u64; BYTES])
     requires { sum_counted (λ b. 1) 0 counts.old + length bytes.now < 2 ^ 64 }
@@ -62,7 +62,7 @@ fn add_bytes(bytes: &[u8], counts: &mut [u64; BYTES])
     }
 }
 
-// Counts cells by how often each byte stands for one.
+// Counts cells, given the count of each byte.
 fn count_bytes(
     alloc: Global,
     counts: &[u64; BYTES],
@@ -113,8 +113,8 @@ fn count_row_alone(
     count_stretches(alloc, grid.stretches(row), skip, places, entries)
 }
 
-// Counts the cells of one map. Those of all rows that are kept as bytes are counted by byte first, which needs no search for
-// a place.
+// Counts the cells of one map. Rows that are kept as bytes are counted by byte first, which needs no search for a
+// place.
 pub(crate) fn count_alone(
     alloc: Global,
     shelf: &Shelf,

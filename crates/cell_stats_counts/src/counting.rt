@@ -1,4 +1,4 @@
-//! Counts of combinations: of one map or two in a table, of more side by side.
+//! Counts of combinations: in a table for one or two maps, side by side for more.
 
 ghost use Rattle.std.specs.Prelude.{◌≡◌, ◌+◌, ◌<◌, ◌≤◌, OnOk, IfOk, length};
 ghost use Rattle.cell_stats_combinations.specs.Combinations.{ArePicks};
@@ -13,12 +13,12 @@ use cell_core::shelf::Shelf;
 use cell_stats_combinations::combination::Combo;
 use std::alloc::Global;
 
-// How many places a table has at first: at least, and at most. All numbers of places are powers of two.
+// The smallest and the largest initial number of places of a table. All numbers of places are powers of two.
 const FEWEST: u32 = 64;
 
 const FIRST: u32 = 4096;
 
-// Combinations of one map or two are counted in the table, all others side by side.
+// Combinations of one or two maps are counted in the table, all others side by side.
 #[derive(Drop)]
 pub(crate) struct CountPlaces {
     pub(crate) wide: Gathered,
@@ -47,7 +47,7 @@ pub(crate) fn add_count(
     Ok(())
 }
 
-// How many places a table has at first: fewer if there are few cells.
+// The initial number of places of a table: smaller if there are few cells.
 fn places_for(shelf: &Shelf) -> usize
     ensures { 0 < result }
 {
@@ -56,7 +56,7 @@ fn places_for(shelf: &Shelf) -> usize
     (cells / 2).clamp(FEWEST, FIRST).next_power_of_two() as usize
 }
 
-// The places to begin with. They count nothing.
+// The initial places. They count nothing.
 pub(crate) fn first_places(
     alloc: Global,
     shelf: &Shelf,

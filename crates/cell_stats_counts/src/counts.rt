@@ -23,7 +23,7 @@ use cell_stats_combinations::selection::Selection;
 use cell_stats_combinations::skip::{Skip, is_left_out};
 use std::alloc::Global;
 
-// Counts the cells of a row by the columns in which no map changes, from cursors at its first cells on.
+// Counts the cells of a row in groups of columns in which no map changes, with cursors that start at its first cells.
 #[inline(always)]
 fn count_columns<'a>(
     alloc: Global,
@@ -62,7 +62,7 @@ fn count_columns<'a>(
     Ok(())
 }
 
-// Counts the cells of a row by the columns in which no map changes.
+// Counts the cells of a row in groups of columns in which no map changes.
 fn count_row<'a>(
     alloc: Global,
     selection: Selection<'a, '_>,
@@ -100,7 +100,7 @@ fn count_row<'a>(
             )?;
             return Ok(());
         }
-        // Of a length that the compiler knows, so that it unrolls what goes over them.
+        // The length is known to the compiler, so that it unrolls the loops over it.
         let mut two = [start(one, row), start(other, row)];
         let mut cells = [Cell::null(); 2];
         return count_columns(alloc, selection, row, &mut two, &mut cells, places, entries);

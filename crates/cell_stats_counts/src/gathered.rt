@@ -1,4 +1,4 @@
-//! Counts of combinations of more than two maps, side by side, and the list that they become.
+//! Counts of combinations of more than two maps, kept side by side, and the list that they become.
 
 ghost use Rattle.std.specs.Prelude.{◌≡◌, ◌+◌, ◌*◌, ◌<◌, ◌^◌, ℕ, OnOk, IfOk, IsTrue, cond, drop, length, take};
 ghost use Rattle.cell_stats_combinations.specs.Combinations.{Combination};
@@ -14,13 +14,13 @@ use cell_stats_combinations::combination::Combo;
 use std::alloc::Global;
 use std::cmp::Ordering;
 
-// How many places of the index are looked at for a combination. Of millions, some are far from their own.
+// Number of places of the index searched for a combination. Of millions, some are far from their own place.
 const NEAR: usize = 1024;
 
-// The places of the index at first.
+// Initial number of places of the index.
 const FIRST: usize = 1024;
 
-// A place that names no combination.
+// A place without a combination.
 const NONE: u64 = u64::MAX;
 
 // A multiplier that spreads the bits of a number: 2^64 divided by the golden ratio.
@@ -29,11 +29,11 @@ pub(crate) const SPREAD: u64 = 11400714819323198485;
 // The lower half of a number.
 const LOW: u64 = u32::MAX as u64;
 
-// Combinations side by side, as many cells each as there are maps, and how many cells have each. A taken place of the index has
-// the upper half of the number of a combination, and below it the place of its count.
+// Combinations side by side, each with one cell per map, and the number of cells that have each. A taken place of the
+// index has the upper half of a combination's number, and below it the place of its count.
 //
-// Nothing is proved of the index, since the combinations that it names are compared. One that it misses is kept once more, and
-// equal entries are added up in place at the end.
+// Nothing is proved about the index, since the combinations at its places are compared. A combination that a search
+// misses is stored once more, and equal entries are added up in place at the end.
 #[derive(Drop)]
 pub(crate) struct Gathered {
     pub(crate) cells: Vec<Cell>,
@@ -44,12 +44,12 @@ pub(crate) struct Gathered {
 // A number of a cell.
 #[inline(always)]
 pub(crate) fn code_of(cell: Cell) -> u64 {
-    // Of null 0, as the lowest number is no category.
+    // 0 for null, since the lowest number is not a category.
     let number = cell.get().unwrap_or(i32::MIN);
     (i64::from(number) + 2147483648) as u64
 }
 
-// A number of a combination, all of whose upper bits depend on each cell.
+// A number for a combination; each of its upper bits depends on every cell.
 fn combination_hash(cells: &[Cell]) -> u64 {
     let mut number: u64 = 0;
     for cell in cells {
@@ -58,7 +58,8 @@ fn combination_hash(cells: &[Cell]) -> u64 {
     number
 }
 
-// The place where a combination is looked for first, by the upper half of its number. The number of places is a power of two.
+// The first place where a combination is searched, from the upper half of its number. The number of places is a power
+// of two.
 fn own_slot(half: u64, places: usize) -> usize {
     (half as usize) & places.saturating_sub(1)
 }
@@ -87,7 +88,7 @@ fn are_alike(one: &[Cell], other: &[Cell]) -> bool
     true
 }
 
-// The place of a combination, or else, as an error, a place of the index near its own that names none, or its own.
+// The place of a combination, or else, as an error, a place of the index near its own that is free, or its own.
 fn place_of(key: &[Cell], half: u64, table: &Gathered) -> Result<usize, usize>
     ensures within { IfOk result (λ at. at < length table.now.counts.items) }
     ensures same { IfOk result (λ at.
@@ -111,7 +112,7 @@ fn place_of(key: &[Cell], half: u64, table: &Gathered) -> Result<usize, usize>
     Err(own)
 }
 
-// Puts what a place of an index has into one with more places.
+// Moves the contents of a place of an index into a larger index.
 fn note_again(index: &mut [u64], place: u64) {
     let own = own_slot(place >> 32, index.len());
     let end = index.len().min(own.saturating_add(NEAR));
@@ -123,7 +124,7 @@ fn note_again(index: &mut [u64], place: u64) {
     }
 }
 
-// An index of twice as many places.
+// An index with twice as many places.
 fn longer_index(alloc: Global, index: &[u64]) -> Result<Vec<u64>, Memory> {
     let mut longer = vec![in alloc; NONE; index.len().saturating_mul(2)]?;
     for place in index {
@@ -134,7 +135,7 @@ fn longer_index(alloc: Global, index: &[u64]) -> Result<Vec<u64>, Memory> {
     Ok(longer)
 }
 
-// Keeps a new combination, which a place of the index names.
+// Stores a new combination and its place in the index.
 fn push_new(
     alloc: Global,
     key: &[Cell],
@@ -181,7 +182,7 @@ pub(crate) fn gather(
     }
 }
 
-// Adds an entry to the list, unless it counts nothing.
+// Adds an entry to the list, unless its count is 0.
 fn push_entry(
     alloc: Global,
     cells: &[Cell],
@@ -201,7 +202,7 @@ fn push_entry(
     Ok(())
 }
 
-// Adds combinations side by side to the list.
+// Adds the combinations side by side to the list.
 fn push_entries(
     alloc: Global,
     width: usize,
@@ -220,7 +221,7 @@ fn push_entries(
     Ok(())
 }
 
-// The places of so many combinations, sorted by numbers of these.
+// The places of `many` combinations, sorted by their numbers.
 fn order_of(
     alloc: Global,
     width: usize,
@@ -240,7 +241,7 @@ fn order_of(
     Ok(order)
 }
 
-// Moves what is counted at a place to the end of another table.
+// Moves the combination at a place, with its count, to the end of another table.
 fn move_count(
     width: usize,
     cells: &[Cell],
@@ -264,7 +265,7 @@ fn move_count(
     Ok(())
 }
 
-// Moves what is counted to another table, sorted.
+// Moves all combinations to another table, sorted.
 fn sorted(alloc: Global, width: usize, from: &mut Gathered) -> Result<Gathered, Memory>
     ensures ok { IfOk result (λ to. (k : Combination)
         → gathered_of width k to + gathered_of width k from.new ≡ gathered_of width k from.old) }
@@ -312,7 +313,8 @@ fn are_same(entries: &[(Combo, u64)], a: usize, b: usize) -> bool
     entries[a].0 == entries[b].0
 }
 
-// Takes the entry at a place in: it is added to the last one that was taken, or it is the next. Returns the last place then.
+// Adds the entry at a place to the last entry if it has the same combination, or else keeps it as the next. Returns the
+// last place.
 fn take_in(entries: &mut [(Combo, u64)], last: usize, at: usize) -> usize
     requires places { (last < at) × (at < length entries.old) }
     requires fits { CanAddUp entries.old last at }
@@ -327,7 +329,7 @@ fn take_in(entries: &mut [(Combo, u64)], last: usize, at: usize) -> usize
     last + 1
 }
 
-// Adds up the entries of each combination in a list in order. They are the first so many then.
+// Adds up the entries of each combination in an ordered list, at its start. Returns the number of combinations.
 fn join(entries: &mut [(Combo, u64)]) -> usize
     requires rising { IsRising entries.old }
     requires fits { ListedFits entries.old }
@@ -358,7 +360,7 @@ fn are_ascending(entries: &[(Combo, u64)]) -> bool
     true
 }
 
-// Puts the list in order, with one entry for each combination.
+// Sorts the list, with one entry per combination.
 pub(crate) fn ordered_entries(mut entries: Vec<(Combo, u64)>) -> Vec<(Combo, u64)>
     requires fits { ListedFits entries.items }
     requires no_zero { HasNoZero entries.items }
@@ -376,7 +378,7 @@ pub(crate) fn ordered_entries(mut entries: Vec<(Combo, u64)>) -> Vec<(Combo, u64
 }
 
 impl Gathered {
-    // None yet.
+    // No combinations yet.
     pub(crate) fn new(alloc: Global) -> Result<Gathered, Memory>
         ensures none { IfOk result
             (λ table. (width : ℕ) (k : Combination) → gathered_of width k table ≡ 0) }

@@ -1,6 +1,6 @@
-//! The range of the categories of a map, by some of its rows.
+//! The range of the categories of a map, judged by some of its rows.
 //!
-//! No clause says that a range holds all categories: those outside are counted too, only slower.
+//! No contract says that a range contains all categories: those outside are counted too, only more slowly.
 
 ghost use Rattle.std.specs.Prelude.{◌<◌};
 ghost use Rattle.cell_stats_combinations.specs.Combinations.{ArePicks};
@@ -11,16 +11,16 @@ use cell_core::map::CellMap;
 use cell_core::shelf::Shelf;
 use cell_core_values::small_cells::cell_of_byte;
 
-// About so many rows of a map are looked at.
+// About this many rows of a map are looked at.
 const SAMPLE: u32 = 8;
 
-// The most categories that have a place of their own.
+// Maximum number of categories that have their own place.
 const MOST: u64 = 16777216;
 
 // The byte that stands for the largest category.
 const LARGEST: u8 = 254;
 
-// What the rows that were looked at have: the range of the categories, and how many stretches.
+// What the sampled rows contain: the range of the categories, and the number of stretches.
 #[derive(Clone, Copy)]
 struct Sample {
     range: CodeRange,
@@ -28,7 +28,7 @@ struct Sample {
 }
 
 impl Sample {
-    // With one more row.
+    // The sample with one more row.
     fn with_row(mut self, map: &CellMap, row: u32) -> Sample
         requires { row < map.now.region.rows }
     {
@@ -45,7 +45,8 @@ impl Sample {
         self
     }
 
-    // Places for the categories if they are hardly more than there are stretches. Some are left free on both sides.
+    // Places for the categories, if there are hardly more of them than stretches. Some places are left free on both
+    // sides.
     fn layout(self, times: u64) -> Layout {
         let CodeRange { smallest, largest } = self.range;
         if smallest > largest {
@@ -64,7 +65,7 @@ impl Sample {
     }
 }
 
-// Where the combinations of the picked maps are looked for.
+// Where combinations of the picked maps are searched.
 pub(crate) fn layout_for(shelf: &Shelf, picks: &[usize]) -> Layout
     requires { ArePicks shelf.now picks.now }
 {

@@ -1,4 +1,4 @@
-//! Rows whose cells mostly differ from their neighbours, counted cell by cell.
+//! Rows in which most cells differ from their neighbours; they are counted cell by cell.
 
 ghost use Rattle.std.specs.Prelude.{◌≡◌, ◌+◌, ◌<◌, ◌^◌, OnOk, IfOk, length, map};
 ghost use Rattle.cell_core.specs.Grid.{row_at};
@@ -16,12 +16,12 @@ use cell_stats_combinations::combination::Combo;
 use cell_stats_combinations::skip::{Skip, is_left_out};
 use std::alloc::Global;
 
-// So many stretches of a row are looked at. A row is varied if these have fewer cells than ENOUGH.
+// Number of stretches of a row that are looked at. The row is varied if they have fewer than ENOUGH cells.
 const LOOK: usize = 8;
 
 const ENOUGH: u32 = 16;
 
-// In shorter rows a copy takes longer than it saves.
+// In shorter rows, copying takes more time than it saves.
 const SHORT: u32 = 64;
 
 // Whether most of the first cells of a row differ from their neighbours.

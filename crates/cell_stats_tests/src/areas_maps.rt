@@ -9,7 +9,7 @@ use std::alloc::AllocGlobal;
 use std::process::Abort;
 use std::test::Fail;
 
-// The map has the region of another, and the wanted numbers.
+// The map has the region of another, and the expected numbers.
 fn expect_map<R: Abort + AllocGlobal>(
     rt: &R,
     clumps: &CellMap,

@@ -1,5 +1,5 @@
-//! Maps by random rules, compared with a plain look at every rule: ranges in either order that overlap, rules of `*` in
-//! any place, the smallest and the largest category.
+//! Random rules, compared with a plain look at every rule: overlapping ranges in either order, rules for `*` in any
+//! place, and the smallest and the largest category.
 
 use crate::assertions::{assert_holds, assert_same};
 use cell_cats::reclassing::reclass;
@@ -30,14 +30,14 @@ const NUMBERS: [i32; 16] = [
     NULL,
 ];
 
-// A rule has fewer items.
+// A rule has fewer items than this.
 const ITEMS: usize = 5;
 
 const MOST_RULES: u32 = 12;
 
 const ROUNDS: u32 = 600;
 
-// The next number of a sequence that looks like chance (Knuth's multiplier).
+// The next pseudo-random number (Knuth's multiplier).
 fn next_random(seed: &mut u64, count: usize) -> usize {
     *seed = seed
         .wrapping_mul(6364136223846793005)
@@ -67,7 +67,7 @@ fn items(alloc: Global, seed: &mut u64) -> Result<String, Fail> {
     Ok(text)
 }
 
-// The line of a rule, whose output most other rules do not have.
+// The line of a rule; few other rules have the same output.
 fn rule(alloc: Global, seed: &mut u64) -> Result<String, Fail> {
     let output = next_random(seed, 100000);
     let line = match next_random(seed, 10) {
@@ -90,7 +90,7 @@ fn plainly(rules: &Rules, category: i32) -> i32 {
     rules.apply(cell).get().unwrap_or(NULL)
 }
 
-// The map by the rules has at each cell what a look at every rule gives.
+// The reclassified map has at each cell what a look at every rule gives.
 fn expect_as_plainly<R: Abort + AllocGlobal>(rt: &R, rules: &Rules) -> Result<(), Fail> {
     let alloc = rt.alloc();
     let map = map_of(alloc, &NUMBERS, 4)?.ok_or("no map")?;

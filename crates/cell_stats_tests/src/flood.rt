@@ -1,4 +1,4 @@
-//! The numbers of areas by a plain, slow search: an area grows from its first cell until no cell joins it.
+//! The numbers of areas by a plain, slow search: an area grows from its first cell until no cell can be added.
 
 ghost use Rattle.std.specs.Prelude.{◌<◌};
 
@@ -6,7 +6,7 @@ use cell_core::memory::Memory;
 use cell_core_test_maps::maps::NULL;
 use std::alloc::Global;
 
-// Whether two places of a map of so many columns are adjacent, by edges, or also by corners.
+// Whether two places of a map of `cols` columns are adjacent, by edges, or also by corners.
 fn are_adjacent(one: usize, other: usize, cols: usize, corners: bool) -> bool
     requires { 0 < cols }
 {
@@ -19,7 +19,7 @@ fn are_adjacent(one: usize, other: usize, cols: usize, corners: bool) -> bool
     }
 }
 
-// Whether a cell of this category at a place touches one of the area that has this number.
+// Whether a cell with this category at a place touches a cell of the area with this number.
 fn touches(
     categories: &[i32],
     numbers: &[i32],
@@ -42,7 +42,8 @@ fn touches(
     false
 }
 
-// Gives the number to each cell that touches a cell of the area, once over the map. Whether one did.
+// Gives the number to each cell that touches a cell of the area, in one pass over the map. Returns whether any cell
+// did.
 fn grow(categories: &[i32], numbers: &mut [i32], cols: usize, corners: bool, number: i32) -> bool
     requires { 0 < cols }
 {
@@ -56,7 +57,7 @@ fn grow(categories: &[i32], numbers: &mut [i32], cols: usize, corners: bool, num
     grew
 }
 
-/// The numbers of the areas of a map of these categories in rows of so many columns.
+/// The clump numbers of a map of these categories in rows of `cols` columns.
 pub(crate) fn numbers_by_flood(
     alloc: Global,
     categories: &[i32],

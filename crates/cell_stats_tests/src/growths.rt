@@ -1,7 +1,7 @@
 //! A rule for which memory runs out leaves the rules unchanged, and the same line can be added again.
 //!
-//! Every growth succeeds in a normal run. tools/hostile makes the growths fail in turn, one in each run, and checks
-//! that the call is made again in some of the runs.
+//! In a normal run every allocation succeeds. tools/hostile makes allocations fail in turn, one in each run, and checks
+//! that the call is repeated in some of the runs.
 
 use crate::assertions::{assert_holds, assert_same};
 use cell_cats::rules::{LineKind, RuleFault, Rules};
@@ -10,7 +10,7 @@ use std::alloc::AllocGlobal;
 use std::process::Abort;
 use std::test::Fail;
 
-// Each gives the category of its place, from 1 on, another one.
+// Each rule gives the category of its place, from 1 on, a new category.
 const LINES: [(&[u8], i32); 6] = [
     (b"1 = 9 low", 9),
     (b"2 thru 3 , 5 = 7", 7),
@@ -20,7 +20,7 @@ const LINES: [(&[u8], i32); 6] = [
     (b"-7 thru -6 6 = 0 zero", 0),
 ];
 
-// The new category of one, if it has one.
+// The new category of a category, if it has one.
 pub(crate) fn new_category(rules: &Rules, category: i32) -> Option<i32> {
     rules.apply(Cell::value(category)?).get()
 }

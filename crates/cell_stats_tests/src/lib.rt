@@ -1,7 +1,7 @@
-//! Tests of the rules of r.reclass: each form of a line, worked maps, and maps by random rules.
-//! Tests of the connected areas of a map: worked maps, shapes, and comparisons with a plain, slow search.
-//! Tests of the patches of a map and their measures: a worked map.
-//! Tests of tables and of their printed text: worked maps, wide picks and a table of very many combinations.
+//! Tests of the rules of r.reclass: each form of a line, worked maps, and random rules. Tests of the connected areas of
+//! a map: worked maps, shapes, and comparisons with a plain, slow search. Tests of the patches of a map and their
+//! measures: a worked map. Tests of tables and of their printed text: worked maps, wide picks and a table with very
+//! many combinations.
 #![tactic(auto)]
 
 #[cfg(test)]

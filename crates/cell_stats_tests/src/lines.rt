@@ -83,7 +83,7 @@ fn good_lines(rt: HostRuntime) -> Result<(), Fail> {
     Ok(())
 }
 
-// A rule that is added after a bad line is the only one.
+// A rule that is added after a bad line is the only rule.
 fn expect_one_rule<R: Abort>(rt: &R, rules: &mut Rules, line: &[u8]) {
     assert_holds!(rt;
         rules.add_line(b"1 = 2") == Ok(LineKind::Rule),

@@ -12,10 +12,10 @@ use std::test::Fail;
 /// A worked map of four columns.
 pub(crate) const G: [i32; 12] = [1, 1, 2, NULL, 1, 2, 2, 2, 3, 3, 1, 1];
 
-/// In each cell what is one column to its right in `G`.
+/// Each cell has what is one column to its right in `G`.
 pub(crate) const X: [i32; 12] = [1, 2, NULL, NULL, 2, 2, 2, NULL, 3, 1, 1, NULL];
 
-/// Puts a map on the shelf.
+/// Adds a map to the shelf.
 pub(crate) fn add(alloc: Global, shelf: &mut Shelf, name: &[u8], map: CellMap) -> Result<(), Fail> {
     let name = Name::read(alloc, name)?;
     match shelf.add(name, map) {
@@ -24,7 +24,7 @@ pub(crate) fn add(alloc: Global, shelf: &mut Shelf, name: &[u8], map: CellMap) -
     }
 }
 
-/// The map of these categories; an `Err` if they fill none.
+/// A map with these categories; an `Err` if they do not fill whole rows.
 pub(crate) fn filled(alloc: Global, categories: &[i32], cols: u32) -> Result<CellMap, Fail>
     requires { 0 < cols }
 {
@@ -33,7 +33,7 @@ pub(crate) fn filled(alloc: Global, categories: &[i32], cols: u32) -> Result<Cel
 
 const NAMES: [&[u8]; 3] = [b"a", b"b", b"c"];
 
-/// The shelf of maps `a`, `b` and so on, of so many columns.
+/// The shelf of the maps `a`, `b` and so on, each of `cols` columns.
 pub(crate) fn shelf_of(alloc: Global, maps: &[&[i32]], cols: u32) -> Result<Shelf, Fail>
     requires { 0 < cols }
 {

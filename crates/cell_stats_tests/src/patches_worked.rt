@@ -2,10 +2,11 @@
 
 use crate::assertions::assert_same;
 use crate::maps::filled;
-use cell_cats_areas::clump::Joining;
+use cell_cats_areas::clump::{Joining, clump_with};
 use cell_core_test_maps::maps::NULL;
 use cell_patches::measuring::patches_of;
 use cell_patches::patch::Patch;
+use cell_patches::zones::zones_of;
 use std::alloc::AllocGlobal;
 use std::process::Abort;
 use std::test::Fail;
@@ -37,7 +38,7 @@ fn patch(class: i32, counts: [u64; 4], reach: [u32; 4]) -> Patch {
     }
 }
 
-// The worked map has these patches.
+// Checks the patches of the worked map.
 fn expect_patches<R: Abort + AllocGlobal>(
     rt: &R,
     joining: Joining,
@@ -48,7 +49,8 @@ fn expect_patches<R: Abort + AllocGlobal>(
         return Err(Fail::from("no depth"));
     }
     let map = filled(rt.alloc(), &WORKED, 7)?;
-    let patches = patches_of(rt.alloc(), &map, joining, depth)?;
+    let numbers = clump_with(rt.alloc(), &map, joining)?;
+    let patches = patches_of(rt.alloc(), &map, &numbers, joining, depth)?;
     assert_same!(rt; patches.as_slice(), wanted, "{joining:?} at depth {depth}");
     Ok(())
 }
@@ -86,7 +88,8 @@ fn patches_by_edges_and_corners(rt: HostRuntime) -> Result<(), Fail> {
 #[test]
 fn null_is_of_no_patch(rt: HostRuntime) -> Result<(), Fail> {
     let map = filled(rt.alloc(), &[NULL; 6], 3)?;
-    let patches = patches_of(rt.alloc(), &map, Joining::Edges, 1)?;
+    let numbers = clump_with(rt.alloc(), &map, Joining::Edges)?;
+    let patches = patches_of(rt.alloc(), &map, &numbers, Joining::Edges, 1)?;
     assert_same!(rt; patches.len(), 0);
     Ok(())
 }
@@ -94,8 +97,36 @@ fn null_is_of_no_patch(rt: HostRuntime) -> Result<(), Fail> {
 #[test]
 fn sides_to_null_are_counted(rt: HostRuntime) -> Result<(), Fail> {
     let map = filled(rt.alloc(), &[5, 5, 5, 5, NULL, 5], 3)?;
-    let patches = patches_of(rt.alloc(), &map, Joining::Edges, 1)?;
+    let numbers = clump_with(rt.alloc(), &map, Joining::Edges)?;
+    let patches = patches_of(rt.alloc(), &map, &numbers, Joining::Edges, 1)?;
     let patch = patches.first().ok_or("no patch")?;
     assert_same!(rt; (patch.cells, patch.ends, patch.flanks), (5, 6, 6));
+    Ok(())
+}
+
+// Zones of the worked map's cells. By edges, the first patch has 9 cells in 10, 10 in 20 and 7 in none;
+// the second 2 in 10 and 1 in 20; the third 1 in 20; the fourth 1 in 20 and 1 in 30; the fifth none; the
+// sixth 4 in 30.
+const ZONES: [i32; 42] = [
+    10, 10, 10, 10, 10, 10, 10, //
+    10, 10, 10, 10, NULL, 20, 20, //
+    20, 20, 20, 20, 20, 20, 30, //
+    20, 20, 20, 20, 20, NULL, 20, //
+    NULL, NULL, NULL, NULL, NULL, NULL, NULL, //
+    10, 30, 30, 30, 30, NULL, NULL, //
+];
+
+#[test]
+fn main_zones_of_patches(rt: HostRuntime) -> Result<(), Fail> {
+    let map = filled(rt.alloc(), &WORKED, 7)?;
+    let zones = filled(rt.alloc(), &ZONES, 7)?;
+    let numbers = clump_with(rt.alloc(), &map, Joining::Edges)?;
+    let is_same = zones.region() == numbers.region();
+    if !is_same {
+        return Err(Fail::from("zones of another region"));
+    }
+    let main = zones_of(rt.alloc(), &numbers, &zones, 7)?;
+    let wanted = [Some(20), Some(10), Some(20), Some(20), None, Some(30), None];
+    assert_same!(rt; main.as_slice(), wanted.as_slice());
     Ok(())
 }

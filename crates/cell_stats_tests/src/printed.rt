@@ -19,7 +19,7 @@ use std::test::Fail;
 // The areas of the first worked map.
 const AREAS: [i32; 12] = [1, 1, 2, NULL, 1, 2, 2, 2, 3, 3, 4, 4];
 
-// The part of the table that a sink of so much room takes, and whether the sink failed.
+// The part of the table that a sink with this much room takes, and whether the sink failed.
 fn table_in_room(
     alloc: Global,
     shelf: &Shelf,
@@ -54,7 +54,7 @@ fn table_in_room(
     Ok((bytes, block.outcome()))
 }
 
-// The table's text is the wanted one.
+// The table's text is the expected one.
 fn expect_table<R: Abort + AllocGlobal>(
     rt: &R,
     shelf: &Shelf,
@@ -70,7 +70,7 @@ fn expect_table<R: Abort + AllocGlobal>(
     Ok(())
 }
 
-// The text of the cells is the wanted one.
+// The text of the cells is the expected one.
 fn expect_cells<R: Abort + AllocGlobal>(
     rt: &R,
     shelf: &Shelf,
@@ -91,7 +91,7 @@ fn expect_cells<R: Abort + AllocGlobal>(
     Ok(())
 }
 
-// The text of each table is the wanted one: by picks, skip, combination that it comes after, and text.
+// Checks the text of each table: picks, skip rule, the combination that it comes after, and text.
 fn expect_tables<R: Abort + AllocGlobal>(
     rt: &R,
     shelf: &Shelf,
@@ -221,7 +221,7 @@ fn tables_of_two_maps(rt: HostRuntime) -> Result<(), Fail> {
     expect_tables(&rt, &shelf, &format, &OF_TWO_MAPS)
 }
 
-// A map and one of its classes, of which one has a label.
+// A map and one of its classes; one class has a label.
 fn labelled_shelf(alloc: Global) -> Result<Shelf, Fail> {
     let mut shelf = shelf_of(alloc, &[&[1, 2, 3, 9, NULL]], 5)?;
     let mut made = filled(alloc, &[7, NULL, 7, 9, NULL], 5)?;
@@ -297,7 +297,7 @@ fn sink_without_room(rt: HostRuntime) -> Result<(), Fail> {
     Ok(())
 }
 
-// The cells that a sink of so much room takes, by blocks; then the block puts nothing more.
+// The cells that a sink with this much room takes, in blocks; then the block puts nothing more.
 fn expect_cells_cut<R: Abort + AllocGlobal>(
     rt: &R,
     shelf: &Shelf,

@@ -9,7 +9,7 @@ use std::test::Fail;
 
 const WIDEST: u32 = 65535;
 
-// A row of teeth over one bar: its categories, and the numbers of its areas.
+// A row of teeth above one bar: its categories, and the numbers of its areas.
 fn comb(alloc: Global, rows: u32, cols: u32) -> Result<(Vec<i32>, Vec<i32>), Fail>
     requires { cols < 64 }
 {
@@ -37,7 +37,7 @@ fn combs(rt: HostRuntime) -> Result<(), Fail> {
     Ok(())
 }
 
-// So many numbers from 1 on.
+// The numbers from 1 to `count`.
 fn counted(alloc: Global, count: u32) -> Result<Vec<i32>, Fail>
     requires { count < 65536 }
 {

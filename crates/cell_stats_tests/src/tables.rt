@@ -1,4 +1,4 @@
-//! What is counted: many maps, and very many combinations.
+//! Counting: many maps, and very many combinations.
 
 ghost use Rattle.std.specs.Prelude.{◌<◌};
 
@@ -56,7 +56,7 @@ fn texts_of_combinations(rt: HostRuntime) -> Result<(), Fail> {
     Ok(())
 }
 
-// The count of the first entry after the combination that a text spells, and how many entries there are after it.
+// The count of the first entry after the combination that a text spells, and the number of entries after it.
 fn after(alloc: Global, table: &Table, text: &[u8]) -> Result<(Option<u64>, usize), Fail> {
     let combo = Combo::read(alloc, text, 2)?;
     if combo.len() != table.width() {
@@ -73,7 +73,7 @@ fn after(alloc: Global, table: &Table, text: &[u8]) -> Result<(Option<u64>, usiz
     Ok((first, many))
 }
 
-// Combinations, the count of the first entry after each, and how many are after it.
+// Combinations, the count of the first entry after each, and the number of entries after it.
 const ENTRIES_AFTER: [(&[u8], Option<u64>, usize); 10] = [
     (b"0,9", Some(2), 8),
     (b"1,1", Some(2), 7),
@@ -145,10 +145,10 @@ fn first_two(combo: &Combo) -> [i32; 2] {
     }
 }
 
-// How many combinations there are where the places of few cells become more, and about there.
+// Numbers of combinations near the limits at which the table grows.
 const AT_GROWTH: [u32; 8] = [1, 47, 48, 49, 64, 193, 3072, 3073];
 
-// The table of so many combinations, each of which is in two rows.
+// A table of `many` combinations, each of which is in two rows.
 fn table_of_twice(alloc: Global, many: u32) -> Result<Table, Fail>
     requires { 0 < many }
 {
@@ -176,10 +176,10 @@ fn combinations_where_places_become_more(rt: HostRuntime) -> Result<(), Fail> {
     Ok(())
 }
 
-// The categories of two maps at random are below this.
+// The random categories of two maps are below this.
 const SIDE: u64 = 300;
 
-// So many categories at random.
+// `many` random categories.
 fn random_categories(alloc: Global, seed: u64, many: usize) -> Result<Vec<i32>, Fail> {
     let mut number = seed;
     let mut categories = Vec::new(alloc);
@@ -192,7 +192,7 @@ fn random_categories(alloc: Global, seed: u64, many: usize) -> Result<Vec<i32>, 
     Ok(categories)
 }
 
-// Counts a combination at its place.
+// Counts a combination by its place.
 fn add_at(counts: &mut [u64], [first, second]: [i32; 2], more: u64) {
     let place = first.wrapping_mul(SIDE as i32).wrapping_add(second);
     if let Some(count) = counts.get_mut(place.unsigned_abs() as usize) {

@@ -131,7 +131,7 @@ const CASES: [Case; 15] = [
     },
 ];
 
-// The rules of a case give its map.
+// Checks the map that the rules of a case make.
 fn expect_case<R: Abort + AllocGlobal>(rt: &R, case: &Case) -> Result<(), Fail> {
     let mut rules = Rules::new(rt.alloc());
     for line in case.lines {

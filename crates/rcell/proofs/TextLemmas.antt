@@ -32,7 +32,7 @@ anyway : (all : Option Coming) (P : Coming → Type 0) (Q : Type 0) → IfSome a
 anyway None P Q is = tt
 anyway (Some c) P Q is = λ _. is
 
--- being out of memory says nothing of the text
+-- lack of memory says nothing about the text
 pub no_memory : (all : Option Coming) → IfSome all (λ c. AnswersInput {A = List ℕ} (λ t. t) (Err (Memory 0)) (script_text c))
 no_memory None = tt
 no_memory (Some c) = λ input. absurd input

@@ -5,7 +5,7 @@ use Rattle.rcell.specs.Making.{IsWithValues, IsWithClasses, IsWithNumbers}
 use Rattle.rcell_script_commands.specs.declared.command.Command.{Command}
 use Rattle.rcell_script_commands.specs.declared.command.Command.TheVariants.{Mapcalc, Reclass, Clump, Stats, OutAscii}
 
--- the shelf after a command: those that make a map put it last, under its name; the others leave the shelf as it is
+-- the shelf after a command: if it makes a map, the map is added at the end under its name; else nothing changes
 abbrev pub IsShelfAfter : ShelfValue → Command → ShelfValue → Type 0
 IsShelfAfter shelf (Mapcalc target bound) after = IsWithValues shelf target bound after
 IsShelfAfter shelf (Reclass place target rules) after = IsWithClasses shelf place target rules after

@@ -1,4 +1,4 @@
--- The shelf that grids give, in their order, or the first error (profile).
+-- The shelf of grids, in their order, or the first error (profile).
 use Rattle.std.specs.Prelude.{ℕ, ◌+◌, List, [], ◌∷◌, ◌++◌, Option, Some, None, Result, Ok, Err, if◌then◌else◌}
 use Rattle.cell_core.specs.Grid.{Grid}
 use Rattle.cell_core_values.specs.Name.{place_of}
@@ -34,11 +34,11 @@ abbrev pub then_grids : (ShelfValue → Result (Option ShelfValue) RunFault) →
 then_grids rest (Ok shelf) = rest shelf
 then_grids rest (Err fault) = Err fault
 
--- the shelf with the grids that are left, from place `grid` on
+-- the shelf with the remaining grids, from place `grid` on
 unfoldable pub shelf_from : ℕ → Option ShelfValue → List Named → Result (Option ShelfValue) RunFault
 shelf_from grid shelf [] = Ok shelf
 shelf_from grid shelf (g ∷ gs) = then_grids (λ s. shelf_from (grid + 1) (Some s) gs) (with_grid grid shelf g.0 (grid_of g.1))
 
--- the shelf of grids: each is read whole, in order
+-- the shelf of grids: each is read completely, in order
 abbrev pub shelf_of : List Named → Result (Option ShelfValue) RunFault
 shelf_of grids = shelf_from 0 None grids

@@ -1,4 +1,4 @@
--- The maps that r.mapcalc, r.reclass and r.clump make, each the last of the shelf (their manuals; the shelf is the profile's).
+-- The maps that r.mapcalc, r.reclass and r.clump make, each the last on the shelf (their manuals; shelf: profile).
 use Rattle.std.specs.Prelude.{ℕ, ◌≡◌, ◌<◌, List, [], ◌∷◌, ◌++◌, Option, Some, None, slice_get}
 use Rattle.cell_calc_binding.specs.Formula.{Formula}
 use Rattle.cell_calc_binding.specs.Applied.{grid_position}
@@ -22,12 +22,12 @@ pub record AreNumbers (joining : Joining) (given made : Grid) : Type 0 where
   pub filled : IsFilled made.region made.rows
   pub clumping : IsClumping joining given made
 
--- the map at a place is as a relation says; there is one
+-- the map at a place satisfies a relation, and there is one
 abbrev pub IsOfMap : (Grid → Type 0) → Option Grid → Type 0
 IsOfMap holds None = ⊥
 IsOfMap holds (Some m) = holds m
 
--- the shelf with one more map, as its last
+-- the shelf with one more map at its end
 abbrev pub with_map : ShelfValue → List ℕ → Grid → ShelfValue
 with_map shelf name map = record { region = shelf.region; names = shelf.names ++ name ∷ []; maps = shelf.maps ++ map ∷ [] }
 

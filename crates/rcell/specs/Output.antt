@@ -16,7 +16,7 @@ use Rattle.rcell.specs.After.{IsShelfAfter}
 abbrev pub combinations_of : ShelfValue → List ℕ → List Combination
 combinations_of shelf places = all_combinations shelf.maps places shelf.region.rows shelf.region.cols
 
--- how r.stats prints
+-- the format of r.stats
 abbrev pub format_of : StatsOptions → FormatValue
 format_of options = record { separator = options.separator; null_text = options.null_text; labels = options.labels; counts = options.counts }
 
@@ -30,7 +30,7 @@ stats_text shelf places options =
 abbrev pub out_ascii_text : ShelfValue → ℕ → List ℕ → List ℕ
 out_ascii_text shelf place null_text = option_map_or (grid_text null_text) (slice_get shelf.maps place) []
 
--- what a command writes over a shelf; those that make maps write nothing
+-- what a command writes over a shelf; a command that makes a map writes nothing
 abbrev pub command_text : ShelfValue → Command → List ℕ
 command_text shelf (Mapcalc target bound) = []
 command_text shelf (Reclass place target rules) = []
@@ -38,7 +38,7 @@ command_text shelf (Clump place target joining) = []
 command_text shelf (Stats places options) = stats_text shelf places options
 command_text shelf (OutAscii place null_text) = out_ascii_text shelf place null_text
 
--- statements over a shelf write the text and leave the other shelf: each writes over the shelf that those before it left
+-- statements over a shelf write a text and leave another shelf: each writes over the shelf that those before it left
 abbrev pub Executes : ShelfValue → List Statement → List ℕ → ShelfValue → Type 0
 Executes shelf [] text after = (text ≡ []) × (after ≡ shelf)
 Executes shelf (s ∷ ss) text after =

@@ -1,14 +1,14 @@
--- The output of a script: there is one, and the outputs of its parts join.
+-- The output of a script: there is exactly one, and the outputs of its parts are concatenated.
 use Rattle.std.specs.Prelude.{ℕ, ◌≡◌, ◌↔◌, List, ◌++◌}
 use Rattle.cell_core.specs.Shelf.{ShelfValue}
 use Rattle.rcell_script.specs.declared.statement.Statement.{Statement}
 use Rattle.rcell.specs.Output.{Executes, IsOutput}
 
--- statements over a shelf have one output
+-- statements over a shelf have exactly one output
 abbrev pub OneOutput : Type 0
 OneOutput = (shelf : ShelfValue) (statements : List Statement) (a b : List ℕ) → IsOutput shelf statements a → IsOutput shelf statements b → a ≡ b
 
--- to execute a script is to execute its first part, and then its second over the shelf that the first left; the outputs join
+-- executing a script is executing its first part, and then its second over the shelf that the first left
 abbrev pub PartsJoin : Type 0
 PartsJoin = (shelf : ShelfValue) (first second : List Statement) (text : List ℕ) (after : ShelfValue)
     → Executes shelf (first ++ second) text after

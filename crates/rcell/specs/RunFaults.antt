@@ -5,7 +5,7 @@ use Rattle.rcell_script_commands.specs.declared.script_fault.ScriptKind.TheVaria
 use Rattle.rcell.specs.declared.run_fault.RunFault.{RunFault}
 use Rattle.rcell.specs.declared.run_fault.RunFault.TheVariants.{GridTwice, GridRegion, Grid, ScriptRead, ScriptSize, Script, Memory, Write}
 
--- an error of the input: neither out of memory nor a failed write
+-- an error of the input: neither lack of memory nor a failed write
 abbrev pub IsOfInput : RunFault → Type 0
 IsOfInput (GridTwice grid) = ⊤
 IsOfInput (GridRegion grid) = ⊤
@@ -49,7 +49,7 @@ IsInExecution (Script fault) = ⊥
 IsInExecution (Memory line) = 0 < line
 IsInExecution Write = ⊤
 
--- an error names one of so many grids; out of memory, for a grid or for the script, is reported at line 0
+-- an error names one of the grids; out of memory, for a grid or for the script, is reported at line 0
 abbrev pub NamesItsGrid : ℕ → RunFault → Type 0
 NamesItsGrid grids (GridTwice grid) = grid < grids
 NamesItsGrid grids (GridRegion grid) = grid < grids
@@ -65,7 +65,7 @@ pub record IsOfScript (fault : RunFault) : Type 0 where
   pub early : IsBeforeExecution fault
   pub reported : (grids : ℕ) → NamesItsGrid grids fault
 
--- a value, seen by `view`, is the one that the reading gives; an error of the input is the reading's error
+-- a value, seen through `view`, is what the reading gives; an error of the input is the reading's error
 abbrev pub AnswersInput : {A B : Type 0} → (A → B) → Result A RunFault → Result B RunFault → Type 0
 AnswersInput view (Ok x) reading = reading ≡ Ok (view x)
 AnswersInput view (Err fault) reading = IsOfInput fault → reading ≡ Err fault

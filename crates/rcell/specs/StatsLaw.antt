@@ -1,4 +1,4 @@
--- What r.stats writes, by the tables of its maps (r.stats manual).
+-- What r.stats writes, in terms of the tables of its maps (r.stats manual).
 use Rattle.std.specs.Prelude.{ℕ, ◌≡◌, ◌*◌, true, false, List, [], ◌∷◌, ◌++◌, None, sum_by, decimal}
 use Rattle.std.specs.List.{flat_map}
 use Rattle.cell_core.specs.Shelf.{ShelfValue}
@@ -20,7 +20,7 @@ TablesAreAppended = (shelf : ShelfValue) (places : List ℕ) (options : StatsOpt
     × ((pairs : Pairs) → IsTableOf shelf places options pairs
     → command_text shelf (Stats places options) ≡ table_text (format_of options) shelf.maps places (printed_pairs options.after pairs))
 
--- with `-c`, and without `-n`, `-N`, `-1` and `after`, r.stats writes a line for each pair of the table, in which its count is the last field, and the counts add up to the cells of the region
+-- with only `-c`, r.stats writes a line per pair of the table, ending in its count; the counts add up to all cells
 abbrev pub CountsCoverTheRegion : Type 0
 CountsCoverTheRegion = (shelf : ShelfValue) (places : List ℕ) (options : StatsOptions)
     → options.cells ≡ false → options.counts ≡ true → options.skip ≡ Nothing → options.after ≡ None → (pairs : Pairs) → IsTableOf shelf places options pairs

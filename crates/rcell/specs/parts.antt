@@ -1,4 +1,4 @@
--- What only private functions and proofs cite.
+-- Definitions that only private functions and proofs use.
 pub mod WindowsSet
 pub mod Asked
 pub mod Refused

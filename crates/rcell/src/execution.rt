@@ -1,4 +1,4 @@
-//! Statements are executed in order: those that make maps put them on the shelf, the others write their text.
+//! Executes statements in order: those that make maps add them to the shelf, the others write their text.
 
 ghost use Rattle.std.specs.Prelude.{◌≡◌, OnOk, OnErr, IfOk, IfErr};
 ghost use Rattle.cell_core_devices.specs.Device.{after_put};
@@ -29,14 +29,14 @@ pub enum RunStop {
     Write,
 }
 
-/// What stopped an execution, and how many bytes the sink took.
+/// What stopped an execution, and the number of bytes that the sink took.
 #[derive(Clone, Copy)]
 pub struct Stopped {
     pub stop: RunStop,
     pub written: u64,
 }
 
-// A put failed after so many bytes.
+// A put failed after `written` bytes.
 fn stopped_by(written: u64) -> Stopped
     ensures { result ≡ record { stop = RunStop.Write; written = written } }
 {
@@ -46,7 +46,7 @@ fn stopped_by(written: u64) -> Stopped
     }
 }
 
-// Out of memory, after so many bytes.
+// Memory ran out after `written` bytes.
 fn out_of_memory(line: u64, written: u64) -> Stopped
     ensures { result ≡ record { stop = RunStop.Memory line; written = written } }
 {
@@ -56,7 +56,7 @@ fn out_of_memory(line: u64, written: u64) -> Stopped
     }
 }
 
-// Executes a statement. It has all that it needs of memory before its first byte.
+// Executes a statement. All its memory is allocated before its first byte is written.
 fn execute_statement<W: Sink>(
     alloc: Global,
     shelf: &mut Shelf,

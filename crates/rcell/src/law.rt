@@ -6,21 +6,21 @@ ghost use Rattle.rcell.specs.StatsLaw.{CountsCoverTheRegion, TablesAreAppended};
 use cell_cats_areas::law::clumping_is_one;
 use cell_stats::law::{counts_add_up, table_lists_what_occurs};
 
-/// Statements over a shelf have one output.
+/// Statements over a shelf have exactly one output.
 pub fn one_output()
     ensures { OneOutput }
 {
     clumping_is_one();
 }
 
-/// To execute a script is to execute its first part, and then its second over the shelf that the first left; their outputs
-/// join.
+/// Executing a script is executing its first part, and then its second part over the shelf that the first part left;
+/// their outputs are concatenated.
 pub fn parts_join()
     ensures { PartsJoin }
 {}
 
-/// What r.stats writes, but for `-1`, is the printed form of every list that is a table of its maps, or of its rest after
-/// a combination; and there is such a list.
+/// Without `-1`, r.stats writes the printed form of every list that is a table of its maps, or of the table's rest
+/// after a combination; and there is such a list.
 pub fn tables_are_printed()
     ensures { TablesAreAppended }
 {
@@ -28,7 +28,7 @@ pub fn tables_are_printed()
 }
 
 /// With `-c`, and without `-n`, `-N`, `-1` and `after`, r.stats writes a line for each entry of the table of its maps,
-/// with its count at the end, and the counts add up to the cells of the region.
+/// with its count at the end, and the counts add up to the number of cells of the region.
 pub fn counts_cover_the_region()
     ensures { CountsCoverTheRegion }
 {

@@ -45,7 +45,7 @@ fn shelf_with_map(
     }
 }
 
-// The shelf with one more map, or a new one of the map's region.
+// The shelf with one more map, or a new shelf with the map's region.
 fn shelf_or_new(
     alloc: Global,
     shelf: Option<Shelf>,
@@ -65,7 +65,7 @@ fn shelf_or_new(
     }
 }
 
-// Reads a grid whole, and puts it on the shelf.
+// Reads a full grid, and adds it to the shelf.
 fn shelf_with_grid<R: Source + Drop>(
     alloc: Global,
     shelf: Option<Shelf>,
@@ -84,7 +84,7 @@ fn shelf_with_grid<R: Source + Drop>(
     shelf_or_new(alloc, shelf, grid, name, map)
 }
 
-/// Reads the full text of each grid, in order, and puts the maps on a shelf.
+/// Reads the full text of each grid, in order, and adds the maps to a shelf.
 ///
 /// # Errors
 ///

@@ -1,4 +1,4 @@
-//! Statements that make a map put it on the shelf.
+//! Statements that make a map and add it to the shelf.
 
 ghost use Rattle.std.specs.Prelude.{◌≡◌, ◌≤◌, ◌<◌, None, length, OnOk, OnErr};
 ghost use Rattle.cell_calc_binding.specs.Reach.{top_of};
@@ -16,7 +16,7 @@ use cell_core::name::Name;
 use cell_core::shelf::{Shelf, ShelfFault};
 use std::alloc::Global;
 
-// Puts a map of the shelf's region last, under a name that is free.
+// Adds a map of the shelf's region at the end, under a free name.
 fn put_last(alloc: Global, shelf: &mut Shelf, target: &Name, made: CellMap) -> Result<(), Memory>
     requires free { place_of target.now shelf.old.names ≡ None }
     requires region { made.region ≡ shelf.old.region }
@@ -54,7 +54,7 @@ pub fn make_values(
     put_last(alloc, shelf, target, made)
 }
 
-/// r.reclass: makes a map from another one by rules.
+/// r.reclass: makes a map by reclassifying another one.
 ///
 /// # Errors
 ///

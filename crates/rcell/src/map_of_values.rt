@@ -18,7 +18,7 @@ use cell_core::region::Region;
 use cell_core::shelf::Shelf;
 use std::alloc::Global;
 
-// The map of the place at index `i`.
+// The map at the place with index `i`.
 fn map_at<'a>(maps: &'a [CellMap], places: &[usize], i: usize) -> &'a CellMap
     requires place { i < length places.now }
     requires within { AreMapPlaces maps.now places.now }
@@ -50,7 +50,7 @@ fn open_windows(
     Ok(windows)
 }
 
-// Moves each window down by one row, if there is one.
+// Moves each window down by one row, if there is another row.
 fn advance_windows(
     bound: &Bound,
     places: &[usize],
@@ -107,7 +107,7 @@ fn evaluate_over(
     Ok(builder.finish())
 }
 
-// The same by the table of a category, if that is faster.
+// The same using a table of categories, if that is faster.
 fn evaluate_fast(
     alloc: Global,
     bound: &Bound,

@@ -7,10 +7,10 @@ pub use crate::run_fault::RunFault;
 use cell_ascii::grid_fault::GridKind;
 use rcell_script::script_fault::ScriptKind;
 
-/// What a run did.
+/// The outcome of a run.
 #[derive(Clone, Copy, Debug, PartialEq, Eq)]
 pub struct Outcome {
-    /// 0 if it is done, 1 if a grid or the script was rejected, 3 if memory ran out, 4 if a read or a write failed.
+    /// 0 if it is done, 1 if a grid or the script was rejected, 3 if memory ran out, 4 if a read or write failed.
     pub status: u8,
     /// The number of bytes that the sink took, at most `u64::MAX`.
     pub written: u64,

@@ -33,7 +33,7 @@ pub enum FaultText {
     Write { written: u64 },
 }
 
-/// A line `rcell: SOURCE:LINE: TEXT` (profile); the line is 0 if the error belongs to none.
+/// A line `rcell: SOURCE:LINE: TEXT` (profile); the line is 0 if the error has no line.
 #[derive(Clone, Copy, Debug)]
 pub struct FaultLine<'a, T> {
     pub source: &'a [u8],

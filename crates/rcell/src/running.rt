@@ -107,11 +107,11 @@ fn refused_outcome(fault: RunFault, written: u64) -> Outcome
     }
 }
 
-/// Runs a script over grids, and writes what it asks for.
+/// Runs a script over grids, and writes its output.
 ///
-/// The grids are read whole, in their order, then the script, and only then the first statement is executed.
-/// Each statement has all that it needs of memory before its first byte is written. If the script was accepted and no
-/// write failed, the sink is flushed once at the end.
+/// The grids are read completely, in their order, then the script, and only then the first statement is executed. Each
+/// statement has allocated all its memory before its first byte is written. If the script was accepted and no write
+/// failed, the sink is flushed once at the end.
 pub fn run<R: Source + Drop, W: Sink>(
     alloc: Global,
     script: R,
@@ -119,41 +119,43 @@ pub fn run<R: Source + Drop, W: Sink>(
     out: &mut W,
 ) -> Outcome
     requires { 0 < vec_len grids }
-    // Without an error the sink has taken exactly the output, and its length is reported.
+    // Without an error, the sink has taken exactly the output, and its length is reported.
     ensures done { OfTexts R.coming grids.items script (λ named text. IsNone result.fault
         → IsRunDone named text (W.taken out.old) (W.taken out.new) result.written) }
-    // An error of the grids or of the script is their first.
+    // An error of the grids or of the script is the first one.
     ensures refused { OfTexts R.coming grids.items script
         (λ named text. IfSome result.fault (λ f. IsOfInput f → IsRefusal named text f)) }
-    // A run that is rejected before execution leaves the sink as it was: nothing is put, and it is not flushed.
+    // A run that is rejected before execution leaves the sink unchanged: nothing is put, and it is not flushed.
     ensures untouched { IfSome result.fault
         (λ f. IsBeforeExecution f → (out.new ≡ out.old) × (result.written ≡ 0)) }
-    // A run that runs out of memory has written the full output of the statements before the one that it reports; one that
-    // stops at a failing sink has written a prefix of the output, and reports its length.
+    // If memory runs out, the full output of the statements before the reported one is written; if the sink fails, a
+    // prefix of the output is written, and its length is reported.
     ensures stopped { OfTexts R.coming grids.items script
         (λ named text. IfSome result.fault (λ f. IsInExecution f
         → IsRunStopped named text (W.taken out.old) (W.taken out.new) result.written f)) }
     ensures status { result.status ≡ status_after result.fault }
-    // An error of a grid names a grid that was given; out of memory, for a grid or for the script, is reported at line 0.
+    // An error of a grid names one of the given grids; out of memory, for a grid or for the script, is reported at line
+    // 0.
     ensures reported { IfSome result.fault (NamesItsGrid (length grids.items)) }
-    // Status 0: no call of the sink failed and it was flushed once. Write: a call failed, now or before.
+    // Status 0: no call of the sink failed and it was flushed once. `Write`: a call failed, now or before.
     ensures sound { result.status ≡ 0 → W.faults out.new ≡ after_flush (W.faults out.old) false }
     ensures write { result.fault ≡ Some RunFault.Write → has_failed (W.faults out.new) ≡ true }
-    // If Write is reported and no put failed, as when only the flush at the end failed, the sink took the full output.
+    // If `Write` is reported and no put failed (only the flush at the end did), the sink took the full output.
     ensures whole { OfTexts R.coming grids.items script
         (λ named text. result.fault ≡ Some RunFault.Write → (W.faults out.new).refused ≡ false
         → IsRunDone named text (W.taken out.old) (W.taken out.new) result.written) }
-    // A run that was not rejected before execution flushes its sink once, unless a put failed: this is reported as Write.
+    // A run that was not rejected before execution flushes its sink once, unless a put failed: this is reported as
+    // `Write`.
     ensures first { IfSome result.fault IsInExecution
         → Failing result.fault (W.faults out.old) (W.faults out.new) }
-    // For every accepted script over grids of one region, if memory lasts and the sink takes everything,
-    // exactly the output of its statements is written.
+    // For every accepted script over grids of one region, if memory suffices and the sink takes everything, exactly the
+    // output of its statements is written.
     ensures headline { OfTexts R.coming grids.items script
         (λ named text. (shelf : ShelfValue) (statements : List Statement)
         → IsAccepted named text shelf statements
         → Writes shelf statements (W.taken out.old) (W.taken out.new)
         (has_failed (W.faults out.new)) result) }
-    // The same of whatever is read as statements over a shelf.
+    // The same for any reading as statements over a shelf.
     ensures complete { OfTexts R.coming grids.items script
         (λ named text. (shelf : ShelfValue) (statements : List Statement)
         → IsReadScript named text shelf statements

@@ -9,7 +9,7 @@ use crate::run_fault::RunFault;
 use cell_core::source::{Asked, Source};
 use std::alloc::Global;
 
-/// The most bytes of a script.
+/// Maximum length of a script in bytes.
 const MOST_BYTES: usize = 1048576;
 
 /// Reads a script to its end, up to one byte more than its limit.
@@ -32,7 +32,7 @@ fn read_text<R: Source>(alloc: Global, source: &mut R) -> Result<Vec<u8>, RunFau
     ensures answer { IfSome (R.coming source.old)
         (λ c. AnswersInput (λ text. text.items) result (script_text c)) }
     ensures whose { IfErr result IsOfScript }
-    // Its end and an `Err` are reported as such, and it is not asked after them.
+    // Its end and its `Err` are reported, and it is not asked after them.
     ensures asked { R.asked source.old ≡ Asked.Going → R.asked source.new ≡ asked_by result }
 {
     let mut text = Vec::new(alloc);

@@ -1,4 +1,4 @@
-//! r.stats: tables and cells are written.
+//! r.stats: writing tables and cells.
 
 ghost use Rattle.std.specs.Prelude.{◌≡◌, ◌<◌, ◌≤◌, All, length, OnOk, OnErr, IfSome};
 ghost use Rattle.std.specs.Option.{option_map};
@@ -17,7 +17,7 @@ use cell_stats::tallying::tally;
 use rcell_script::statement::StatsOptions;
 use std::alloc::Global;
 
-// How the options print.
+// The format that the options give.
 fn format_of<'a>(options: &'a StatsOptions) -> Format<'a>
     ensures { result ≡ format_of options.now }
 {
@@ -39,7 +39,7 @@ fn combination_before<'a>(options: &'a StatsOptions) -> Option<&'a Combo>
     }
 }
 
-/// Writes the output of r.stats. All its memory is taken before its first byte.
+/// Writes the output of r.stats. All its memory is allocated before its first byte.
 ///
 /// # Errors
 ///

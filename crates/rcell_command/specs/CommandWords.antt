@@ -12,7 +12,7 @@ begins_with_hyphen (b ∷ rest) = b == byte (codes "-")
 abbrev pub has_hyphen_word : List (List ℕ) → Bool
 has_hyphen_word words = list_any begins_with_hyphen words
 
--- two words or more, of which the first does not begin with a hyphen
+-- at least two words, the first of which does not begin with a hyphen
 abbrev pub is_command : List (List ℕ) → Bool
 is_command (first ∷ word ∷ words) = not (begins_with_hyphen first)
 is_command words = false

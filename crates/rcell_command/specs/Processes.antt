@@ -1,10 +1,10 @@
--- What is known of a process, and what calls of it add (profile).
+-- What is known about a process, and what its calls add (profile).
 use Rattle.std.specs.Prelude.{ℕ, ◌≡◌, Bool, false, List, [], ◌∷◌}
 use Rattle.std.specs.Prelude.{◌++◌, Option, None, Some, IfSome, if◌then◌else◌, bytes_eq, take}
 use Rattle.cell_core_devices.specs.Device.{Coming}
 use Rattle.rcell_command.specs.Reported.{PlaceValue, status_of}
 
--- what is known, with more at its end
+-- what is known, with more appended
 abbrev pub grown : {A : Type 0} → Option (List A) → List A → Option (List A)
 grown None more = None
 grown (Some known) more = Some (known ++ more)
@@ -23,7 +23,7 @@ abbrev pub error_lines : (program : List ℕ) → Option PlaceValue → List Err
 error_lines program None = []
 error_lines program (Some place) = error_line program place ∷ []
 
--- exactly the files of these paths were opened, in this order, and nothing was reported
+-- exactly the files at these paths were opened, in this order, and nothing was reported
 pub record OpensFiles {P : Type 0} (files : P → List ℕ → Option Coming) (opened : P → Option (List (List ℕ))) (errors
     : P → Option (List ErrorLine)) (failed : P → Bool) (old new : P) (paths : List (List ℕ)) : Type 0 where
   pub grows : opened new ≡ grown (opened old) paths
@@ -31,13 +31,13 @@ pub record OpensFiles {P : Type 0} (files : P → List ℕ → Option Coming) (o
   pub same_errors : errors new ≡ errors old
   pub as_failed : failed new ≡ failed old
 
--- the files of the first of these paths were opened, in this order, and nothing was reported
+-- files at the first of these paths were opened, in this order, and nothing was reported
 pub record OpensSomeFiles {P : Type 0} (files : P → List ℕ → Option Coming) (opened : P → Option (List (List ℕ)))
     (errors : P → Option (List ErrorLine)) (failed : P → Bool) (old new : P) (paths : List (List ℕ)) : Type 0 where
   pub count : ℕ
   pub opens : OpensFiles files opened errors failed old new (take count paths)
 
--- if it is known what the file of a path holds, the source gives this
+-- if the contents of the file at a path are known, the source gives them
 abbrev pub GivesFile : {F : Type 0} → (List ℕ → Option Coming) → (F → Option Coming) → List ℕ → F → Type 0
 GivesFile files coming path source = IfSome (files path) (λ text. coming source ≡ Some text)
 
@@ -50,19 +50,19 @@ pub record HasReported {P : Type 0} (opened : P → Option (List (List ℕ))) (e
   pub same_opened : opened new ≡ opened old
   pub silent : place ≡ None → new ≡ old
 
--- what was reported, whatever else the process did: exactly the line of this error, unless standard error failed,
--- and the exit status is the error's; nothing without an error
+-- what was reported, whatever else the process did: exactly the line of this error, unless standard error failed, with
+-- the error's exit status; nothing without an error
 pub record IsTold {P : Type 0} (errors : P → Option (List ErrorLine)) (failed : P → Bool) (old new : P) (program :
     List ℕ) (place : Option PlaceValue) (status : ℕ) : Type 0 where
   pub status_is : status ≡ status_of place
   pub told : failed new ≡ false → errors new ≡ grown (errors old) (error_lines program place)
   pub silent : place ≡ None → errors new ≡ errors old
 
--- what a file of a path and these bytes gives
+-- what a file with a path and these bytes gives
 abbrev pub text_of_file : List ℕ × List ℕ → Coming
 text_of_file file = record { bytes = file.1; fails = false }
 
--- what the first file of a path gives
+-- what the first file with a path gives
 abbrev pub file_of : List (List ℕ × List ℕ) → List ℕ → Option Coming
 file_of [] path = None
 file_of (file ∷ files) path = if bytes_eq file.0 path then Some (text_of_file file) else file_of files path

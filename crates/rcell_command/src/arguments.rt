@@ -57,7 +57,7 @@ pub fn has_hyphen_word(words: &[&str]) -> bool
     any_with_hyphen(words)
 }
 
-// Whether two words or more follow the program's own name, of which the first does not begin with a hyphen.
+// Whether at least two words follow the program's own name, the first of which does not begin with a hyphen.
 fn is_command(words: &[String]) -> bool
     ensures { result ≡ is_command (drop 1 (map string_bytes words.now)) }
 {
@@ -67,9 +67,9 @@ fn is_command(words: &[String]) -> bool
     }
 }
 
-// The words that clap takes: one, and then one or more, with hyphens or without.
+// The words that clap accepts: one, and then one or more, with or without hyphens.
 //
-// What follows the first word is one list: what clap does with a flag between paths takes its whole walk to say.
+// The words after the first are one list: what clap does with a flag between paths depends on its whole walk.
 fn command<'a>(alloc: Global, program: &'a str) -> Result<Command<'a>, AllocError>
     ensures { IfOk result (λ command. app_of command ≡ command_line program.now) }
 {
@@ -84,7 +84,7 @@ fn command<'a>(alloc: Global, program: &'a str) -> Result<Command<'a>, AllocErro
     Command::new(alloc, program).arg(first)?.arg(rest)
 }
 
-// The error for one of clap.
+// An error of clap, as an error of the program.
 fn of_clap<E: Copy>(kind: ErrorKind, memory: E, usage: E) -> E
     ensures memory { kind ≡ ErrorKind.OutOfMemory → result ≡ memory }
     ensures usage { result ≢ memory → result ≡ usage }
@@ -95,7 +95,7 @@ fn of_clap<E: Copy>(kind: ErrorKind, memory: E, usage: E) -> E
     }
 }
 
-// What clap finds among the words, the program's own name first.
+// The words that clap finds after the program's own name.
 fn clap_matches<'a, E: Copy>(
     alloc: Global,
     program: &'a str,

@@ -8,9 +8,9 @@ use std::fs;
 use std::io::ErrorKind;
 use std::rt::Files;
 
-/// Opens the file of a path.
+/// Opens the file at a path.
 ///
-/// No clause says that the source has the bytes of the file, since nothing is assumed about files.
+/// No contract says that the source has the bytes of the file, since nothing is assumed about files.
 ///
 /// # Errors
 ///
@@ -21,7 +21,7 @@ pub fn open_file<R: Files, E: Copy>(
     memory: E,
     file: E,
 ) -> Result<ReadSource<R::File>, E>
-    // Nothing is read yet: the source was not asked, so it has neither ended nor failed.
+    // Nothing has been read: the source was not asked, so it has neither ended nor failed.
     ensures asked { IfOk result (λ source. source.1 ≡ Asked.Going) }
     ensures gave { IfOk result (λ source. source.0.1 ≡ []) }
     ensures reported { IfErr result (λ error. error ≢ memory → error ≡ file) }

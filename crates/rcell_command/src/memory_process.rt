@@ -15,7 +15,7 @@ use std::alloc::{AllocError, Global};
 use std::fmt::Display;
 use std::marker::Model;
 
-// The most bytes that one call of a file's source gives.
+// The largest number of bytes that a file's source gives per call.
 const PIECE: usize = 4096;
 
 /// A line that standard error took.
@@ -80,7 +80,7 @@ impl Model for MemoryFile {
 }
 
 impl MemoryFile {
-    /// A file of these bytes.
+    /// A file with these bytes.
     pub fn new(path: Vec<u8>, bytes: Vec<u8>) -> MemoryFile
         ensures { result ≡ (path.items, bytes.items) }
     {
@@ -102,7 +102,7 @@ impl MemoryFile {
     }
 }
 
-// The first file of a path.
+// The first file with a path.
 fn file_of<'a>(files: &'a [MemoryFile], path: &str) -> Option<&'a MemoryFile>
     ensures { option_map (λ file. text_of_file file.now) result ≡ file_of files.now path.now }
 {
@@ -114,7 +114,7 @@ fn file_of<'a>(files: &'a [MemoryFile], path: &str) -> Option<&'a MemoryFile>
     None
 }
 
-/// A process in memory, of which all is known.
+/// A process in memory, about which everything is known.
 #[derive(Drop)]
 pub struct MemoryProcess {
     alloc: Global,
@@ -126,7 +126,7 @@ pub struct MemoryProcess {
 }
 
 impl MemoryProcess {
-    /// A process of these words, the program's own name first, and files.
+    /// A process with these words, the program's own name first, and these files.
     pub fn new(alloc: Global, words: Vec<String>, files: Vec<MemoryFile>) -> MemoryProcess {
         MemoryProcess {
             alloc,

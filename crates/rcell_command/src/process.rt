@@ -11,10 +11,11 @@ use cell_core_devices::source::Source;
 use std::alloc::Global;
 use std::fmt::Display;
 
-/// The words of a command line, files by their paths, and standard error. Standard input is a `Source`, and standard output
-/// a `Sink`.
+/// The words of a command line, files by their paths, and standard error. Standard input is a `Source`, and standard
+/// output a `Sink`.
 ///
-/// What the ghost members say may be unknown, as it is of the system's process. Of a process in memory all is known.
+/// The ghost members may be unknown, as they are for the system's process. For a process in memory, all of them are
+/// known.
 pub trait Process {
     ghost use Rattle.cell_core_devices.specs.Device.{Coming};
     ghost use Rattle.cell_core_devices.specs.declared.source.Asked.{Asked};
@@ -26,7 +27,7 @@ pub trait Process {
     /// The words of the command line, the program's own name first.
     ghost words: { Self → Option (List (List ℕ)) };
 
-    /// What the file of a path gives when it is read.
+    /// The contents of the file at a path.
     ghost files: { Self → List ℕ → Option Coming };
 
     /// The paths of the files that were opened, in order.
@@ -49,13 +50,13 @@ pub trait Process {
         ensures reported { IfErr result (λ error. error ≢ memory → (error ≡ usage)
             × (words self.now ≡ None)) };
 
-    /// Opens the file of a path.
+    /// Opens the file at a path.
     ///
     /// # Errors
     ///
     /// `file` if it can't be opened; `memory`.
     fn open<E: Copy>(&mut self, path: &str, memory: E, file: E) -> Result<Self::File, E>
-        // Nothing is read yet: the source was not asked, so it has neither ended nor failed.
+        // Nothing has been read: the source was not asked, so it has neither ended nor failed.
         ensures asked { IfOk result (λ source. Self.File.asked source ≡ Asked.Going) }
         ensures gives { IfOk result (GivesFile (files self.old) Self.File.coming path.now) }
         ensures opens { OnOk result

@@ -1,4 +1,4 @@
-//! The line on standard error that says why a program did not do all its work, and the exit status.
+//! The line on standard error that says why a program failed, and the exit status.
 
 ghost use Rattle.std.specs.Prelude.{◌≡◌, Option};
 ghost use Rattle.rcell_command.specs.Processes.{HasReported};
@@ -39,10 +39,10 @@ pub fn on_line<'a>(source: &'a [u8], line: u64, status: u8) -> Place<'a>
 
 /// The report of a program's work. It is displayed as the text of its error.
 pub trait Reported: fmt::Display {
-    /// Where the error is, None if there is none.
+    /// Where the error is, or None if there is none.
     ghost place: { Self → Option PlaceValue };
 
-    /// Where the error is, None if there is none.
+    /// Where the error is, or None if there is none.
     fn place(&self) -> Option<Place<'_>>
         ensures { result ≡ place self.now };
 }
@@ -61,7 +61,7 @@ pub fn report<R: Eprint, T: Reported>(rt: &R, program: &str, reported: &T) -> u8
     place.status
 }
 
-/// The same of a process, with all that it does to it.
+/// The same for a process, with everything that it does to it.
 pub fn report_error<P: Process, T: Reported>(process: &mut P, program: &str, reported: &T) -> u8
     ensures { HasReported P.opened P.errors P.failed process.old process.new program.now
         (T.place reported.now) result }

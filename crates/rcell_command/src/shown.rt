@@ -1,9 +1,9 @@
-//! Words and paths as messages print them.
+//! Words and paths as they are printed in messages.
 
 use bstr::ByteSlice;
 use std::fmt;
 
-/// A text without the bytes that a terminal would obey: its control characters are escaped.
+/// A text without bytes that a terminal would interpret: its control characters are escaped.
 #[derive(Clone, Copy, Debug)]
 pub struct Shown<'a> {
     /// The text.

@@ -21,11 +21,11 @@ use Rattle.rcell_command.specs.Reported.{PlaceValue, on_line}
 use Rattle.rcell_join.specs.declared.join_refusal.JoinRefusal.{JoinRefusal}
 use Rattle.rcell_join.specs.declared.join_refusal.JoinRefusal.TheVariants as refusals
 
--- the path of a text, nothing if there is none
+-- the path of a text, or nothing if there is none
 abbrev pub path_at : List (List ℕ) → ℕ → List ℕ
 path_at paths text = unwrap_or (slice_get paths text) []
 
--- status 4 if a read failed, 3 if memory runs out, and 1 otherwise: of a table, a grid, a numbering
+-- status 4 if a read failed, 3 if memory ran out, and 1 otherwise: for a table, a grid, a numbering
 abbrev pub table_kind_status : TableKind → ℕ
 table_kind_status table_kinds.Read = 4
 table_kind_status table_kinds.Memory = 3
@@ -47,7 +47,7 @@ join_refusal_place paths (refusals.File file) = on_line (path_at paths file) 0 4
 join_refusal_place paths refusals.Memory = on_line (codes "arguments") 0 3
 join_refusal_place paths refusal = on_line (codes "arguments") 0 2
 
--- two labels belong to the table that has the second
+-- if two labels differ, the error belongs to the table with the second
 abbrev pub tables_place : List (List ℕ) → LabelFault → PlaceValue
 tables_place paths (labels.OtherLabel other) = on_line (path_at paths other.text) other.line 1
 tables_place paths (labels.Join (joins.Text text fault)) = on_line (path_at paths text) fault.line (table_kind_status fault.kind)

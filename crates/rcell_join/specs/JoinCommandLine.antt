@@ -20,7 +20,7 @@ use Rattle.rcell_join.specs.declared.join_refusal.Usage.TheVariants as usages
 use Rattle.rcell_join.specs.declared.join_request.JoinRequest.{JoinRequest}
 use Rattle.rcell_join.specs.declared.join_request.JoinRequest.TheVariants as requests
 
--- what is asked for, with the paths of the texts that are read
+-- the request, with the paths of the texts that are read
 pub data RequestValue : Type 0 where
   Tables : (format : FormatValue) → (tables : List (List ℕ)) → RequestValue
   Border : (joining : Joining) → (map : List ℕ) → RequestValue
@@ -45,7 +45,7 @@ options_in words = filter is_option words
 abbrev pub paths_in : List (List ℕ) → List (List ℕ)
 paths_in words = filter (λ word. not (is_option word)) words
 
--- how tables are printed: with counts, with labels or without, and otherwise as r.stats prints them
+-- how tables are printed: with counts, with or without labels, and otherwise as r.stats prints them
 abbrev pub format_given : (labels : Bool) → Given → FormatValue
 format_given labels given = record { separator = unwrap_or given.separator (byte (codes " ")); null_text = unwrap_or given.table_null_text usual_null; labels = labels; counts = true }
 
@@ -73,24 +73,24 @@ contains_flag flag words = list_any (is_flag flag) words
 abbrev pub without_flag : (flag : List ℕ) → List (List ℕ) → List (List ℕ)
 without_flag flag words = filter (λ word. not (is_flag flag word)) words
 
--- the flag by which categories have labels
+-- the flag for tables with labels
 abbrev pub labels_flag : List ℕ
 labels_flag = codes "-l"
 
--- one table or more
+-- one or more tables
 abbrev pub asked_of_tables : List (List ℕ) → Result FormatValue JoinRefusal → Result RequestValue JoinRefusal
 asked_of_tables [] reading = Err (refusals.Usage usages.Tables)
 asked_of_tables (table ∷ tables) reading = reading >>= λ format. Ok (Tables format (table ∷ tables))
 
--- the request of the words after `tables` without the flag of labels, by whether the flag was given
+-- the request of the words after `tables`, without the flag for labels, given whether the flag was there
 abbrev pub asked_labelled : (labels : Bool) → List (List ℕ) → Result RequestValue JoinRefusal
 asked_labelled labels words = if has_hyphen_word words then Err (refusals.Usage usages.Tables) else asked_of_tables (paths_in words) (format_in labels words)
 
--- the request of the words after `tables`; the flag of labels may be one of them
+-- the request of the words after `tables`; the flag for labels may be one of them
 abbrev pub asked_tables : List (List ℕ) → Result RequestValue JoinRefusal
 asked_tables words = asked_labelled (contains_flag labels_flag words) (without_flag labels_flag words)
 
--- the flag by which clumps join at corners too
+-- the flag that also connects clumps at corners
 abbrev pub corners_flag : List ℕ
 corners_flag = codes "-d"
 
@@ -102,7 +102,7 @@ joining_in words = if contains_flag corners_flag words then joinings.EdgesAndCor
 abbrev pub tile_paths : List (List ℕ) → List (List ℕ)
 tile_paths words = without_flag corners_flag words
 
--- one tile or more, joined so
+-- one or more tiles, joined with this connectivity
 abbrev pub some_of : Usage → Joining → List (List ℕ) → Result (Joining × List (List ℕ)) JoinRefusal
 some_of usage joining [] = Err (refusals.Usage usage)
 some_of usage joining (tile ∷ tiles) = Ok (joining, tile ∷ tiles)
@@ -110,7 +110,7 @@ some_of usage joining (tile ∷ tiles) = Ok (joining, tile ∷ tiles)
 abbrev pub joined_tiles : Usage → List (List ℕ) → Result (Joining × List (List ℕ)) JoinRefusal
 joined_tiles usage words = if has_hyphen_word (tile_paths words) then Err (refusals.Usage usage) else some_of usage (joining_in words) (tile_paths words)
 
--- the request of the words after `border`, the map of one tile, and after `clumps`, the borders of one tile or more
+-- the request of the words after `border`, the map of one tile, and after `clumps`, the borders of one or more tiles
 abbrev pub border_of : Joining → List (List ℕ) → Result RequestValue JoinRefusal
 border_of joining (cells ∷ []) = Ok (Border joining cells)
 border_of joining cells = Err (refusals.Usage usages.Border)
@@ -121,7 +121,7 @@ asked_border words = joined_tiles usages.Border words >>= λ tiles. border_of ti
 abbrev pub asked_clumps : List (List ℕ) → Result RequestValue JoinRefusal
 asked_clumps words = joined_tiles usages.Clumps words >>= λ tiles. Ok (Clumps tiles.0 tiles.1)
 
--- a numbering, and one table or more
+-- a numbering, and one or more tables
 abbrev pub asked_of_sizes : List (List ℕ) → Result FormatValue JoinRefusal → Result RequestValue JoinRefusal
 asked_of_sizes (numbering ∷ table ∷ tables) reading = reading >>= λ format. Ok (Sizes format numbering (table ∷ tables))
 asked_of_sizes words reading = Err (refusals.Usage usages.Sizes)

@@ -3,7 +3,7 @@ use Rattle.std.specs.Prelude.{ℕ, ◌<◌}
 use Rattle.rcell_join.specs.declared.join_refusal.JoinRefusal.{JoinRefusal}
 use Rattle.rcell_join.specs.declared.join_refusal.JoinRefusal.TheVariants.{Usage, BadOption, Memory, File}
 
--- the errors of opening so many files
+-- the errors of opening the given number of files
 abbrev pub IsOfJoinOpening : ℕ → JoinRefusal → Type 0
 IsOfJoinOpening files (Usage usage) = ⊥
 IsOfJoinOpening files BadOption = ⊥

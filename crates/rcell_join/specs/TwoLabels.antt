@@ -1,4 +1,4 @@
--- Two labels of one category (profile).
+-- Two labels of the same category (profile).
 use Rattle.std.specs.Prelude.{ℕ, ◌≡◌, ◌≢◌, ◌==◌, List, [], ◌∷◌, ◌++◌}
 use Rattle.std.specs.List.{slice_split}
 

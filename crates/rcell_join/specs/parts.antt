@@ -1,2 +1,2 @@
--- What only private functions cite.
+-- Definitions that only private functions use.
 pub mod ComparedBorders

@@ -9,7 +9,7 @@ use cell_join_borders::map_fault::MapFault;
 use rcell_command::reported::{Place, Reported, on_line};
 use std::fmt;
 
-/// The report of a border, by the path of its map.
+/// The report of a border, naming the path of its map.
 #[derive(Drop)]
 pub struct BorderReport<'a> {
     pub outcome: BorderOutcome,

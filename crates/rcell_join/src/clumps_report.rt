@@ -15,7 +15,7 @@ use rcell_command::reported::{Place, Reported, on_line};
 use rcell_command::shown::Shown;
 use std::fmt;
 
-// How many units a coordinate of 1 has.
+// Units per coordinate 1.
 const UNIT: u64 = 100_000_000;
 
 // A coordinate in units of 10^-8, in its shortest form.
@@ -45,8 +45,8 @@ impl fmt::Display for Coordinate {
     }
 }
 
-// Whether a tile of the first row that is neither right of the last tile nor below the first begins the next row: it lies more to the
-// left than the last tile ends, and the first tile ends where it begins.
+// Whether a tile of the first row that is neither right of the last tile nor below the first begins the next row: it
+// starts to the left of the last tile's east edge, and the first tile ends where it begins.
 fn begins_row(beside: Misfit, below: Misfit) -> bool
     ensures { result ≡ begins_row beside below }
 {
@@ -57,7 +57,7 @@ fn begins_row(beside: Misfit, below: Misfit) -> bool
     }
 }
 
-// A connectivity, and the other one, which was asked.
+// Writes the connectivity of a border, and the one that was asked for.
 fn write_connectivity<W: fmt::Write>(f: &mut fmt::Formatter<W>, found: Joining) -> fmt::Result {
     match found {
         Joining::Edges => f.write_str("connectivity 4 is not the 8"),
@@ -65,7 +65,7 @@ fn write_connectivity<W: fmt::Write>(f: &mut fmt::Formatter<W>, found: Joining) 
     }
 }
 
-// Two edges that are not the same.
+// Two different edges.
 fn write_edges<W: fmt::Write>(
     f: &mut fmt::Formatter<W>,
     edge: &str,
@@ -113,7 +113,7 @@ fn write_border_fault<W: fmt::Write>(f: &mut fmt::Formatter<W>, fault: BorderFau
     }
 }
 
-// What the rejected border is compared with: another border, or for the first one the command.
+// What the rejected border is compared with: another border or, for the first one, the command.
 fn clumps_other<'a>(paths: &[&'a str], fault: ClumpsFault) -> &'a [u8]
     ensures { result.now ≡ clumps_other (map (λ path. path.now) paths.now) fault }
 {
@@ -142,7 +142,7 @@ fn clumps_other<'a>(paths: &[&'a str], fault: ClumpsFault) -> &'a [u8]
     }
 }
 
-/// The report of joined borders, by their paths.
+/// The report of joined borders, naming their paths.
 #[derive(Drop)]
 pub struct ClumpsReport<'a> {
     pub outcome: ClumpsOutcome,

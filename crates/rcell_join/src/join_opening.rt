@@ -19,7 +19,7 @@ pub fn open_paths<R: Files + AllocGlobal>(
     paths: &[&str],
 ) -> Result<Vec<ReadSource<R::File>>, JoinRefusal>
     ensures count { IfOk result (λ opened. length opened.items ≡ length paths.now) }
-    // Nothing is read yet: no source was asked, so none has ended or failed.
+    // Nothing has been read: no source was asked, so none has ended or failed.
     ensures asked { IfOk result (λ opened. All (λ source. source.1 ≡ Asked.Going) opened.items) }
     ensures reported { IfErr result (IsOfJoinOpening (length paths.now)) }
 {

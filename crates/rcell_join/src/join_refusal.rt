@@ -10,7 +10,7 @@ use thiserror::Error;
 /// The usage of one command, or of all.
 #[derive(Clone, Copy, Debug, PartialEq, Eq, Error)]
 pub enum Usage {
-    /// No command, or another one than these four.
+    /// No command, or a command other than these four.
     #[error("usage: rcell-join (tables|border|clumps|sizes) ...")]
     AnyCommand,
     /// The words of `tables`.
@@ -30,10 +30,10 @@ pub enum Usage {
 /// Why nothing was joined.
 #[derive(Clone, Copy, Debug, PartialEq, Eq, Error)]
 pub enum JoinRefusal {
-    /// Other words: too few or too many paths, a word that begins with `-` and is no flag, or one that is not UTF-8.
+    /// Other words: too few or too many paths, a word that begins with `-` and is not a flag, or one that is not UTF-8.
     #[error(transparent)]
     Usage(Usage),
-    /// An option that is given twice, or a bad separator or null text.
+    /// A repeated option, or a bad separator or null text.
     #[error("bad option")]
     BadOption,
     /// Memory ran out.
@@ -44,7 +44,7 @@ pub enum JoinRefusal {
     File { file: usize },
 }
 
-/// The report of an error before anything is joined, by the paths of the files.
+/// The report of an error before anything is joined, naming the paths of the files.
 #[derive(Drop)]
 pub struct JoinRefusalReport<'a> {
     pub refusal: JoinRefusal,

@@ -7,7 +7,7 @@ use cell_stats::format::Format;
 use rcell_script_commands::null_text::TableNullText;
 use std::marker::Model;
 
-/// How tables of counts are printed: the byte between two fields, the text of null, and whether labels are.
+/// How tables of counts are printed: the byte between two fields, the null text, and whether labels are printed.
 #[derive(Drop)]
 pub struct TableFormat {
     separator: u8,
@@ -25,7 +25,7 @@ impl Model for TableFormat {
 }
 
 impl TableFormat {
-    /// A format with counts, and with labels or without.
+    /// A format with counts, and with or without labels.
     pub fn new(separator: u8, null_text: TableNullText, labels: bool) -> TableFormat
         ensures { result ≡ record {
           separator = separator;
@@ -48,7 +48,7 @@ impl TableFormat {
         self.labels
     }
 
-    /// The same, with its null text lent.
+    /// The same, with its null text borrowed.
     pub fn lent(&self) -> Format
         ensures { result ≡ self.now }
     {
@@ -56,12 +56,12 @@ impl TableFormat {
     }
 }
 
-/// What the words ask for, with the paths of the texts that are read.
+/// The request, with the paths of the texts that are read.
 #[derive(Drop)]
 pub enum JoinRequest<'a> {
     /// The tables of tiles, merged to the table of the full map.
     Tables {
-        /// How they are printed, with labels or without.
+        /// How they are printed, with or without labels.
         format: TableFormat,
         /// One or more, in order.
         tables: Vec<&'a str>,
@@ -77,7 +77,7 @@ pub enum JoinRequest<'a> {
     Clumps {
         /// Which cells are adjacent.
         joining: Joining,
-        /// The borders of one tile or more, row by row of tiles from the top, in each from the left.
+        /// The borders of one or more tiles, in rows from the top left.
         borders: Vec<&'a str>,
     },
     /// The sizes of the clumps of the full map.

@@ -17,10 +17,10 @@ use rcell_script_commands::option_fault::OptionFault;
 use rcell_script_commands::options::{Form, options_of};
 use std::alloc::Global;
 
-// The flag by which clumps join at corners too.
+// The flag that also connects clumps at corners.
 const CORNERS_FLAG: &str = "-d";
 
-// The flag by which categories have labels.
+// The flag for tables with labels.
 const LABELS_FLAG: &str = "-l";
 
 // Whether a word gives the separator or the null text.
@@ -88,7 +88,7 @@ fn of_options(fault: OptionFault) -> JoinRefusal
     }
 }
 
-// The format that the options among the words give, with labels or without.
+// The format that the options among the words give, with or without labels.
 fn format_in(alloc: Global, labels: bool, words: &[&str]) -> Result<TableFormat, JoinRefusal>
     ensures { Answers JoinRefusal.Memory (λ format. format) result
         (format_in labels (texts words.now)) }
@@ -150,7 +150,7 @@ fn without_flag<'a>(
     Ok(others)
 }
 
-// The request of the words after `tables` without the flag of labels, by whether the flag was given.
+// The request of the words after `tables`, without the flag for labels, given whether the flag was there.
 fn asked_labelled<'a>(
     alloc: Global,
     labels: bool,
@@ -198,7 +198,7 @@ fn joining_in(words: &[&str]) -> Joining
     }
 }
 
-// The paths of one tile or more after a command, and which cells are adjacent.
+// The paths of one or more tiles after a command, and which cells are adjacent.
 fn joined_tiles<'a>(
     alloc: Global,
     usage: Usage,
@@ -296,8 +296,8 @@ fn command_of<'a>(
 ///
 /// # Errors
 ///
-/// - [`JoinRefusal::Usage`] if no word follows it, the next one is no command, a later word begins with `-` and is not the
-///   flag `-l` of `tables` or `-d` of `border` or `clumps`, or the command takes fewer or more paths
+/// - [`JoinRefusal::Usage`] if no word follows it, the next one is not a command, a later word begins with `-` and is not
+///   the flag `-l` of `tables` or `-d` of `border` or `clumps`, or the command accepts fewer or more paths
 /// - [`JoinRefusal::BadOption`]
 /// - [`JoinRefusal::Memory`]
 pub fn read_join_words<'a>(

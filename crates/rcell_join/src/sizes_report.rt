@@ -10,7 +10,7 @@ use cell_join_sizes::table_sizes::SizesOutcome;
 use rcell_command::reported::{Place, Reported, on_line};
 use std::fmt;
 
-/// The report of sizes, by the paths of the numbering and of the tables.
+/// The report of sizes, naming the paths of the numbering and of the tables.
 #[derive(Drop)]
 pub struct SizesReport<'a> {
     pub outcome: SizesOutcome,

@@ -15,7 +15,7 @@ use rcell_command::reported::{Place, Reported, on_line};
 use rcell_command::shown::Shown;
 use std::fmt;
 
-// The cells of a combination, with a blank between two of them, and `*` for null.
+// The cells of a combination, separated by blanks, with `*` for null.
 #[derive(Drop)]
 struct CellList<'a> {
     combo: &'a Combo,
@@ -34,7 +34,7 @@ impl<'a> fmt::Display for CellList<'a> {
     }
 }
 
-/// The first category that has other labels on two lines, and its label on each.
+/// The first category whose labels on two lines differ, and its label on each.
 #[derive(Clone, Copy)]
 pub struct TwoLabels<'a> {
     category: &'a [u8],
@@ -53,8 +53,8 @@ impl<'a> fmt::Display for TwoLabels<'a> {
     }
 }
 
-/// The labels of two lines that differ first. Cells are the same on both, so the first fields that differ are labels, and the field
-/// before them is their category.
+/// The first labels of two lines that differ. Cells are the same on both lines, so the first fields that differ are
+/// labels, and the field before them is their category.
 pub fn two_labels<'a>(separator: u8, line: &'a [u8], other: &'a [u8]) -> Option<TwoLabels<'a>>
     ensures { IfSome result (λ two. AreTwoLabels separator line.now other.now
         two.category.now two.label.now two.other.now) }
@@ -93,7 +93,7 @@ fn write_labels<W: fmt::Write>(f: &mut fmt::Formatter<W>, reported: &OtherLabel)
     }
 }
 
-/// The report of merged tables, by the paths of their texts.
+/// Displays the outcome of merging tables, naming input files by their paths.
 #[derive(Drop)]
 pub struct TablesReport<'a> {
     pub outcome: JoinOutcome,

@@ -9,7 +9,7 @@ use cell_join_lines::areas_fault::{AreasFault, AreasKind};
 use cell_join_lines::table_fault::{TableFault, TableKind};
 use rcell_command::reported::{Place, on_line};
 
-/// The path of a text, nothing if there is none.
+/// The path of a text, or nothing if there is none.
 pub fn path_at<'a>(paths: &[&'a str], text: usize) -> &'a [u8]
     ensures { result.now ≡ path_at (map (λ path. path.now) paths.now) text }
 {

@@ -49,7 +49,7 @@ join-rows top (row ∷ tiles) widths (count ∷ counts) numbers =
     join-row top 0 (row_height row) row widths count numbers
     ++ join-rows (top + row_height row) tiles widths counts (drop (sum count) numbers)
 
--- a tile has so many areas
+-- a tile has n clumps
 abbrev pub IsCounted : Joining → NumberedTile → ℕ → Type 0
 IsCounted j tile n = HasAreas j tile.map n
 
@@ -134,7 +134,7 @@ module _ (j : Joining) where
 -- ---- they are tiles of the full map, and have its numbers
 
 module _ (j : Joining) (whole : Grid) where
-  -- a tile in a place, so many areas, and their numbers from a place on
+  -- a tile in a place, with count clumps, and their numbers from a place on
   pub record IsTileHere (place : Rectangle) (tile : NumberedTile) (count : ℕ) (numbers : List ℕ)
       (before : ℕ) : Type 0 where
     pub cells : IsTile whole (record { place = place; map = tile.map })

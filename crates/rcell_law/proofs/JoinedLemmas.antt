@@ -45,7 +45,7 @@ group_both known _ _ ys two
     (record { line = line.number; command = Reclass place target given } ∷ (statements ++ two)))
     (sym (append_assoc inner (last ∷ lines) ys)) (reclass last spells are end rest)
 
--- a statement so many lines further down
+-- a statement n lines further down
 abbrev statement_later : ℕ → Statement → Statement
 statement_later n s = record { line = n + s.line; command = s.command }
 

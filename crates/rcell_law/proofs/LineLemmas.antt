@@ -149,7 +149,7 @@ numbered_both first (x ∷ xs) ys =
     ap (λ (ls : List ScriptLine). record { number = first; bytes = x } ∷ ls)
     (numbered_both (first + 1) xs ys ∙ ap (λ (n : ℕ). numbered_lines (first + 1) xs ++ numbered_lines n ys) e)
 
--- a line so many lines further down
+-- a line n lines further down
 abbrev pub line_later : ℕ → ScriptLine → ScriptLine
 line_later n line = record { number = n + line.number; bytes = line.bytes }
 

@@ -20,7 +20,7 @@ use Rattle.rcell_law.specs.PartRuns.{RunsOfPartsJoin, part_of, coming_of}
 
 module _ (statement : Statement) (places : List ℕ) (options : StatsOptions)
     (prints : PrintsWholeTable statement places options) where
-  -- a text of maps in a region of so many rows and columns
+  -- the printed table of maps of rows × cols cells
   abbrev pub printed : (rows cols : ℕ) → List Grid → List ℕ
   printed rows cols maps = text_of_maps (format_of options) options.skip places rows cols maps
 

@@ -1,4 +1,4 @@
--- A script cut in two runs: the second reads the maps that the first made, as r.out.ascii wrote them.
+-- A script cut into two runs: the second reads the maps that the first made, as r.out.ascii wrote them.
 use Rattle.std.specs.Prelude.{ℕ, ◌≡◌, ◌≤◌, ◌↔◌, false, List, [], ◌∷◌, ◌++◌, length, drop, All}
 use Rattle.cell_core_devices.specs.Device.{Coming}
 use Rattle.cell_core.specs.Shelf.{ShelfValue}
@@ -16,7 +16,7 @@ abbrev pub second_grids : List ℕ → List Named → ShelfValue → List Named
 second_grids null_text grids between = grids ++ drop (length grids) (written_grids null_text between)
 
 -- if the first part of a script is accepted and leaves a shelf, a second part that prints no labels is accepted over
--- what the first made, written and read again; and it writes what the full script writes after the first part's text
+-- what the first made, written and read back; and it writes what the full script writes after the first part's text
 abbrev pub CutInTwo : Type 0
 CutInTwo = (grids : List Named) (first second : Coming) (shelf between : ShelfValue) (one two : List Statement)
     (null_text text : List ℕ)
@@ -27,12 +27,12 @@ CutInTwo = (grids : List Named) (first second : Coming) (shelf between : ShelfVa
     → IsAccepted (second_grids null_text grids between) second (bare between) two
     × ((rest : List ℕ) → IsOutput (bare between) two rest ↔ IsOutput shelf (one ++ two) (text ++ rest))
 
--- a text that ends where a line does
+-- a text that ends at the end of a line
 abbrev pub EndsLine : List ℕ → Type 0
 EndsLine text = (front : List ℕ) × (text ≡ front ++ 10 ∷ [])
 
--- a script that ends where a line does, and a script over the maps that it leaves: one after the other they are a script,
--- and what it writes is what the first writes, and then what the second writes over the first's maps, written and read again
+-- a script that ends at the end of a line, and one over the maps that it leaves: together they are a script, which
+-- writes what the first writes, then what the second writes over the first's maps, written and read back
 abbrev pub ScriptCutInTwo : Type 0
 ScriptCutInTwo = (grids : List Named) (first second : Coming) (shelf between : ShelfValue) (one two : List Statement)
     (null_text text : List ℕ)

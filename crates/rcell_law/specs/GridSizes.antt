@@ -1,4 +1,4 @@
--- Sizes added up with the numbering of a grid of tiles are the sizes of the clumps of the full map.
+-- Sizes added up with the numbering of a grid of tiles are the clump sizes of the full map.
 use Rattle.std.specs.Prelude.{ℕ, ◌≡◌, ◌<◌, ◌≤◌, ◌*◌, List, map, All, Contains, None}
 use Rattle.std.specs.List.{AllZip}
 use Rattle.cell_core.specs.Grid.{Grid, IsFilled}
@@ -26,7 +26,7 @@ pub record AreTilesOf (j : Joining) (whole : Grid) (tiles : List (List NumberedT
   pub numbered : All (IsNumberedTile j) (all_tiles tiles)
   pub numbering : IsNumberingOfGrid j whole tiles text
 
--- each number from 1 to the count of the clumps of the full map is one of the numbering
+-- each number from 1 to the number of clumps of the full map is in the numbering
 abbrev pub NoNumberOfTilesIsLeftOut : Type 0
 NoNumberOfTilesIsLeftOut = (j : Joining) (whole : Grid) (tiles : List (List NumberedTile)) (text : List ℕ)
     → (are : AreTilesOf j whole tiles text) → (clumps : ℕ) → HasAreas j whole clumps
@@ -36,11 +36,11 @@ NoNumberOfTilesIsLeftOut = (j : Joining) (whole : Grid) (tiles : List (List Numb
 abbrev pub IsTableOfTile : Skip → NumberedTile → Pairs → Type 0
 IsTableOfTile skip tile table = IsTable skip (cells_of tile.numbers tile.map.region.rows tile.map.region.cols) table
 
--- what the numbering of tiles is read as
+-- how the numbering of tiles is read
 abbrev pub numbering_read : (counts : List (List ℕ)) (numbers : List ℕ) → AreasReading
 numbering_read counts numbers = record { stretches = stretches_of (all_counts counts) numbers; fault = None }
 
--- the sizes that are added up with the numbering are listed as the table of the clump map of the full map
+-- the sizes that are added up with the numbering are listed as in the table of the clump map of the full map
 abbrev pub SizesOfTheGrid : Type 0
 SizesOfTheGrid = (j : Joining) (whole : Grid) (tiles : List (List NumberedTile)) (text : List ℕ)
     → (are : AreTilesOf j whole tiles text)

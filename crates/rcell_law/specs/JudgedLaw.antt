@@ -1,4 +1,4 @@
--- What is so of every text of a script.
+-- A law of all texts of scripts.
 use Rattle.std.specs.Prelude.{ℕ, ◌⊎◌, List}
 use Rattle.rcell_script_commands.specs.declared.script_fault.ScriptFault.{ScriptFault}
 use Rattle.rcell_script.specs.ReadScripts.{IsScriptFault}
@@ -11,12 +11,12 @@ IsGoodText known text =
     (statements : List Statement) × IsScript known text statements
     × ((fault : ScriptFault) → IsScriptFault known text fault → ⊥)
 
--- the text has a first error, and is a script of no statements
+-- the text has a first error, and is not a script
 abbrev pub IsBadText : List (List ℕ) → List ℕ → Type 0
 IsBadText known text =
     (fault : ScriptFault) × IsScriptFault known text fault
     × ((statements : List Statement) → IsScript known text statements → ⊥)
 
--- each text is the one or the other, over any known maps
+-- each text is one or the other, over any known maps
 abbrev pub ScriptTextsAreJudged : Type 0
 ScriptTextsAreJudged = (known : List (List ℕ)) (text : List ℕ) → IsGoodText known text ⊎ IsBadText known text

@@ -10,7 +10,7 @@ use Rattle.rcell_script_commands.specs.declared.command.StatsOptions.{StatsOptio
 use Rattle.rcell.specs.Output.{IsOutput, format_of}
 use Rattle.rcell_law.specs.PartRuns.{AreRunsOfParts, PartRun, PrintsWholeTable, coming_of, part_of}
 
--- the parts have the labels of the full maps: the outputs over the parts join to the output over the full maps
+-- if the parts have the labels of the full maps, the outputs over the parts join to the output over the full maps
 abbrev pub LabelledRunsOfPartsJoin : Type 0
 LabelledRunsOfPartsJoin =
     (statement : Statement) (places : List ℕ) (options : StatsOptions) → PrintsWholeTable statement places options

@@ -13,7 +13,7 @@ use Rattle.rcell.specs.runs.Endings.{IsRunDone}
 use Rattle.rcell_law.specs.PartRuns.{PrintsTable}
 
 -- over maps of these names a script is two statements: r.clump of the map at a place, and r.out.ascii of the map of numbers
--- that it makes, which comes after them, with a text for null that is no whole number
+-- that it makes, which comes after them, with a null text that is not a whole number
 pub record NumbersClumps (script : Coming) (names : List (List ℕ)) (place : ℕ) (joining : Joining) : Type 0 where
   pub clump : Statement
   pub out : Statement
@@ -24,8 +24,8 @@ pub record NumbersClumps (script : Coming) (names : List (List ℕ)) (place : �
   pub writes : out.command ≡ OutAscii (length names) null_text
   pub no_number : whole_number null_text ≡ None
 
--- two statements: r.clump of the map at a place, and r.stats of the map of numbers that it makes: a whole table with counts, of
--- lines that can be read back
+-- two statements: r.clump of the map at a place, and r.stats of the map of numbers that it makes: a full table with
+-- counts, whose lines can be read back
 pub record CountsClumps (script : Coming) (names : List (List ℕ)) (place : ℕ) (joining : Joining)
     (options : StatsOptions) : Type 0 where
   pub clump : Statement

@@ -1,4 +1,4 @@
--- Statements that fit their maps have an output, and so has every accepted script.
+-- Statements that fit their maps have an output, and so does every accepted script.
 use Rattle.std.specs.Prelude.{ℕ, ◌≡◌, List, length, All}
 use Rattle.cell_core_devices.specs.Device.{Coming}
 use Rattle.cell_core.specs.Grid.{IsFilled}
@@ -9,14 +9,14 @@ use Rattle.rcell_script.specs.declared.statement.Statement.{Statement}
 use Rattle.rcell.specs.Output.{IsOutput}
 use Rattle.rcell.specs.runs.Accepted.{IsAccepted}
 
--- where each name has a map of the shelf's region, and each map the rows and columns of it, statements that fit the
--- names write something
+-- if each name has a map of the shelf's region, and each map has the region's rows and columns, statements that fit the
+-- names have an output
 abbrev pub OutputsExist : Type 0
 OutputsExist = (shelf : ShelfValue) (statements : List Statement) → length shelf.names ≡ length shelf.maps
     → All (λ m. (m.region ≡ shelf.region) × IsFilled m.region m.rows) shelf.maps
     → Fits shelf.names statements → (text : List ℕ) × IsOutput shelf statements text
 
--- an accepted script writes something
+-- every accepted script has an output
 abbrev pub AcceptedHaveOutput : Type 0
 AcceptedHaveOutput = (grids : List Named) (script : Coming) (shelf : ShelfValue) (statements : List Statement)
     → IsAccepted grids script shelf statements → (text : List ℕ) × IsOutput shelf statements text

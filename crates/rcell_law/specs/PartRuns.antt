@@ -13,8 +13,8 @@ use Rattle.rcell_script_commands.specs.declared.command.Command.TheVariants.{Sta
 use Rattle.rcell_script_commands.specs.declared.command.StatsOptions.{StatsOptions}
 use Rattle.rcell.specs.Output.{IsOutput, format_of}
 
--- the statement is r.stats of the maps in these places and prints a whole table: no line for each cell, and no rest after a
--- combination
+-- the statement is r.stats of the maps in these places and prints a full table: not a line for each cell, and not the
+-- rest after a combination
 pub record PrintsWholeTable (statement : Statement) (places : List ℕ) (options : StatsOptions) : Type 0 where
   pub command : statement.command ≡ Stats places options
   pub table : options.cells ≡ false
@@ -25,7 +25,7 @@ pub record PrintsTable (statement : Statement) (places : List ℕ) (options : St
   pub whole : PrintsWholeTable statement places options
   pub readable : CanBeReadBack (format_of options) places
 
--- a run over a shelf that stands for a rectangle of others, and what it wrote
+-- a run over a shelf that stands for a rectangle of other maps, and what it wrote
 pub record PartRun : Type 0 where
   pub place : Rectangle
   pub shelf : ShelfValue
@@ -35,7 +35,7 @@ pub record PartRun : Type 0 where
 abbrev pub part_of : PartRun → Part
 part_of run = record { place = run.place; maps = run.shelf.maps }
 
--- what it wrote, as a text to be joined: complete, with no failure after it
+-- what it wrote, as a text to be joined: complete, without a failure at its end
 abbrev pub coming_of : PartRun → Coming
 coming_of run = record { bytes = run.text; fails = false }
 
@@ -46,7 +46,7 @@ pub record IsRunOf (statement : Statement) (run : PartRun) : Type 0 where
   pub output : IsOutput run.shelf (statement ∷ []) run.text
 
 -- runs of the statement over parts of maps of fewer than 2^64 - 1 cells, however these are cut, and whatever the names
--- and labels of the parts
+-- and labels of the parts are
 pub record AreRunsOfParts (statement : Statement) (whole : ShelfValue) (runs : List PartRun) : Type 0 where
   pub cells : All (λ m. AreCells m.rows) whole.maps
   pub small : whole.region.rows * whole.region.cols < 2 ^ 64 - 1

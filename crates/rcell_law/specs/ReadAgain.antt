@@ -1,4 +1,4 @@
--- Maps that r.out.ascii wrote are the grids of a second run, which writes the same of them.
+-- Maps that r.out.ascii wrote are the grids of a second run, which writes the same text for them.
 use Rattle.std.specs.Prelude.{ℕ, suc, ◌≡◌, ◌≤◌, ◌<◌, ◌↔◌, Bool, false, List, [], ◌∷◌, length, map, All}
 use Rattle.cell_core_values.specs.Name.{AreDistinct}
 use Rattle.cell_core_devices.specs.Device.{Coming}
@@ -13,7 +13,7 @@ use Rattle.rcell_script.specs.declared.statement.Statement.{Statement}
 use Rattle.rcell.specs.Output.{IsOutput, out_ascii_text}
 use Rattle.rcell.specs.runs.Accepted.{AreGrids, IsAccepted}
 
--- maps of one region under distinct names, one at least
+-- one or more maps with one region and distinct names
 pub record IsShelf (shelf : ShelfValue) : Type 0 where
   pub some : 0 < length shelf.maps
   pub named : length shelf.names ≡ length shelf.maps
@@ -24,11 +24,11 @@ pub record IsShelf (shelf : ShelfValue) : Type 0 where
 abbrev pub bare : ShelfValue → ShelfValue
 bare shelf = record { region = shelf.region; names = shelf.names; maps = map without_labels shelf.maps }
 
--- a grid whose text is what r.out.ascii writes of the map at a place
+-- a grid whose text is what r.out.ascii writes for the map at a place
 abbrev pub written_grid : ShelfValue → List ℕ → ℕ → List ℕ → Named
 written_grid shelf null_text place name = (name, record { bytes = out_ascii_text shelf place null_text; fails = false })
 
--- such a grid of each map from a place on, under the names given
+-- such a grid for each map from a place on, with the given names
 abbrev pub written_from : ShelfValue → List ℕ → ℕ → List (List ℕ) → List Named
 written_from shelf null_text place [] = []
 written_from shelf null_text place (name ∷ names) =
@@ -46,7 +46,7 @@ prints_labels (Clump place target joining) = false
 prints_labels (Stats places options) = options.labels
 prints_labels (OutAscii place null_text) = false
 
--- no r.stats has the flag `l`
+-- no r.stats has the flag `-l`
 abbrev pub PrintNoLabels : List Statement → Type 0
 PrintNoLabels statements = All (λ s. prints_labels s.command ≡ false) statements
 
@@ -61,7 +61,7 @@ LabelsChangeNoOtherText = (shelf : ShelfValue) (statements : List Statement) →
     → (text : List ℕ) → IsOutput shelf statements text ↔ IsOutput (bare shelf) statements text
 
 -- a script of the second run that prints no labels is accepted over what was written, and has the output that its
--- statements have over the maps of the first
+-- statements have over the maps of the first run
 abbrev pub WrittenIsReadAgain : Type 0
 WrittenIsReadAgain = (null_text : List ℕ) (shelf : ShelfValue) → IsNullText null_text → IsShelf shelf
     → All (IsWritable null_text) shelf.maps

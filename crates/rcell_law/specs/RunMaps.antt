@@ -1,4 +1,4 @@
--- The maps of a run can be written and read again.
+-- The maps of a run can be written and read back.
 use Rattle.std.specs.Prelude.{ℕ, ◌≡◌, List, None, All}
 use Rattle.cell_core_devices.specs.Device.{Coming}
 use Rattle.cell_core.specs.Shelf.{ShelfValue}
@@ -9,7 +9,7 @@ use Rattle.rcell_script.specs.declared.statement.Statement.{Statement}
 use Rattle.rcell.specs.Output.{Executes}
 use Rattle.rcell.specs.runs.Accepted.{IsAccepted}
 
--- each map of an accepted script can be written and read again, with whatever text for null that is no whole number
+-- each map of an accepted script can be written and read back, with any null text that is not a whole number
 abbrev pub RunMapsAreWritable : Type 0
 RunMapsAreWritable = (grids : List Named) (script : Coming) (shelf after : ShelfValue) (statements : List Statement)
     (text : List ℕ)

@@ -15,8 +15,8 @@ use Rattle.rcell.specs.Output.{IsOutput, format_of}
 use Rattle.rcell.specs.runs.Endings.{IsRunDone}
 use Rattle.rcell_law.specs.PartRuns.{PartRun, PrintsTable, coming_of, part_of}
 
--- a run of a script over grids that stand for a rectangle of others: it is done, and a sink that had taken nothing took
--- this text
+-- a run of a script over grids that stand for a rectangle of other maps: it is done, and a sink that had taken nothing
+-- took this text
 pub record ScriptRun (script : Coming) : Type 0 where
   pub place : Rectangle
   pub grids : List Named
@@ -41,8 +41,8 @@ pub record AreScriptRuns (script : Coming) (whole : ShelfValue) (runs : List (Sc
   pub parts : AreParts whole.region.rows whole.region.cols whole.maps (map part_of (map part_run runs))
   pub fit : All (FitsPlace script whole) runs
 
--- if the script denotes one statement over the names of the full maps: the outputs of its runs over the parts join to its output
--- over the full maps, also if these are too large for a run
+-- if the script denotes one statement over the names of the full maps, the outputs of its runs over the parts join to
+-- its output over the full maps, even if these are too large for a run
 abbrev pub ScriptsOfPartsJoin : Type 0
 ScriptsOfPartsJoin =
     (script : Coming) (whole : ShelfValue) (statement : Statement) → IsScript whole.names script.bytes (statement ∷ [])

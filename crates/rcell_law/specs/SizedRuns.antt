@@ -1,5 +1,5 @@
--- A script that counts the cells of the clumps of a map, run over each tile of a grid: the sizes that are added up of its tables are
--- the output of such a script over the full map.
+-- A script that counts the cells of the clumps of a map, run over each tile of a grid: the sizes added up from its
+-- tables are the output of such a script over the full map.
 use Rattle.std.specs.Prelude.{ℕ, ◌≡◌, ◌<◌, ◌^◌, ◌⊎◌, List, [], ◌∷◌, length, map, Some, slice_get}
 use Rattle.std.specs.List.{AllZip}
 use Rattle.cell_core_devices.specs.Device.{Coming}
@@ -20,7 +20,7 @@ use Rattle.rcell.specs.Output.{IsOutput, format_of}
 use Rattle.rcell_law.specs.MapRuns.{CountsClumps, MapRun, NumbersClumps, run_texts}
 use Rattle.rcell_law.specs.TileRuns.{AreTileRuns, HasTiles, TileRun, all_runs, border_texts}
 
--- a run of a script that counts clumps, over grids of these names; the map's text is the tile's
+-- a run of a script that counts clumps, over grids with these names; the map's text is the tile's
 pub record CountsTile {script counting : Coming} {place : ℕ} {joining : Joining} (names : List (List ℕ))
     (tile : TileRun script place joining) (run : MapRun counting place) : Type 0 where
   pub named : run.done.shelf.names ≡ names
@@ -46,8 +46,8 @@ pub record IsFullMap (shelf : ShelfValue) (names : List (List ℕ)) (place : ℕ
   pub there : slice_get shelf.maps place ≡ Some whole
   pub region : whole.region ≡ shelf.region
 
--- the sizes that are written are the output over the full map of a script that prints its table in the same format, without null;
--- also if the map is too large for a run
+-- the sizes that are written are the output over the full map of a script that prints its table in the same format,
+-- without null; even if the map is too large for a run
 abbrev pub SizesAreThoseOfTheGrid : Type 0
 SizesAreThoseOfTheGrid =
     (script counting full : Coming) (names : List (List ℕ)) (place : ℕ) (joining : Joining)
@@ -62,7 +62,7 @@ SizesAreThoseOfTheGrid =
     (map (reading_of (format_of options) 1) (run_texts tables)) (Some []) (Some sizes) sizes_written
     → (text : List ℕ) → IsOutput shelf (counts.clump ∷ counts.stats ∷ []) text → sizes ≡ text
 
--- the numbering and the tables are rejected for nothing but memory and the sink
+-- the numbering and the tables are rejected only if memory runs out or the sink fails
 abbrev pub TablesOfTilesAreAddedUp : Type 0
 TablesOfTilesAreAddedUp =
     (script counting : Coming) (names : List (List ℕ)) (place : ℕ) (joining : Joining) (options : StatsOptions)

@@ -1,4 +1,5 @@
--- A script that numbers the clumps of a map, run over each tile of a map, and the texts that are written of the borders of the tiles.
+-- A script that numbers the clumps of a map, run over each tile of a map, and the texts written for the borders of the
+-- tiles.
 use Rattle.std.specs.Prelude.{ℕ, ◌≡◌, ◌⊎◌, List, [], All, flat_map, map, Some}
 use Rattle.cell_core_devices.specs.Device.{Coming}
 use Rattle.cell_core.specs.Grid.{Grid}
@@ -12,7 +13,8 @@ use Rattle.cell_join_law.specs.TileGrids.{NumberedTile, rows_of_tiles, tile_regi
 use Rattle.cell_join_law.specs.WrittenBorders.{written_text}
 use Rattle.rcell_law.specs.MapRuns.{MapRun}
 
--- a run over the grids of a tile, the map that its output denotes, and the text that was written of the border of the tile's map
+-- a run over the grids of a tile, the map that its output denotes, and the text written for the border of the tile's
+-- map
 pub record TileRun (script : Coming) (place : ℕ) (joining : Joining) : Type 0 where
   pub run : MapRun script place
   pub numbers : Grid
@@ -47,7 +49,7 @@ pub record AreTileRuns (script : Coming) (names : List (List ℕ)) (place : ℕ)
 abbrev pub HasTiles : {script : Coming} {place : ℕ} {joining : Joining} → Grid → List (List (TileRun script place joining)) → Type 0
 HasTiles whole runs = whole.rows ≡ rows_of_tiles (tiles_of_runs runs)
 
--- the border of the map of a run is written but for memory and the sink
+-- the border of the map of a run is written, unless memory runs out or the sink fails
 abbrev pub RunsHaveBorders : Type 0
 RunsHaveBorders =
     (script : Coming) (place : ℕ) (run : MapRun script place) (fault : MapFault) → IsMapFault run.grid.1 fault

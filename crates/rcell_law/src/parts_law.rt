@@ -11,8 +11,8 @@ ghost use Rattle.rcell_law.specs.TileRuns.{RunsHaveBorders};
 use cell_cats_law::numbering_law::clumping_exists;
 use rcell_script::law::one_script;
 
-/// Maps are cut in any way into parts that have each cell once: the outputs of `r.stats -c` over the parts join to its output
-/// over the full maps.
+/// Maps are cut in any way into parts that contain each cell once: the outputs of `r.stats -c` over the parts join to
+/// its output over the full maps.
 pub fn runs_of_parts_join()
     ensures { RunsOfPartsJoin }
 {}
@@ -22,7 +22,7 @@ pub fn joined_runs_are_one_run()
     ensures { JoinedRunsAreOneRun }
 {}
 
-/// The same of `r.stats -c -l`, if the parts have the labels of the full maps.
+/// The same for `r.stats -c -l`, if the parts have the labels of the full maps.
 pub fn labelled_runs_of_parts_join()
     ensures { LabelledRunsOfPartsJoin }
 {}
@@ -32,8 +32,8 @@ pub fn joined_labelled_runs_are_one_run()
     ensures { JoinedLabelledRunsAreOneRun }
 {}
 
-/// The same of scripts: a script of one statement `r.stats -c` is run over the grids of each part, and the outputs join to the
-/// output of the script over the full maps, also if these are too large for a run.
+/// The same for scripts: a script of one statement `r.stats -c` is run over the grids of each part, and the outputs
+/// join to the output of the script over the full maps, even if these are too large for a run.
 pub fn scripts_of_parts_join()
     ensures { ScriptsOfPartsJoin }
 {
@@ -47,36 +47,37 @@ pub fn script_runs_are_one_run()
     one_script();
 }
 
-/// `write_border` rejects the map of a run for nothing but memory and the sink.
+/// `write_border` rejects the map of a run only if memory runs out or the sink fails.
 pub fn runs_have_borders()
     ensures { RunsHaveBorders }
 {}
 
-/// A script of `r.clump` and `r.out.ascii` is run over the grids of each tile of a map: it writes the numbers of the clumps of the
-/// tile. The borders that `write_border` wrote of the tiles are joined, but for memory and the sink, to the numbering of the full
-/// map, also if that map is too large for a run.
+/// A script of `r.clump` and `r.out.ascii` is run over the grids of each tile of a map: it writes the clump numbers of
+/// the tile. The borders that `write_border` wrote for the tiles are joined, unless memory runs out or the sink fails,
+/// to the numbering of the full map, even if that map is too large for a run.
 pub fn scripts_of_tiles_number()
     ensures { ScriptsOfTilesNumber }
 {
     one_script();
 }
 
-/// If the script was also run over the full map, its numbers there are the numbers of the numbering.
+/// If the script was also run over the full map, its numbers there are the numbering's.
 pub fn one_run_has_these_numbers()
     ensures { OneRunHasTheseNumbers }
 {
     one_script();
 }
 
-/// A script of `r.clump` and `r.stats -c` is run over the tiles of a grid: the sizes that `join_table_sizes` writes of the numbering
-/// and these tables are the output of such a script over the full map, without null.
+/// A script of `r.clump` and `r.stats -c` is run over the tiles of a grid: the sizes that `join_table_sizes` writes for
+/// the numbering and these tables are the output of such a script over the full map, without null.
 pub fn sizes_are_those_of_the_grid()
     ensures { SizesAreThoseOfTheGrid }
 {
     one_script();
 }
 
-/// `join_table_sizes` rejects the numbering and the tables of fewer than 2^31 tiles for nothing but memory and the sink.
+/// `join_table_sizes` rejects the numbering and the tables of fewer than 2^31 tiles only if memory runs out or the sink
+/// fails.
 pub fn tables_of_tiles_are_added_up()
     ensures { TablesOfTilesAreAddedUp }
 {
@@ -84,7 +85,7 @@ pub fn tables_of_tiles_are_added_up()
     one_script();
 }
 
-/// The numbering of the tiles of a map has each number from 1 to the count of the clumps of the map.
+/// The numbering of the tiles of a map has each number from 1 to the number of clumps of the map.
 pub fn no_number_of_tiles_is_left_out()
     ensures { NoNumberOfTilesIsLeftOut }
 {
@@ -97,7 +98,7 @@ pub fn sizes_of_the_grid()
     ensures { SizesOfTheGrid }
 {}
 
-/// There are such sizes, and none is of more cells than the map has.
+/// There are such sizes, and none is larger than the number of cells of the map.
 pub fn grid_sizes_exist()
     ensures { GridSizesExist }
 {

@@ -8,7 +8,7 @@ use Rattle.rcell_command.specs.CommandWords.{has_hyphen_word}
 use Rattle.rcell_program.specs.declared.refusal.Refusal.{Refusal}
 use Rattle.rcell_program.specs.declared.refusal.Refusal.TheVariants.{GridWord, Memory, Usage}
 
--- each name and the path of its grid, with an equals sign between them
+-- each name and the path of its grid, with an equals sign in between
 abbrev pub grid_words : List (List ℕ) → List (List ℕ) → List (List ℕ)
 grid_words (name ∷ names) (path ∷ paths) = (name ++ byte (codes "=") ∷ path) ∷ grid_words names paths
 grid_words _ _ = []

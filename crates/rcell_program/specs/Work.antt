@@ -39,7 +39,7 @@ abbrev pub end_place : List (List ℕ) → WorkEnd → Option PlaceValue
 end_place names (Rejected refusal) = Some (refusal_place names refusal)
 end_place names (Ran outcome) = run_place names outcome
 
--- why no run was started: the form of the words, a file that the process is not known to have, or want of memory
+-- why no run was started: the form of the words, a file that the process is not known to have, or lack of memory
 abbrev pub IsReason : (List ℕ → Option Coming) → List (List ℕ) → Refusal → Type 0
 IsReason files words refusals.Usage = refusal_of words ≡ Some refusals.Usage
 IsReason files words (refusals.GridWord place) = refusal_of words ≡ Some (refusals.GridWord place)

@@ -24,7 +24,7 @@ pub struct OpenedFiles<F: Source + Drop> {
     ghost has_grid: { 0 < vec_len grids },
 }
 
-// A grid of a name, with the source of its path.
+// Opens the file of a grid. Returns its name and its source.
 fn open_grid<P: Process>(
     alloc: Global,
     process: &mut P,

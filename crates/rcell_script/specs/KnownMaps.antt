@@ -11,7 +11,7 @@ made_by (Clump place target joining) = Some target
 made_by (Stats places options) = None
 made_by (OutAscii place null_text) = None
 
--- with the name of the map that was made, if there is one
+-- with the name of the new map, if there is one
 abbrev pub with_made : List (List ℕ) → Option (List ℕ) → List (List ℕ)
 with_made known None = known
 with_made known (Some target) = known ++ target ∷ []

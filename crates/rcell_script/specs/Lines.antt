@@ -2,7 +2,7 @@
 use Rattle.std.specs.Prelude.{ℕ, List, [], ◌∷◌, map, ◌+◌}
 use Rattle.bstr.specs.Text.{lines_of, without_terminator}
 
--- a script is cut at line feeds; a carriage return just before one does not belong to the line
+-- a script is cut at line feeds; a carriage return just before a line feed does not belong to the line
 abbrev pub script_lines : List ℕ → List (List ℕ)
 script_lines text = map without_terminator (lines_of text)
 

@@ -1,4 +1,4 @@
--- How a text is read as statements, and its error if it is no script (profile).
+-- How a text is read as statements, and its error if it is not a script (profile).
 use Rattle.std.specs.Prelude.{ℕ, ◌≡◌, List, Ok, Err}
 use Rattle.rcell_script.specs.Lines.{script_lines}
 use Rattle.rcell_script.specs.ScriptsRead.{IsScriptReading, start}
@@ -10,10 +10,10 @@ use Rattle.rcell_script.specs.declared.statement.Statement.{Statement}
 unfoldable pub IsReadAs : List (List ℕ) → List ℕ → List Statement → Type 0
 IsReadAs known text statements = IsScriptReading 1 (start known) (script_lines text) (Ok statements)
 
--- the text is no script, and this is its first error, line by line from the top
+-- the text is not a script, and this is its first error, line by line from the top
 unfoldable pub IsScriptFault : List (List ℕ) → List ℕ → ScriptFault → Type 0
 IsScriptFault known text fault = IsScriptReading 1 (start known) (script_lines text) (Err fault)
 
--- being out of memory is reported at line 0
+-- lack of memory is reported at line 0
 abbrev pub ReportsMemoryAtZero : ScriptFault → Type 0
 ReportsMemoryAtZero fault = fault.kind ≡ Memory → fault.line ≡ 0

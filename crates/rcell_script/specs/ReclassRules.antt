@@ -10,7 +10,7 @@ use Rattle.rcell_script.specs.Lines.{ScriptLine}
 abbrev pub IsEnd : List ℕ → Type 0
 IsEnd bytes = trimmed_text bytes ≡ codes "end"
 
--- lines that spell rules, one each, but those that say nothing
+-- lines that each spell a rule; blank lines and comments are skipped
 pub data AreRules : List ScriptLine → List RuleValue → Type 0 where
   none : AreRules [] []
   skipped : {line : ScriptLine} {lines : List ScriptLine} {rules : List RuleValue} → IsSkipped line.bytes → AreRules lines rules → AreRules (line ∷ lines) rules

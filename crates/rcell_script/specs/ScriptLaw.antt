@@ -1,11 +1,11 @@
--- What is so of all texts.
+-- Laws of all texts.
 use Rattle.std.specs.Prelude.{ℕ, ◌≡◌, ◌↔◌, List}
 use Rattle.rcell_script.specs.Scripts.{IsScript}
 use Rattle.rcell_script.specs.ReadScripts.{IsReadAs, IsScriptFault}
 use Rattle.rcell_script_commands.specs.declared.script_fault.ScriptFault.{ScriptFault}
 use Rattle.rcell_script.specs.declared.statement.Statement.{Statement}
 
--- a text is a script of one list of statements at most
+-- a text is a script of at most one list of statements
 abbrev pub OneScript : Type 0
 OneScript = (known : List (List ℕ)) (text : List ℕ) (a b : List Statement) → IsScript known text a → IsScript known text b → a ≡ b
 

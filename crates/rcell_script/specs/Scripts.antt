@@ -11,7 +11,7 @@ use Rattle.rcell_script_commands.specs.declared.command.Command.{Command}
 use Rattle.rcell_script_commands.specs.declared.command.Command.TheVariants.{Reclass}
 use Rattle.rcell_script.specs.declared.statement.Statement.{Statement}
 
--- how lines group into statements: one line a command, for r.reclass also rules and `end`; a map is known after its statement
+-- how lines group into statements: one line per command, for r.reclass also rules and `end`; then its map is known
 pub data Group : List (List ℕ) → List ScriptLine → List Statement → Type 0 where
   none : {known : List (List ℕ)} → Group known [] []
   skipped : {known : List (List ℕ)} {line : ScriptLine} {lines : List ScriptLine} {statements : List Statement}
@@ -23,7 +23,7 @@ pub data Group : List (List ℕ) → List ScriptLine → List Statement → Type
       → SpellsReclass known line.bytes place target → AreRules inner rules → IsEnd last.bytes → Group (known ++ target ∷ []) lines statements
       → Group known (line ∷ (inner ++ last ∷ lines)) (record { line = line.number; command = Reclass place target rules } ∷ statements)
 
--- no line has more than 65535 bytes, and the lines group into the statements
+-- no line is longer than 65535 bytes, and the lines group into the statements
 pub record IsGrouped (known : List (List ℕ)) (text : List ℕ) (statements : List Statement) : Type 0 where
   pub short : All (λ l. length l ≤ 65535) (script_lines text)
   pub grouped : Group known (numbered_lines 1 (script_lines text)) statements

@@ -1,4 +1,4 @@
--- The reading of a script line by line from the top, up to its end or its first error (profile).
+-- Reading a script line by line from the top, up to its end or its first error (profile).
 use Rattle.std.specs.Prelude.{ℕ, ◌≡◌, ◌+◌, List, [], ◌∷◌, ◌++◌, nat_lt, length, Option, Some, None, Result, Ok, Err, MatchResult, if◌then◌else◌}
 use Rattle.cell_cats.specs.Rule.{RuleValue}
 use Rattle.cell_cats.specs.RuleReading.{with_line}
@@ -44,7 +44,7 @@ abbrev pub as_rule : Result (LineKind × List RuleValue) RuleFault → Result (L
 as_rule (Ok x) = Ok x
 as_rule (Err fault) = Err (of_rule fault)
 
--- a line among rules: what kind it is, and the rules with it
+-- a line among rules: its kind, and the rules after it
 abbrev pub rule_line : List RuleValue → List ℕ → Result (LineKind × List RuleValue) ScriptKind
 rule_line rules l = if nat_lt 65535 (length l) then Err LongLine else as_rule (with_line rules l)
 

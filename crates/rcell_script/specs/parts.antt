@@ -1,2 +1,2 @@
--- What only private functions and proofs speak of.
+-- Definitions that only private functions and proofs use.
 pub mod Sound

@@ -1,4 +1,4 @@
-//! The reading of a script line by line.
+//! Reading a script line by line.
 
 ghost use Rattle.std.specs.Prelude.{◌≡◌, ◌≢◌, ◌<◌, ℕ, List, IfOk, IfErr, OnOk, Ok, Some};
 ghost use Rattle.std.specs.Option.{option_map};
@@ -28,7 +28,7 @@ pub(crate) struct OpenReclass {
     rules: Rules,
 }
 
-/// What was read of a script: the names known, the statements, and the r.reclass whose rules are being read.
+/// What was read so far: the names known, the statements, and the r.reclass whose rules are being read.
 #[derive(Drop)]
 pub(crate) struct Progress {
     known: Names,
@@ -78,7 +78,7 @@ fn made_by(command: &Command) -> Option<&Name>
     }
 }
 
-// Puts the name of the map that a command makes, if it makes one, last among the known names.
+// Adds the name of the map that a command makes, if any, to the end of the known names.
 fn add_made(alloc: Global, known: &mut Names, command: &Command) -> Result<(), Memory>
     requires { FitsCommand known.old command.now }
     ensures { OnOk result (known.new ≡ known_after known.old command.now) }
@@ -89,7 +89,7 @@ fn add_made(alloc: Global, known: &mut Names, command: &Command) -> Result<(), M
     Ok(())
 }
 
-// A line among rules, and the rules with it.
+// A line among rules, and the rules after it.
 fn add_rule(rules: &mut Rules, line: &[u8]) -> Result<LineKind, ScriptKind>
     ensures { Answers ScriptKind.Memory (λ kind. (kind, rules.new)) result
         (rule_line rules.old line.now) }
@@ -101,7 +101,7 @@ fn add_rule(rules: &mut Rules, line: &[u8]) -> Result<LineKind, ScriptKind>
 }
 
 impl Progress {
-    /// Nothing was read yet, over known names.
+    /// Nothing read yet, over known names.
     ///
     /// # Errors
     ///
@@ -117,7 +117,7 @@ impl Progress {
         })
     }
 
-    // With one more statement.
+    // Adds a statement.
     fn with_statement(
         mut self,
         alloc: Global,
@@ -188,7 +188,7 @@ impl Progress {
 }
 
 impl Progress {
-    /// What was read with one more line.
+    /// Reads one more line.
     ///
     /// # Errors
     ///

@@ -15,7 +15,7 @@ list_all-no [] i d h bad = absurd (omega arith)
 list_all-no (x ∷ xs) zero d h bad = rw bad refl
 list_all-no (x ∷ xs) (suc i) d h bad = rw (list_all-no xs i d (omega arith) bad) (and-false _)
 
--- one text is no name
+-- one text is not a name
 pub names_from-fails : (xs : List (Bor (List ℕ))) (i : ℕ) (d : Bor (List ℕ)) (fault : OptionFault) → i < length xs
     → option_name (get_or xs i d).now ≡ Err fault → names_from (texts xs) ≡ Err fault
 names_from-fails xs i d fault h bad = search (rules, get_or, list_all-no)

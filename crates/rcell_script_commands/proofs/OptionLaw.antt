@@ -37,7 +37,7 @@ abbrev no_text : List ℕ → List (List ℕ × OptionKey) → Bool
 no_text t [] = true
 no_text t (k ∷ ks) = not (bytes_eq t k.0) && no_text t ks
 
--- a text with a first letter that is no dash
+-- a text with a first letter that is not a dash
 abbrev is_plain : List ℕ → Bool
 is_plain [] = false
 is_plain (b ∷ bs) = not (b == 45)

@@ -18,7 +18,7 @@ first_word b (part ∷ parts) = refl
 first_kept : (b : ℕ) (bs : List ℕ) → is_blank b ≡ false → is_skipped (before_blanks (b ∷ bs)) ≡ is_comment (b ∷ [])
 first_kept b bs e = rw e refl
 
--- the first word begins with the first byte that is no blank
+-- the first word begins with the first byte that is not a blank
 pub say_nothing-trimmed : (line : List ℕ) → say_nothing (words_of line) ≡ is_skipped (trimmed_text line)
 say_nothing-trimmed [] = refl
 say_nothing-trimmed (b ∷ bs) = by (is_blank b) refl (say_nothing-trimmed bs)

@@ -376,7 +376,7 @@ pub head-says : (known : List (List ℕ)) (line : List ℕ) (head : Head) → Is
     → (length line ≤ 65535) × Says known line head
 head-says known line head h = search (rules, mapcalc-sound, words-sound, ltb-false)
 
--- a line whose first word is no r.mapcalc
+-- a line whose first word is not `r.mapcalc`
 other-head : (known : List (List ℕ)) (line : List ℕ) (head : Result Head ScriptKind) (ws : List (List ℕ))
     → length line ≤ 65535 → words_of line ≡ ws → is_mapcalc ws ≡ false
     → head_of_words known ws ≡ head → IsHead known line head

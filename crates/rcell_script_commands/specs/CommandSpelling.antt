@@ -7,7 +7,7 @@ use Rattle.rcell_script_commands.specs.RStats.{SpellsStats}
 use Rattle.rcell_script_commands.specs.declared.command.Command.{Command}
 use Rattle.rcell_script_commands.specs.declared.command.Command.TheVariants.{Mapcalc, Reclass, Clump, Stats, OutAscii}
 
--- a line spells a command that is whole with it
+-- a line spells a command that needs no further lines
 abbrev pub SpellsCommand : List (List ℕ) → List ℕ → Command → Type 0
 SpellsCommand known line (Mapcalc target bound) = SpellsMapcalc known line target bound
 SpellsCommand known line (Reclass place target rules) = ⊥

@@ -1,4 +1,4 @@
--- What a line is: skipped, a command, the beginning of an r.reclass, or an error (profile: the order of the errors).
+-- The meaning of a line: skipped, a command, the beginning of an r.reclass, or an error (profile: order of errors).
 use Rattle.std.specs.Prelude.{ℕ, ◌≡◌, ◌≢◌, ◌⊎◌, List, Option, Some, None, Result, Ok, Err, length, if◌then◌else◌, unwrap_or, Bool, true, false, [], ◌∷◌, nat_lt, bytes_eq, codes}
 use Rattle.cell_ascii_meaning.specs.GridWords.{usual_null}
 use Rattle.cell_calc_binding.specs.Binding.{with_places}
@@ -40,19 +40,19 @@ mapcalc_of known a = by (first_unknown known a.expr)
     by (Some column) = Err (Calc (record { kind = calc.UnknownMap; column = column }))
     by None = in_script (new_target (place_of a.target known) (Ok (Whole (Mapcalc a.target (with_places known a.expr)))))
 
--- the text is an assignment, and this is what comes of it
+-- the text is an assignment, and this is its meaning
 abbrev pub IsAssigned : List (List ℕ) → List ℕ → Result Head ScriptKind → Type 0
 IsAssigned known text head = (a : Assignment) × IsAssignmentText text a × (mapcalc_of known a ≡ head)
 
--- the text is no assignment, for this reason
+-- the text is not an assignment, for this reason
 abbrev pub IsUnassigned : List ℕ → Result Head ScriptKind → Type 0
 IsUnassigned text head = (fault : CalcFault) × IsTextFault text fault × (fault.kind ≢ calc.Memory) × (Err (Calc fault) ≡ head)
 
--- what the line of an r.mapcalc is, over known maps
+-- the meaning of a line of r.mapcalc, over known maps
 abbrev pub IsMapcalc : List (List ℕ) → List ℕ → Result Head ScriptKind → Type 0
 IsMapcalc known line head = IsAssigned known (assignment_text line) head ⊎ IsUnassigned (assignment_text line) head
 
--- the place of the map that is read, and the name of the one that is made
+-- the place of the map that is read, and the name of the map that is made
 abbrev pub reclass_of : List (List ℕ) → List (List ℕ) → Result (ℕ × List ℕ) OptionFault
 reclass_of known words = options_of form.Reclass words >>= from_to known
 
@@ -72,7 +72,7 @@ after_of width (Some text) = combined (combo_of width text)
     combined (Ok combo) = Ok (Some combo)
     combined (Err fault) = Err (of_combo fault)
 
--- how a table is printed, and what of it: fields are separated by a space and null is an asterisk if nothing else is given
+-- how a table is printed, and which part of it: the defaults are a space between fields and an asterisk for null
 abbrev pub printed_with : Given → Option Combination → StatsOptions
 printed_with given after =
     record {
@@ -85,7 +85,7 @@ printed_with given after =
       after = after;
     }
 
--- the table that words ask for: inputs, then flags that go together, then known maps, then a combination of their number
+-- the table that words ask for: inputs, flags that go together, known maps, and a combination with one cell per map
 abbrev pub stats_of : List (List ℕ) → List (List ℕ) → Result Command ScriptKind
 stats_of known words = do
   given ← in_script (options_of form.Stats words)
@@ -93,14 +93,14 @@ stats_of known words = do
   after ← after_of (length places) given.after
   Ok (Stats places (printed_with given after))
 
--- the grid text that words ask for, of an input that is known; null is an asterisk if no text is given
+-- the grid text that words ask for, for a known input; the default for null is an asterisk
 abbrev pub out_ascii_of : List (List ℕ) → List (List ℕ) → Result Command OptionFault
 out_ascii_of known words = do
   given ← options_of form.OutAscii words
   place ← input_place known given
   Ok (OutAscii place (unwrap_or given.null_text usual_null))
 
--- a command that is whole with its line
+-- a command that needs no further lines
 abbrev pub as_whole : Result Command ScriptKind → Result Head ScriptKind
 as_whole (Ok command) = Ok (Whole command)
 as_whole (Err kind) = Err kind
@@ -110,7 +110,7 @@ abbrev pub as_opened : Result (ℕ × List ℕ) ScriptKind → Result Head Scrip
 as_opened (Ok maps) = Ok (Opened maps.0 maps.1)
 as_opened (Err kind) = Err kind
 
--- what a name of a command and the words after it begin, over known maps
+-- the meaning of a command name and the words after it, over known maps
 abbrev pub head_named : List (List ℕ) → List ℕ → List (List ℕ) → Result Head ScriptKind
 head_named known name words =
     if bytes_eq name (codes "r.stats") then as_whole (stats_of known words)
@@ -119,7 +119,7 @@ head_named known name words =
     else (if bytes_eq name (codes "r.reclass") then as_opened (in_script (reclass_of known words))
     else Err UnknownCommand)))
 
--- a line of blanks and a comment are skipped; in any other line the first word is the command
+-- blank lines and comments are skipped; in any other line the first word is the command
 abbrev pub head_of_words : List (List ℕ) → List (List ℕ) → Result Head ScriptKind
 head_of_words known [] = Ok Skipped
 head_of_words known (w ∷ ws) = if is_comment w then Ok Skipped else head_named known w ws
@@ -129,16 +129,16 @@ abbrev pub is_mapcalc : List (List ℕ) → Bool
 is_mapcalc [] = false
 is_mapcalc (w ∷ ws) = bytes_eq w (codes "r.mapcalc")
 
--- what a line of at most 65535 bytes is, an r.mapcalc or another
+-- the meaning of a line of at most 65535 bytes, depending on whether it is an r.mapcalc
 abbrev pub IsShortHead : Bool → List (List ℕ) → List ℕ → Result Head ScriptKind → Type 0
 IsShortHead true known line head = IsMapcalc known line head
 IsShortHead false known line head = head_of_words known (words_of line) ≡ head
 
--- what a line is that is longer than that, or not
+-- the meaning of a line, depending on whether it is longer than that
 abbrev pub IsHeadOf : Bool → List (List ℕ) → List ℕ → Result Head ScriptKind → Type 0
 IsHeadOf true known line head = Err LongLine ≡ head
 IsHeadOf false known line head = IsShortHead (is_mapcalc (words_of line)) known line head
 
--- what a line outside the rules of r.reclass is, over known maps
+-- the meaning of a line outside the rules of r.reclass, over known maps
 abbrev pub IsHead : List (List ℕ) → List ℕ → Result Head ScriptKind → Type 0
 IsHead known line head = IsHeadOf (nat_lt 65535 (length line)) known line head

@@ -1,4 +1,4 @@
--- The maps that options name, over known ones (profile: the order of the errors).
+-- The known maps that options name (profile: the order of the errors).
 use Rattle.std.specs.Prelude.{ℕ, List, Option, Some, None, Result, Ok, Err, if◌then◌else◌}
 use Rattle.std.specs.Option.{ok_or}
 use Rattle.cell_core_values.specs.Answers.{◌>>=◌}
@@ -13,7 +13,7 @@ abbrev pub new_target : {B : Type 0} → Option ℕ → Result B OptionFault →
 new_target None next = next
 new_target (Some place) next = Err MapExists
 
--- the place of the map that r.reclass or r.clump reads, and the name of the one that it makes: both given, then the one known, then the other new
+-- the map that r.reclass or r.clump reads, and the name of the one it makes: both given, then one known, the other new
 abbrev pub from_to : List (List ℕ) → Given → Result (ℕ × List ℕ) OptionFault
 from_to known given = do
   input ← ok_or given.input MissingOption
@@ -21,7 +21,7 @@ from_to known given = do
   place ← ok_or (place_of input known) UnknownMap
   new_target (place_of output known) (Ok (place, output))
 
--- the place of the map that r.out.ascii reads: given, and known
+-- the place of the map that r.out.ascii reads: it must be given, and known
 abbrev pub input_place : List (List ℕ) → Given → Result ℕ OptionFault
 input_place known given = do
   input ← ok_or given.input MissingOption

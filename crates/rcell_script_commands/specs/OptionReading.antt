@@ -21,7 +21,7 @@ use Rattle.rcell_script_commands.specs.declared.options.OptionKey.TheVariants.{I
 abbrev pub GivesOption : {A : Type 0} → Result A OptionFault → Result A OptionFault → Type 0
 GivesOption answer reading = Answers Memory (λ x. x) answer reading
 
--- texts that are lent
+-- borrowed texts
 abbrev pub texts : List (Bor (List ℕ)) → List (List ℕ)
 texts words = map (λ word. word.now) words
 
@@ -33,24 +33,24 @@ flags_of Clump = codes "d"
 flags_of Stats = codes "clnN1"
 flags_of _ = []
 
--- the keys of a command, and what each asks for
+-- the keys of a command, with their meanings
 abbrev pub option_keys : Form → List (List ℕ × OptionKey)
 option_keys Stats = (codes "input", Inputs) ∷ (codes "separator", Separator) ∷ (codes "null_value", TableNullText) ∷ (codes "after", After) ∷ []
 option_keys OutAscii = (codes "input", Input) ∷ (codes "null_value", NullText) ∷ []
 option_keys _ = (codes "input", Input) ∷ (codes "output", Output) ∷ []
 
--- what a text asks for among these keys
+-- the meaning of a text among these keys
 abbrev pub key_among : List (List ℕ × OptionKey) → List ℕ → Option OptionKey
 key_among [] text = None
 key_among (k ∷ ks) text = if bytes_eq text k.0 then Some k.1 else key_among ks text
 
--- what a text asks for among the keys of a command
+-- the meaning of a text among the keys of a command
 abbrev pub option_key_of : Form → List ℕ → Option OptionKey
 option_key_of form text = key_among (option_keys form) text
 
 -- ---- values
 
--- the name of one map: a comma is no letter of it
+-- the name of one map: a comma cannot be part of it
 abbrev pub option_name : List ℕ → Result (List ℕ) OptionFault
 option_name value = if is_name value then Ok value else Err BadName
 
@@ -72,7 +72,7 @@ table_null_text_of value = if is_table_null_text value then Ok value else Err Ba
 
 -- ---- what was read
 
--- the options that words gave
+-- the options given by words
 pub record Given : Type 0 where
   pub flags : Flags
   pub input : Option (List ℕ)
@@ -92,11 +92,11 @@ abbrev pub no_options : Given
 no_options =
     record { flags = no_flags; input = None; inputs = None; output = None; separator = None; null_text = None; table_null_text = None; after = None }
 
--- a line for each cell goes with no count and no `after`
+-- a line for each cell excludes counts and `after`
 abbrev pub is_torn : Given → Bool
 is_torn given = given.flags.cells && (given.flags.counts || is_some given.after)
 
--- with letters that are flags; one that is given twice is given
+-- with letters that are flags; a flag may be repeated
 abbrev pub with_letters : Flags → List ℕ → Flags
 with_letters flags letters =
     record {
@@ -112,7 +112,7 @@ with_letters flags letters =
 abbrev pub with_flags : Form → Given → List ℕ → Result Given OptionFault
 with_flags form given letters = if are_flags (flags_of form) letters then Ok (record given { flags = with_letters given.flags letters }) else Err BadOption
 
--- a key that was given is a bad option
+-- a repeated key is a bad option
 abbrev pub given_once : {X O : Type 0} → Option X → Result O OptionFault → Result O OptionFault
 given_once (Some old) options = Err BadOption
 given_once None options = options

@@ -15,7 +15,7 @@ letters_in (b ∷ bs) = if b == byte (codes "-") then bs else []
 abbrev pub are_flags : List ℕ → List ℕ → Bool
 are_flags flags letters = not (length letters == 0) && list_all (is_one_of flags) letters
 
--- the value that a word gives to a key: the text after the key and an equals sign
+-- the value that a word gives a key: the text after the key and an equals sign
 abbrev pub value_in : List ℕ → List ℕ → Option (List ℕ)
 value_in key word = option_and_then (λ pair. if bytes_eq pair.0 key then Some pair.1 else None) (pair_of word)
 
@@ -28,16 +28,16 @@ IsOption flags keys word =
 abbrev pub has_flag : List ℕ → List (List ℕ) → Bool
 has_flag flag words = is_one_of (flat_map letters_in words) (byte flag)
 
--- the values that words give to a key
+-- the values that words give a key
 abbrev pub values_of : List ℕ → List (List ℕ) → List (List ℕ)
 values_of key words = filter_map (value_in key) words
 
--- there is no value, or one, and it spells this
+-- there is no value, or one value, which spells this
 abbrev pub IsOptional : {X : Type 0} → (List ℕ → X → Type 0) → List (List ℕ) → Option X → Type 0
 IsOptional Spells values None = values ≡ []
 IsOptional Spells values (Some x) = (value : List ℕ) × (values ≡ value ∷ []) × Spells value x
 
--- there is no value, and this is the usual, or one, and it spells this
+-- there is no value, and this is the default, or one value, which spells this
 abbrev pub IsOr : {X : Type 0} → X → (List ℕ → X → Type 0) → List (List ℕ) → X → Type 0
 IsOr {X} usual Spells values x = (given : Option X) × IsOptional Spells values given × (unwrap_or given usual ≡ x)
 
@@ -45,11 +45,11 @@ IsOr {X} usual Spells values x = (given : Option X) × IsOptional Spells values 
 abbrev pub SpellsText : (List ℕ → Bool) → List ℕ → List ℕ → Type 0
 SpellsText test value text = (value ≡ text) × (test value ≡ true)
 
--- a value spells the names of at most 16 maps, between commas
+-- a value spells the names of at most 16 maps, separated by commas
 abbrev pub SpellsNames : List ℕ → List (List ℕ) → Type 0
 SpellsNames value names = (parts_of value ≡ names) × (list_all is_name names ≡ true) × (length names ≤ 16)
 
--- one printed ASCII character that is no space
+-- one printed ASCII character that is not a space
 abbrev pub printed_byte : List ℕ → Option ℕ
 printed_byte [] = None
 printed_byte (b ∷ []) = if is_from_to (byte (codes "!")) (byte (codes "~")) b then Some b else None

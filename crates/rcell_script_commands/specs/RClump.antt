@@ -6,7 +6,7 @@ use Rattle.cell_cats_areas.specs.declared.clump.Joining.TheVariants.{Edges, Edge
 use Rattle.rcell_script_commands.specs.Options.{has_flag}
 use Rattle.rcell_script_commands.specs.RReclass.{AreFromTo}
 
--- with the flag `d` cells that touch at a corner are joined too
+-- with the flag `-d`, cells that touch at a corner are connected too
 abbrev pub joining_of : Bool → Joining
 joining_of corners = if corners then EdgesAndCorners else Edges
 

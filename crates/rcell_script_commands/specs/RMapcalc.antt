@@ -10,7 +10,7 @@ use Rattle.cell_core_values.specs.Blanks.{is_blank, after_blanks}
 use Rattle.cell_core_values.specs.Words.{words_of}
 use Rattle.cell_calc_language.specs.declared.assignment.Assignment.{Assignment}
 
--- the rest of a text that begins with a word, after that word
+-- the rest of a text after the word with which it begins
 abbrev pub text_after_command : List ℕ → List ℕ
 text_after_command [] = []
 text_after_command (b ∷ bs) = if is_blank b then b ∷ bs else text_after_command bs
@@ -19,11 +19,11 @@ text_after_command (b ∷ bs) = if is_blank b then b ∷ bs else text_after_comm
 abbrev pub after_command : List ℕ → List ℕ
 after_command line = text_after_command (after_blanks line)
 
--- the assignment of a line: blanks stand for all up to the end of the command, so that columns count within the line
+-- the assignment in a line, with blanks for everything up to the end of the command, so that columns stay the same
 abbrev pub assignment_text : List ℕ → List ℕ
 assignment_text line = replicate (length line - length (after_command line)) (byte (codes " ")) ++ after_command line
 
--- r.mapcalc: what follows the name is an assignment, whose maps are known and whose target is new
+-- r.mapcalc: what follows the name is an assignment whose maps are known and whose target is new
 pub record SpellsMapcalc (known : List (List ℕ)) (line target : List ℕ) (bound : Formula) : Type 0 where
   pub words : List (List ℕ)
   pub named : words_of line ≡ codes "r.mapcalc" ∷ words

@@ -6,7 +6,7 @@ use Rattle.cell_core_values.specs.Name.{is_name, place_of}
 use Rattle.rcell_script_commands.specs.NullText.{is_null_text}
 use Rattle.rcell_script_commands.specs.Options.{IsOption, values_of, IsOptional, IsOr, SpellsText}
 
--- r.out.ascii: null is an asterisk if no text is given
+-- r.out.ascii: the default for null is an asterisk
 pub record SpellsOutAscii (known : List (List ℕ)) (line : List ℕ) (place : ℕ) (null_text : List ℕ) : Type 0 where
   pub words : List (List ℕ)
   pub named : words_of line ≡ codes "r.out.ascii" ∷ words

@@ -11,11 +11,11 @@ use Rattle.rcell_script_commands.specs.NullText.{is_table_null_text}
 use Rattle.rcell_script_commands.specs.Options.{IsOption, has_flag, values_of, IsOptional, IsOr, SpellsText, SpellsNames, separator_in}
 use Rattle.rcell_script_commands.specs.declared.command.StatsOptions.{StatsOptions}
 
--- what is left out: `n` decides over `N`
+-- what is left out: `-n` overrides `-N`
 abbrev pub skip_of : Bool → Bool → Skip
 skip_of no_null no_all_null = if no_null then AnyNull else (if no_all_null then AllNull else Nothing)
 
--- r.stats: `input` names known maps, `after` is a combination of as many cells, fields are separated by a space and null is an asterisk if nothing else is given, and a line for each cell goes with no count and no `after`
+-- r.stats: known maps as `input`, a cell for each in `after`; space and `*` by default; `-1` without `-c` and `after`
 pub record SpellsStats (known : List (List ℕ)) (line : List ℕ) (places : List ℕ) (options : StatsOptions) : Type 0 where
   pub words : List (List ℕ)
   pub named : words_of line ≡ codes "r.stats" ∷ words

@@ -1,4 +1,4 @@
--- The errors of options, rules and combinations as errors of a script, and how a reading of a script reports them.
+-- The errors of options, rules and combinations as errors of a script, and how reading a script reports them.
 use Rattle.std.specs.Prelude.{◌≢◌, Result, Ok, Err}
 use Rattle.cell_cats.specs.declared.rules.RuleFault.{RuleFault}
 use Rattle.cell_cats.specs.declared.rules.RuleFault.TheVariants as rule

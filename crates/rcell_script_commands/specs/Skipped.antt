@@ -1,4 +1,4 @@
--- Lines that say nothing (profile).
+-- Lines without a command (profile).
 use Rattle.std.specs.Prelude.{ℕ, Bool, false, ◌==◌, List, [], ◌∷◌, ◌≡◌, true, codes}
 use Rattle.cell_cats.specs.RuleLine.{is_skipped}
 use Rattle.cell_core_values.specs.Blanks.{trimmed_text}
@@ -9,6 +9,6 @@ abbrev pub is_comment : List ℕ → Bool
 is_comment [] = false
 is_comment (b ∷ bs) = b == byte (codes "#")
 
--- a line that says nothing: blanks alone, or a comment
+-- a line without a command: only blanks, or a comment
 abbrev pub IsSkipped : List ℕ → Type 0
 IsSkipped bytes = is_skipped (trimmed_text bytes) ≡ true

@@ -1,4 +1,4 @@
--- What only private functions, conversions of errors and proofs cite.
+-- Definitions that only private functions, conversions of errors and proofs use.
 pub mod Keys
 pub mod Faults
 pub mod CalcFaults

@@ -9,7 +9,7 @@ use cell_core::name::Name;
 use cell_stats_combinations::combination::Combo;
 use cell_stats_combinations::skip::Skip;
 
-/// How r.stats prints a table, and what of it.
+/// How r.stats prints a table, and which part of it.
 #[derive(Drop)]
 pub struct StatsOptions {
     /// Which combinations are left out (`-n`, `-N`).
@@ -22,27 +22,27 @@ pub struct StatsOptions {
     pub cells: bool,
     /// The byte between the fields of a line.
     pub separator: u8,
-    /// What stands for null.
+    /// The null text.
     pub null_text: TableNullText,
-    /// The combination after which the table continues, with one cell a map.
+    /// The combination after which the table continues, with one cell per map.
     pub after: Option<Combo>,
 }
 
 /// What a statement asks for. A place is the index of a map on the shelf before the statement.
 #[derive(Drop)]
 pub enum Command {
-    /// `r.mapcalc`: a map of the values of an expression.
+    /// `r.mapcalc`: the map of the values of an expression.
     Mapcalc {
         target: Name,
         bound: Bound,
     },
-    /// `r.reclass`: a map of new categories by rules.
+    /// `r.reclass`: the map of the new categories that rules give.
     Reclass {
         place: usize,
         target: Name,
         rules: Rules,
     },
-    /// `r.clump`: a map of the numbers of areas.
+    /// `r.clump`: the map of clump numbers.
     Clump {
         place: usize,
         target: Name,
@@ -53,7 +53,7 @@ pub enum Command {
         places: Places,
         options: StatsOptions,
     },
-    /// `r.out.ascii`: the grid text of the map at the place, in which the null text stands for null.
+    /// `r.out.ascii`: the grid text of the map at the place, with this null text.
     OutAscii {
         place: usize,
         null_text: NullText,

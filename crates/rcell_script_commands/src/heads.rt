@@ -19,15 +19,15 @@ use cell_core::name::{Name, Names};
 use cell_core_values::words::words_of;
 use std::alloc::Global;
 
-/// The most bytes of a line.
+/// Maximum length of a line in bytes.
 pub const MOST_LINE: usize = 65535;
 
-/// What a line outside the rules of r.reclass is.
+/// The meaning of a line outside the rules of r.reclass.
 #[derive(Drop)]
 pub enum Head {
-    /// Blanks or a comment.
+    /// Blank, or a comment.
     Skipped,
-    /// A command that is whole with the line.
+    /// A command that the line completes.
     Whole(Command),
     /// An r.reclass, whose rules follow.
     Opened { place: usize, target: Name },
@@ -43,7 +43,7 @@ fn is_comment(word: &[u8]) -> bool
     }
 }
 
-// What a name of a command and the words after it begin.
+// The meaning of a command name and the words after it.
 #[tactic(auto, using(crate::proofs::FaultLemmas::reported))]
 fn head_named(
     alloc: Global,
@@ -68,7 +68,7 @@ fn head_named(
     }
 }
 
-// What words are.
+// The meaning of words.
 fn head_of_words(alloc: Global, known: &Names, words: &[&[u8]]) -> Result<Head, ScriptKind>
     ensures head { GivesScript result (head_of_words known.now (texts words.now)) }
     ensures fits { IfOk result (FitsHead known.now) }
@@ -92,7 +92,7 @@ fn is_mapcalc(words: &[&[u8]]) -> bool
     }
 }
 
-/// What a line outside the rules of r.reclass is, over known maps.
+/// The meaning of a line outside the rules of r.reclass, over known maps.
 ///
 /// # Errors
 ///

@@ -1,4 +1,4 @@
-//! The maps that options name, over known ones.
+//! The known maps that options name.
 
 ghost use Rattle.std.specs.Prelude.{◌≡◌, ◌<◌, ◌≤◌, IfOk, None, All, length};
 ghost use Rattle.std.specs.Option.{ok_or};
@@ -36,7 +36,7 @@ impl Places {
     }
 }
 
-/// The place of the map that is read, and the name of the one that is made.
+/// The place of the map that is read, and the name of the map that is made.
 ///
 /// # Errors
 ///
@@ -94,7 +94,7 @@ fn map_places(alloc: Global, known: &Names, names: &[Name]) -> Result<Places, Op
     Ok(Places { places })
 }
 
-// Whether a line for each cell is asked for, and what does not go with it.
+// Whether a line for each cell is asked for, or an error if other flags do not allow it.
 fn is_torn(options: &Options) -> bool
     ensures { result ≡ is_torn options.now }
 {

@@ -12,10 +12,10 @@ use cell_core::memory::Memory;
 use std::alloc::Global;
 use std::marker::Model;
 
-/// The most bytes of a text that stands for null.
+/// Maximum length of a null text in bytes.
 const MOST_BYTES: usize = 64;
 
-/// What stands for null in a grid text that is written: 1 to 64 bytes from `!` to `~`, none of them a colon (profile).
+/// The null text of a written grid: 1 to 64 bytes from `!` to `~`, none of them a colon (profile).
 #[derive(Drop)]
 pub struct NullText {
     bytes: Vec<u8>,
@@ -32,7 +32,7 @@ impl Model for NullText {
     ghost invariant = { λ t. is_null_text t.bytes.items ≡ true };
 }
 
-/// What stands for null in a table: 1 to 64 bytes from `!` to `~` (profile).
+/// The null text of a table: 1 to 64 bytes from `!` to `~` (profile).
 #[derive(Drop)]
 pub struct TableNullText {
     bytes: Vec<u8>,

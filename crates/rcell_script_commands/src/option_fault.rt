@@ -1,4 +1,4 @@
-//! Why words give no options.
+//! Why words are not valid options.
 
 use cell_core::memory::Memory;
 use cell_core::name::NameFault;
@@ -7,16 +7,16 @@ use std::alloc::{AllocError, AllocFailed};
 /// What is wrong with the options of a command, or with the maps that they name.
 #[derive(Clone, Copy, Debug, PartialEq, Eq)]
 pub enum OptionFault {
-    /// An unknown flag or key, a word without `=`, a key twice, more than 16 maps, a bad separator or null text, or
-    /// flags that do not go together.
+    /// An unknown flag or key, a word without `=`, a repeated key, more than 16 maps, a bad separator or null text, or
+    /// flags that exclude each other.
     BadOption,
     /// A command without an option that it needs.
     MissingOption,
-    /// A map that is read and not known.
+    /// A map that is read is not known.
     UnknownMap,
-    /// A map that is made and known before.
+    /// A map that is made is already known.
     MapExists,
-    /// An input or output that is no name.
+    /// An input or output that is not a name.
     BadName,
     /// Memory ran out.
     Memory,

@@ -19,7 +19,7 @@ use cell_core_values::words::{pair_of, parts_of};
 use std::alloc::Global;
 use std::marker::Model;
 
-/// The most maps that one r.stats takes.
+/// Maximum number of maps of one r.stats.
 const MOST_INPUTS: usize = 16;
 
 /// A command that has options.
@@ -31,7 +31,7 @@ pub enum Form {
     OutAscii,
 }
 
-/// What a key asks for.
+/// The meaning of a key.
 #[derive(Clone, Copy)]
 pub enum OptionKey {
     /// One map that is read.
@@ -41,9 +41,9 @@ pub enum OptionKey {
     /// The map that is made.
     Output,
     Separator,
-    /// What stands for null in a grid text.
+    /// The null text of a grid.
     NullText,
-    /// What stands for null in a table.
+    /// The null text of a table.
     TableNullText,
     After,
 }
@@ -83,7 +83,7 @@ impl Inputs {
     }
 }
 
-/// The flags that words gave so far.
+/// The flags given so far.
 #[derive(Clone, Copy)]
 pub struct Flags {
     /// `l` of r.stats.
@@ -100,7 +100,7 @@ pub struct Flags {
     pub corners: bool,
 }
 
-// Whether a flag was given, before or now.
+// Whether a flag is given, now or earlier.
 fn or_given(given: bool, letters: &[u8], flag: u8) -> bool
     ensures { result ≡ (given || is_one_of letters.now flag) }
 {
@@ -108,7 +108,7 @@ fn or_given(given: bool, letters: &[u8], flag: u8) -> bool
 }
 
 impl Flags {
-    // With letters that are flags; one that is given twice is given.
+    // Adds letters that are flags. A flag may be repeated.
     fn with(self, letters: &[u8]) -> Flags
         ensures { result ≡ with_letters self letters.now }
     {
@@ -123,7 +123,7 @@ impl Flags {
     }
 }
 
-/// The options that words gave so far.
+/// The options given so far.
 #[derive(Drop)]
 pub struct Options {
     pub(crate) flags: Flags,
@@ -208,7 +208,7 @@ fn out_ascii_key(text: &[u8]) -> Option<OptionKey>
     }
 }
 
-// The key of the command that a text names.
+// The command's key with this name.
 fn option_key_of(form: Form, text: &[u8]) -> Option<OptionKey>
     ensures { result ≡ option_key_of form text.now }
 {
@@ -241,7 +241,7 @@ fn names_from(alloc: Global, parts: &[&[u8]]) -> Result<Vec<Name>, OptionFault>
     Ok(names)
 }
 
-// The names of maps between commas.
+// The names of maps, separated by commas.
 fn option_names(alloc: Global, value: &[u8]) -> Result<Inputs, OptionFault>
     ensures { GivesOption result (names_of (parts_of value.now)) }
 {
@@ -280,7 +280,7 @@ fn separator_in(value: &[u8]) -> Option<u8>
 }
 
 impl Options {
-    // No option was given.
+    // No options yet.
     fn new() -> Options
         ensures { result ≡ no_options }
     {
@@ -360,7 +360,7 @@ impl Options {
         }
     }
 
-    /// The names of the map that is read and of the one that is made, as far as they were given.
+    /// The names of the map that is read and of the map that is made, as far as they were given.
     pub(crate) fn into_names(self) -> (Option<Name>, Option<Name>)
         ensures { result ≡ (self.input, self.output) }
     {
@@ -393,7 +393,7 @@ impl Options {
         Ok(())
     }
 
-    // Sets the value of a key, which may be given once.
+    // Sets the value of a key, which may be given only once.
     fn set_value(&mut self, alloc: Global, key: OptionKey, value: &[u8]) -> Result<(), OptionFault>
         ensures { Answers OptionFault.Memory (λ _. self.new) result
             (with_value self.old key value.now) }

@@ -39,7 +39,7 @@ fn after_command<'a>(line: &'a [u8]) -> &'a [u8]
     after_word(after_blanks(line))
 }
 
-// The assignment of a line, with blanks for all up to the end of the command.
+// The assignment in a line; everything up to the end of the command is replaced with blanks.
 fn assignment_text(alloc: Global, line: &[u8]) -> Result<Vec<u8>, Memory>
     ensures text { IfOk result (λ text. text.items ≡ assignment_text line.now) }
     ensures length { IfOk result (λ text. length text.items ≡ length line.now) }

@@ -18,7 +18,7 @@ use cell_stats_combinations::combination::Combo;
 use cell_stats_combinations::skip::Skip;
 use std::alloc::Global;
 
-// `-n` also leaves out all combinations that `-N` leaves out, so it stands for both.
+// `-n` leaves out everything that `-N` leaves out, so it overrides it.
 fn skip_of(no_null: bool, no_all_null: bool) -> Skip
     ensures { result ≡ skip_of no_null no_all_null }
 {
@@ -48,7 +48,7 @@ fn after_in_text(
     }
 }
 
-// How a table is printed, and what of it.
+// How a table is printed, and which part of it.
 fn printed_with(
     alloc: Global,
     options: Options,

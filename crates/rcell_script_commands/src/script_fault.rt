@@ -1,4 +1,4 @@
-//! Why a text is no script.
+//! Why a text is not a script.
 
 ghost use Rattle.std.specs.Prelude.{◌≡◌};
 ghost use Rattle.rcell_script_commands.specs.ScriptTexts.{calc_words, rule_words, combo_words, kind_words, kind_column};
@@ -14,28 +14,28 @@ use std::fmt;
 /// What is wrong with a script.
 #[derive(Clone, Copy, Debug, PartialEq, Eq)]
 pub enum ScriptKind {
-    /// The first word of a line is no command.
+    /// The first word of a line is not a command.
     UnknownCommand,
-    /// An unknown flag or key, a word without `=`, a key twice, more than 16 maps, a bad separator or null text, or
-    /// flags that do not go together.
+    /// An unknown flag or key, a word without `=`, a repeated key, more than 16 maps, a bad separator or null text, or
+    /// flags that exclude each other.
     BadOption,
     /// A command without an option that it needs.
     MissingOption,
-    /// A map that is not known before the statement that reads it.
+    /// A map that is not known when a statement reads it.
     UnknownMap,
-    /// A map that is made and was known before.
+    /// A map that is made but already known.
     MapExists,
-    /// An assignment of r.mapcalc; its column counts within the line of the script.
+    /// An assignment of r.mapcalc; its column is counted from the start of the script's line.
     Calc(CalcFault),
     /// A rule of r.reclass.
     Rule(RuleFault),
     /// The combination of `after`.
     Combo(ComboFault),
-    /// The rules of an r.reclass that do not end before the script does.
+    /// The rules of an r.reclass without an end.
     MissingEnd,
     /// A line of more than 65,535 bytes.
     LongLine,
-    /// An input or output that is no name.
+    /// An input or output that is not a name.
     BadName,
     /// Memory ran out.
     Memory,

@@ -1,9 +1,9 @@
-//! `assert_same!` is `assert_eq!` by a call: the comparison and its message are proved once, and not at each place.
+//! `assert_same!` is `assert_eq!` as a call: the comparison and its message are proved once, and not at each use.
 
 use std::fmt::{Debug, Display};
 use std::process::Abort;
 
-/// What was found is what was wanted.
+/// The result equals the expected one.
 pub(crate) fn same<R: Abort, N: Display + Drop, T: PartialEq + Debug>(
     rt: &R,
     note: N,

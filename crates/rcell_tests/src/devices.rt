@@ -24,10 +24,10 @@ const LAST_CELL: usize = 2;
 
 const SCRIPT: &[u8] = FIVE_COMMANDS;
 
-// How many bytes it asks for.
+// Number of bytes requested at a time.
 const ALL_BYTES: u64 = 111;
 
-/// The most bytes of a script.
+/// Maximum length of a script in bytes.
 const MOST_BYTES: usize = 1048576;
 
 // What comes after the bytes of a source.
@@ -35,15 +35,15 @@ const MOST_BYTES: usize = 1048576;
 enum Then<'a> {
     Ends,
     Fails,
-    // Its end is reported, and then these bytes come, and its end again.
+    // Its end is reported, then these bytes come, and then its end again.
     EndsOnce(&'a [u8]),
-    // One call fails, and then these bytes come, and its end.
+    // One call fails, then these bytes come, and then its end.
     FailsOnce(&'a [u8]),
-    // Two bytes by turns, without end.
+    // Two bytes in turn, endlessly.
     Turns([u8; 2]),
 }
 
-// Fills the bytes with two by turns, and returns whether the second is next.
+// Fills the bytes with two bytes in turn, and returns whether the second is next.
 fn fill_by_turns(buf: &mut [u8], turns: [u8; 2], is_second: bool) -> bool
     ensures { length buf.new ≡ length buf.old }
 {
@@ -55,7 +55,7 @@ fn fill_by_turns(buf: &mut [u8], turns: [u8; 2], is_second: bool) -> bool
     is_second
 }
 
-// A source of some bytes of which nothing is known.
+// A source of some bytes about which nothing is known.
 #[derive(Drop)]
 struct Unknown<'a> {
     bytes: &'a [u8],
@@ -74,7 +74,7 @@ impl<'a> Unknown<'a> {
         }
     }
 
-    // What a call gives.
+    // What a call returns.
     fn give(&mut self, buf: &mut [u8]) -> Result<usize, DeviceFault>
         ensures count { IfOk result (λ n. n ≤ length buf.new) }
         ensures asked { self.new.asked ≡ self.old.asked }
@@ -121,7 +121,7 @@ impl<'a> Source for Unknown<'a> {
     }
 }
 
-// A sink of so much room, whose flush fails or not.
+// A sink with this much room, whose flush fails or not.
 #[derive(Drop)]
 struct Counting {
     room: usize,
@@ -267,7 +267,7 @@ fn each_read_fails_once(rt: HostRuntime) -> Result<(), Fail> {
     Ok(())
 }
 
-// A run over a script and a grid goes as one over another script and another grid.
+// A run over a script and a grid has the same outcome as one over another script and another grid.
 fn expect_same<'a, R: Abort + AllocGlobal>(
     rt: &R,
     run: (Unknown<'a>, Unknown<'a>),
@@ -399,7 +399,7 @@ fn is_flushed_once_unless_refused_or_failed(rt: HostRuntime) -> Result<(), Fail>
     Ok(())
 }
 
-// Runs a script over named grids, after the bytes of each of which the same comes.
+// Runs a script over named grids; the same follows the bytes of each.
 fn run_grids<'a, W: Sink>(
     alloc: Global,
     script: Unknown<'a>,
@@ -521,8 +521,8 @@ fn written_before(line: u64) -> u64 {
     }
 }
 
-// A run out of memory reports the bytes of the statements before. It is flushed once if it ran out in a statement, like a
-// finished run, and never if it ran out before.
+// A run that runs out of memory reports the bytes of the statements before. It is flushed once if memory ran out in a
+// statement, like a finished run, and never if it ran out before.
 fn expect_out_of_memory<R: Abort>(rt: &R, outcome: Outcome, flushes: Flushes) {
     let line = match outcome.fault {
         Some(RunFault::Memory { line }) => line,
@@ -553,7 +553,7 @@ fn a_run_out_of_memory_is_flushed_and_made_again(rt: HostRuntime) -> Result<(), 
     Ok(())
 }
 
-// A flush that fails turns a run that is done into a failed write, and changes nothing of one that is out of memory.
+// A failed flush turns a finished run into a failed write, and does not change a run that is out of memory.
 #[test]
 fn a_run_out_of_memory_stays_so_and_is_made_again(rt: HostRuntime) -> Result<(), Fail> {
     let (outcome, flushes) = counted(&rt, true)?;

@@ -10,7 +10,7 @@ use rcell_script::script_parsing::parse_script;
 use std::alloc::Global;
 use std::test::Fail;
 
-// The names of one grid, g.
+// The name of the only grid, g.
 pub(crate) fn one_grid(alloc: Global) -> Result<Names, Fail> {
     let mut known = Names::new(alloc);
     let name = Name::read(alloc, b"g")?;

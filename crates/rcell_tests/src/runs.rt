@@ -58,7 +58,7 @@ fn sink(alloc: Global, room: usize) -> Result<MemorySink, Fail> {
     Ok(MemorySink::new(vec![in alloc; 0u8; room]?, 3, false))
 }
 
-// A run goes as is wanted, and its sink has taken these bytes.
+// Checks the outcome of a run, and the bytes that its sink has taken.
 fn expect_run<R: Abort + AllocGlobal>(
     rt: &R,
     grids: &[(&[u8], &[u8])],
@@ -73,7 +73,7 @@ fn expect_run<R: Abort + AllocGlobal>(
     Ok(())
 }
 
-// A run is done, and has put out the text.
+// A run is done, and has written the text.
 fn expect_text<R: Abort + AllocGlobal>(
     rt: &R,
     grids: &[(&[u8], &[u8])],
@@ -104,7 +104,7 @@ fn expect_refused<R: Abort + AllocGlobal>(
     expect_run(rt, grids, script, sink(rt.alloc(), 1000)?, wanted, b"")
 }
 
-// A run over the grid g fails as it writes, and its sink has taken these bytes.
+// A run over the grid g fails while writing, and its sink has taken these bytes.
 fn expect_failed_write<R: Abort + AllocGlobal>(
     rt: &R,
     script: &[u8],
@@ -119,7 +119,7 @@ fn expect_failed_write<R: Abort + AllocGlobal>(
     expect_run(rt, &[(b"g", GRID)], script, out, wanted, bytes)
 }
 
-// Grids by their names, a script over them, and the text that it puts out.
+// Grids by name, a script over them, and its output.
 const TABLES: [(&[(&[u8], &[u8])], &[u8], &[u8]); 7] = [
     (&[(b"g", GRID)], b"r.stats -c input=g", TABLE),
     (
@@ -176,7 +176,7 @@ fn puts_out_grids(rt: HostRuntime) -> Result<(), Fail> {
     let given = b"north: 10.50\nsouth: -.25\neast: 4.\nwest: +0\nrows: 1\ncols: 2\n7 *";
     let written =
         b"north: 10.5\nsouth: -0.25\neast: 4\nwest: 0\nrows: 1\ncols: 2\nnull: -9\n7 -9\n";
-    // What is written is read again as the same map.
+    // A written map is read back as the same map.
     let script = b"r.out.ascii null_value=-9 input=p";
     expect_text(&rt, &[(b"p", given)], script, written)?;
     expect_text(&rt, &[(b"p", written)], script, written)?;
@@ -281,7 +281,7 @@ fn reports_what_a_failing_device_took(rt: HostRuntime) -> Result<(), Fail> {
     expect_failed_write(&rt, script, unflushed, TABLE)
 }
 
-// The outcome of a run over one grid, g, and how many bytes it writes. The sources may fail at their ends.
+// The outcome of a run over one grid, g, and the number of bytes that it writes. The sources may fail at their ends.
 fn run_one(
     alloc: Global,
     script: MemorySource,

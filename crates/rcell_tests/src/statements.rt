@@ -20,7 +20,7 @@ fn expect_grid_text<R: Abort>(rt: &R, command: &Command) -> Result<(), Fail> {
     Ok(())
 }
 
-// `r.reclass output=r input=g`, by the rule `1 thru 3 = 7 low`
+// `r.reclass output=r input=g` with the rule `1 thru 3 = 7 low`
 fn expect_classes<R: Abort>(rt: &R, command: &Command) -> Result<(), Fail> {
     let Command::Reclass {
         place,

@@ -1,4 +1,5 @@
--- Worked scripts and tables.
+-- Worked scripts, tables and clumps.
 pub mod ReadLemmas
 pub mod TableLemmas
 pub mod WorkedMaps
+pub mod ClumpLemmas

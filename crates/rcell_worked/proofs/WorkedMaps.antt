@@ -1,5 +1,5 @@
 -- The maps of the worked runs, and how their tables are printed.
-use Rattle.std.proofs.Common.{ℕ, pos, true, false, List, [], ◌∷◌, Some, None, codes}
+use Rattle.std.proofs.Common.{ℕ, pos, true, false, [], ◌∷◌, Some, None, codes}
 use Rattle.cell_core.specs.Grid.{Grid, CellValue, no_labels}
 use Rattle.cell_core.specs.Shelf.{ShelfValue}
 use Rattle.cell_stats_combinations.specs.declared.skip.Skip.TheVariants.{Nothing}

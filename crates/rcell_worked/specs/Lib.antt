@@ -2,4 +2,5 @@
 pub mod WorkedRuns
 pub mod WorkedTables
 pub mod WorkedGrids
+pub mod WorkedClumps
 pub mod WorkedRequests

@@ -1,5 +1,5 @@
 -- Worked grids of r.out.ascii, and an expression with an offset.
-use Rattle.std.specs.Prelude.{ℕ, List, [], ◌∷◌, codes}
+use Rattle.std.specs.Prelude.{[], ◌∷◌, codes}
 use Rattle.rcell_worked.specs.WorkedRuns.{Prints, Text}
 
 -- a map of one row

@@ -2,9 +2,10 @@
 use Rattle.std.specs.Prelude.{ℕ, ◌≡◌, List, [], ◌∷◌, ◌++◌, codes}
 use Rattle.cell_core.specs.Shelf.{ShelfValue}
 use Rattle.rcell_script.specs.declared.statement.Statement.{Statement}
-use Rattle.rcell_pipe_response.specs.Frames.{OutputFrame, GivesFrames}
+use Rattle.rcell_pipe_request.specs.Questions.{QuestionValue}
+use Rattle.rcell_pipe_response.specs.Frames.{OutputFrame}
 use Rattle.rcell_pipe_response.specs.FrameBytes.{response_bytes}
-use Rattle.rcell_pipe_response.specs.RunEnds.{done_end}
+use Rattle.rcell_pipe_response.specs.RunEnds.{done_end, GivesAll}
 use Rattle.rcell_plan_response.specs.Responses.{AsksForFrames}
 use Rattle.rcell_worked.specs.WorkedRuns.{given}
 
@@ -12,10 +13,10 @@ use Rattle.rcell_worked.specs.WorkedRuns.{given}
 pub record Responds (request response : List ℕ) : Type 0 where
   pub shelf : ShelfValue
   pub statements : List Statement
-  pub asks : AsksForFrames (given request) shelf statements
+  pub questions : List QuestionValue
+  pub asks : AsksForFrames (given request) shelf statements questions
   pub frames : List OutputFrame
-  pub after : ShelfValue
-  pub gives : GivesFrames shelf statements frames after
+  pub gives : GivesAll shelf statements questions frames
   pub bytes : response_bytes frames done_end ≡ response
 
 abbrev pub table_request : List ℕ
@@ -24,6 +25,7 @@ table_request =
     ++ (1 ∷ 50 ∷ 1 ∷ 48 ∷ 1 ∷ 51 ∷ 1 ∷ 48 ∷ 2 ∷ 0 ∷ 0 ∷ 0 ∷ 3 ∷ 0 ∷ 0 ∷ 0 ∷ [])
     ++ (1 ∷ 1 ∷ 255 ∷ 0 ∷ 0 ∷ 0 ∷ 0 ∷ 0 ∷ 0 ∷ 0 ∷ 0 ∷ 0 ∷ 0 ∷ 0 ∷ 1 ∷ 1 ∷ [])
     ++ (2 ∷ 2 ∷ 2 ∷ 255 ∷ 22 ∷ 0 ∷ 0 ∷ 0 ∷ []) ++ codes "r.stats -c input=land\n"
+    ++ (0 ∷ 0 ∷ 0 ∷ 0 ∷ [])
 
 abbrev pub table_response : List ℕ
 table_response =

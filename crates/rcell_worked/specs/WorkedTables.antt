@@ -1,5 +1,5 @@
 -- Worked tables of r.stats.
-use Rattle.std.specs.Prelude.{ℕ, List, [], ◌∷◌, codes}
+use Rattle.std.specs.Prelude.{[], ◌∷◌, codes}
 use Rattle.rcell_worked.specs.WorkedRuns.{Prints, land, zone}
 
 pub record WorkedTables : Type 0 where
@@ -17,3 +17,7 @@ pub record WorkedTables : Type 0 where
   pub grouped : Prints (land ∷ [])
       (codes "r.reclass input=land output=wood\n1 3 = 7 wood\n* = 8\nend\nr.stats -c input=wood\n")
       (codes "7 7\n8 4\n* 1\n")
+  -- the labels of these classes
+  pub labelled : Prints (land ∷ [])
+      (codes "r.reclass input=land output=wood\n1 3 = 7 wood\n* = 8\nend\nr.stats -c -l input=wood\n")
+      (codes "7 wood 7\n8  4\n* no data 1\n")

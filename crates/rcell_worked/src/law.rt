@@ -1,12 +1,14 @@
 //! What the definitions give for worked runs.
 
+ghost use Rattle.rcell_worked.specs.WorkedClumps.{WorkedClumps};
 ghost use Rattle.rcell_worked.specs.WorkedGrids.{WorkedGrids};
 ghost use Rattle.rcell_worked.specs.WorkedRequests.{WorkedRequests};
 ghost use Rattle.rcell_worked.specs.WorkedTables.{WorkedTables};
 
 use rcell_script::law::script_reading_denotes;
 
-/// Tables: the first example of the documents, without null, of two maps, after a combination, cell by cell, of new classes.
+/// Tables: the first example of the documents, without null, of two maps, after a combination, cell by cell, of new
+/// classes, with their labels.
 pub fn tables()
     ensures { WorkedTables }
 {
@@ -16,6 +18,16 @@ pub fn tables()
 /// Grids: a map with another text for null, and an expression with an offset, which is null beyond the edge.
 pub fn grids()
     ensures { WorkedGrids }
+{
+    script_reading_denotes();
+}
+
+/// Numbers of r.clump, on a map where connectivity makes a difference.
+///
+/// The checker cannot compute them: `IsClumping` states which map of numbers is right, and makes none. So this law
+/// states the bytes, and its proof shows that the two maps of numbers are right.
+pub fn clumps()
+    ensures { WorkedClumps }
 {
     script_reading_denotes();
 }

@@ -4,16 +4,16 @@ use Rattle.cell_calc.specs.RowValues.{at}
 use Rattle.cell_calc.specs.Window.{Window}
 use Rattle.cell_calc.specs.CommonStretches.{centre_row, start_cells}
 
--- the stretch that has a column
+-- the stretch that contains a column
 abbrev pub owner : List ℕ → ℕ → ℕ
 owner [] c = 0
 owner (w ∷ widths) c = if nat_lt c w then 0 else owner widths (c - w) + 1
 
--- the row of a window does not change in so many columns from one on
+-- the row of a window does not change in width columns from one column on
 abbrev pub IsAlike : (from width : ℕ) → Window → Type 0
 IsAlike from width w = (k : ℕ) → k < width → at (centre_row w) (from + k) ≡ at (centre_row w) from
 
--- a row is as wide as so many columns
+-- the row of a window has cols columns
 abbrev pub HasWidth : ℕ → Window → Type 0
 HasWidth cols w = length (centre_row w) ≡ cols
 

@@ -1,4 +1,4 @@
--- Values along a strip: some columns of a row, from one on.
+-- Values along a strip: some columns of a row, from a first one on.
 use Rattle.std.specs.Prelude.{◌≡◌, ◌≤◌, ◌<◌, ◌+◌, ◌-◌, ◌+ℤ◌, ℕ, pos, All, List, [], ◌∷◌, Vec, Some, None, length, take, drop, map, slice_get, slice_index_or}
 use Rattle.std.specs.Global.{Global}
 use Rattle.cell_core.specs.Grid.{CellValue}
@@ -16,20 +16,20 @@ use Rattle.cell_calc.specs.RowValues.{at, AreWide, arguments_at}
 use Rattle.cell_calc.specs.WindowsOver.{row_below}
 use Rattle.cell_calc.specs.parts.InReach.{IsInReach}
 
--- the last so many operands, and those before them
+-- the last n operands, and those before them
 abbrev pub top_operands : {X : Type 0} → ℕ → List X → List X
 top_operands n operands = drop (length operands - n) operands
 
 abbrev pub lower_operands : {X : Type 0} → ℕ → List X → List X
 lower_operands n operands = take (length operands - n) operands
 
--- it lies in a region
+-- the strip is inside a region
 pub record IsStrip (strip : Strip) : Type 0 where
   pub row : strip.row < strip.region.rows
   pub columns : strip.from + strip.width ≤ strip.region.cols
   pub most : strip.region.cols ≤ 65535
 
--- it holds of each column of a strip
+-- something holds for each column of a strip
 abbrev pub AtColumns : Strip → (ℕ → Type 0) → Type 0
 AtColumns strip P = (c : ℕ) → c < strip.width → P c
 
@@ -51,7 +51,7 @@ IsReadyStep windows step.Not = Unit {0}
 IsReadyStep windows (step.Binary op) = Unit {0}
 IsReadyStep windows (step.Call f n) = Unit {0}
 
--- the same of an operand; its row is as wide as the strip
+-- the same for an operand; its row is as wide as the strip
 abbrev pub IsOperandReady : List Window → Strip → Operand → Type 0
 IsOperandReady windows strip (operand.Number n) = n ≤ 2147483647
 IsOperandReady windows strip (operand.Map i down right) = IsInReach down (slice_get windows i)
@@ -67,7 +67,7 @@ operand_at windows strip c (operand.Row cells) = at cells.items c
 abbrev pub operand_cells_at : List Window → Strip → ℕ → List Operand → List CellValue
 operand_cells_at windows strip c operands = map (operand_at windows strip c) operands
 
--- what a step makes of cells, with the rows that windows hold as the rows of maps
+-- the result of a step on cells, with the rows that windows hold as the rows of maps
 abbrev pub seen_cell : List Window → GridPosition → Step ℕ → List CellValue → CellValue
 seen_cell windows s (step.Number n) xs = Some (pos n)
 seen_cell windows s (step.Map i down right) xs = item_at None (row_below down (slice_get windows i)) (pos s.col +ℤ right)
@@ -80,26 +80,26 @@ seen_cell windows s (step.Call f n) xs = call_result f s xs
 abbrev pub position_at : Strip → ℕ → GridPosition
 position_at strip c = grid_position strip.region strip.row (strip.from + c)
 
--- a strip, and operands that are ready there, of which so many are taken
+-- a strip, and operands that are ready there, of which the last count are taken
 pub record AreReady (s : Strip) (windows : List Window) (count : ℕ) (operands : List Operand) : Type 0 where
   pub strip : IsStrip s
   pub enough : count ≤ length operands
   pub ready : All (IsOperandReady windows s) operands
 
--- the operand is what a step makes of the last ones, which are taken
+-- the operand is the result of a step on the last operands, which are taken
 pub record IsStepped (strip : Strip) (windows : List Window) (s : Step ℕ) (old new : List Operand) (o : Operand) : Type 0 where
   pub rest : new ≡ lower_operands (arity s) old
   pub ready : IsOperandReady windows strip o
   pub each : AtColumns strip (λ c. operand_at windows strip c o
       ≡ seen_cell windows (position_at strip c) s (operand_cells_at windows strip c (top_operands (arity s) old)))
 
--- the row has the values of a function of the last operands, so many, which are taken
+-- the row has the values of a function of the last count operands, which are taken
 pub record IsCalled (strip : Strip) (windows : List Window) (f : Function) (count : ℕ) (old new : List Operand) (row : Vec CellValue Global) : Type 0 where
   pub rest : new ≡ lower_operands count old
   pub width : IsAsWide strip row
   pub each : AtColumns strip (λ c. at row.items c ≡ call_result f (position_at strip c) (operand_cells_at windows strip c (top_operands count old)))
 
--- the rows are the last operands, so many, which are taken
+-- the rows are the last count operands, which are taken
 pub record AreGathered (strip : Strip) (windows : List Window) (count : ℕ) (old new : List Operand) (rows : List (Vec CellValue Global)) : Type 0 where
   pub rest : new ≡ lower_operands count old
   pub width : AreWide strip.width rows

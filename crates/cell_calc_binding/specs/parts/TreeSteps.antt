@@ -1,4 +1,4 @@
--- What single steps say of the expression that they are of.
+-- What single steps say about the expression to which they belong.
 use Rattle.std.specs.Prelude.{◌≡◌, ◌≤◌, ◌<◌, ◌+◌, ◌^◌, ◌==◌, ℕ, List, [], ◌∷◌, length, map, max, All, if◌then◌else◌}
 use Rattle.cell_calc_grammar.specs.declared.step.Step.{Step}
 use Rattle.cell_calc_grammar.specs.declared.step.Step.TheVariants.{Number, Map, Negated, Not, Binary, Call}
@@ -31,7 +31,7 @@ ReadsPlace i Not = ⊥
 ReadsPlace i (Binary op) = ⊥
 ReadsPlace i (Call f n) = ⊥
 
--- the index of a place in a list of places; past its end if it is not in it
+-- the index of a place in a list of places; the length of the list if it is not there
 abbrev pub index_in : List ℕ → ℕ → ℕ
 index_in [] i = 0
 index_in (p ∷ places) i = if p == i then 0 else index_in places i + 1
@@ -45,12 +45,12 @@ IsListed places Not = Unit {0}
 IsListed places (Binary op) = Unit {0}
 IsListed places (Call f n) = Unit {0}
 
--- places that were listed stay where they were, and none comes twice
+-- places that were listed keep their index, and none is listed twice
 pub record KeepsPlaces (old new : List ℕ) : Type 0 where
   pub kept : (i : ℕ) → index_in old i < length old → index_in new i ≡ index_in old i
   pub distinct : AreDistinctPlaces old → AreDistinctPlaces new
 
--- the others are the steps over a list of just the places that they read
+-- the other steps are the given ones over a list of only the places that they read
 pub record AreOverRead (all others : List (Step ℕ)) (places : List ℕ) : Type 0 where
   pub steps : others ≡ map (step_over (index_in places)) all
   pub listed : All (IsListed places) all

@@ -3,27 +3,27 @@ use Rattle.std.specs.Prelude.{◌≡◌, ℕ, pos, negsuc, ◌+ℤ◌, ◌-ℤ�
 use Rattle.cell_core.specs.Grid.{CellValue}
 use Rattle.cell_calc_categories.specs.declared.span.CategorySpan.{CategorySpan}
 
--- from the smallest category or below to the largest or above, and the cells that bytes stand for
+-- the cells from a smallest category to a largest one, and the cells that bytes stand for
 pub record IsSpan (s : CategorySpan) : Type 0 where
   pub below : negsuc 2147483646 ≤ℤ s.least
   pub zero : s.least ≤ℤ pos 0
   pub bytes : pos 254 ≤ℤ s.greatest
   pub above : s.greatest ≤ℤ pos 2147483647
 
--- null, or a category of a span
+-- null, or a category in a span
 abbrev pub IsInSpan : CategorySpan → CellValue → Type 0
 IsInSpan s None = Unit {0}
 IsInSpan s (Some v) = (s.least ≤ℤ v) × (v ≤ℤ s.greatest)
 
--- the other span has each cell of the first
+-- the other span contains each cell of the first
 abbrev pub IsWider : CategorySpan → CategorySpan → Type 0
 IsWider s t = (x : CellValue) → IsInSpan s x → IsInSpan t x
 
--- the place of a cell in a table: by category, null last
+-- the place of a cell in a table: ordered by category, null last
 abbrev pub IsAt : CategorySpan → ℕ → CellValue → Type 0
 IsAt s p None = pos p ≡ (s.greatest -ℤ s.least) +ℤ pos 1
 IsAt s p (Some v) = pos p ≡ v -ℤ s.least
 
--- so many places are enough for a span
+-- the number of places that a span needs
 abbrev pub IsSize : CategorySpan → ℕ → Type 0
 IsSize s n = pos n ≡ (s.greatest -ℤ s.least) +ℤ pos 2

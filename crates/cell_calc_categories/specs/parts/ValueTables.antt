@@ -6,11 +6,11 @@ use Rattle.cell_calc.specs.RowValues.{at}
 use Rattle.cell_calc_categories.specs.declared.span.CategorySpan.{CategorySpan}
 use Rattle.cell_calc_categories.specs.parts.CategorySpans.{IsInSpan, IsAt}
 
--- a table has at the place of each cell what a function makes of it
+-- a table has the value of each cell at the cell's place
 abbrev pub IsValueTable : (CellValue → CellValue) → CategorySpan → List CellValue → Type 0
 IsValueTable f s table = (x : CellValue) (p : ℕ) → IsInSpan s x → IsAt s p x → at table p ≡ f x
 
--- bytes that stand for what a function makes of the cells that bytes stand for
+-- bytes that stand for the values of cells kept as bytes
 abbrev pub IsByteTable : (CellValue → CellValue) → List ℕ → Type 0
 IsByteTable f bytes = (b : ℕ) → b < 256 → byte_cell (slice_index_or bytes b 0) ≡ f (byte_cell b)
 

@@ -19,7 +19,7 @@ abbrev pub add_all : Terms → ReadOutcome → ReadOutcome
 add_all NoTrees o = o
 add_all (Then a xs) o = add a (add_all xs o)
 
--- with this outcome the state is read: it comes after these steps, and these frames wait for it, the latest first
+-- with this outcome the state is read: it comes after these steps, and these frames wait for it, the latest one first
 abbrev pub Fills : State → List Frame → List (Step MapName) → ReadOutcome → Type 0
 Fills s [] steps o = (steps ≡ []) × GrammarReads s o
 Fills s (frame.Negated ∷ fs) steps o = Fills s fs steps (negate o)
@@ -37,11 +37,11 @@ Fills s (frame.Call f from n ∷ fs) steps o =
     (xs : Terms) × (before : List (Step MapName)) × (steps ≡ before ++ postfix_all xs) × (count xs ≡ n)
     × ((p : ReadOutcome) → GrammarReads (Onward o) p → Fills s fs before (call f from.now (add_all xs p)))
 
--- whatever is read of the second state, with it the first is read
+-- any outcome of the second state is the outcome of the first
 abbrev pub Awaits : State → List Frame → List (Step MapName) → State → Type 0
 Awaits s fs steps t = (o : ReadOutcome) → GrammarReads t o → Fills s fs steps o
 
--- the last steps belong to an operand, with which the state is read; the rest follows
+-- the last steps are an operand; with it the state is read, and the rest follows
 abbrev pub IsReadExpression : State → List Frame → List (Step MapName) → List Placed → Type 0
 IsReadExpression s fs steps rest = (a : Term) × (before : List (Step MapName)) × (steps ≡ before ++ postfix a) × Fills s fs before (Got a rest)
 
@@ -52,7 +52,7 @@ latest_first fs = reverse fs
 abbrev pub waiting : Reader → List Frame
 waiting r = latest_first r.frames.items
 
--- what has been read so far awaits what is read of the second state: with it the first is read
+-- what has been read so far waits for the second state: its outcome is the outcome of the first
 abbrev pub IsAwaited : State → Reader → State → Type 0
 IsAwaited s r t = Awaits s (waiting r) r.steps.items t
 
@@ -60,12 +60,12 @@ IsAwaited s r t = Awaits s (waiting r) r.steps.items t
 abbrev pub IsResumed : State → Reader → Frame → List Placed → Type 0
 IsResumed s r f rest = IsReadExpression s (f ∷ waiting r) r.steps.items rest
 
--- the state is read, with what the turn says
+-- the state is read, with the outcome of the turn
 abbrev pub IsTurn : State → Reader → Turn → Type 0
 IsTurn s r (turn.Operand ts) = IsAwaited s r (Operand ts.now)
 IsTurn s r (turn.After ts) = IsReadExpression s (waiting r) r.steps.items ts.now
 
--- the state is read, with what the turn says, or reading stops
+-- the state is read, with the outcome of the turn, or reading stops
 abbrev pub Goes : State → Reader → Result Turn ParseStop → Type 0
 Goes s r (Ok turn) = IsTurn s r turn
 Goes s r (Err e) = ParserStopsAt s e
@@ -75,11 +75,11 @@ abbrev pub turn_tokens : Turn → List Placed
 turn_tokens (turn.Operand ts) = ts.now
 turn_tokens (turn.After ts) = ts.now
 
--- the work that is left: a token makes four frames at most
+-- the work that is left: a token makes at most four frames
 abbrev pub work : List Placed → Reader → ℕ
 work ts r = 4 * length ts + vec_len r.frames
 
--- whatever awaits this state with the first reader continues with the second
+-- whatever waits for this state with the first reader continues with the second
 abbrev pub ReadsOn : Reader → State → Reader → Result Turn ParseStop → Type 0
 ReadsOn old t new result = (s : State) → IsAwaited s old t → Goes s new result
 
@@ -87,6 +87,6 @@ ReadsOn old t new result = (s : State) → IsAwaited s old t → Goes s new resu
 abbrev pub Resumes : Reader → Frame → List Placed → Reader → Result Turn ParseStop → Type 0
 Resumes old f ts new result = (s : State) → IsResumed s old f ts → Goes s new result
 
--- a turn leaves so much work at most
+-- the work that a turn leaves is at most this
 abbrev pub LeavesWork : ℕ → Reader → Result Turn ParseStop → Type 0
 LeavesWork most r result = IfOk result (λ turn. work (turn_tokens turn) r ≤ most)

@@ -1,4 +1,4 @@
--- Cells at the lanes of vectors, and the most frequent of them.
+-- Cells in the lanes of vectors, and the most frequent of them.
 use Rattle.std.specs.Prelude.{◌≡◌, ◌≤◌, ◌<◌, ◌-ℤ◌, ◌<ℤ◌, ◌==◌, ℕ, ℤ, pos, List, [], Some, None, map, slice_index_or}
 use Rattle.std.specs.Prelude.{if◌then◌else◌}
 use Rattle.cell_core.specs.Grid.{CellValue}
@@ -8,11 +8,11 @@ use Rattle.cell_calc_binding.specs.CellOperators.{occurrences}
 abbrev pub key_cell : ℕ → CellValue
 key_cell key = if key == 0 then None else Some (pos key -ℤ pos 2147483648)
 
--- the number at a lane
+-- the number in a lane
 abbrev pub lane : ℕ → List ℕ → ℕ
 lane k lanes = slice_index_or lanes k 0
 
--- the cells at a lane of vectors
+-- the cells in a lane of vectors
 abbrev pub lane_cells : ℕ → List (List ℕ) → List CellValue
 lane_cells k vectors = map (λ lanes. key_cell (lane k lanes)) vectors
 

@@ -1,9 +1,9 @@
--- How the most frequent category is found among categories in order, and where one is null.
+-- How the most frequent category is found among sorted categories, and what happens if one is null.
 use Rattle.std.specs.Prelude.{◌≡◌, ◌<◌, ◌≤◌, ◌<ℤ◌, ℕ, ℤ, List, Some, None, if◌then◌else◌}
 use Rattle.cell_core.specs.Grid.{CellValue}
 use Rattle.cell_calc_binding.specs.CellOperators.{occurrences, is_null}
 
--- the smallest of the categories that occur most often and how often they do, the last one and how often it does
+-- the smallest of the most frequent categories and its count, and the last category and its count
 pub record IsLongestRun (cells : List CellValue) (best : ℤ) (most : ℕ) (last : ℤ) (run : ℕ) : Type 0 where
   pub within : (w : ℤ) → occurrences (Some w) cells ≤ most
   pub below : (w : ℤ) → w <ℤ best → occurrences (Some w) cells < most

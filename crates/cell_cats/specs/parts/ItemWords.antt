@@ -1,4 +1,4 @@
--- The words of a line, and the items of a left side, as they are borrowed.
+-- The words of a line, and the items of a left side, as borrowed slices.
 use Rattle.std.specs.Prelude.{ℕ, List, map}
 use Rattle.std.specs.Borrow.{Bor}
 

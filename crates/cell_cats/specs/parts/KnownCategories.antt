@@ -5,10 +5,10 @@ use Rattle.cell_cats.specs.declared.known.Known.{Known}
 use Rattle.cell_cats.specs.declared.pieces.Pieces.{Pieces}
 use Rattle.cell_cats.specs.parts.Pieces.{AreOfRules}
 
--- each is with its new category
+-- each cell is stored with its new category
 abbrev pub AreRight : List RuleValue → List Known → Type 0
 AreRight rules known = All (λ k. k.reclassed ≡ new_category rules k.cell) known
 
--- what holds of all rules whose pieces these are, and by which these are known
+-- what holds for all rules that have these pieces and these known categories
 abbrev pub ByRules : Pieces → List Known → (List RuleValue → Type 0) → Type 0
 ByRules pieces known Holds = (rules : List RuleValue) → AreOfRules rules pieces → AreRight rules known → Holds rules

@@ -6,7 +6,7 @@ use Rattle.cell_cats.specs.Rule.{RuleValue, is_in_ends, lists, output_for}
 use Rattle.cell_cats.specs.declared.rule.Output.{Output}
 use Rattle.cell_cats.specs.declared.pieces.Pieces.{Pieces}
 
--- the output of the piece that x lies in: of those that begin at x or before it, the one that begins last
+-- the output of the piece that contains x: of the last piece that starts at or before x
 pub record IsOutputAt (starts : ℤ → Option (Option Output)) (x : ℤ) (output : Option Output) : Type 0 where
   pub start : ℤ
   pub before : start ≤ℤ x
@@ -33,11 +33,11 @@ HaveOutputs outputs pieces = AreOutputs outputs (get int_cmp pieces.starts)
 abbrev pub AreOfRules : List RuleValue → Pieces → Type 0
 AreOfRules rules pieces = HaveOutputs (output_for rules) pieces
 
--- whatever outputs the pieces had, they have what is made of those
+-- whatever outputs the pieces had, they now have those that result from them
 abbrev pub Repaints : ((ℤ → Option Output) → ℤ → Option Output) → Pieces → Pieces → Type 0
 Repaints paint old new = (outputs : ℤ → Option Output) → HaveOutputs outputs old → HaveOutputs (paint outputs) new
 
--- nothing begins from one place up to another any more, and elsewhere what began
+-- no piece starts from one place up to another any more; elsewhere the starts are unchanged
 pub record IsCleared (from to : ℤ) (old new : ℤ → Option (Option Output)) : Type 0 where
   pub before : (q : ℤ) → q <ℤ from → new q ≡ old q
   pub after : (q : ℤ) → to <ℤ q → new q ≡ old q

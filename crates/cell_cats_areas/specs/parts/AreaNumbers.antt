@@ -1,4 +1,4 @@
--- The numbers of the cells of a map, of a table of labels.
+-- The numbers of the cells of a map, given a table of labels.
 use Rattle.std.specs.Prelude.{ℕ, zero, suc, pos, Bool, ◌+◌, ◌<◌, ◌≤◌, ◌≡◌, List, [], ◌∷◌, ◌++◌, length, Some, None, nat_eq, slice_index, if◌then◌else◌, is_some}
 use Rattle.cell_core.specs.Grid.{Grid, CellValue}
 use Rattle.cell_cats_areas.specs.declared.clump.Joining.{Joining}
@@ -21,7 +21,7 @@ firsts_below j m labels (suc k) = if is_first labels k then firsts_below j m lab
 abbrev pub area_number : Joining → Grid → List ℕ → ℕ → ℕ
 area_number j m labels k = length (firsts_below j m labels (suc k))
 
--- the number of a cell that is not null: the number of the open label that its own leads to
+-- the number of a non-null cell: the number of the open label that its own label leads to
 unfoldable pub area_number_at : (j : Joining) (m : Grid) (table : List ℕ) → AreLabels j m table → Position → ℕ
 area_number_at j m table h p = area_number j m table (h.has_read.open_of (area_label_at m h.labels p))
 
@@ -36,12 +36,12 @@ pub record AreNumbered (j : Joining) (m : Grid) (labels : List ℕ) (open_of : �
   pub done : (k : ℕ) → k < place → slice_index table k ≡ area_number j m labels (open_of k)
   pub counted : count ≡ length (firsts_below j m labels place)
 
--- what a pass over the table needs from a label on: none points up, and no entry is greater than the table is long
+-- what a pass over the table needs from a label on: none points up, and no entry is larger than the length of the table
 pub record CanNumber (place : ℕ) (table : List ℕ) : Type 0 where
   pub down : (k : ℕ) → place ≤ k → slice_index table k ≤ k
   pub most : (k : ℕ) → slice_index table k ≤ length table
 
--- a table of which each label was replaced by its number
+-- a table in which each label was replaced by its number
 pub record IsNumbered (j : Joining) (m : Grid) (labels : List ℕ) (h : AreLabels j m labels) (table : List ℕ) : Type 0 where
   pub long : length table ≡ length labels
   pub short : length labels < 2147483648

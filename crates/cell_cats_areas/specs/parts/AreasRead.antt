@@ -1,4 +1,4 @@
--- What is known of the labels once the first cells of a map were read, in row order.
+-- What is known about the labels once the first cells of a map were read, in row order.
 use Rattle.std.specs.Prelude.{ℕ, ℤ, suc, ◌+◌, ◌*◌, ◌<◌, ◌≤◌, ◌≡◌, ◌≢◌, ◌⊎◌, List, [], ◌∷◌, ◌++◌, length, Option, Some, None, IsSome, true, slice_index, slice_index_or}
 use Rattle.cell_core.specs.Grid.{Grid, CellValue}
 use Rattle.cell_cats_areas.specs.declared.clump.Joining.{Joining}
@@ -11,7 +11,7 @@ use Rattle.cell_cats_areas.specs.parts.Meetings.{AreSound}
 use Rattle.cell_cats_areas.specs.parts.CellPlaces.{cell_place, position, IsInside}
 use Rattle.cell_cats_areas.specs.parts.Starts.{IsEarlier, IsLeft, IsAbove, IsUpperLeft, IsUpperRight, IsCellAt, begins, starts, start_of_run}
 
--- the label of a cell, of the labels of the cells in row order
+-- the label of a cell, given the labels of the cells in row order
 abbrev pub area_label_at : Grid → List ℕ → Position → ℕ
 area_label_at m labels p = slice_index labels (cell_place m.region.cols p)
 
@@ -28,7 +28,7 @@ pub record AreRowsRead (j : Joining) (m : Grid) (table labels : List ℕ) (open_
   pub few : (p : Position) (v : ℤ) → cell_at_position m p ≡ Some v → WasRead m labels p → area_label_at m labels p < starts j m (suc (cell_place m.region.cols p))
   pub joined : (p : Position) (v : ℤ) → cell_at_position m p ≡ Some v → WasRead m labels p → AreJoined j m (start_of_run j m (area_label_at m labels p)) p
   pub own : (p : Position) → IsInside m p → begins j m p ≡ true → WasRead m labels p → area_label_at m labels p ≡ starts j m (cell_place m.region.cols p)
-  -- the labels of adjacent cells of one category lead to one open label
+  -- the labels of adjacent cells of the same category lead to one open label
   pub meet : (p q : Position) (v : ℤ) → AreAdjacent j p q → cell_at_position m p ≡ Some v → cell_at_position m q ≡ Some v → WasRead m labels p → WasRead m labels q → open_of (area_label_at m labels p) ≡ open_of (area_label_at m labels q)
 
 pub record HasRead (j : Joining) (m : Grid) (table labels : List ℕ) : Type 0 where
@@ -61,11 +61,11 @@ pub record HaveCells (j : Joining) (m : Grid) (table : List ℕ) (line : List La
   pub count : length labels ≡ r * m.region.cols + c
   pub is_line : IsLine m (length labels) (area_label_at m labels) r c line
 
--- the neighbours of the cell at a column, of those that were in hand at the one before it, and of a line
+-- the neighbours of the cell at a column, given the neighbours of the cell before it, and a line
 abbrev pub near_at : List Labelled → ℕ → Near → Near
 near_at line c near = record { left = near.left; upper_left = near.above; above = slice_index_or line c near.left; upper_right = slice_index_or line (c + 1) near.left }
 
--- what was read on the left of a cell, while the neighbours of the cell there are in hand
+-- what was read to the left of a cell, while the neighbours of that cell are at hand
 pub record AreBeside (m : Grid) (count : ℕ) (label_of : Position → ℕ) (r c : ℕ) (near : Near) : Type 0 where
   pub left : IsLabelledCell m count label_of (IsLeft r c) near.left
   pub upper_left : IsLabelledCell m count label_of (IsUpperLeft r c) near.above
@@ -75,7 +75,7 @@ pub record IsAreaReading (j : Joining) (m : Grid) (table : List ℕ) (line : Lis
   pub cells : HaveCells j m table line r c
   pub beside : AreBeside m (length cells.labels) (area_label_at m cells.labels) r c near
 
--- their labels are of a table
+-- their labels are in a table
 pub record AreInside (count : ℕ) (near : Near) : Type 0 where
   pub left : (v : ℤ) → near.left.cell ≡ Some v → near.left.label < count
   pub upper_left : (v : ℤ) → near.upper_left.cell ≡ Some v → near.upper_left.label < count
@@ -88,7 +88,7 @@ pub record CanShare (cell : CellValue) (table : List ℕ) (near : Near) : Type 0
   pub down : PointDown table
   pub inside : AreInside (length table) near
 
--- wherever such a cell is among such neighbours, and is the next, this label is read
+-- for every cell with such neighbours that is the next to be read, this label is read
 abbrev pub LabelsNext : Joining → CellValue → Near → List ℕ → List ℕ → ℕ → Type 0
 LabelsNext j cell near old new label = (m : Grid) (r c : ℕ) (labels : List ℕ)
     → cell ≡ cell_at_position m (position r c) → c < m.region.cols → length labels ≡ r * m.region.cols + c
@@ -106,7 +106,7 @@ pub record Shares (j : Joining) (m : Grid) (table labels : List ℕ) (before : �
   pub same : label ≡ area_label_at m labels from
   pub meet : (q : Position) → IsEarlier j r c q → cell_at_position m q ≡ Some v → after (area_label_at m labels q) ≡ after label
 
--- wherever such a cell is among such neighbours, it shares the label
+-- every cell with such neighbours shares the label
 abbrev pub SharesAt : Joining → CellValue → Near → List ℕ → List ℕ → ℕ → Type 0
 SharesAt j cell near table new label = (m : Grid) (r c : ℕ) (v : ℤ) (labels : List ℕ) (open_of : ℕ → ℕ)
     → cell ≡ Some v → cell_at_position m (position r c) ≡ Some v → AreNear m (length labels) (area_label_at m labels) r c near
@@ -119,17 +119,17 @@ SharesAtCorners cell near table new label = (m : Grid) (r c : ℕ) (v : ℤ) (la
     → ((q : Position) → IsLeft r c q ⊎ IsAbove r c q → cell_at_position m q ≡ Some v → ⊥)
     → AreRowsRead EdgesAndCorners m table labels open_of → Shares EdgesAndCorners m new labels open_of r c v label
 
--- no cell that comes before it has its category
+-- no earlier cell that is adjacent to it has its category
 abbrev pub HasNoneEarlier : Joining → CellValue → Near → Type 0
 HasNoneEarlier j cell near = (m : Grid) (r c : ℕ) (v : ℤ) (count : ℕ) (label_of : Position → ℕ)
     → cell ≡ Some v → AreNear m count label_of r c near → (q : Position) → IsEarlier j r c q → cell_at_position m q ≡ Some v → ⊥
 
--- the label that such a cell shares, or none: then the table stays, and no cell that comes before it has its category
+-- the label that such a cell shares, or none: then the table is unchanged, and no earlier neighbour has its category
 abbrev pub SharesLabel : Joining → CellValue → Near → List ℕ → List ℕ → Option ℕ → Type 0
 SharesLabel j cell near old new None = (new ≡ old) × HasNoneEarlier j cell near
 SharesLabel j cell near old new (Some label) = SharesAt j cell near old new label
 
--- the same at corners alone
+-- the same for neighbours at corners only
 abbrev pub SharesLabelAtCorners : CellValue → Near → List ℕ → List ℕ → Option ℕ → Type 0
 SharesLabelAtCorners cell near old new None = (new ≡ old) × ((near.upper_left.cell ≢ cell) × (near.upper_right.cell ≢ cell))
 SharesLabelAtCorners cell near old new (Some label) = SharesAtCorners cell near old new label

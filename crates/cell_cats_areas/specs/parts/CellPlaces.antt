@@ -1,4 +1,4 @@
--- Places of cells: how many cells are before each in row order.
+-- Places of cells: the number of cells before each one in row order.
 use Rattle.std.specs.Prelude.{ℕ, ◌+◌, ◌*◌, ◌/◌, ◌%◌, ◌<◌}
 use Rattle.cell_core.specs.Grid.{Grid}
 use Rattle.cell_cats_areas.specs.Areas.{Position}
@@ -15,6 +15,6 @@ cell_of_place w k = record { row = k / w; col = k % w }
 abbrev pub cell_place : ℕ → Position → ℕ
 cell_place w p = p.row * w + p.col
 
--- a cell lies in a map
+-- a cell is inside a map
 abbrev pub IsInside : Grid → Position → Type 0
 IsInside m p = (p.row < m.region.rows) × (p.col < m.region.cols)

@@ -1,4 +1,4 @@
--- How the labels of a row are kept: by runs or by cells.
+-- How the labels of a row are stored: by runs or by cells.
 use Rattle.std.specs.Prelude.{ℕ, List}
 use Rattle.cell_cats_areas.specs.declared.kept_labels.LabelForm.{LabelForm}
 use Rattle.cell_cats_areas.specs.declared.kept_labels.LabelForm.TheVariants.{Runs, Cells}

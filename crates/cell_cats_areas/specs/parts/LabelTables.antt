@@ -5,7 +5,7 @@ use Rattle.cell_cats_areas.specs.declared.clump.Joining.{Joining}
 use Rattle.cell_cats_areas.specs.parts.Labels.{PointDown}
 use Rattle.cell_cats_areas.specs.parts.AreasRead.{HasRead}
 
--- the labels of a map of which each two adjacent cells of one category were joined
+-- the labels of a map in which all adjacent cells of the same category were joined
 pub record AreLabels (j : Joining) (m : Grid) (table : List ℕ) : Type 0 where
   pub down : PointDown table
   pub labels : List ℕ

@@ -1,4 +1,4 @@
--- The labels that are kept of the rows of a map, and a row as its labelled runs.
+-- The labels that are kept for the rows of a map, and a row as its labelled runs.
 use Rattle.std.specs.Prelude.{ℕ, ℤ, pos, ◌+◌, ◌<◌, ◌≤◌, ◌≡◌, ◌⊎◌, List, [], ◌∷◌, ◌++◌, length, map, replicate, take, drop, flat_map, Some, None, slice_index_or}
 use Rattle.cell_core.specs.Grid.{Grid, CellValue}
 use Rattle.cell_cats_areas.specs.declared.clump.Joining.{Joining}
@@ -11,7 +11,7 @@ use Rattle.cell_cats_areas.specs.parts.AreasRead.{HaveCells, IsAreaReading, WasR
 use Rattle.cell_cats_areas.specs.parts.CellPlaces.{position}
 use Rattle.cell_cats_areas.specs.parts.LabelTables.{AreLabels}
 
--- what is where a map ends
+-- what is beyond the edge of a map
 abbrev pub no_neighbour : Labelled
 no_neighbour = record { cell = None; label = 4294967295 }
 
@@ -27,19 +27,19 @@ labels_along = flat_map (λ run. replicate run.1 run.0)
 abbrev pub cells_to_come : Above → List (Labelled × ℕ) → List Labelled
 cells_to_come above line = replicate above.count above.cell ++ line_of_runs (drop above.place line)
 
--- a cell is in hand unless the row has come to its end
+-- there is a current cell unless the row has ended
 abbrev pub HasCellInHand : Above → List (Labelled × ℕ) → Type 0
 HasCellInHand above line = above.count ≡ 0 → length line ≤ above.place
 
--- cells alike that have like neighbours above: by corners another one comes after them, or it is one alone
+-- equal cells with equal neighbours above: with corners, another one comes after them, or it is only one
 abbrev pub HaveLikeNeighbours : Joining → Above → ℕ → Type 0
 HaveLikeNeighbours j above n = (n ≤ above.count) × ((j ≡ Edges) ⊎ ((n ≡ 1) ⊎ (n < above.count)))
 
--- the neighbours of the next cell, of those in hand at the one before it, and of what is to come of the row above
+-- the neighbours of the next cell, from the neighbours of the cell before it and the rest of the row above
 abbrev pub near_under : Near → List Labelled → Near
 near_under near coming = record { left = near.left; upper_left = near.above; above = slice_index_or coming 0 no_neighbour; upper_right = slice_index_or coming 1 no_neighbour }
 
--- the labels of the rows read that are kept: of each cell, or the largest number for null
+-- the labels that are kept for the rows read so far: one per cell, and the largest number for null
 pub record AreKeptLabels (m : Grid) (labels : List ℕ) (kept : List (List ℕ)) : Type 0 where
   pub wide : (r : ℕ) → r < length kept → length (slice_index_or kept r []) ≡ m.region.cols
   pub read : (r c : ℕ) → r < length kept → c < m.region.cols → WasRead m labels (position r c)
@@ -51,11 +51,11 @@ pub record AreWalked (j : Joining) (m : Grid) (kept : List (List ℕ)) (table : 
   pub reading : IsAreaReading j m table line r c near
   pub kept_are : AreKeptLabels m reading.cells.labels kept
 
--- the same, while so many cells of a row were read and others are still to come of the one above
+-- the same within a row: some cells of it were read, and the rest of the row above is still to come
 abbrev pub IsWalked : Joining → Grid → List (List ℕ) → List ℕ → List Labelled → List Labelled → ℕ → Near → Type 0
 IsWalked j m kept table done coming r near = AreWalked j m kept table (done ++ (coming ++ no_neighbour ∷ [])) r (length done) near
 
--- the rows before one were read, of which the last is a line, and their labels are kept
+-- the rows before one were read, the last of them as a line, and their labels are kept
 pub record HaveLine (j : Joining) (m : Grid) (kept : List (List ℕ)) (table : List ℕ) (line : List Labelled) (r : ℕ) : Type 0 where
   pub cells : HaveCells j m table line r 0
   pub kept_are : AreKeptLabels m cells.labels kept
@@ -72,13 +72,13 @@ KeepsRow j m r old above new below row = (kept : List (List ℕ)) → length kep
 abbrev pub KeepsLine : Joining → Grid → ℕ → List ℕ → List Labelled → List ℕ → List Labelled → Type 0
 KeepsLine j m r old above new below = (kept : List (List ℕ)) → length kept ≡ r → HaveLine j m kept old above r → HaveLine j m (kept ++ map (λ x. x.label) (take m.region.cols below) ∷ []) new below (r + 1)
 
--- the labels of a map of which each two adjacent cells of one category were joined, and of each row the labels that are kept
+-- the labels of a map, with all adjacent cells of the same category joined, and the labels kept for each row
 pub record AreMapLabels (j : Joining) (m : Grid) (table : List ℕ) (kept : List (List ℕ)) : Type 0 where
   pub labels : AreLabels j m table
   pub kept_are : AreKeptLabels m labels.labels kept
   pub count : length kept ≡ m.region.rows
 
--- what is written for a label by a table of numbers: null if the table has none
+-- what is written for a label, given a table of numbers: null if the table has none
 abbrev pub number_for : List ℕ → ℕ → CellValue
 number_for table label = slice_index_or (map (λ n. Some (pos n)) table) label None
 

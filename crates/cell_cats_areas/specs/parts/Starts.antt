@@ -11,7 +11,7 @@ use Rattle.cell_cats_areas.specs.parts.CellPlaces.{position, cell_of_place}
 abbrev pub IsCellAt : ℕ → ℕ → Position → Type 0
 IsCellAt r c q = (q.row ≡ r) × (q.col ≡ c)
 
--- and where it lies by another one that comes after it in row order
+-- and where another one that comes after it in row order puts it
 abbrev pub IsLeft : ℕ → ℕ → Position → Type 0
 IsLeft r c q = (q.row ≡ r) × (q.col + 1 ≡ c)
 
@@ -46,21 +46,21 @@ abbrev pub upper_right_of : Grid → ℕ → ℕ → CellValue
 upper_right_of m zero c = None
 upper_right_of m (suc r) c = cell_at m r (suc c)
 
--- one of them is of the category of the cell
+-- one of them has the category of the cell
 abbrev pub meets : Joining → Grid → ℕ → ℕ → Bool
 meets Edges m r c = cell_eq (cell_to_the_left m r c) (cell_at m r c) || cell_eq (above_of m r c) (cell_at m r c)
 meets EdgesAndCorners m r c = (cell_eq (cell_to_the_left m r c) (cell_at m r c) || cell_eq (above_of m r c) (cell_at m r c)) || (cell_eq (upper_left_of m r c) (cell_at m r c) || cell_eq (upper_right_of m r c) (cell_at m r c))
 
--- a cell gets a label of its own: it is not null, and none of them is of its category
+-- a cell gets a label of its own: it is not null, and none of them has its category
 abbrev pub begins : Joining → Grid → Position → Bool
 begins j m p = is_some (cell_at_position m p) && not (meets j m p.row p.col)
 
--- such cells, of the first places
+-- such cells among the first places
 abbrev pub starts_below : Joining → Grid → ℕ → List Position
 starts_below j m zero = []
 starts_below j m (suc k) = if begins j m (cell_of_place m.region.cols k) then starts_below j m k ++ cell_of_place m.region.cols k ∷ [] else starts_below j m k
 
--- how many they are
+-- the number of these cells
 abbrev pub starts : Joining → Grid → ℕ → ℕ
 starts j m k = length (starts_below j m k)
 

@@ -1,4 +1,4 @@
--- How a row is kept, as its runs, as bytes or as its cells, and the runs that are still to come from each.
+-- How a row is kept: as its runs, as bytes or as its cells; and the runs that are still to come from each form.
 use Rattle.std.specs.Prelude.{ℕ, suc, ◌+◌, ◌<◌, ◌^◌, Bool, not, ◌==◌, List, [], ◌∷◌, map, length, take, drop, if◌then◌else◌}
 use lib.Lanes.{mask_l}
 use Rattle.cell_core_values.specs.Cell.{cell_eq}
@@ -20,13 +20,13 @@ cells_of_row (kept.Runs runs) = written_out runs.items
 cells_of_row (kept.Bytes bytes) = cells_of_bytes bytes.items
 cells_of_row (kept.Cells cells) = cells.items
 
--- what is kept as runs are runs, and bytes and cells are no more than a run may have cells
+-- a row kept as runs has runs, and a row kept as bytes or cells has no more of them than a run may have cells
 abbrev pub IsKept : RowForm → Type 0
 IsKept (kept.Runs runs) = AreRuns runs.items
 IsKept (kept.Bytes bytes) = length bytes.items < 2 ^ 32
 IsKept (kept.Cells cells) = length cells.items < 2 ^ 32
 
--- the same of a row that is read
+-- the same for a row that is being read
 abbrev pub cells_of_view : ViewForm → List CellValue
 cells_of_view (view.Runs runs) = written_out runs.now
 cells_of_view (view.Bytes bytes) = cells_of_bytes bytes.now
@@ -37,12 +37,12 @@ IsSeen (view.Runs runs) = AreRuns runs.now
 IsSeen (view.Bytes bytes) = length bytes.now < 2 ^ 32
 IsSeen (view.Cells cells) = length cells.now < 2 ^ 32
 
--- how many cells at the start equal a cell
+-- the number of cells at the start that equal a cell
 abbrev pub alike : CellValue → List CellValue → ℕ
 alike x [] = 0
 alike x (y ∷ cells) = if cell_eq y x then suc (alike x cells) else 0
 
--- the runs with a cell before them
+-- runs preceded by a cell
 abbrev pub with_cell : CellValue → List RunValue → List RunValue
 with_cell x [] = (x, 1) ∷ []
 with_cell x (run ∷ runs) = if cell_eq run.0 x then (x, run.1 + 1) ∷ runs else (x, 1) ∷ run ∷ runs
@@ -52,20 +52,20 @@ abbrev pub runs_in : List CellValue → List RunValue
 runs_in [] = []
 runs_in (x ∷ cells) = with_cell x (runs_in cells)
 
--- the runs of cells after a run that may continue in them
+-- the runs of cells, after a run that they may continue
 abbrev pub runs_from : RunValue → List CellValue → List RunValue
 runs_from run cells = (run.0, run.1 + alike run.0 cells) ∷ runs_in (drop (alike run.0 cells) cells)
 
--- the runs of cells, the first of which is the nth of its run
+-- the runs of cells, the first of which is the nth cell of its run
 abbrev pub runs_on : ℕ → List CellValue → List RunValue
 runs_on n [] = []
 runs_on n (x ∷ cells) = runs_from (x, n) cells
 
--- the cells that the 64 bytes after the first stand for
+-- the cells of the 64 bytes after the first
 abbrev pub next_cells : List ℕ → List CellValue
 next_cells bytes = cells_of_bytes (take 64 (drop 1 bytes))
 
--- whether each of some cells differs from the one before it, the first from x
+-- whether each cell differs from the one before it, the first one from x
 abbrev pub marks : CellValue → List CellValue → List Bool
 marks x [] = []
 marks x (y ∷ cells) = not (cell_eq y x) ∷ marks y cells
@@ -78,7 +78,7 @@ mark_bits x cells = mask_l (marks x cells)
 abbrev pub flag_bits : List ℕ → ℕ
 flag_bits flags = mask_l (map (λ f. not (f == 0)) flags)
 
--- how many runs begin after a cell
+-- the number of runs that begin after a cell
 abbrev pub breaks : CellValue → List CellValue → ℕ
 breaks x [] = 0
 breaks x (y ∷ cells) = if cell_eq y x then breaks y cells else suc (breaks y cells)
@@ -95,7 +95,7 @@ IsShort (rest.Runs runs) = Unit {0}
 IsShort (rest.Bytes bytes) = length bytes.now < 2 ^ 32
 IsShort (rest.Cells cells) = length cells.now < 2 ^ 32
 
--- each cell a stretch of its own
+-- one stretch per cell
 abbrev pub one_by_one : List CellValue → List RunValue
 one_by_one cells = map (λ cell. (cell, 1)) cells
 

@@ -1,4 +1,4 @@
--- The map of the border of a map, and the errors of its text.
+-- The map of the border of a map, and the errors of the map's text.
 use Rattle.std.specs.Prelude.{◌≡◌, length}
 use Rattle.cell_core_devices.specs.Device.{Coming}
 use Rattle.cell_core_values.specs.Region.{RegionValue}
@@ -16,14 +16,14 @@ use Rattle.cell_join_borders.specs.WrittenBorder.{IsBorderOfText}
 use Rattle.cell_join_borders.specs.declared.map_fault.MapFault.{MapFault}
 use Rattle.cell_join_borders.specs.declared.map_fault.MapFault.TheVariants as faults
 
--- each side of a tile of this region has as many numbers as cells
+-- each side of a tile with this region has as many numbers as cells
 pub record HasEachNumber (tile : RegionValue) (border : Border) : Type 0 where
   pub first : length border.first.numbers.items ≡ tile.cols
   pub last : length border.last.numbers.items ≡ tile.cols
   pub left : length border.left.numbers.items ≡ tile.rows
   pub right : length border.right.numbers.items ≡ tile.rows
 
--- a map is the map of the border of a map and of the numbers of its clumps
+-- a map is the border, as a map, of another map and its clump numbers
 pub record IsMapOfBorder (j : Joining) (m made : Grid) : Type 0 where
   pub numbers : Grid
   pub border : Border
@@ -38,7 +38,7 @@ pub record IsMadeOfText (j : Joining) (text : Coming) (made : Grid) : Type 0 whe
   pub of_text : IsBorderOfText j text m border
   pub is : made ≡ border_grid j m.region border
 
--- the error of a grid text, or being out of memory
+-- the error of a grid text, or lack of memory
 abbrev pub of_map_text : GridKind → GridFault → MapFault
 of_map_text kinds.Memory fault = faults.Memory
 of_map_text kind fault = faults.Text fault

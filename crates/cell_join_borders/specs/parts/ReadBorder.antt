@@ -1,4 +1,4 @@
--- What is read of the map of a border.
+-- What is read from the map of a border.
 use Rattle.std.specs.Prelude.{ℕ, ◌≡◌, ◌+◌, ◌-◌, List, [], ◌∷◌, Ok}
 use Rattle.cell_core_values.specs.Region.{RegionValue, region_fault}
 use Rattle.cell_core.specs.Grid.{Grid, no_labels, row_at}
@@ -15,7 +15,7 @@ use Rattle.cell_join_borders.specs.declared.sides.SideMosts.{SideMosts}
 use Rattle.cell_join_borders.specs.declared.border_fault.BorderFault.{BorderFault}
 use Rattle.cell_join_borders.specs.declared.border_fault.BorderFault.TheVariants as faults
 
--- a tile of so many rows and columns, whose border is as wide as a map
+-- a tile of rows × cols cells, whose border is as wide as the map
 pub record IsSized (m : Grid) (rows cols : ℕ) (tile : RegionValue) : Type 0 where
   pub is : tile ≡ record m.region { rows = rows; cols = cols }
   pub good : region_fault tile ≡ Ok tile
@@ -27,14 +27,14 @@ pub record IsSideIn (m : Grid) (row : ℕ) (most : List ℕ) (side : Side) : Typ
   pub numbers : row_at m (row + 1) ≡ filled_row m.region.cols side.numbers.items
   pub fit : IsSideFit most side
 
--- the largest numbers of the cells of the sides of a tile whose clumps begin so
+-- the largest numbers allowed for the cells of the sides of a tile with these counts of clumps by row
 pub record AreMosts (tile : RegionValue) (begun : List ℕ) (most : SideMosts) : Type 0 where
   pub first : most.first.items ≡ most_in_row tile.cols begun 0
   pub last : most.last.items ≡ most_in_row tile.cols begun (tile.rows - 1)
   pub left : most.left.items ≡ most_down begun
   pub right : most.right.items ≡ most_down begun
 
--- where each side begins in the text, with its largest numbers
+-- where each side begins in the text, with the largest numbers allowed
 abbrev pub most_places : SideMosts → List (ℕ × List ℕ)
 most_places most = (0, most.first.items) ∷ (2, most.last.items) ∷ (4, most.left.items) ∷ (6, most.right.items) ∷ []
 
@@ -53,12 +53,12 @@ pub record AreSidesIn (m : Grid) (tile : RegionValue) (begun : List ℕ) (border
   pub left : IsSideIn m 4 (most_down begun) border.left
   pub right : IsSideIn m 6 (most_down begun) border.right
 
--- a map but for its labels is the map of a border, which fits
+-- a map, without its labels, is the map of a valid border
 pub record IsGridOf (m : Grid) (j : Joining) (tile : RegionValue) (border : Border) : Type 0 where
   pub is : record m { labels = no_labels } ≡ border_grid j tile border
   pub fit : IsBorderFit tile border
 
--- the error of a grid text, or being out of memory
+-- the error of a grid text, or lack of memory
 abbrev pub of_border_text : GridKind → GridFault → BorderFault
 of_border_text kinds.Memory fault = faults.Memory
 of_border_text kind fault = faults.Text fault

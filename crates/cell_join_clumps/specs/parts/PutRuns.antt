@@ -1,4 +1,4 @@
--- A text put on a sink.
+-- A text put into a sink.
 use Rattle.std.specs.Prelude.{ℕ, ◌≡◌, true, List, [], ◌++◌, length, Option, None, IfSome, false}
 use Rattle.cell_core_devices.specs.Blocks.{capped_count}
 use Rattle.cell_core_devices.specs.Device.{Faults, after_flush, append_known, has_failed}

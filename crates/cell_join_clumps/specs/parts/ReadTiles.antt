@@ -25,21 +25,21 @@ use Rattle.cell_join_clumps.specs.declared.tile_grid.TileGrid.{TileGrid}
 
 -- ---- one text
 
--- why a text is no border, or being out of memory
+-- why a text is not a border, or lack of memory
 abbrev pub of_border : ℕ → BorderFault → ClumpsFault
 of_border place border_faults.Memory = Memory
 of_border place fault = NoBorder place fault
 
--- the text in a place is no border, or one by the other connectivity, or memory ran out
+-- the text in a place is not a border, or has another connectivity, or memory ran out
 abbrev pub IsNoTile : Joining → ℕ → Coming → ClumpsFault → Type 0
 IsNoTile j place text (NoBorder at fault) = (at ≡ place) × (fault ≢ border_faults.Memory) × IsBorderFault text fault
 IsNoTile j place text (Connectivity at found) = (at ≡ place) × SpellsOtherwise j text found
 IsNoTile j place text Memory = Unit {0}
 IsNoTile j place text fault = ⊥
 
--- ---- what is kept, whatever the texts are
+-- ---- what is kept, for any texts
 
--- the borders of a row have as many rows
+-- the borders of a row have equally many rows
 pub record IsEvenRow (borders : List Border) : Type 0 where
   pub rows : ℕ
   pub even : AreEven rows (border_values borders)
@@ -48,13 +48,13 @@ pub record IsEvenRow (borders : List Border) : Type 0 where
 abbrev pub HasRowsOf : RegionValue → Border → Type 0
 HasRowsOf region border = length border.begun.items ≡ region.rows
 
--- the regions of the row lie side by side, and belong to its borders
+-- the regions of the row are side by side, and belong to its borders
 pub record AreTilesKept (read : TileGrid) : Type 0 where
   pub some : read.row.items ≡ [] → read.above.items ≡ []
   pub beside : LieBeside None read.row.items
   pub rows : AllZip HasRowsOf read.row.items read.borders.items
 
--- ---- one tile more
+-- ---- one more tile
 
 -- no tile was read
 pub record AreNoTiles (j : Joining) (read : TileGrid) : Type 0 where
@@ -64,7 +64,7 @@ pub record AreNoTiles (j : Joining) (read : TileGrid) : Type 0 where
   pub row : read.row.items ≡ []
   pub borders : read.borders.items ≡ []
 
--- a tile was added in the row that had begun
+-- a tile was added to the row that had begun
 pub record IsAddedInRow (tile : BorderText) (old new : TileGrid) : Type 0 where
   pub joiner : new.joiner ≡ old.joiner
   pub above : new.above.items ≡ old.above.items
@@ -90,24 +90,24 @@ pub record IsAddedBelow (tile : BorderText) (old new : TileGrid) : Type 0 where
 abbrev pub IsTileAdded : BorderText → (old new : TileGrid) → Type 0
 IsTileAdded tile old new = (IsTilePlacement old.above.items old.row.items tile.region InRow × IsAddedInRow tile old new) ⊎ (IsTilePlacement old.above.items old.row.items tile.region NextRow × IsAddedBelow tile old new)
 
--- a tile was added, which the text spells if it is known
+-- a tile was added, the one that the text spells if it is known
 pub record HasAddedTile (j : Joining) (text : Option Coming) (old new : TileGrid) : Type 0 where
   pub tile : BorderText
   pub spells : IfSome text (λ t. SpellsJoined j t tile)
   pub fit : IsBorderFit tile.region tile.border
   pub added : IsTileAdded tile old new
 
--- with a row there are more clumps than a `u64` counts
+-- with a row there are more clumps than fit in a `u64`
 abbrev pub HasManyClumps : TileJoinerValue → List Border → Type 0
 HasManyClumps joiner row = 2 ^ 64 ≤ joiner.clumps + clumps_in_row (begun_of (border_values row))
 
--- why a row is not joined: so, or memory ran out
+-- why a row is not joined: too many clumps, or lack of memory
 abbrev pub IsTooMany : TileJoinerValue → List Border → ClumpsFault → Type 0
 IsTooMany joiner row TooManyClumps = HasManyClumps joiner row
 IsTooMany joiner row Memory = Unit {0}
 IsTooMany joiner row fault = ⊥
 
--- why the text in a place does not continue tiles that were read, or their last row is not joined
+-- why the text in a place does not continue the tiles so far, or why their last row is not joined
 abbrev pub IsFaultAtTile : Joining → ℕ → TileGrid → Coming → ClumpsFault → Type 0
 IsFaultAtTile j place read text (NoBorder at fault) = (at ≡ place) × IsFaultOfTile j place read.above.items read.row.items text (NoBorder at fault)
 IsFaultAtTile j place read text (Connectivity at found) = (at ≡ place) × IsFaultOfTile j place read.above.items read.row.items text (Connectivity at found)
@@ -121,21 +121,21 @@ IsFaultAtTile j place read text Write = ⊥
 
 -- ---- all tiles
 
--- the row that had begun is whole, and was joined as the last; or it had none
+-- the row that had begun is complete and was joined last; or there was none
 pub record AreFinished (read : TileGrid) (joiner : TileJoinerValue) : Type 0 where
   pub joining : joiner.joining ≡ read.joiner.joining
   pub none : read.row.items ≡ [] → joiner ≡ read.joiner
   pub whole : read.row.items ≢ [] → IsWhole read.above.items read.row.items
   pub joined : read.row.items ≢ [] → (grid : List (List BorderValue)) → AreJoinedTiles grid read.joiner → AreJoinedTiles (grid ++ border_values read.borders.items ∷ []) joiner
 
--- of so many texts: a tile is above the place after the row that had begun; or it is not joined
+-- why the last row is not added: it has too few tiles, or it is not joined
 abbrev pub IsTooShort : ℕ → TileGrid → ClumpsFault → Type 0
 IsTooShort texts read (FewTiles other) = (other ≡ texts - length read.above.items) × ((upper : RegionValue) × (slice_get read.above.items (length read.row.items) ≡ Some upper))
 IsTooShort texts read TooManyClumps = IsWholeRow read.above.items read.row.items × HasManyClumps read.joiner read.borders.items
 IsTooShort texts read Memory = Unit {0}
 IsTooShort texts read fault = ⊥
 
--- what is held of tiles: complete rows, and the tiles of a row
+-- the tiles that are held: complete rows, and the tiles of a row
 pub record AreHeld (j : Joining) (rows : List (List BorderText)) (row : List BorderText) (read : TileGrid) : Type 0 where
   pub joining : read.joiner.joining ≡ j
   pub joined : AreJoinedTiles (border_rows_of rows) read.joiner
@@ -157,7 +157,7 @@ pub record HaveBeenJoined (j : Joining) (texts : List Coming) (joiner : TileJoin
   pub joining : joiner.joining ≡ j
   pub joined : AreJoinedTiles (border_rows_of rows) joiner
 
--- the texts before those that are left were read
+-- the texts before the remaining ones were read
 pub record HasReadTiles {R : Type 0} (j : Joining) (coming : R → Option Coming) (texts : List Coming) (left : List R) (place : ℕ) (read : TileGrid) : Type 0 where
   pub before : List Coming
   pub others : List Coming

@@ -1,4 +1,4 @@
--- The run of an entry that may be.
+-- The run of an entry, if there is one.
 use Rattle.std.specs.Prelude.{ℕ, Option, Some, None, Result, Ok, Err}
 use Rattle.cell_stats_combinations.specs.Combinations.{Combination}
 use Rattle.cell_join_lines.specs.declared.stretch.Stretch.{Stretch}

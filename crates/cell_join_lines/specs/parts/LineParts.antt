@@ -1,4 +1,4 @@
--- A line of a numbering, part by part, and how far a text was written.
+-- A line of a numbering, part by part, and how much of a text was written.
 use Rattle.std.specs.Prelude.{ℕ, ◌≡◌, List, [], ◌∷◌, ◌++◌, decimal, Option}
 use Rattle.cell_core_devices.specs.Blocks.{BlockValue, Appends}
 use Rattle.cell_core_devices.specs.Device.{Faults}

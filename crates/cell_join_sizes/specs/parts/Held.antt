@@ -1,10 +1,10 @@
--- A numbering that is held, from the run that is read now on.
+-- A numbering in memory, from the current run on.
 use Rattle.std.specs.Prelude.{ℕ, ◌≡◌, ◌≤◌, ◌<◌, List, [], ◌∷◌, Option, Some, None, Ok, slice_get}
 use Rattle.cell_join_lines.specs.declared.stretch.Stretch.{Stretch}
 use Rattle.cell_join_lines.specs.AreasReading.{AreasReading, areas_ended, in_sequence}
 use Rattle.cell_join_sizes.specs.SizeFaults.{last_number}
 
--- the run that is read now, the number of the line after it, the runs after it, and all of them
+-- the current run, the number of the line after it, the runs after it, and all runs
 pub record HeldValue : Type 0 where
   pub head : Option Stretch
   pub line : ℕ
@@ -15,7 +15,7 @@ pub record HeldValue : Type 0 where
 abbrev pub held_behind : HeldValue → Option AreasReading
 held_behind held = Some (record { stretches = held.left; fault = None })
 
--- and from it on
+-- and from the head on
 abbrev pub held_from_head : HeldValue → Option Stretch → Option AreasReading
 held_from_head held None = Some areas_ended
 held_from_head held (Some s) = Some (record { stretches = s ∷ held.left; fault = None })
@@ -23,7 +23,7 @@ held_from_head held (Some s) = Some (record { stretches = s ∷ held.left; fault
 abbrev pub held_from : HeldValue → Option AreasReading
 held_from held = held_from_head held held.head
 
--- each run comes next after the one before it, the first after this one, if there is one
+-- each run comes next after the one before it; the first one comes after this one, if there is one
 abbrev pub AreInSequence : Option Stretch → List Stretch → Type 0
 AreInSequence before [] = Unit {0}
 AreInSequence before (s ∷ stretches) = (in_sequence before s ≡ Ok s) × AreInSequence (Some s) stretches
@@ -33,7 +33,7 @@ abbrev pub last_of : Option Stretch → List Stretch → Option Stretch
 last_of before [] = before
 last_of before (s ∷ stretches) = last_of (Some s) stretches
 
--- the run at this place shows a number above the count, and none before it does
+-- the run at this place is the first to show a number above the count
 pub record IsFirstBeyond (stretches : List Stretch) (count place : ℕ) : Type 0 where
   pub stretch : Stretch
   pub at : slice_get stretches place ≡ Some stretch

@@ -49,7 +49,7 @@ ReportsTallyFault number tally_faults.Memory reported = reported ≡ Memory
 
 -- ---- what the next stretch is
 
--- at the start of the tile after so many
+-- a run at the start of a tile, given the number of tiles before it
 abbrev pub IsBandStart : ℕ → Stretch → Type 0
 IsBandStart bands s = (s.first ≡ 1) × (s.first ≤ s.last) × (0 < bands → s.band ≢ bands)
 
@@ -59,7 +59,7 @@ IsNextIn band line s = (s.first ≤ s.last) × (s.band ≡ band → s.first ≡ 
 
 -- ---- where it stopped
 
--- so many lines of a numbering after one; from 2^64 - 1 on they are not distinguished
+-- the line of a numbering count lines after start; from 2^64 - 1 on they are not distinguished
 abbrev pub lines_behind : (start count : ℕ) → ℕ
 lines_behind start count = min (start + count) (2 ^ 64 - 1)
 
@@ -74,7 +74,7 @@ place_in_stretch table line s counted left sizes others = record {
   sizes = sizes;
 }
 
--- within a run, of which the first clumps are counted
+-- within a run, after its first clumps
 pub record HasStoppedInStretch (place : ℕ) (s : Stretch) (table : TableReading) (old : List ℕ) (fault : SizesFault) : Type 0 where
   pub counted : List ℕ
   pub few : length counted ≤ stretch_areas s
@@ -85,7 +85,7 @@ pub record HasStoppedInStretch (place : ℕ) (s : Stretch) (table : TableReading
   pub tallies : Tallies old (range_with_len s.number (length counted)) counted sizes
   pub wrong : (line : ℕ) (others : AreasReading) → IsFaultAt (place_in_stretch place line s counted left sizes others) fault
 
--- within a tile, of which the first runs are counted, and the first clumps of the next
+-- within a tile, after its first runs and the first clumps of the next one
 pub record HasStoppedInBand (place start : ℕ) (areas : AreasReading) (table : TableReading) (old : List ℕ) (fault : SizesFault) : Type 0 where
   pub at : ReadingPlace
   pub own_table : at.table ≡ place

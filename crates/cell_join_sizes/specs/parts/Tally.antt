@@ -4,7 +4,7 @@ use Rattle.cell_join_sizes.specs.SizeTexts.{HasSums}
 use Rattle.cell_join_sizes.specs.declared.tally.TallyFault.{TallyFault}
 use Rattle.cell_join_sizes.specs.declared.tally.TallyFault.TheVariants.{TooGreat, Memory}
 
--- more numbers and sizes after whichever were added up before
+-- more numbers and sizes were added, whatever had been added before
 pub record Tallies (old more more_sizes new : List ℕ) : Type 0 where
   pub adds : (numbers sizes : List ℕ) → HasSums numbers sizes old → HasSums (numbers ++ more) (sizes ++ more_sizes) new
 

@@ -1,4 +1,5 @@
--- The order in which texts continue: by what they continue with, and of two that continue with the same by their places.
+-- The order in which texts continue: by the combination with which they continue, and by their places if it is the
+-- same.
 use Rattle.std.specs.Prelude.{ℕ, ◌≡◌, ◌≢◌, ◌<◌, Bool, true, false, nat_lt, List, [], ◌∷◌, All, Contains, length, map, take, drop, slice_set, slice_index_or, Option, Some, None, IfSome}
 use Rattle.std.specs.List.{AllByRecursion}
 use Rattle.std.specs.declared.cmp.Ordering.{Ordering}
@@ -11,17 +12,17 @@ use Rattle.cell_join_lines.specs.TextReading.{TextValue, combination_of, reading
 use Rattle.cell_join_tables.specs.declared.join_fault.JoinFault.{JoinFault}
 use Rattle.cell_join_tables.specs.declared.join_fault.JoinFault.TheVariants.{Text, TooMany, TooLong, Memory, Write}
 
--- the combinations that texts continue with
+-- the combinations with which texts continue
 abbrev pub heads_of : List TextValue → List (Option Combination)
 heads_of texts = map (λ text. combination_of text.head) texts
 
--- a lesser one goes first, and of two that are the same the earlier one
+-- the smaller one goes first, and of two equal ones the earlier
 abbrev pub lesser_or_earlier : Ordering → Bool → Bool
 lesser_or_earlier Less earlier = true
 lesser_or_earlier Equal earlier = earlier
 lesser_or_earlier Greater earlier = false
 
--- whether a text at a place goes before one at another; those at their ends go last
+-- whether the text at one place goes before the text at another; those at their ends go last
 abbrev pub goes_before : Option Combination → ℕ → Option Combination → ℕ → Bool
 goes_before None place None other = nat_lt place other
 goes_before None place (Some b) other = false
@@ -36,13 +37,13 @@ abbrev pub Ascends : List (Option Combination) → List ℕ → Type 0
 Ascends heads [] = Unit {0}
 Ascends heads (place ∷ places) = AllByRecursion (λ other. before heads place other ≡ true) places × Ascends heads places
 
--- the first so many places, each of them once, in order
+-- the places below count, each once, in the order of their heads
 pub record IsOrder (heads : List (Option Combination)) (count : ℕ) (places : List ℕ) : Type 0 where
   pub within : All (λ place. place < count) places
   pub each : (place : ℕ) → place < count → Contains places place
   pub ascends : Ascends heads places
 
--- of places in order, so many go before another
+-- of places in order, the first n go before a place
 abbrev pub AreBefore : List (Option Combination) → List ℕ → ℕ → ℕ → Type 0
 AreBefore heads places other count = AllByRecursion (λ place. before heads place other ≡ true) (take count places) × AllByRecursion (λ place. before heads place other ≡ false) (drop count places)
 
@@ -65,7 +66,7 @@ pub record HeadReadsOn (format : FormatValue) (old : List TextValue) (place : �
   pub number : text.number ≡ line_after (slice_index_or old place text).number
   pub others : new ≡ slice_set old place text
 
--- why a text at a place could not read its next entry; of being out of memory nothing is said
+-- why a text at a place could not read its next entry; lack of memory says nothing about the text
 abbrev pub IsFaultBehind : FormatValue → List TextValue → ℕ → JoinFault → Type 0
 IsFaultBehind format texts place (Text text fault) = (text ≡ place) × ((other : TextValue) → IfSome (reading_behind format (slice_index_or texts place other)) (λ reading. reading ≡ stopped fault.line fault.kind))
 IsFaultBehind format texts place (TooMany k) = ⊥

@@ -17,7 +17,7 @@ use Rattle.cell_join_tables.specs.declared.label_fault.OtherLabel.{OtherLabel}
 use Rattle.cell_join_tables.specs.parts.Taking.{TakesEntries}
 use Rattle.cell_join_tables.specs.JoinedLabels.{AreOfTexts, HasNumberedLine, LabelledEntry, counted_line, counted_text, plain_entries, plain_entry, labelled_of}
 
--- whether a combination that may be is this one
+-- whether an optional combination is this one
 abbrev pub is_combination : Combination → Option Combination → Bool
 is_combination k None = false
 is_combination k (Some own) = eq_by_cmp combination_cmp own k
@@ -26,11 +26,11 @@ is_combination k (Some own) = eq_by_cmp combination_cmp own k
 abbrev pub goes_on_with : Combination → TextValue → Bool
 goes_on_with k text = is_combination k (combination_of text.head)
 
--- whether it has other labels there
+-- whether it has different labels there
 abbrev pub is_other : FormatValue → Combination → List ℕ → TextValue → Bool
 is_other format k labelled text = goes_on_with k text && not (bytes_eq (before_count format.separator text.line) labelled)
 
--- what a text continues with has these labels, if it is of the combination
+-- a text has these labels where it continues, if it continues with the combination
 abbrev pub AgreesOn : Combination → List ℕ → Option Labelled → Type 0
 AgreesOn k labelled None = Unit {0}
 AgreesOn k labelled (Some line) = line.0 ≡ k → line.1 ≡ labelled
@@ -45,7 +45,7 @@ labelled_heads format texts = map (labelled_head format) texts
 abbrev pub AllAgree : FormatValue → Combination → List ℕ → List TextValue → Type 0
 AllAgree format k labelled texts = AllByRecursion (AgreesOn k labelled) (labelled_heads format texts)
 
--- two texts continue with the combination and other labels
+-- two texts continue with the combination and different labels
 pub record DifferAt (format : FormatValue) (k : Combination) (labelled : List ℕ) (texts : List TextValue) (first text : ℕ) : Type 0 where
   pub other : List ℕ
   pub before : first < text
@@ -53,18 +53,18 @@ pub record DifferAt (format : FormatValue) (k : Combination) (labelled : List �
   pub two : slice_get (labelled_heads format texts) text ≡ Some (Some (k, other))
   pub differ : other ≢ labelled
 
--- of texts at places in order the first so many agree on the labels of the combination, and the next one does not continue with it
+-- of texts at places in order, the first agree on the labels of the combination, and the next does not continue with it
 pub record AgreeInFront (format : FormatValue) (k : Combination) (labelled : List ℕ) (texts : List TextValue) (places : List ℕ) : Type 0 where
   pub count : ℕ
   pub agree : (i : ℕ) (text : TextValue) → i < count → is_other format k labelled (slice_index_or texts (slice_index_or places i 0) text) ≡ false
   pub next : count < length places → (text : TextValue) → goes_on_with k (slice_index_or texts (slice_index_or places count 0) text) ≡ false
 
--- the lines that texts continue with were passed if they are of the combination, and no others, of whatever texts are read as, in order
+-- exactly the lines with which texts continue that have the combination were skipped, however texts are read, in order
 abbrev pub LeavesLines : FormatValue → Combination → List TextValue → List TextValue → Type 0
 LeavesLines format k old new = (readings : List TableReading) → map (λ text. reading_from format text) old ≡ map Some readings → AllByRecursion IsListing (tables_of readings)
     → map (λ text. labelled_from format text) new ≡ map (λ text. option_map (past_labelled k) (labelled_from format text)) old
 
--- an entry was taken from all texts, which agree on its labels
+-- an entry was taken from all texts, and they agree on its labels
 pub record HasLabelledStep {S : Type 0} (format : FormatValue) (old new : List TextValue) (taken : S → Option (List ℕ)) (faults : S → Faults) (out : S) (block : BlockValue) (now : S) (after : BlockValue) : Type 0 where
   pub entry : LabelledEntry
   pub takes : TakesEntries (λ text. reading_from format text) old new (plain_entry entry ∷ [])
@@ -73,7 +73,7 @@ pub record HasLabelledStep {S : Type 0} (format : FormatValue) (old new : List T
   pub own : Contains (labelled_heads format old) (Some entry.0)
   pub appends : Appends taken faults out block (counted_line entry) now after
 
--- the lines before those that are left are among these
+-- the lines before the remaining ones are among these
 abbrev pub IsReadPast : List Labelled → List Labelled → List Labelled → Type 0
 IsReadPast done whole left = (passed : List Labelled) × ((whole ≡ passed ++ left) × AllByRecursion (λ line. Contains done line) passed)
 
@@ -83,19 +83,19 @@ ArePassed done [] (left ∷ lefts) = ⊥
 ArePassed done (whole ∷ wholes) [] = ⊥
 ArePassed done (whole ∷ wholes) (left ∷ lefts) = IsReadPast done whole left × ArePassed done wholes lefts
 
--- of what the lines of texts have, all that was passed is among these entries, which have labels of the texts
+-- of what the lines of texts contain, all that was skipped is among these entries, which have labels of the texts
 pub record HasPassed (format : FormatValue) (wholes : List (List Labelled)) (texts : List TextValue) (done : List LabelledEntry) : Type 0 where
   pub left : List (List Labelled)
   pub known : map (λ text. labelled_from format text) texts ≡ map Some left
   pub passed : ArePassed (labelled_of done) wholes left
   pub own : AreOfTexts wholes done
 
--- the same of whatever the lines of texts have, in order
+-- the same whatever the lines of texts contain, in order
 abbrev pub PassesLines : FormatValue → List TextValue → List TextValue → List LabelledEntry → Type 0
 PassesLines format old new done = (readings : List TableReading) → map (λ text. reading_from format text) old ≡ map Some readings → AllByRecursion IsListing (tables_of readings)
     → (wholes : List (List Labelled)) → map (λ text. labelled_from format text) old ≡ map Some wholes → HasPassed format wholes new done
 
--- so many entries were taken, and their lines were appended
+-- entries were taken, and their lines were appended
 pub record HasLabelledMerge {S : Type 0} (format : FormatValue) (old new : List TextValue) (taken : S → Option (List ℕ)) (faults : S → Faults) (out : S) (block : BlockValue) (now : S) (after : BlockValue) (count : ℕ) : Type 0 where
   pub done : List LabelledEntry
   pub counted : length done ≡ count
@@ -103,13 +103,13 @@ pub record HasLabelledMerge {S : Type 0} (format : FormatValue) (old new : List 
   pub passes : PassesLines format old new done
   pub appends : Appends taken faults out block (counted_text done) now after
 
--- of these lines of texts, those before their heads were read
+-- the lines before the heads of texts were read
 abbrev pub AreBehind : FormatValue → List (List Labelled) → List TextValue → Type 0
 AreBehind format [] [] = Unit {0}
 AreBehind format [] (text ∷ texts) = ⊥
 AreBehind format (whole ∷ wholes) [] = ⊥
 AreBehind format (whole ∷ wholes) (text ∷ texts) = IsBehind format whole text × AreBehind format wholes texts
 
--- other labels are reported with their line, of whatever lines the texts have
+-- different labels are reported with their line, whatever lines the texts have
 abbrev pub StopsOnLine : FormatValue → List TextValue → OtherLabel → Type 0
 StopsOnLine format texts reported = (wholes : List (List Labelled)) → AreBehind format wholes texts → HasNumberedLine wholes reported.text reported.line (reported.combo, reported.other.items)

@@ -13,12 +13,12 @@ abbrev pub one_if_any : Option ℕ → ℕ
 one_if_any None = 0
 one_if_any (Some n) = 1
 
--- how many tables begin with the combination
+-- the number of tables that begin with the combination
 abbrev pub begin_count : Combination → List Pairs → ℕ
 begin_count k [] = 0
 begin_count k (table ∷ tables) = one_if_any (first_count k table) + begin_count k tables
 
--- some entries of the smallest combination were taken, at least so many, and their counts are this together
+-- at least taken entries of the smallest combination were taken, and their counts add up to total
 pub record HasGone {X : Type 0} (read : X → Option TableReading) (k : Combination) (readings : List TableReading) (texts : List X) (total : Option ℕ) (taken : ℕ) : Type 0 where
   pub all : AllByRecursion IsListing (tables_of readings)
   pub start : AllByRecursion (BeginsAt k) (tables_of readings)

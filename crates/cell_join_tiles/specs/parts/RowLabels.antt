@@ -3,24 +3,25 @@ use Rattle.std.specs.Prelude.{ℕ, suc, ◌≡◌, ◌+◌, ◌-◌, ◌<◌, Li
 use Rattle.std.specs.List.{range_with_len}
 use Rattle.cell_join_tiles.specs.Beginnings.{Begun, begun_before, begun_above, begun_on_left, row_begun, label_in_row}
 
--- how many clumps of a tile begin up to the end of each of its rows
+-- the number of clumps of a tile that begin up to the end of each of its rows
 pub record AreEnds (begun ends : List ℕ) : Type 0 where
   pub long : length ends ≡ length begun
   pub each : (i : ℕ) → i < length begun → slice_index ends i ≡ begun_before begun (suc i)
 
--- how many begin in a row of a row of tiles, in any of its tiles
+-- the number of clumps that begin in a row of a row of tiles, in any of its tiles
 abbrev pub in_each : List Begun → ℕ → ℕ
 in_each tiles i = sum_by (λ begun. slice_index begun i) tiles
 
--- the label of the clump of number k + 1 of a tile
+-- the label of clump number k + 1 of a tile
 abbrev pub tile_label : (firsts begun : List ℕ) → ℕ → ℕ
 tile_label firsts begun k = slice_index firsts (row_begun begun k) + (k - begun_before begun (row_begun begun k))
 
--- for each row of the tile in a column of a row of tiles, whose labels begin at a base: the label of the first clump that begins in it
+-- for each row of the tile in a column of a row of tiles whose labels begin at a base: the label of the first clump
+-- that begins in it
 abbrev pub AreFirstLabels : (base : ℕ) → List Begun → ℕ → List ℕ → Type 0
 AreFirstLabels base tiles c firsts = (i : ℕ) → i < length firsts → slice_index firsts i ≡ base + begun_above tiles i + begun_on_left tiles i c
 
--- the label of the clump of number k + 1 of the tile in a column
+-- the label of clump number k + 1 of the tile in a column
 abbrev pub row_label : (base : ℕ) → List Begun → (c k : ℕ) → ℕ
 row_label base tiles c k = base + label_in_row tiles c k
 

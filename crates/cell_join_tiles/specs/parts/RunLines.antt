@@ -1,20 +1,21 @@
--- The stretches of a band of which the last may continue.
+-- The runs of a tile; the last one may continue.
 use Rattle.std.specs.Prelude.{ℕ, ◌≡◌, List, ◌++◌, Option, Some, None}
 use Rattle.cell_join_lines.specs.AreasText.{stretches_behind, stretches_in}
 use Rattle.cell_join_lines.specs.declared.stretch.Stretch.{Stretch}
 use Rattle.cell_join_tiles.specs.declared.run_lines.Line.{Line}
 
--- how many areas of its band come before the end of a line
+-- how many areas of the tile come before the end of a line
 abbrev pub areas_of_line : Option Line → ℕ
 areas_of_line None = 0
 areas_of_line (Some line) = line.stretch.last
 
--- the stretches of a band from a line on, whose next areas have these numbers
+-- the runs of a tile from a line on, if its next areas have these numbers
 abbrev pub stretches_after : ℕ → Option Line → List ℕ → List Stretch
 stretches_after band None numbers = stretches_in band numbers
 stretches_after band (Some line) numbers =
     stretches_behind line.stretch.band line.stretch.first line.stretch.last line.stretch.number line.previous numbers
 
--- after others come the stretches of a band whose first areas have these numbers, but for a line that may continue
+-- other runs are followed by the runs of a tile whose first areas have these numbers, except for a line that may
+-- continue
 abbrev pub AreInLines : ℕ → List Stretch → List ℕ → List Stretch → Option Line → Type 0
 AreInLines band before numbers stretches line = (rest : List ℕ) → before ++ stretches_in band (numbers ++ rest) ≡ stretches ++ stretches_after band line rest

@@ -1,4 +1,4 @@
--- The labels of the clumps of a tile, as spans of labels that follow one another.
+-- The labels of the clumps of a tile, as spans of consecutive labels.
 use Rattle.std.specs.Prelude.{ℕ, ◌+◌, ◌<◌, ◌^◌, List, Vec, All, flat_map, length, map}
 use Rattle.std.specs.Global.{Global}
 use Rattle.std.specs.List.{range_with_len}
@@ -10,7 +10,7 @@ labels_of_span span = range_with_len span.first span.count
 abbrev pub labels_in : List Span → List ℕ
 labels_in spans = flat_map labels_of_span spans
 
--- the spans of each of some tiles
+-- the spans of some tiles
 abbrev pub labels_of_tiles : List (Vec Span Global) → List (List ℕ)
 labels_of_tiles tiles = map (λ spans. labels_in spans.items) tiles
 

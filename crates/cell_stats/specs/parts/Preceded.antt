@@ -9,7 +9,7 @@ use Rattle.cell_stats.specs.TableText.{FormatValue, cell_fields}
 abbrev pub preceded_texts : ℕ → List (List ℕ) → List ℕ
 preceded_texts c texts = flat_map (λ text. c ∷ text) texts
 
--- a cell, and its label with labels
+-- a cell, followed by its label if labels are printed
 abbrev pub pick_text : FormatValue → List Grid → ℕ → CellValue → List ℕ
 pick_text format maps place cell = join_with_byte format.separator (cell_fields format maps place cell)
 
@@ -17,6 +17,6 @@ pick_text format maps place cell = join_with_byte format.separator (cell_fields 
 abbrev pub next_text : FormatValue → List Grid → ℕ × CellValue → List ℕ
 next_text format maps p = format.separator ∷ pick_text format maps p.0 p.1
 
--- so all cells but the first
+-- all cells but the first, each after a separator
 abbrev pub others_text : FormatValue → List Grid → List ℕ → Combination → List ℕ
 others_text format maps picks k = flat_map (next_text format maps) (zip picks k)

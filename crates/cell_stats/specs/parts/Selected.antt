@@ -5,7 +5,7 @@ use Rattle.cell_stats_combinations.specs.LeftOut.{kept_cells}
 use Rattle.cell_stats_combinations.specs.declared.selection.Selection.{Selection}
 use Rattle.cell_stats.specs.TableText.{FormatValue, cell_line}
 
--- a line for each of some cells that is not left out
+-- a line for each of some cells that are not left out
 abbrev pub selected_lines : FormatValue → Selection → List Combination → List ℕ
 selected_lines format s cells = flat_map (cell_line format s.shelf.now.maps s.picks.now) (kept_cells s.skip cells)
 

@@ -1,4 +1,4 @@
--- A list in order whose entries of one combination are added up in place.
+-- An ordered list in which entries of the same combination are added up in place.
 use Rattle.std.specs.Prelude.{ℕ, ◌≡◌, ◌+◌, ◌<◌, ◌≤◌, ◌^◌, Bool, false, length, take, drop, slice_index_or}
 use Rattle.std.specs.Ordering.{is_lt}
 use Rattle.std.specs.declared.cmp.Ordering.TheVariants.{Less}
@@ -6,19 +6,19 @@ use Rattle.cell_stats_combinations.specs.Combinations.{Combination, combination_
 use Rattle.cell_stats_counts.specs.Listed.{Counts, listed_of, HasNoZero}
 use Rattle.cell_stats_combinations.specs.parts.Same.{is_same}
 
--- the count of each combination fits 64 bits
+-- the count of each combination fits in 64 bits
 abbrev pub ListedFits : Counts → Type 0
 ListedFits entries = (k : Combination) → listed_of k entries < 2 ^ 64
 
--- each combination counts as it did
+-- the count of each combination is unchanged
 abbrev pub ListsSame : Counts → Counts → Type 0
 ListsSame old new = (k : Combination) → listed_of k new ≡ listed_of k old
 
--- no combination is less than the one before it
+-- no combination is smaller than the one before it
 abbrev pub IsRising : Counts → Type 0
 IsRising entries = (i : ℕ) (d : Combination × ℕ) → i + 1 < length entries → is_lt (combination_cmp (slice_index_or entries (i + 1) d).0 (slice_index_or entries i d).0) ≡ false
 
--- the entries before `at` are added up in those to `last`, which strictly ascend, and the others are as they were
+-- the entries before `at` are added up in those up to `last`, which strictly ascend, and the others are unchanged
 pub record IsJoined (old now : Counts) (last at : ℕ) : Type 0 where
   pub size : length now ≡ length old
   pub before : last < at
@@ -29,11 +29,11 @@ pub record IsJoined (old now : Counts) (last at : ℕ) : Type 0 where
   pub counts : (k : Combination) → listed_of k (take (last + 1) now) + listed_of k (drop at old) ≡ listed_of k old
   pub no_zero : HasNoZero (take (last + 1) now)
 
--- whether the entries in two places are of one combination
+-- whether the entries in two places have the same combination
 abbrev pub AreOfOne : Counts → ℕ → ℕ → Bool → Type 0
 AreOfOne entries a b same = (d : Combination × ℕ) → same ≡ is_same (slice_index_or entries a d).0 (slice_index_or entries b d).0
 
--- and if they are, their sum fits 64 bits
+-- and if they have, their sum fits in 64 bits
 abbrev pub CanAddUp : Counts → ℕ → ℕ → Type 0
 CanAddUp entries a b = (d : Combination × ℕ) → (slice_index_or entries a d).0 ≡ (slice_index_or entries b d).0
     → (slice_index_or entries a d).1 + (slice_index_or entries b d).1 < 2 ^ 64

@@ -1,4 +1,4 @@
--- What is read is written, if memory lasts and the sink takes everything.
+-- What is read is written, if memory suffices and the sink takes everything.
 use Rattle.std.proofs.Common.{◌≡◌, ◌≢◌, ℕ, Bool, true, List, Option, Some, None, Result, Ok, Err, refl, ap, sym, ◌∙◌, subst}
 use Rattle.std.specs.Prelude.{IsNone, IfSome}
 use Rattle.std.proofs.lemmas.Bool.{true≢false}

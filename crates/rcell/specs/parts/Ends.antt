@@ -19,8 +19,8 @@ abbrev pub fault_of_end : RunStop → RunFault
 fault_of_end (stops.Memory line) = faults.Memory line
 fault_of_end stops.Write = faults.Write
 
--- the outcome of an execution and a flush that fails or not: a failed flush turns a finished run into a failed write, and
--- changes no other outcome
+-- the outcome of an execution and a flush that fails or not: a failed flush turns a finished run into a failed write,
+-- and changes no other outcome
 abbrev pub run_ended : Result ℕ Stopped → Bool → Outcome
 run_ended (Ok written) false = record { status = 0; written = written; fault = None }
 run_ended (Ok written) true = record { status = 4; written = written; fault = Some faults.Write }

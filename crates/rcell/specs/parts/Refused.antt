@@ -6,7 +6,7 @@ use Rattle.rcell.specs.RunFaults.{IsOfGrid, IsBeforeExecution, NamesItsGrid}
 use Rattle.rcell.specs.declared.run_fault.RunFault.{RunFault}
 use Rattle.rcell.specs.declared.run_fault.RunFault.TheVariants as faults
 
--- of the grid in this place
+-- the error of the grid in this place
 abbrev pub of_shelf : ℕ → ShelfFault → RunFault
 of_shelf grid refusals.Exists = faults.GridTwice grid
 of_shelf grid refusals.OtherRegion = faults.GridRegion grid

@@ -10,17 +10,17 @@ use Rattle.cell_calc.specs.Window.{Window, IsWindowOf}
 abbrev pub AreMapPlaces : List Grid → List ℕ → Type 0
 AreMapPlaces maps places = All (λ place. place < length maps) places
 
--- each map is of a region
+-- each map has a region
 abbrev pub AreOfRegion : RegionValue → List Grid → Type 0
 AreOfRegion region maps = All (λ m. m.region ≡ region) maps
 
--- a window of a map, centred at a row, with so many rows above and below
+-- a window of a map, centred at a row, with up rows above and down rows below
 abbrev pub IsSet : (row up down : ℕ) → Option Window → Option Grid → Type 0
 IsSet row up down None m = ⊥
 IsSet row up down (Some w) None = ⊥
 IsSet row up down (Some w) (Some m) = (w.centre ≡ row) × ((w.above ≡ up) × ((w.below ≡ down) × IsWindowOf w m))
 
--- so many first maps have such windows
+-- the first count maps have windows that reach as far as the formula
 abbrev pub AreSet : Formula → (count row : ℕ) → List Window → List Grid → Type 0
 AreSet f count row windows maps = (i : ℕ) → i < count → IsSet row (up_of i f) (down_of i f) (slice_get windows i) (slice_get maps i)
 

@@ -9,7 +9,7 @@ use Rattle.rcell.specs.Sources.{Named}
 use Rattle.rcell_script.specs.Scripts.{IsScript}
 use Rattle.rcell_script.specs.declared.statement.Statement.{Statement}
 
--- the maps that the grids' texts denote, each in its place, under distinct names and of one region
+-- the maps that the grids' texts denote, each in its place, with distinct names and one region
 pub record AreGrids (grids : List Named) (shelf : ShelfValue) : Type 0 where
   pub some : 0 < length grids
   pub denote : AllZip (λ g m. Denotes g.1 m) grids shelf.maps

@@ -39,7 +39,7 @@ IsRefusalAfter script (Ok (Some shelf)) fault = IsScriptRefusal shelf.names scri
 abbrev pub IsRefusal : List Named → Coming → RunFault → Type 0
 IsRefusal grids script fault = IsRefusalAfter script (shelf_of grids) fault
 
--- the grids give the shelf, and the script denotes the statements over it
+-- the shelf is made from the grids, and the script denotes the statements over it
 pub record IsReadScript (grids : List Named) (script : Coming) (shelf : ShelfValue) (statements : List Statement) : Type 0 where
   pub loaded : shelf_of grids ≡ Ok (Some shelf)
   pub reads : ReadsScript shelf.names script statements

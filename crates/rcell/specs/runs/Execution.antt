@@ -14,12 +14,12 @@ abbrev pub is_write : RunStop → Bool
 is_write (Memory line) = false
 is_write Write = true
 
--- whether the sink failed, by the result of an execution
+-- whether the sink failed, given the result of an execution
 abbrev pub stops_write : {A : Type 0} → Result A Stopped → Bool
 stops_write (Ok x) = false
 stops_write (Err stopped) = is_write stopped.stop
 
--- the sink took the whole output of the statements before one, which was not begun
+-- the sink took the full output of the statements before one, which was not begun
 pub record IsShelfBefore (shelf : ShelfValue) (statements : List Statement) (before now : Option (List ℕ)) (written line : ℕ) : Type 0 where
   pub first : List Statement
   pub statement : Statement

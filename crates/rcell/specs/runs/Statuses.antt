@@ -7,13 +7,13 @@ use Rattle.rcell_script_commands.specs.declared.script_fault.ScriptKind.TheVaria
 use Rattle.rcell.specs.declared.run_fault.RunFault.{RunFault}
 use Rattle.rcell.specs.declared.run_fault.RunFault.TheVariants.{GridTwice, GridRegion, Grid, ScriptRead, ScriptSize, Script, Memory, Write}
 
--- 4 if a read failed, 3 when out of memory, 1 for what a text has wrong
+-- 4 if a read failed, 3 if memory ran out, 1 if a text is wrong
 abbrev pub grid_status : GridKind → ℕ
 grid_status grid_kinds.Read = 4
 grid_status grid_kinds.Memory = 3
 grid_status kind = 1
 
--- 3 when out of memory, 1 for what a script has wrong
+-- 3 if memory ran out, 1 if a script is wrong
 abbrev pub script_status : ScriptKind → ℕ
 script_status script_kinds.Memory = 3
 script_status kind = 1

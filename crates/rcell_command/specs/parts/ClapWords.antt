@@ -12,7 +12,7 @@ use Rattle.rcell_command.specs.CommandWords.{is_command}
 abbrev pub first_rule : Rule
 first_rule = record (new_rule (codes "FIRST")) { required = true; action = Some Set; trailing_var_arg = true }
 
--- one word or more
+-- one or more words
 abbrev pub any_number : ValueRange
 any_number = record { start_inclusive = 1; end_inclusive = usize_max }
 
@@ -24,7 +24,7 @@ rest_rule = record (new_rule (codes "REST")) {
   range = Some any_number;
 }
 
--- of a program of this name: a word, and then one or more
+-- for a program with this name: a word, and then one or more
 abbrev pub command_line : Text → App
 command_line program = with_rule (with_rule (new_app program) first_rule) rest_rule
 

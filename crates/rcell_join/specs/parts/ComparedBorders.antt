@@ -1,4 +1,4 @@
--- What a border that is rejected is compared with (profile).
+-- What a rejected border is compared with (profile).
 use Rattle.std.specs.Prelude.{ℕ, zero, suc, ◌-◌, Bool, true, false, List, [], codes, if◌then◌else◌}
 use Rattle.cell_cats_areas.specs.declared.clump.Joining.TheVariants as joinings
 use Rattle.cell_join_clumps.specs.declared.clumps_fault.ClumpsFault.{ClumpsFault}
@@ -14,8 +14,8 @@ begins_row (WestEast west east) (NorthSouth north south) = false
 begins_row (WestEast west east) below = true
 begins_row beside below = false
 
--- what the border is compared with: the first border, or for that one the command; the border on the left or above; or the one with
--- none below it
+-- what the border is compared with: the first border, or for that one the command; the border on the left or above; or
+-- the one without a border below it
 abbrev pub clumps_other : List (List ℕ) → ClumpsFault → List ℕ
 clumps_other paths (clumps.Connectivity zero joinings.Edges) = codes "clumps -d"
 clumps_other paths (clumps.Connectivity zero joinings.EdgesAndCorners) = codes "clumps without -d"

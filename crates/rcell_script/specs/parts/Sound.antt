@@ -1,4 +1,4 @@
--- What is kept while a script is read: each statement fits the maps before it, and the known names are those after the statements.
+-- An invariant of reading: statements fit the maps before them, and the known names are those after the statements.
 use Rattle.std.specs.Prelude.{ℕ, ◌≡◌, ◌<◌, List, [], ◌∷◌, All, Option, Some, None, length}
 use Rattle.cell_core_values.specs.Name.{place_of}
 use Rattle.rcell_script.specs.KnownMaps.{known_after}
@@ -17,7 +17,7 @@ abbrev pub FitsBlock : List (List ℕ) → Option OpenReclass → Type 0
 FitsBlock known None = Unit {0}
 FitsBlock known (Some block) = (place_of block.target known ≡ None) × ((block.place < length known) × (0 < block.line))
 
--- all that was read fits
+-- everything that was read fits
 pub record IsSound (first : List (List ℕ)) (read : Progress) : Type 0 where
   pub known : read.known ≡ known_after_all first read.statements
   pub fits : Fits first read.statements

@@ -1,4 +1,4 @@
--- What a reader returns, next to what it has to read.
+-- What a reader returns, compared with what it has to read.
 use Rattle.std.specs.Prelude.{Result}
 use Rattle.cell_core_values.specs.Answers.{Answers}
 use Rattle.rcell_script_commands.specs.declared.script_fault.ScriptKind.{ScriptKind}

@@ -5,7 +5,7 @@ use Rattle.cell_calc.specs.RowValues.{at, column}
 use Rattle.cell_calc_modes.proofs.Columns.{item_width}
 use Rattle.cell_calc.proofs.calls.choose_call.Goals as goal
 
--- the places before so many
+-- an index is in range if others follow it
 within : (i more n : ℕ) → i + 1 + more ≤ n → i < n
 within i more n le = omega arith
 

@@ -9,8 +9,7 @@ use Rattle.cell_calc_language.specs.declared.assignment.Assignment.{Assignment}
 use Rattle.rcell_script_commands.specs.RMapcalc.{assignment_text}
 use Rattle.rcell.specs.Making.{AreValues}
 use Rattle.cell_calc_grammar.specs.Term.{Map, map_name}
-use Rattle.cell_calc_grammar.specs.Token.{token_number_at, sign_at}
-use Rattle.cell_calc_grammar.specs.declared.token.Sign.TheVariants.{CloseBracket, Comma, OpenBracket}
+use Rattle.cell_calc_grammar.specs.Token.{token_number_at}
 use Rattle.cell_calc_grammar.specs.Tokens.{word_of, mark_length, piece_length, pieces, tokens_of, token_list}
 use Rattle.cell_core.specs.Grid.{Grid, CellValue, cell_at, no_labels}
 use Rattle.cell_core_values.specs.Region.{RegionValue}

@@ -1,10 +1,12 @@
-use Rattle.std.proofs.Common.{refl, List, ℕ, pos, true, false, Some, None, [], ◌∷◌, codes}
+use Rattle.std.proofs.Common.{◌≡◌, refl, List, pos, true, Some, None, [], ◌∷◌, codes}
+use Rattle.std.specs.FinMap as finmap
+use Rattle.std.specs.Cmp.{int_cmp_total}
 use Rattle.std.specs.Fmt.{digits}
 use Rattle.bstr.specs.Text.{line_len, lines_from}
 use Rattle.cell_ascii_meaning.specs.CellTexts.{grid_of, cell_from}
 use Rattle.cell_ascii_meaning.specs.Header.{gap_of, header_from}
 use Rattle.cell_ascii_meaning.specs.GridTokens.{grid_start, word_from}
-use Rattle.cell_cats.specs.Reclass.{reclassed_map}
+use Rattle.cell_cats.specs.Reclass.{labels_of, reclassed_map}
 use Rattle.cell_cats.specs.Rule.{RuleValue}
 use Rattle.cell_cats.specs.declared.rule.Output.TheVariants.{To}
 use Rattle.cell_stats_combinations.specs.declared.skip.Skip.TheVariants.{AnyNull}
@@ -18,6 +20,13 @@ use Rattle.rcell_worked.proofs.law.tables.Goals as goal
 abbrev groups : List RuleValue
 groups = record { listed = Some ((pos 1, pos 1) ∷ (pos 3, pos 3) ∷ []); output = To (class 7); label = codes "wood" }
     ∷ record { listed = None; output = To (class 8); label = [] } ∷ []
+
+-- the labels of the new classes
+seven : finmap.get (labels_of groups) (pos 7) ≡ Some (codes "wood")
+seven = finmap.get-from_entries int_cmp_total ((pos 7, codes "wood") ∷ []) (pos 7)
+
+eight : finmap.get (labels_of groups) (pos 8) ≡ None
+eight = finmap.get-from_entries int_cmp_total ((pos 7, codes "wood") ∷ []) (pos 8)
 
 pub returns : goal.returns
 unfolding digits line_len lines_from grid_of cell_from gap_of header_from grid_start word_from shelf_from
@@ -184,6 +193,52 @@ returns c = record {
                       (refl, refl),
                       prints (with_map land_shelf (codes "wood") (reclassed_map groups land_map))
                           (1 ∷ []) (counts) (codes "7 7\n8 4\n* 1\n") [] refl refl,
+                    ),
+                  ),
+                ),
+              ),
+              refl,
+            ),
+          ),
+        ),
+      ),
+    );
+  };
+  labelled = record {
+    shelf = land_shelf;
+    statements = _;
+    read = record {
+      loaded = refl;
+      reads = record {
+        text = _;
+        bytes = refl;
+        denoted = script_of c.script_reading_denotes.ensures (codes "land" ∷ [])
+            (codes "r.reclass input=land output=wood\n1 3 = 7 wood\n* = 8\nend\nr.stats -c -l input=wood\n")
+            (codes "r.reclass input=land output=wood" ∷ codes "1 3 = 7 wood" ∷ codes "* = 8" ∷ codes "end"
+            ∷ codes "r.stats -c -l input=wood" ∷ []) _ refl
+            (_, (_, refl, refl), (_, refl, (_, refl, (_, refl, (_, (_, refl, refl), refl)))));
+      };
+    };
+    written = (
+      _,
+      (
+        _,
+        (
+          _,
+          (
+            refl,
+            (
+              (
+                _,
+                (
+                  _,
+                  (
+                    refl,
+                    (
+                      (refl, refl),
+                      prints (with_map land_shelf (codes "wood") (reclassed_map groups land_map))
+                          (1 ∷ []) (record counts { labels = true })
+                          (codes "7 wood 7\n8  4\n* no data 1\n") [] refl (rw (seven, eight) refl),
                     ),
                   ),
                 ),
