@@ -19,11 +19,13 @@ elif ! has 'numpy, pandas'; then
     skip python 'numpy or pandas is not installed' python3-numpy python3-pandas
 else
     add 'with numpy alone' "$python" tests/gate.py
-    if has 'pytest, hypothesis, rasterio, osgeo, pandas, xarray, rioxarray, zarr, dask.array, tqdm, pyproj, fiona, geopandas, matplotlib, numpydoc, scipy' && command -v grass > /dev/null; then
+    if has 'pytest, hypothesis, rasterio, osgeo, pandas, xarray, rioxarray, zarr, dask.array, distributed, tqdm, pyproj, fiona, geopandas, matplotlib, numpydoc, scipy, sklearn' && command -v grass > /dev/null; then
         add 'at the edge' "$python" tests/gate.py tests/test_gdal.py tests/test_edge.py tests/test_edge_files.py
-        add 'the calls' "$python" tests/gate.py tests/test_last_mile.py tests/test_shell.py tests/test_shell_texts.py tests/test_inputs.py tests/test_grass.py
+        add 'the calls' "$python" tests/gate.py tests/test_last_mile.py tests/test_shell.py tests/test_shell_texts.py tests/test_inputs.py tests/test_grass.py tests/test_peers.py
         add 'zones, legends, areas and arguments' "$python" tests/gate.py tests/test_zones.py tests/test_legends.py tests/test_areas.py tests/test_arguments.py tests/test_more_answers.py
         add 'any size' "$python" tests/gate.py tests/test_any_size.py tests/test_xarray.py
+        add 'clusters' "$python" tests/gate.py tests/test_clusters.py
+        add 'all ways' "$python" tests/any_way.py --count 100
         add 'random rasters by tiles' "$python" ../fronts/random_rasters.py --count 320 tiles
     else
         # shellcheck disable=SC2046

@@ -3,6 +3,7 @@
 from __future__ import annotations
 
 import pathlib
+import warnings
 from collections import Counter
 from typing import Any
 
@@ -106,6 +107,19 @@ def test_points_in_one_cell_count_and_points_elsewhere_do_not() -> None:
     parts = "1 without a class, 1 outside the map, 1 on null cells"
     assert [str(it.message) for it in told] == [f"reference: 3 of 7 points are left out: {parts}"]
     assert found.matrix.to_numpy().tolist() == [[2, 1], [0, 1]] and found.cells == 4
+
+
+def test_points_that_are_no_random_sample_have_a_warning() -> None:
+    land = rcell.Raster(masked([[1] * 9 + [2]]), METRES, crs="EPSG:4326")
+    common, rare = (1005, 4995, 1), (1005 + 9 * METRES[0], 4995, 2)
+    told = 'the map\'s classes have other shares .* drawn class by class, give areas="map"'
+    with pytest.warns(UserWarning, match=told):
+        rcell.accuracy(land, points([common] * 80 + [rare] * 80))
+    with warnings.catch_warnings():
+        warnings.simplefilter("error")
+        rcell.accuracy(land, points([common] * 80 + [rare] * 80), "map", area=None)
+        rcell.accuracy(land, points([common] * 144 + [rare] * 16))
+        rcell.accuracy(land, points([common] * 3 + [rare] * 3))
 
 
 def test_a_class_with_an_area_needs_a_cell_and_the_reverse() -> None:

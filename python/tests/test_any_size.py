@@ -390,6 +390,29 @@ def test_more_columns_than_one_run_has() -> None:
         rcell.Raster(cells).text()
 
 
+@pytest.mark.parametrize("code", ["EPSG:32632", "EPSG:4326"])
+@pytest.mark.parametrize("nodata", [7, None])
+def test_a_map_is_aligned_by_parts(
+    raster: Write, monkeypatch: pytest.MonkeyPatch, code: str, nodata: Any
+) -> None:
+    pytest.importorskip("pyproj")
+    cells = np.random.default_rng(17).integers(0, 9, (40, 50)).astype(np.uint8)
+    path = raster(cells, nodata=nodata)
+    width, west, north = (25, 499_900, 5_499_900) if "32632" in code else (3e-4, 9.001, 49.6506)
+    steps = (width, width * 1.3)
+    for step in steps:
+        to = rcell.Raster(np.ones((33, 44)), (step, 0, west, 0, -step, north), crs=code)
+        expected = rcell.align(path, to, resample="nearest")
+        with monkeypatch.context() as patch:
+            patch.setattr("rcell.core.align._SIDE", 9)
+            patch.setattr("rcell.readers.rasterio.BLOCK_CELLS", 100)
+            patch.setattr("rcell.core.kept.free_memory", lambda: 100)
+            found = rcell.align(path, to, resample="nearest")
+        check_equal(found, expected)
+        assert found.aligned == expected.aligned and found.aligned is not None
+        assert found.aligned.cells_used > 100
+
+
 # What goes wrong
 
 
@@ -402,9 +425,11 @@ def test_the_first_bad_cell_has_its_place_in_the_full_map() -> None:
 
 def test_warnings_are_given_once_and_where_the_call_is() -> None:
     cells = np.full((20, 30), 255, np.uint8)
-    with pytest.warns(UserWarning, match="96 of the 96 cells along its border are 255") as caught:
-        as_tiles(lambda: rcell.composition(cells), (6, 7))
-    assert [one.filename for one in caught] == [__file__]
+    calls: tuple[Any, ...] = (rcell.composition, rcell.patches)
+    for call in calls:
+        with pytest.warns(UserWarning, match="96 of the 96 cells along its border") as caught:
+            as_tiles(lambda: call(cells), (6, 7))
+        assert [one.filename for one in caught] == [__file__]
     large = np.full((20, 30), 2.0**25, np.float32)
     with pytest.warns(UserWarning, match="not exact beyond") as caught:
         as_tiles(lambda: rcell.composition(large), (6, 7))
@@ -477,7 +502,7 @@ def test_progress_ends_at_one() -> None:
     shares: list[float] = []
     with serving(Host(progress=shares.append)):
         as_tiles(lambda: rcell.patches(np.ones((20, 20))), (10, 10))
-    assert shares == [at / 12 for at in range(1, 13)]
+    assert shares == [at / 4 for at in range(1, 5)]
     shares.clear()
     with serving(Host(progress=shares.append)):
         as_tiles(lambda: rcell.clump(np.ones((20, 20))), (10, 10))
@@ -568,6 +593,17 @@ def test_finished_tiles_are_kept_and_taken_again(raster: Write, tmp_path: pathli
         as_tiles(lambda: rcell.composition(path, resume=folder), (20, 30)),
         rcell.composition(path),
     )
+
+
+def test_a_summary_of_patches_is_kept_and_taken_again(
+    raster: Write, tmp_path: pathlib.Path
+) -> None:
+    path = raster(np.random.default_rng(9).integers(0, 5, (40, 30)).astype(np.uint8))
+    expected = rcell.patches(path, summary="class")
+    for _ in range(2):
+        call = lambda: rcell.patches(path, summary="class", resume=tmp_path / "shelf")  # noqa: E731
+        check_equal(as_tiles(call, (20, 30)), expected)
+        assert len(list((tmp_path / "shelf").iterdir())) == 2
 
 
 def test_results_of_arrays_and_of_other_patches_are_told_apart(tmp_path: pathlib.Path) -> None:

@@ -22,8 +22,11 @@ Call = Callable[[], Any]
 @pytest.mark.parametrize(
     ("call", "told"),
     [
-        (lambda: rcell.patches(LAND, classes=31), r"classes must be a list of whole numbers, for example \[31, 32\]; got 31"),
-        (lambda: rcell.patches(LAND, classes="31"), "classes must be a list of whole numbers"),
+        (lambda: rcell.patches(LAND, classes=3.5), "classes must be whole numbers from -2147483647 to 2147483647; got 3.5"),
+        (lambda: rcell.patches(LAND, classes="31"), r"classes must be a list of whole numbers, for example \[31, 32\]; got '31'"),
+        (lambda: rcell.sieve(LAND, 2, labels={1: "a"}), "labels is not an argument of sieve: the arguments are map, min_cells, "),
+        (lambda: rcell.composition(LAND, zone="a.tif", compute=False), "zone is not an argument of composition: the arguments are "),
+        (lambda: rcell.record("a.csv", rcell.composition, "a.tif", zone="b.tif"), "zone is not an argument of composition"),
         (lambda: rcell.patches(LAND, classes=[np.inf]), "classes must be whole numbers from -2147483647 to 2147483647; got inf"),
         (lambda: rcell.patches(LAND, classes=[2**31]), "classes must be whole numbers from -2147483647 to 2147483647; got 2147483648"),
         (lambda: rcell.patches(LAND, classes=[1.5]), "got 1.5"),
@@ -52,7 +55,7 @@ Call = Callable[[], Any]
         (lambda: rcell.table("r.stats -cn input=lc", "lc.tif"), 'maps must be given by name, for example a="a.tif"; got \'lc.tif\''),
         (lambda: rcell.run(3, lc=LAND), "script must be a text; got 3"),
         (lambda: rcell.grid({11: 1}, "lc", lc=LAND), "script must be a text; got {11: 1}"),
-        (lambda: rcell.grid("", "land", lc=LAND), "name must be a map of the script; got 'land', and there are lc"),
+        (lambda: rcell.grid("", "land", lc=LAND), "name must be a map of the script .lc.; got 'land'"),
         (lambda: rcell.table("r.stats -cn input=lc", lc=LAND, areas="ha"), "areas is taken for a map, and 'ha' is not one: did you mean area="),
         (lambda: rcell.cross(a=LAND, include_nul=True), "include_nul is taken for a map, and True is not one: did you mean include_null="),
         (lambda: rcell.align(LAND, LAND, resample="bilinear"), "resample must be \"nearest\" or None; got 'bilinear'"),

@@ -1,10 +1,9 @@
-"""Buffers of classes, next to the definition written out cell by cell and to scipy."""
+"""Buffers of classes, next to the definition written out cell by cell."""
 
 from __future__ import annotations
 
 from typing import Any
 
-import numpy as np
 import pytest
 
 from .map_definitions import MAPS, masked, within
@@ -29,24 +28,18 @@ def test_rings_are_as_defined(name: str, distances: Any, transform: Any) -> None
     assert found.array.tolist() == expected
 
 
-@pytest.mark.parametrize("distances", [[333, 1234, 2450], [7, 8, 9, 2540]])
-def test_distances_of_hundreds_of_cells_are_those_of_scipy(distances: Any) -> None:
-    ndimage = pytest.importorskip("scipy.ndimage")
-    random = np.random.default_rng(3)
-    cells = np.zeros((300, 320), int)
-    cells[random.integers(0, 300, 6), random.integers(0, 320, 6)] = 1
-    distance = ndimage.distance_transform_edt(cells == 0, sampling=(10, 30))
-    found = rcell.within(placed(cells, OBLONG), [1], distances)
-    rings = [distance <= limit for limit in (0, *distances)]
-    expected = np.select(rings, list(range(len(rings))), -1)
-    assert (np.ma.filled(found.array, -1) == expected).all()
-
-
 def test_distances_are_in_metres_on_maps_in_feet() -> None:
     land = placed([[7, 1, 1, 1]], (100, 0, 0, 0, -100, 0), "EPSG:2263")
     found = rcell.within(land, [7], [30, 61])
     assert found.array.tolist() == [[0, 2, 2, None]]
-    assert found.labels == {0: "inside", 1: "up to 30 m", 2: "up to 61 m"}
+    assert found.labels == {0: "inside", 1: "up to 30 m", 2: "30 to 61 m"}
+
+
+def test_one_class_and_one_distance_are_numbers() -> None:
+    land = placed([[7, 1, 1, 1]], (10, 0, 0, 0, -10, 0))
+    found, listed = rcell.within(land, 7, 10), rcell.within(land, [7], [10])
+    assert found.array.tolist() == listed.array.tolist() == [[0, 1, None, None]]
+    assert found.labels == listed.labels == {0: "inside", 1: "up to 10 m"}
 
 
 def test_a_distance_on_the_limit_is_within() -> None:
@@ -61,7 +54,7 @@ def test_a_distance_on_the_limit_is_within() -> None:
         (None, [10], "classes must be a list of whole numbers; got None"),
         ([1.5], [10], "classes must be whole numbers from .*; got 1.5"),
         ([1], [], "distances must have at least one number; got none"),
-        ([1], 10, "distances must be a list of numbers, .*; got 10"),
+        ([1], "10", "distances must be a list of numbers, .*; got '10'"),
         ([1], [10, 10], "distances must ascend from above 0; got 10"),
         ([1], [0], "distances must ascend from above 0; got 0"),
         ([1], ["10"], "distances must ascend from above 0; got '10'"),
@@ -74,6 +67,6 @@ def test_classes_and_distances_that_are_refused(classes: Any, distances: Any, to
 
 
 def test_a_map_without_metres_is_refused() -> None:
-    for crs, told in ((None, "need a coordinate reference system"), ("EPSG:4326", "in degrees")):
+    for crs, told in ((None, "with a coordinate reference system"), ("EPSG:4326", "in degrees")):
         with pytest.raises(rcell.BadArgument, match=told):
             rcell.within(placed([[1, 2]], (0.1, 0, 5, 0, -0.1, 5), crs), [1], [10])

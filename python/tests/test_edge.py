@@ -75,7 +75,7 @@ def test_dimensions_of_one_element_keep_their_place() -> None:
     assert cells(xarray.DataArray([[[1], [2], [3]]], dims=("y", "x", "band"))) == [[1, 2, 3]]
     assert cells(xarray.DataArray([[[1, 2, 3]]], dims=("band", "y", "x"))) == [[1, 2, 3]]
     assert cells(xarray.DataArray([[1, 2, 3]])) == [[1, 2, 3]]
-    assert "two dimensions of one axis" in str(
+    assert "two dimensions along one axis" in str(
         refusal(xarray.DataArray([[1, 2]], dims=("x", "lon")))
     )
 
@@ -188,8 +188,8 @@ def test_a_nodata_beyond_all_numbers_is_no_cell() -> None:
     [
         ({None: "n"}, "None is not a whole number"),
         ({1.5: "f"}, "1.5 is not a whole number"),
-        ({2**31: "x"}, "2147483648 is beyond 2147483647"),
-        ({-(2**31): "x"}, "-2147483648 is beyond 2147483647"),
+        ({2**31: "x"}, "2147483648 is outside -2147483647 to 2147483647"),
+        ({-(2**31): "x"}, "-2147483648 is outside -2147483647 to 2147483647"),
         ({1: "\ud800"}, "the label of 1 has a character that no file can hold: '\\ud800'"),
         ({1: "\udcff"}, "that no file can hold: '\\udcff'"),
         ({1: "a\0b"}, "a label with the character NUL"),
@@ -532,7 +532,7 @@ def test_the_program_judges_the_script_before_a_map_is_missed() -> None:
             assert (refused.value.text, refused.value.column) == ("bad byte at column 11", 11)
             assert str(refused.value).splitlines()[2] == " " * 12 + "^"
             assert refused.value.advice == "r.mapcalc x = lc * 2"
-    with pytest.raises(rcell.BadArgument, match="got 'y', and there are lc, x"):
+    with pytest.raises(rcell.BadArgument, match=r"\(lc, x\); got 'y'"):
         rcell.grid("r.mapcalc x = lc * 2", "y", lc=LAND)
 
 

@@ -20,6 +20,7 @@ import rcell
 from rcell.shell import script_of
 from rcell.core import programs
 from rcell.core.programs import find_program
+from rcell.core.writing import write_beside
 
 from .conftest import LAND, TRANSFORM
 from .rows import rows_of
@@ -175,7 +176,7 @@ def test_paths_that_are_not_utf8(room: pathlib.Path, raster: Write) -> None:
     assert b"wood" in pathlib.Path(os.fsdecode(labels)).read_bytes()
     for given in (odd + ".tif", "/vsigzip/" + odd):
         with pytest.raises(
-            rcell.ReadFailed, match="rasterio takes no path that is not UTF-8: rename the file"
+            rcell.ReadFailed, match="rasterio only accepts UTF-8 paths: rename the file"
         ):
             rcell.run("r.stats input=m", m=given)
     with pytest.raises(rcell.ReadFailed, match="no path has a surrogate"):
@@ -260,6 +261,34 @@ def test_signals_leave_nothing(room: pathlib.Path, name: str) -> None:
             said = program.communicate(timeout=SECONDS)[1]
     assert (program.returncode % 256, said) == (128 + getattr(signal, name), "")
     assert (hidden(room), (room / "out").read_text(), running(room)) == ([], "old", [])
+
+
+def test_what_a_killed_process_left_goes_when_the_file_is_written(room: pathlib.Path) -> None:
+    """It stays while the process runs, and when another file is written."""
+    code = (
+        "import sys, time\nfrom rcell.core.files import Output\nwith Output(sys.argv[1]) as output:\n"
+        "    open(output.path(), 'w').write('half')\n    print(flush=True)\n    time.sleep(600)"
+    )
+    out, other = str(room / "out"), str(room / "out-2")
+    with subprocess.Popen(
+        [sys.executable, "-c", code, out], env=environment(), stdout=subprocess.PIPE
+    ) as program:
+        assert program.stdout is not None and program.stdout.readline()
+        [left] = hidden(room)
+        write_beside(out, b"first")
+        assert hidden(room) == [left]
+        program.kill()
+    for path, still in ((other, [left]), (out, [])):
+        write_beside(path, b"second")
+        assert (hidden(room), pathlib.Path(path).read_bytes()) == (still, b"second")
+
+
+def test_a_folder_without_a_lock_stays(room: pathlib.Path) -> None:
+    folder = room / ".out-01234567"
+    folder.mkdir()
+    (room / ".out-89abcdef").symlink_to(folder)
+    write_beside(str(room / "out"), b"whole")
+    assert sorted(hidden(room)) == [".out-01234567", ".out-89abcdef"]
 
 
 def running(room: pathlib.Path) -> list[str]:

@@ -81,11 +81,11 @@ def test_types_of_whole_numbers(made: Made, kind: str) -> None:
     ("cell", "kind", "told"),
     [
         (2.5, "Float64", "2.5"),
-        (3e9, "Float64", "3000000000, beyond"),
-        (4294967295, "UInt32", "4294967295, beyond"),
-        (-(2**31), "Int32", "-2147483648, beyond"),
-        (2**40, "Int64", "1099511627776, beyond"),
-        (np.inf, "Float32", "inf, beyond"),
+        (3e9, "Float64", "3000000000, outside"),
+        (4294967295, "UInt32", "4294967295, outside"),
+        (-(2**31), "Int32", "-2147483648, outside"),
+        (2**40, "Int64", "1099511627776, outside"),
+        (np.inf, "Float32", "inf, outside"),
     ],
 )
 def test_a_cell_that_is_not_a_category(made: Made, cell: float, kind: str, told: str) -> None:
@@ -196,7 +196,7 @@ def test_files_are_read_without_rasterio_fiona_and_pyproj(
     pathlib.Path(zones).write_text(f'{{"type": "FeatureCollection", "features": [{feature}]}}')
     usual = rcell.composition(lc, zones=zones, zone_field="id")
     for library in ("rasterio", "fiona", "pyproj"):
-        monkeypatch.setitem(sys.modules, library, None)
+        monkeypatch.setitem(sys.modules, library, None)  # type: ignore[misc]
     known.cache_clear()
     found = rcell.composition(lc, zones=zones, zone_field="id")
     known.cache_clear()

@@ -1,7 +1,9 @@
-"""The calls compared with modules of GRASS: r.stats, r.univar, r.stats.zonal, r.neighbors and r.buffer."""
+"""The calls compared with modules of GRASS: r.stats, r.univar, r.neighbors, r.buffer, r.kappa, r.mode, r.resamp.stats, r.li and others."""
 
 from __future__ import annotations
 
+import os
+import re
 import shutil
 import subprocess
 from typing import Any, Callable
@@ -15,6 +17,19 @@ pytest.importorskip("pandas")
 pytest.importorskip("rasterio")
 Session = Callable[..., str]
 SIZE = (40, 50)
+METRES, UTM = (30.0, 0, 500_000.0, 0, -30.0, 5_500_000.0), "EPSG:32632"
+PRINTED = "r.out.ascii input={} null_value=-1 --quiet | tail -n +7\n"
+# Indices of r.li, and what they are called here; r.li.edgedensity counts the sides to null and to the edge of the map too.
+INDICES = {
+    "shannon": "shannon_diversity",
+    "simpson": "simpson_diversity",
+    "pielou": "shannon_evenness",
+    "richness": "classes",
+    "patchnum": "patches",
+    "patchdensity": "patches_km2",
+    "mps": "mean_patch_ha",
+    "edgedensity": "edge",
+}
 
 
 @pytest.fixture(scope="module")
@@ -38,10 +53,12 @@ def grass(tmp_path_factory: pytest.TempPathFactory) -> Any:
         where = room / f"location-{crs[5:]}"
         if not where.exists():
             subprocess.run(["grass", "-e", "-c", crs, str(where)], check=True, capture_output=True)
+        # r.li keeps files in the home of its user.
         ran = subprocess.run(
             ["grass", str(where / "PERMANENT"), "--exec", "sh", str(script)],
             capture_output=True,
             text=True,
+            env={**os.environ, "HOME": str(room)},
         )
         assert ran.returncode == 0, ran.stderr
         return ran.stdout
@@ -58,8 +75,8 @@ def made(seed: int, transform: tuple[float, ...], crs: str, classes: int = 5) ->
     return rcell.Raster(cells, transform, crs, nodata=0)
 
 
-def lines_of(text: str, separator: str = "|") -> list[list[float]]:
-    return [[float(word) for word in line.split(separator)] for line in text.strip().splitlines()]
+def lines_of(text: str) -> list[list[float]]:
+    return [[float(word) for word in line.split("|")] for line in text.strip().splitlines()]
 
 
 def test_areas_and_cells(grass: Session) -> None:
@@ -149,3 +166,73 @@ def test_buffers(grass: Session) -> None:
     expected = [[int(word) - 1 for word in line.split()] for line in text.splitlines()[6:]]
     found = rcell.within(land, [3], [45, 90, 200])
     assert np.ma.filled(found.array, -1).tolist() == expected
+
+
+def cells_of(text: str) -> Any:
+    return np.array([[int(word) for word in line.split()] for line in text.splitlines()])
+
+
+def test_accuracy_is_that_of_r_kappa(grass: Session) -> None:
+    land, later = made(6, METRES, UTM), made(7, METRES, UTM)
+    line = "r.kappa classification=land reference=later -w --quiet"
+    text = grass(UTM, line, land=land, later=later)
+    found = rcell.accuracy(land, later)
+    number = r"\s+([-\d.]+)"
+    kappa = re.search(rf"Kappa\s+Kappa Variance{number}", text)
+    correct = re.search(rf"% Observed Correct\s+(\d+)\s+(\d+){number}", text)
+    assert kappa and float(kappa[1]) == pytest.approx(found.kappa, abs=1e-6)
+    right = int(np.trace(found.matrix.to_numpy()))
+    assert correct and (int(correct[1]), int(correct[2])) == (right, found.cells)
+    rows = re.findall(rf"^ *(\d+){number}{number}{number}\s*$", text, re.MULTILINE)
+    errors = {int(row[0]): (float(row[1]), float(row[2])) for row in rows}
+    assert len(errors) == len(found.classes)
+    for row in found.classes.itertuples():
+        wrong = 100 * (1 - row.users), 100 * (1 - row.producers)
+        assert errors[getattr(row, "_1")] == pytest.approx(wrong, abs=1e-4)
+
+
+def test_metrics_are_those_of_r_li(grass: Session) -> None:
+    land = made(8, METRES, UTM)
+    text = grass(
+        UTM,
+        f"""mkdir -p $HOME/.grass8/r.li/output
+        printf 'SAMPLINGFRAME 0|0|1|1\\nSAMPLEAREA 0.0|0.0|1|1\\n' > $HOME/.grass8/r.li/whole
+        for index in {" ".join(INDICES)}; do
+            r.li.$index input=land config=whole output=$index --quiet
+            echo "$index|$(cat $HOME/.grass8/r.li/output/$index)"
+        done""",
+        land=land,
+    )
+    theirs = {line.split("|")[0]: float(line.split("|")[-1]) for line in text.splitlines()}
+    [own] = rcell.metrics(land, "landscape").to_dict("records")
+    perimeters = rcell.metrics(land, "patch")["perimeter_m"].sum()
+    own["edge"] = (perimeters - own["edge_m"]) / own["area_ha"]
+    wanted = {index: own[name] for index, name in INDICES.items()}
+    assert theirs == pytest.approx(wanted, rel=1e-5)
+
+
+def test_maps_of_classes(grass: Session) -> None:
+    """r.mode and r.resamp.stats take the smallest of classes that are as frequent; r.grow takes cells nearer than its radius."""
+    land, zone = made(9, METRES, UTM), made(10, METRES, UTM, 9)
+    lines = "r.mode base=zone cover=land output=mode --quiet\nr.stats -n input=zone,mode --quiet"
+    modes = cells_of(grass(UTM, lines, land=land, zone=zone))
+    assert (rcell.dominant(land, zone)[["zone", "majority"]].to_numpy(int) == modes).all()
+    lines = "g.region res=150\nr.resamp.stats input=land output=mode method=mode --quiet\n"
+    modes = cells_of(grass(UTM, lines + PRINTED.format("mode"), land=land))
+    assert (rcell.aggregate(land, 5).majority.array.filled(-1) == modes).all()
+    lines = "r.mapcalc 'source = if(land == 3, 1, null())' --quiet\n"
+    lines += "r.grow input=source output=grown radius=3 old=1 new=2 --quiet\n"
+    grown = cells_of(grass(UTM, lines + PRINTED.format("grown"), land=land))
+    found = rcell.within(land, [3], [89.99]).array.filled(-2) + 1
+    assert (found == grown).all()
+
+
+def test_small_areas(grass: Session) -> None:
+    """r.reclass.area merges in another order, and gives null areas below the size a class, from which others follow."""
+    land = made(11, METRES, UTM, 9)
+    lines = "r.reclass.area input=land output=cut value=0.4 mode=lesser method=rmarea --quiet\n"
+    theirs = cells_of(grass(UTM, lines + PRINTED.format("cut"), land=land))
+    found = rcell.sieve(land, min_ha=0.4)
+    own, is_null = found.array.filled(-1), np.asarray(land.array.mask)
+    assert (theirs[is_null] > 0).any() and (own[is_null] == -1).all()
+    assert 0.6 < (own == theirs)[~is_null].mean() < 1

@@ -35,6 +35,21 @@ def check(row: dict[str, Any], expected: dict[str, Any]) -> None:
     assert [name for name in row if not is_near(row[name], expected[name])] == []
 
 
+def test_areas_and_percentages_are_those_of_composition() -> None:
+    land = placed(random_map(7, 60, 80, 5), (30.0, 0.0, 0.0, 0.0, -30.0, 0.0))
+    zones = placed(random_map(8, 60, 80, 3), (30.0, 0.0, 0.0, 0.0, -30.0, 0.0))
+    for words in ({}, {"zones": zones}):
+        found, listed = rcell.metrics(land, **words), rcell.composition(land, **words)
+        for name in ("cells", "area_ha", "percent"):
+            assert found[name].tolist() == listed[name].tolist()
+    parts = rcell.composition(land, zones)
+    exact = [
+        100 * cells / parts["cells"][parts["zone"] == zone].sum()
+        for zone, cells in zip(parts["zone"], parts["cells"])
+    ]
+    assert parts["percent"].tolist() == exact
+
+
 @pytest.mark.parametrize("transform", [SQUARE, OBLONG])
 @pytest.mark.parametrize("connectivity", [4, 8])
 @pytest.mark.parametrize("name", MAPS)

@@ -475,7 +475,7 @@ def test_polygons_that_are_refused(tmp_path: pathlib.Path) -> None:
             if False
             else rcell.composition(land(), path)["zone"].max() == 2
         )
-    with pytest.raises(rcell.Refused, match="no field x: there are name"):
+    with pytest.raises(rcell.Refused, match="no field x: the only field is name"):
         rcell.composition(land(), path, zone_field="x")
     with pytest.raises(rcell.ReadFailed, match="No such file"):
         rcell.composition(land(), "nowhere.gpkg")

@@ -2,6 +2,7 @@
 
 from __future__ import annotations
 
+import inspect
 import pathlib
 import subprocess
 import sys
@@ -14,6 +15,7 @@ ndimage = pytest.importorskip("scipy.ndimage")
 pandas = pytest.importorskip("pandas")
 xarray = pytest.importorskip("xarray")
 rcell = pytest.importorskip("rcell")
+from rcell import frames  # noqa: E402
 
 METRES = (10.0, 0.0, 0.0, 0.0, -20.0, 100.0)
 EDGES = np.array([[0, 1, 0], [1, 1, 1], [0, 1, 0]])
@@ -174,6 +176,11 @@ print(land.rcell.zonal(land)["sum"].tolist(), land.rcell.change(land).summary.sh
 print(land.rcell.majority().values.tolist(), land.rcell.align(land).values.tolist(), land.rcell.clump().dims)
 print(land.rcell.adjacency()["sides"].tolist(), land.rcell.reclass({(1, 3): 5}).values.max())
 print(land.rcell.table("r.stats -c input=land").shape, land.rcell.grid("edge = land").values.tolist())
+print(land.rcell.dominant(land)["zone"].tolist(), round(land.rcell.accuracy(land).overall, 9), len(land.rcell.sample(2, 7)))
+print(land.rcell.metrics()["patches"].tolist(), land.rcell.aggregate(2).majority.shape, land.rcell.sieve(2).patches_after)
+near = land.assign_attrs(crs="EPSG:25832").rcell.within([3], [1])
+years = xarray.concat([land, land], xarray.Variable("time", [2000, 2010])).rcell
+print(near.values.min(), near.dims, years.trajectories(include_maps=True).maps["changes"].values.max())
 print([name for name in ("dask", "distributed", "psutil", "tqdm") if name in sys.modules])
 """
 
@@ -194,4 +201,21 @@ def test_the_accessor_has_the_answers_without_dask() -> None:
     assert lines[0] == "[2, 3, 1] ['patch', 'class', 'cells']"
     assert lines[1] == "[2, 6, 3] (3, 8) (3, 4)"
     assert lines[2] == "[[1, 2, 2], [1, 2, 2]] [[1, 1, 2], [3, 2, 2]] ('y', 'x')"
+    assert lines[5] == "[1, 2, 3] 1.0 2"
+    assert lines[6] == "[1, 1, 1] (1, 2) 2"
+    assert lines[7] == "-2147483648 ('y', 'x') 0"
     assert lines[-1] == "[]"
+
+
+def test_the_accessor_has_each_call_of_one_map() -> None:
+    accessor = pytest.importorskip("rcell.xarray").Accessor
+    methods = {name for name in vars(accessor) if not name.startswith("_")}
+    assert methods == set(frames.__all__) - {"Result", "frame_of", "run"}
+    validate = pytest.importorskip("numpydoc.validate").validate
+    for name in methods:
+        found = validate(f"rcell.xarray.Accessor.{name}")["errors"]
+        assert not {"GL03", "SS03", "SS05", "PR01", "PR02", "RT01", "RT03"} & {
+            it[0] for it in found
+        }
+    shown = str(inspect.signature(accessor.patches))
+    assert shown.startswith("(self, /, connectivity: 'int' = 4, area:")

@@ -153,7 +153,7 @@ class Runs(unittest.TestCase):
         with self.assertRaises(rcell.BadArgument) as caught:
             rcell.grid(script, "thrice", lc=LAND)
         self.assertEqual(caught.exception.argument, "name")
-        self.assertIn("got 'thrice', and there are lc, twice", caught.exception.reason)
+        self.assertIn("(lc, twice); got 'thrice'", caught.exception.reason)
 
     def test_names_that_are_no_keywords(self) -> None:
         self.assertEqual(
@@ -338,7 +338,7 @@ class Refusals(unittest.TestCase):
         for given, told in (
             (
                 np.zeros((2, 2, 2), int),
-                "an array of 3 dimensions (2 x 2 x 2), and a map has two; of a raster's bands give one, as read(1)",
+                "an array of 3 dimensions (2 x 2 x 2), and a map has two; pass one band of a raster, for example read(1)",
             ),
             (np.zeros((0, 2), int), "an array without cells (0 x 2)"),
             (
@@ -347,19 +347,19 @@ class Refusals(unittest.TestCase):
             ),
             (
                 np.array([[1], [np.inf]]),
-                "not a map of whole numbers: the cell at row 2, column 1 is inf, beyond 2147483647 either way",
+                "not a map of whole numbers: the cell at row 2, column 1 is inf, outside -2147483647 to 2147483647",
             ),
             (
                 np.array([[3 * 10**9]]),
-                "not a map of whole numbers: the cell at row 1, column 1 is 3000000000, beyond 2147483647 either way",
+                "not a map of whole numbers: the cell at row 1, column 1 is 3000000000, outside -2147483647 to 2147483647",
             ),
             (
                 np.array([[2**64 - 1]], np.uint64),
-                "not a map of whole numbers: the cell at row 1, column 1 is 18446744073709551615, beyond 2147483647 either way",
+                "not a map of whole numbers: the cell at row 1, column 1 is 18446744073709551615, outside -2147483647 to 2147483647",
             ),
             (
                 np.array([[-(2**31)]], np.int32),
-                "not a map of whole numbers: the cell at row 1, column 1 is -2147483648, beyond 2147483647 either way",
+                "not a map of whole numbers: the cell at row 1, column 1 is -2147483648, outside -2147483647 to 2147483647",
             ),
             (np.array([["a"]]), "not a map of whole numbers: its cells are of the type <U1"),
             (np.array([[1j]]), "not a map of whole numbers: its cells are of the type complex128"),
@@ -367,7 +367,7 @@ class Refusals(unittest.TestCase):
             ((LAND, rcell.Region.of_cells(4, 4)), "an array of 3 x 4 cells, and a region of 4 x 4"),
             (
                 (LAND, (1, 0.5, 0, 0, -1, 0)),
-                "a rotated transform (1.0, 0.5, 0.0, 0.0, -1.0, 0.0): warp the map to rows from west to east first",
+                "a rotated transform (1.0, 0.5, 0.0, 0.0, -1.0, 0.0): warp the map to a north-up grid first",
             ),
         ):
             with self.subTest(told=told), self.assertRaises(rcell.BadMap) as caught:
@@ -382,7 +382,7 @@ class Refusals(unittest.TestCase):
         self.assertEqual(
             str(caught.exception).splitlines(),
             [
-                "b: not of the region of `a`, and nothing is resampled: east is 600.5, not 600 (0.5 more); west is 500.5, not 500 (0.5 more)",
+                "b: its grid differs from `a`, and rcell does not resample: east is 600.5, not 600 (0.5 more); west is 500.5, not 500 (0.5 more)",
                 "  a: north 1000, south 925, east 600, west 500, 3 rows, 4 columns",
                 "  b: north 1000, south 925, east 600.5, west 500.5, 3 rows, 4 columns",
                 '  try: b=rcell.align(b, to=a, resample="nearest")',

@@ -14,7 +14,7 @@ import numpy as np
 import rcell
 from rcell.core.joiner import find_joiner, numbering_of
 from rcell.core.programs import find_program
-from rcell.core.protocol import NULL
+from rcell.core.protocol import NULL, NULL_BYTE
 from rcell.core.rectangles import Rectangle
 from rcell.core.region import Region
 from rcell.core.runs import execute_once
@@ -44,7 +44,9 @@ def clumped(cells: Any, diagonal: bool) -> Any:
     """The numbers of the clumps of a map, 0 for null."""
     maps = {"a": ArrayMap("a", cells, Region.of_cells(*cells.shape), nodata_value=NULL_CELL)}
     script = f"r.clump {'-d ' if diagonal else ''}input=a output=k"
-    return np.maximum(execute_once(script, maps, wanted=("k",))[-1].values, 0)
+    numbers = execute_once(script, maps, wanted=("k",))[-1].values
+    null = NULL_BYTE if numbers.dtype == np.uint8 else NULL
+    return np.where(numbers == null, 0, numbers.astype(np.int32))
 
 
 def border(cells: Any, diagonal: bool, top: int = 0, left: int = 0) -> bytes:

@@ -144,7 +144,7 @@ class Requests(Asked):
             + struct.pack("<IIBBqI", 2, 3, 1, 1, 255, 2)
         )
         labels = struct.pack("<iH", 1, 4) + b"wood" + struct.pack("<iH", -2, 2) + "ä".encode()
-        self.assertEqual(found, head + labels + LAND + b"\x11\0\0\0r.stats input=lc\n")
+        self.assertEqual(found, head + labels + LAND + b"\x11\0\0\0r.stats input=lc\n" + bytes(4))
 
     def test_rows_and_masks(self) -> None:
         cells, mask = array("h", [1, -1, 300, 4, 5, 6]), bytes([0, 1, 0, 1, 1, 0])
@@ -160,7 +160,7 @@ class Requests(Asked):
                 struct.pack("<3h", 1, -1, 300) + mask[:3] + struct.pack("<3h", 4, 5, 6) + mask[3:]
             )
             self.assertTrue(
-                found.endswith(struct.pack("<IIBBqI", 2, 3, 4, 2, 0, 0) + rows + bytes(4)), found
+                found.endswith(struct.pack("<IIBBqI", 2, 3, 4, 2, 0, 0) + rows + bytes(8)), found
             )
 
     def test_arrays_of_every_type(self) -> None:
@@ -176,15 +176,22 @@ class Requests(Asked):
             cells = np.arange(6).astype(dtype).reshape(2, 3)
             self.assertTrue(
                 self.asked(a_map(type=name, blocks=[protocol.Block(cells.data)])).endswith(
-                    cells.tobytes() + bytes(4)
+                    cells.tobytes() + bytes(8)
                 )
             )
-            frames = protocol.run(
+            [frame] = protocol.run(
                 find_pipe(),
                 [a_map(type=name, blocks=[protocol.Block(cells.data)])],
                 b"r.out.ascii input=lc\n",
             )
-            self.assertEqual(np.asarray(frames[0].cells).tolist(), list(range(6)))
+            assert isinstance(frame, protocol.GridFrame)
+            self.assertEqual(np.asarray(frame.cells).tolist(), list(range(6)))
+
+    def test_questions(self) -> None:
+        questions = [protocol.Question("lc", 4, 1), protocol.Question("k", 8, 300, "lc")]
+        found = b"".join(protocol.request([a_map()], b"", questions))
+        first, second = b"\1\2lc\4\1\0\0\0\0", b"\1\1k\x08\x2c\1\0\0\2lc"
+        self.assertTrue(found.endswith(b"\2\0\0\0" + first + second), found)
 
     def test_other_numbers_of_rows(self) -> None:
         for blocks in (
@@ -234,6 +241,15 @@ class Answers(Asked):
             (cells.line, cells.names, cells.counts, cells.cells.tolist(), cells.null_text),
             (6, ("lc",), None, [1, protocol.NULL], b"*"),
         )
+
+    def test_patches(self) -> None:
+        row = struct.pack("<i8Q", -5, 3, 4, 2, 1, 0, 1, 2, 2**33)
+        for has_zones, zone in ((0, b""), (1, struct.pack("<i", protocol.NULL))):
+            head = b"PTCH" + struct.pack("<QBIBQ", 7, 4, 1, has_zones, 1)
+            program = self.answering(MAGIC + head + row + zone + DONE)
+            [frame] = protocol.run(program, [a_map()], b"")
+            assert isinstance(frame, protocol.PatchesFrame)
+            self.assertEqual((frame.question, bytes(frame.rows)), (7, row + zone))
 
     def test_a_statement(self) -> None:
         [found] = protocol.plan(self.answering(MAGIC + PLAN + DONE), ["lc", "ws"], b"x")

@@ -109,12 +109,12 @@ def test_without_georeference(raster: Write) -> None:
         (
             np.array([[0, 3 * 10**9]], "uint32"),
             {},
-            "the cell at row 1, column 2 is 3000000000, beyond 2147483647 either way",
+            "the cell at row 1, column 2 is 3000000000, outside -2147483647 to 2147483647",
         ),
         (
             np.array([[0, -(2**31)]], "int32"),
             {},
-            "the cell at row 1, column 2 is -2147483648, beyond 2147483647 either way",
+            "the cell at row 1, column 2 is -2147483648, outside -2147483647 to 2147483647",
         ),
         (LAND.astype("complex64"), {}, "its cells are of the type complex64"),
     ],
@@ -257,7 +257,7 @@ def test_any_raster_is_counted_as_numpy_does(array: Any, nodata: int | None) -> 
 
 def test_without_rasterio(raster: Write) -> None:
     code = (
-        "import sys\nsys.modules['rasterio'] = None\nimport rcell\n"
+        "import sys\nsys.modules['rasterio'] = sys.modules['osgeo'] = None\nimport rcell\n"
         f"try: rcell.run('', lc={raster(LAND)!r})\nexcept rcell.MissingLibrary as e: print(e)"
     )
     ran = subprocess.run(

@@ -77,7 +77,7 @@ def test_a_letter_of_the_table_is_named_with_its_line(folder: pathlib.Path) -> N
     path = recorded(folder)
     path.write_text(path.read_text().replace("wood", "Wood", 1))
     first, second = rcell.verify(path)
-    assert first == "the table is not as it was written"
+    assert first == "the table has changed since it was written"
     assert second.startswith("the table differs in line 2: `1,1,Wood,")
 
 
@@ -89,7 +89,7 @@ def test_a_cell_of_a_map_is_named_with_its_file(folder: pathlib.Path) -> None:
     write(folder / "lc.tif", cells, LABELS)
     differs = rcell.verify(path)
     assert differs[0] == "the cells of map (lc.tif) differ"
-    assert differs[1].startswith("the table differs in line 6: `2,2,town,274,")
+    assert differs[1].startswith("the table differs in line 6 and in 1 more line: `2,2,town,274,")
 
 
 def test_a_legend_is_named(folder: pathlib.Path) -> None:
@@ -107,7 +107,7 @@ def test_a_script_and_a_program_are_named(folder: pathlib.Path) -> None:
     told["runs"][0]["script"] += "\n"
     beside.write_text(json.dumps(told))
     program, script = rcell.verify(path)
-    assert program.startswith("the program differs: it was of rcell ")
+    assert program.startswith("the program differs: it was rcell ")
     assert script == "the scripts differ: other lines were run"
 
 
@@ -156,6 +156,34 @@ def test_patterns_of_files_and_workers_are_recorded(folder: pathlib.Path, monkey
     assert rcell.verify(folder / "t.csv") == []
 
 
+def test_defaults_are_not_recorded(folder: pathlib.Path) -> None:
+    recorded(folder)
+    told = (folder / "t.csv.json").read_bytes()
+    recorded(folder, area="auto", labels=None, include_null=False)
+    assert (folder / "t.csv.json").read_bytes() == told
+
+
+def test_a_table_without_a_record_is_named(folder: pathlib.Path) -> None:
+    path = recorded(folder)
+    (folder / "t.csv.json").unlink()
+    told = "t.csv has no record, which is .*t.csv.json: write it with rcell.record"
+    with pytest.raises(rcell.Refused, match=told):
+        rcell.verify(path)
+
+
+def test_a_record_of_r_is_reported_and_verified_there(folder: pathlib.Path) -> None:
+    path, beside = recorded(folder), folder / "t.csv.json"
+    told = json.loads(beside.read_text())
+    told["versions"] = {"R": "4.2.2", "rcell": "1.0.0", "terra": "1.7.3"}
+    told["call"]["name"] = "rcell_composition"
+    beside.write_text(json.dumps(told))
+    with pytest.raises(rcell.Refused, match="t.csv was recorded by the package for R: verify"):
+        rcell.verify(path)
+    page = pathlib.Path(rcell.report([path], folder / "r.html")).read_text()
+    assert "Rscript -e &#x27;rcell::rcell_verify(&quot;t.csv&quot;)&#x27;" in page
+    assert "The cells of each class, in all or in each zone." in page
+
+
 def test_a_record_of_another_call_fails_with_a_line(folder: pathlib.Path) -> None:
     path, beside = recorded(folder), folder / "t.csv.json"
     told = json.loads(beside.read_text())
@@ -187,13 +215,16 @@ def test_calls_that_cannot_be_recorded(
 def test_paths_that_are_refused(folder: pathlib.Path) -> None:
     with pytest.raises(rcell.BadArgument, match="path must end in .csv; got 't.txt'"):
         rcell.record("t.txt", rcell.composition, folder / "lc.tif")
-    with pytest.raises(rcell.BadArgument, match="call must be a call of rcell, .*; got len"):
+    with pytest.raises(
+        rcell.BadArgument, match="call must be a call that returns a table, .*; got len"
+    ):
         rcell.record(folder / "t.csv", len, folder / "lc.tif")
-    with pytest.raises(rcell.BadArgument, match="call must return a table; got a tuple"):
+    with pytest.raises(rcell.BadArgument, match="a call that returns a table, .*; got align"):
         rcell.record(folder / "t.csv", rcell.align, folder / "lc.tif", folder / "zones.tif")
     legend = folder / "legend.csv"
     with pytest.raises(rcell.Refused, match="the output file is the input file"):
         rcell.record(legend, rcell.composition, folder / "lc.tif", labels=legend)
+    (folder / "t.csv").write_text("class,cells\n")
     for text, told in (
         ("{}", "is not a record of this version"),
         ("[]", "is not a record of this version"),

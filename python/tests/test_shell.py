@@ -8,6 +8,7 @@ import io
 import json
 import os
 import pathlib
+import re
 import subprocess
 import sys
 from typing import Any, Callable
@@ -254,7 +255,7 @@ def test_maps_are_written_all_or_none(tmp_path: Any, capsys: Any) -> None:
         (
             ["run", "r.clump input=lc output=k", "lc=MAP", "--out", "j=j.tif"],
             2,
-            "no map j: there are lc, k",
+            "no map j: the maps are lc, k",
         ),
         (
             ["run", "r.clump input=lc output=k", "lc=MAP", "--out", "k=/nowhere/k.tif"],
@@ -426,8 +427,16 @@ def test_dry_runs(raster: Write, capfdbinary: Any, tmp_path: pathlib.Path) -> No
     lines = said(capfdbinary)[0].splitlines()
     assert lines[0] == "3 rows and 4 columns: 12 cells"
     assert lines[1].startswith("one run, at most ")
-    assert lines[2] == "map: 1 MB of uint8, read 2 times"
+    assert lines[2] == "map: 1 MB of uint8, read once"
     assert main(["majority", path, str(tmp_path / "m.tif"), "--dry-run"]) == 0
     assert sorted(os.listdir(tmp_path)) == ["map.tif"]
     assert main(["composition", path, "--workers", "0"]) == 2
     assert "--workers must be a whole number, at least 1; got 0" in said(capfdbinary)[1]
+
+
+def test_the_manual_page_has_each_command() -> None:
+    page = pathlib.Path(__file__).parents[2] / "helpers" / "rcell-gis.1"
+    if not page.is_file():
+        pytest.skip("the manual page is not part of the package")
+    text = page.read_text(encoding="utf-8").partition(".SH OPTIONS")[0]
+    assert sorted(re.findall(r"^\.BI (\w+) ", text, re.MULTILINE)) == sorted(shell.COMMANDS)

@@ -80,7 +80,7 @@ def test_what_differs_is_printed_with_status_1(raster: Write, capfd: Any, tmp_pa
     assert main(["verify", out]) == 1
     lines = capfd.readouterr().out.splitlines()
     assert lines[0] == f"{out}: the cells of map (map.tif) differ"
-    assert lines[1].startswith(f"{out}: the table differs in line 3: `2,4,")
+    assert lines[1].startswith(f"{out}: the table differs in line 3 and in 1 more line: `2,4,")
 
 
 def test_a_report_is_a_page_in_a_file_or_on_standard_output(
@@ -110,7 +110,7 @@ def test_a_report_is_a_page_in_a_file_or_on_standard_output(
         (
             ["trajectories", "MAP", "MAP", "--years", "1,2", "--map", "last=o.tif"],
             2,
-            "no map last: there are changes, first_change, last_change",
+            "no map last: the maps are changes, first_change, last_change",
         ),
         (
             ["composition", "MAP", "--record"],
@@ -125,7 +125,7 @@ def test_a_report_is_a_page_in_a_file_or_on_standard_output(
         (
             ["verify", "t.csv"],
             4,
-            "record: cannot open t.csv.json: No such file or directory",
+            "record: cannot open t.csv: No such file or directory",
         ),
         (
             ["report", "t.csv", "--out", "r.pdf"],

@@ -258,7 +258,7 @@ def test_each_output_of_a_script_in_a_file(raster: Write, room: pathlib.Path, ca
             "r.stats -c input=lc\n",
             "II*\0...",
             1,
-            "rcell: lc:1: missing key\n  land.txt is not a grid of rcell\n  try: rcell-gis convert land.txt land.grid.txt\n",
+            "rcell: lc:1: missing key\n  land.txt is not an rcell grid\n  try: rcell-gis convert land.txt land.grid.txt\n",
         ),
     ],
 )

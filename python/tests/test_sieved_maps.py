@@ -1,9 +1,7 @@
-"""Sieved maps, next to the definition written out cell by cell and to GDAL's sieve."""
+"""Sieved maps, next to the definition written out cell by cell."""
 
 from __future__ import annotations
 
-import pathlib
-import subprocess
 from typing import Any
 
 import numpy as np
@@ -86,26 +84,11 @@ def test_labels_and_colours_are_those_of_the_map() -> None:
         ({"min_cells": 2.5}, "min_cells must be a whole number, at least 1; got 2.5"),
         ({"min_ha": -1}, "min_ha must be a number above 0; got -1"),
         ({"min_ha": "1"}, "min_ha must be a number above 0; got '1'"),
-        ({"min_ha": 1}, "min_ha needs a coordinate reference system, .* crs=.EPSG:25832.; got 1"),
-        ({"min_ha": 1, "crs": "EPSG:4326"}, "min_ha is not for maps in degrees, .* got 1: give"),
+        ({"min_ha": 1}, "min_ha must be for a map with a coordinate .* crs=.EPSG:25832."),
+        ({"min_ha": 1, "crs": "EPSG:4326"}, "min_ha must be for a map in metres .*: give"),
         ({"min_cells": 2, "connectivity": 6}, "connectivity must be 4 or 8; got 6"),
     ],
 )
 def test_sizes_that_are_refused(words: Any, told: str) -> None:
     with pytest.raises(rcell.BadArgument, match=told):
         rcell.sieve(masked([[1, 2]]), **words)
-
-
-def test_gdal_leaves_small_patches_that_are_merged_here(tmp_path: pathlib.Path) -> None:
-    """GDAL merges into the largest neighbour, and never into one that is small itself."""
-    land = placed(random_map(3, 60, 60, 9, 0, 1))
-    source, target = str(tmp_path / "land.tif"), str(tmp_path / "gdal.tif")
-    land.write(source)
-    words = ["gdal_sieve.py", "-q", "-nomask", "-st", "5", "-4", source, target]
-    try:
-        subprocess.run(words, check=True, capture_output=True)
-    except FileNotFoundError:
-        pytest.skip("gdal_sieve.py is not installed")
-    left = [len(patch) for patch in patches(rcell.grid("", "x", x=target).array.tolist(), 4)]
-    assert sum(size < 5 for size in left) > 100
-    assert rcell.sieve(land, 5).sieved.patches_below == 0

@@ -12,6 +12,7 @@ from hypothesis import given, settings
 from hypothesis import strategies as st
 
 import rcell
+from rcell.core import tiling
 from tests.test_any_size import EXPRESSIONS, NO_CELL, as_tiles, check_equal, cut_maps
 
 dask: Any = pytest.importorskip("dask.array")
@@ -80,12 +81,93 @@ def test_lazy_maps_have_labels_and_go_on_to_zarr(tmp_path: pathlib.Path) -> None
     check_equal(as_tiles(lambda: rcell.composition(path), (7, 30)), expected)
 
 
-def test_scripts_that_need_the_full_map_are_computed() -> None:
+def test_patches_of_lazy_arrays_stay_lazy() -> None:
     lazy = array_of(CELLS, (16, 10), nodata=200)
-    found = lazy.rcell.grid("r.clump input=lc output=k\nr.mapcalc x = k + 1")
-    assert found.chunks is None
-    expected = rcell.clump(in_memory(CELLS, nodata=200)).array + 1
-    assert found.values.tolist() == expected.filled(NULL).tolist()
+    found = lazy.rcell.grid("r.clump input=lc output=k\nr.mapcalc x = k[0,1] + 1")
+    assert found.chunks == lazy.chunks
+    whole = in_memory(CELLS, nodata=200)
+    expected = rcell.grid("r.clump input=lc output=k\nr.mapcalc x = k[0,1] + 1", "x", lc=whole)
+    assert found.values.tolist() == expected.array.filled(NULL).tolist()
+    large = lazy.rcell.clump(min_cells=5)
+    assert large.chunks is None
+    assert large.values.tolist() == rcell.clump(whole, min_cells=5).array.filled(NULL).tolist()
+
+
+TABLES: dict[str, Any] = {
+    "composition": lambda a, b, **words: rcell.composition(a, b, **words),
+    "cross": lambda a, b, **words: rcell.cross(a=a, b=b, **words),
+    "change": lambda a, b, **words: rcell.change(a, b, **words),
+    "series": lambda a, b, **words: rcell.change([a, b, a], years=[1, 2, 3], **words),
+    "zonal": lambda a, b, **words: rcell.zonal(a, b, **words),
+    "adjacency": lambda a, b, **words: rcell.adjacency(a, **words),
+    "dominant": lambda a, b, **words: rcell.dominant(a, b, **words),
+    "patches": lambda a, b, **words: rcell.patches(a, 8, zones=b, **words),
+    "summary": lambda a, b, **words: rcell.patches(a, summary="class", **words),
+    "metrics": lambda a, b, **words: rcell.metrics(a, "class", **words),
+    "table": lambda a, b, **words: rcell.table("r.stats -l input=a,b", a=a, b=b, **words),
+}
+
+
+@pytest.mark.filterwarnings("ignore::UserWarning")
+@pytest.mark.parametrize("name", TABLES)
+def test_tables_left_to_dask(name: str) -> None:
+    from dask.delayed import Delayed
+
+    second = np.roll(CELLS, 7)
+    found = TABLES[name](array_of(CELLS, (16, 10)), array_of(second, (9, -1)), compute=False)
+    assert isinstance(found, Delayed)
+    expected = TABLES[name](in_memory(CELLS), in_memory(second))
+    check_equal(found.compute(scheduler="threads"), expected)
+
+
+MAPS: dict[str, Any] = {
+    "majority": lambda a, **words: rcell.majority(a, 5, **words),
+    "reclass": lambda a, **words: rcell.reclass(a, {(1, 2): 7}, other="keep", **words),
+    "clump": lambda a, **words: rcell.clump(a, 8, **words),
+    "within": lambda a, **words: rcell.within(a, [3], [50], crs="EPSG:32632", **words),
+    "grid": lambda a, **words: rcell.grid("r.mapcalc x = row() * a[0,2]", "x", a=a, **words),
+}
+
+
+@pytest.mark.filterwarnings("ignore::UserWarning")
+@pytest.mark.parametrize("name", MAPS)
+def test_maps_left_to_dask(name: str, raster: Any) -> None:
+    lazy = array_of(CELLS, (16, 10), nodata=200)
+    expected = MAPS[name](in_memory(CELLS, nodata=200))
+    found = MAPS[name](lazy, compute=False)
+    assert found.chunks == lazy.chunks and found.x.equals(lazy.x)
+    assert found.values.tolist() == expected.array.filled(NULL).tolist()
+    path = raster(CELLS, nodata=200, transform=(25.0, 0.0, 1000.0, 0.0, -50.0, 5000.0))
+    with tiling.working(size=(13, 31)):
+        of_file = MAPS[name](path, compute=False)
+    assert of_file.chunks == ((13, 13, 13, 1), (31,))
+    assert of_file.values.tolist() == found.values.tolist()
+
+
+def test_a_buffer_left_to_dask_may_be_longer_than_the_map() -> None:
+    raster = rcell.Raster([[3, 1, 1], [1, 1, 1]], (10, 0, 0, 0, -10, 10), crs="EPSG:32632")
+    lazy = raster.to_xarray().chunk({"y": 1, "x": 2})
+    found = rcell.within(lazy, [3], [15, 90], compute=False)
+    whole = rcell.within(raster, [3], [15, 90])
+    assert found.compute().to_numpy().tolist() == whole.array.tolist()
+
+
+def test_what_cannot_be_left_to_dask() -> None:
+    lazy = array_of(CELLS, (16, 10), nodata=200)
+    calls: tuple[tuple[Any, str], ...] = (
+        (lambda: rcell.sieve(lazy, min_cells=3, compute=False), "sieve cannot leave its result"),
+        (lambda: rcell.reclass(lazy, {1: 2}, compute=False), "this map depends on a table"),
+        (lambda: rcell.clump(lazy, classes=[1], compute=False), "this map depends on a table"),
+        (
+            lambda: rcell.table("r.stats -1 input=a", a=lazy, compute=False),
+            "r.stats -1 lists cells",
+        ),
+        (lambda: rcell.composition(lazy, compute=False, workers=2), "workers must be left out"),
+        (lambda: rcell.composition(lazy, compute=False, resume="a"), "resume must be left out"),
+    )
+    for call, told in calls:
+        with pytest.raises(rcell.BadArgument, match=told):
+            call()
 
 
 def test_tables_of_lazy_arrays() -> None:
@@ -111,7 +193,7 @@ def test_stores_of_several_maps_and_none(tmp_path: pathlib.Path) -> None:
     both = xarray.Dataset({name: (("y", "x"), CELLS) for name in ("a", "b")})
     path = str(tmp_path / "both.zarr")
     both.to_zarr(path)
-    with pytest.raises(rcell.BadMap, match=r"a store of 2 maps \(a, b\): give one"):
+    with pytest.raises(rcell.BadMap, match=r"the store has 2 maps \(a, b\): pass one of them"):
         rcell.composition(path)
     with pytest.raises(rcell.ReadFailed, match="cannot open: nowhere.zarr"):
         rcell.composition("nowhere.zarr")

@@ -5,6 +5,7 @@ from __future__ import annotations
 import datetime
 import pathlib
 import warnings
+from collections.abc import Sequence
 from typing import Any
 
 import numpy as np
@@ -27,7 +28,7 @@ ENDINGS = {".gpkg": "GPKG", ".shp": "ESRI Shapefile", ".fgb": "FlatGeobuf"}
 
 def layer(
     path: pathlib.Path,
-    features: list[tuple[str | None, Any]],
+    features: Sequence[tuple[str | None, Any]],
     kind: int = ogr.OFTInteger,
     name: str = "zones",
     subtype: int = 0,
@@ -208,7 +209,7 @@ def test_several_layers_are_listed(tmp_path: pathlib.Path) -> None:
         cells(path)
     assert cells(f"{path}|layername=aa") == {1: 16}
     assert cells(path, layer="zz") == {1: 8}
-    with pytest.raises(rcell.Refused, match="no layer yy: there are zz, aa"):
+    with pytest.raises(rcell.Refused, match="no layer yy: the layers are zz, aa"):
         cells(path, layer="yy")
 
 
@@ -229,7 +230,7 @@ def test_geometries_of_all_kinds(tmp_path: pathlib.Path) -> None:
 
 def test_a_field_that_is_not_there(tmp_path: pathlib.Path) -> None:
     path = layer(tmp_path / "z.gpkg", [(LEFT, 1)])
-    with pytest.raises(rcell.BadMap, match="zones: no field zones: there are zone"):
+    with pytest.raises(rcell.BadMap, match="zones: no field zones: the only field is zone"):
         cells(path, zone_field="zones")
 
 

@@ -1,18 +1,6 @@
 # SPDX-License-Identifier: Apache-2.0 OR GPL-2.0-or-later
-"""The version of the package, the same as the program's in its wheel."""
-
-from __future__ import annotations
-
-from importlib import metadata
+"""The version of the package, the same as the program's."""
 
 __all__ = ["__version__"]
 
-
-def _version() -> str:
-    try:
-        return metadata.version("rcell")
-    except metadata.PackageNotFoundError:
-        return "0+source"
-
-
-__version__ = _version()
+__version__ = "1.0.0"

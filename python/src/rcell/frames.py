@@ -30,8 +30,10 @@ from .core import within as _within
 from .core import zonal as _zonal
 from .core.accuracy import Accuracy
 from .core.aggregate import Aggregate
+from .core.arguments import check_arguments
 from .core.change import Change
 from .core.columns import Column, Matrix, Table
+from .core.errors import BadArgument
 from .core.protocol import NULL
 from .core.sources import ArrayMap
 from .core.tiling import working
@@ -74,7 +76,7 @@ Returned = TypeVar("Returned", covariant=True)
 
 
 class Call(Protocol[Words, Returned]):
-    """A call of the package: with the words of its function, and two more, for which type checkers need a signature each."""
+    """A call of the package: its function's parameters and two more, for which type checkers need a signature each."""
 
     @overload
     def __call__(self, *words: Words.args, **named: Words.kwargs) -> Returned:
@@ -84,7 +86,7 @@ class Call(Protocol[Words, Returned]):
     def __call__(
         self,
         *words: Any,
-        workers: int | None,
+        workers: Any,
         resume: str | os.PathLike[str] | None = None,
         **named: Any,
     ) -> Returned:
@@ -96,15 +98,32 @@ class Call(Protocol[Words, Returned]):
     ) -> Returned:
         ...
 
+    @overload
+    def __call__(self, *words: Any, compute: bool, **named: Any) -> Any:
+        ...
+
 
 # What all calls have besides their own parameters, and the place for it in their documentation.
-_WORK_TYPES = {"workers": "int | None", "resume": "str | os.PathLike[str] | None"}
+_WORK_TYPES = {
+    "workers": "int | distributed.Client | None",
+    "resume": "str | os.PathLike[str] | None",
+    "compute": "bool",
+}
+_DEFAULTS: dict[str, Any] = {"workers": None, "resume": None, "compute": True}
 _RETURNS = "\n\n    Returns\n"
 _WORK_WORDS = """
-    workers : int, optional
-        The number of tiles of a large map that are worked on at a time; by default one for each processor.
+    workers : int or distributed.Client, optional
+        The number of tiles of a large map that are processed at a time, or the client of a cluster that processes them. By default the
+        current client of Dask, or else one tile for each processor.
     resume : path, optional
-        A folder that keeps the results of tiles of large maps: after a call was ended, the same call with this folder continues."""
+        A folder that keeps the results of tiles of large maps: after a call was ended, the same call with this folder continues.
+    compute : bool
+        """
+_COMPUTE_WORDS = {
+    "table": "Whether the result is computed now; else it is a Delayed of Dask.",
+    "map": "Whether the map is computed now; else it is a DataArray that Dask computes, in the chunks of the map.",
+    "": "It must be True: other calls can leave their results to Dask.",
+}
 
 
 def frame_of(table: Table) -> pandas.DataFrame:
@@ -121,7 +140,7 @@ def frame_of(table: Table) -> pandas.DataFrame:
 
     frame = pandas.DataFrame({column.name: _series(column) for column in table.data})
     if isinstance(table, Matrix):
-        frame = frame.set_index(list(frame.columns[: table.keys]))
+        frame = frame.set_index(list(frame.columns[: table.key_count]))
         if table.is_numbered:
             frame.columns = [name if name == "null" else int(name) for name in frame.columns]
         frame = frame.rename_axis(columns=table.across)
@@ -138,33 +157,30 @@ def _series(column: Column) -> Any:
 
 
 def _returning(
-    kind: str, convert: Callable[[Made], Returned]
+    kind: str, convert: Callable[[Made], Returned], lazy: str = ""
 ) -> Callable[[Callable[Words, Made]], Call[Words, Returned]]:
-    """Return a decorator: the function returns what `convert` makes of its result, which `help` shows as `kind`.
+    """Return a decorator that converts a function's result with `convert`; `help` shows the result as `kind`.
 
-    It also gets the parameters `workers` and `resume`, which say how large maps are worked on.
+    It also gets the parameters `workers` and `resume`, which control how large maps are processed,
+    and `compute`, if its result, a table or a map, can be left to Dask.
     """
 
     def wrap(make: Callable[Words, Made]) -> Call[Words, Returned]:
         @functools.wraps(make)
         def call(*words: Words.args, **named: Words.kwargs) -> Returned:
             options: Any = named
-            with working(options.pop("workers", None), options.pop("resume", None)):
+            work = {word: options.pop(word, default) for word, default in _DEFAULTS.items()}
+            check_arguments(make, options)
+            if not work.pop("compute"):
+                later: Returned = _lazily(make, lazy, work, words, named)
+                return later
+            with working(**work):
                 return convert(make(*words, **named))
 
         call.__annotations__ = {**make.__annotations__, **_WORK_TYPES, "return": kind}
-        call.__doc__ = (make.__doc__ or "").replace(_RETURNS, _WORK_WORDS + _RETURNS, 1)
-        signature = inspect.signature(make)
-        own, more = list(signature.parameters.values()), []
-        if own[-1].kind is inspect.Parameter.VAR_KEYWORD:
-            more = [own.pop()]
-        for name, type_ in _WORK_TYPES.items():
-            word = inspect.Parameter(
-                name, inspect.Parameter.KEYWORD_ONLY, default=None, annotation=type_
-            )
-            own.append(word)
-        told = signature.replace(parameters=own + more, return_annotation=kind)
-        call.__signature__ = told  # type: ignore[attr-defined]
+        sections = _WORK_WORDS + _COMPUTE_WORDS[lazy] + _RETURNS
+        call.__doc__ = (make.__doc__ or "").replace(_RETURNS, sections, 1)
+        call.__signature__ = _signature_of(make, kind)  # type: ignore[attr-defined]
         call.convert = convert  # type: ignore[attr-defined]
         known: Any = call
         typed: Call[Words, Returned] = known
@@ -173,29 +189,62 @@ def _returning(
     return wrap
 
 
-def _change_of(found: Change) -> Change:
-    return Change(*map(frame_of, found))
+def _signature_of(make: Callable[..., Any], kind: str) -> inspect.Signature:
+    """Return the signature of a call: its function's, with the parameters that all calls share."""
+    signature = inspect.signature(make)
+    own, more = list(signature.parameters.values()), []
+    if own[-1].kind is inspect.Parameter.VAR_KEYWORD:
+        more = [own.pop()]
+    for name, type_ in _WORK_TYPES.items():
+        default = _DEFAULTS[name]
+        word = inspect.Parameter(
+            name, inspect.Parameter.KEYWORD_ONLY, default=default, annotation=type_
+        )
+        own.append(word)
+    return signature.replace(parameters=own + more, return_annotation=kind)
 
 
-def _accuracy_of(found: Accuracy) -> Accuracy:
-    return found._replace(matrix=frame_of(found.matrix), classes=frame_of(found.classes))
+def _lazily(
+    make: Callable[..., Any], lazy: str, work: dict[str, Any], words: Any, named: dict[str, Any]
+) -> Any:
+    """Return the result of a call as Dask computes it."""
+    if not lazy:
+        rule = f"must be True: {make.__name__} cannot leave its result to Dask"
+        raise BadArgument("compute", f"{rule}; got False")
+    for word, value in work.items():
+        if value is not None:
+            rule = "must be left out with compute=False: Dask decides where it computes"
+            raise BadArgument(word, f"{rule}; got {value!r}")
+    from .readers.lazy import lazy_map, lazy_table
+
+    if lazy == "map":
+        return lazy_map(functools.partial(make, *words, **named))
+    return lazy_table(make.__name__, words, named)
 
 
-def _raster_of(found: Any) -> Raster:
+def _change_of(result: Change) -> Change:
+    return Change(*map(frame_of, result))
+
+
+def _accuracy_of(result: Accuracy) -> Accuracy:
+    return result._replace(matrix=frame_of(result.matrix), classes=frame_of(result.classes))
+
+
+def _raster_of(result: Any) -> Raster:
     """Return a map of the core, or a map and an account of how it was made, as a Raster."""
-    return Raster._of(*found) if isinstance(found, tuple) else Raster._of(found)
+    return Raster._of(*result) if isinstance(result, tuple) else Raster._of(result)
 
 
-def _aggregate_of(found: Aggregate) -> Aggregate:
-    return Aggregate(Raster._of(found.majority), Shares(found.shares), Raster._of(found.cells))
+def _aggregate_of(result: Aggregate) -> Aggregate:
+    return Aggregate(Raster._of(result.majority), Shares(result.shares), Raster._of(result.cells))
 
 
-def _trajectories_of(found: Trajectories) -> Trajectories:
-    maps = {name: Raster._of(made) for name, made in found.maps.items()}
-    return found._replace(
-        table=frame_of(found.table),
-        changes=frame_of(found.changes),
-        intervals=frame_of(found.intervals),
+def _trajectories_of(result: Trajectories) -> Trajectories:
+    maps = {name: Raster._of(raster) for name, raster in result.maps.items()}
+    return result._replace(
+        table=frame_of(result.table),
+        changes=frame_of(result.changes),
+        intervals=frame_of(result.intervals),
         maps=maps,
     )
 
@@ -257,13 +306,13 @@ class Result(Sequence[Any]):
         return len(self._outputs)
 
     def __repr__(self) -> str:
-        told = (
-            f"the map {output.name}"
-            if isinstance(output, Raster)
-            else f"a table of {', '.join(output.columns)}"
-            for output in self._outputs
-        )
-        return f"<Result: {'; '.join(told) or 'no output'}>"
+        texts = []
+        for output in self._outputs:
+            if isinstance(output, Raster):
+                texts.append(f"the map {output.name}")
+            else:
+                texts.append(f"a table of {', '.join(output.columns)}")
+        return f"<Result: {'; '.join(texts) or 'no output'}>"
 
 
 def _result_of(outputs: list[Any]) -> Result:
@@ -274,26 +323,28 @@ def _result_of(outputs: list[Any]) -> Result:
 
 
 _framed = _returning("pandas.DataFrame", frame_of)
+_framed_or_delayed = _returning("pandas.DataFrame", frame_of, "table")
 _rastered = _returning("rcell.Raster", _raster_of)
+_rastered_or_lazy = _returning("rcell.Raster", _raster_of, "map")
 
-composition = _framed(_composition.composition)
-cross = _framed(_composition.cross)
-patches = _framed(_patches.patches)
-zonal = _framed(_zonal.zonal)
-adjacency = _framed(_adjacency.adjacency)
-table = _framed(_scripts.table)
-dominant = _framed(_dominant.dominant)
-metrics = _framed(_metrics.metrics)
+composition = _framed_or_delayed(_composition.composition)
+cross = _framed_or_delayed(_composition.cross)
+patches = _framed_or_delayed(_patches.patches)
+zonal = _framed_or_delayed(_zonal.zonal)
+adjacency = _framed_or_delayed(_adjacency.adjacency)
+table = _framed_or_delayed(_scripts.table)
+dominant = _framed_or_delayed(_dominant.dominant)
+metrics = _framed_or_delayed(_metrics.metrics)
 sample = _framed(_sample.sample)
-change = _returning("rcell.Change", _change_of)(_change.change)
+change = _returning("rcell.Change", _change_of, "table")(_change.change)
 accuracy = _returning("rcell.Accuracy", _accuracy_of)(_accuracy.accuracy)
 trajectories = _returning("rcell.Trajectories", _trajectories_of)(_trajectories.trajectories)
 aggregate = _returning("rcell.Aggregate", _aggregate_of)(_aggregate.aggregate)
-majority = _rastered(_majority.majority)
+majority = _rastered_or_lazy(_majority.majority)
 align = _rastered(_align.align)
-reclass = _rastered(_reclass.reclass)
-clump = _rastered(_patches.clump)
+reclass = _rastered_or_lazy(_reclass.reclass)
+clump = _rastered_or_lazy(_patches.clump)
 sieve = _rastered(_sieve.sieve)
-within = _rastered(_within.within)
-grid = _rastered(_scripts.grid)
+within = _rastered_or_lazy(_within.within)
+grid = _rastered_or_lazy(_scripts.grid)
 run = _returning("rcell.Result", _result_of)(_scripts.run)

@@ -11,7 +11,7 @@ import numpy as np
 
 from .core.protocol import NULL
 
-from .core.writing import replacing, told_of
+from .core.writing import replacing, write_errors
 from .core.labels import checked_labels, write_labels
 from .core.libraries import need
 from .core.memory import processors
@@ -109,7 +109,7 @@ def write_geotiff(grid: Raster, path: str, is_cog: bool = False) -> None:
     profile = profile_of(*grid.region.shape, grid.transform, grid.crs, dtype, nodata)
     is_large = grid.region.rows * grid.region.cols > _IN_MEMORY
     make = _write_cog if is_cog else _write
-    with replacing(path) as beside, told_of(
+    with replacing(path) as beside, write_errors(
         path, rasterio.errors.RasterioError, UnicodeEncodeError
     ):
         with warnings.catch_warnings(), rasterio.Env(GDAL_CACHEMAX=_CACHE):
@@ -125,7 +125,7 @@ def write_geotiff(grid: Raster, path: str, is_cog: bool = False) -> None:
 def _write_from_memory(
     grid: Raster, path: str, profile: dict[str, Any], make: Callable[..., None]
 ) -> None:
-    """Make a file in memory and write it with Python, which reports why it cannot, and takes any path."""
+    """Make a file in memory and write it with Python, which reports errors in full, and accepts any path."""
     with need("rasterio.io", "gis", "to write a GeoTIFF").MemoryFile(ext=".tif") as memory:
         make(grid, memory.name, profile)
         with open(path, "wb") as file:
@@ -142,6 +142,7 @@ def _write_cog(grid: Raster, path: str, profile: dict[str, Any]) -> None:
 
 
 def _write(grid: Raster, path: str, profile: dict[str, Any]) -> None:
+    """Write the cells of a map, and its colours if its type has a colour table."""
     dtype, nodata = profile["dtype"], profile["nodata"]
     rasterio = need("rasterio", "gis", "to write a GeoTIFF")
     with rasterio.open(path, "w", **profile) as dataset:
@@ -174,10 +175,12 @@ def _window(row: int, cells: Any) -> Any:
 
 def _range_of(grid: Raster) -> tuple[int, int]:
     """Return the smallest and the largest category, 0 and 0 if all cells are null."""
-    ends = [
-        (int(cells.min()), int(cells.max())) for _, cells in _rows_of(grid) if np.ma.count(cells)
-    ]
-    return (min(low for low, _ in ends), max(high for _, high in ends)) if ends else (0, 0)
+    lowest, highest = [], []
+    for _, cells in _rows_of(grid):
+        if np.ma.count(cells):
+            lowest.append(int(cells.min()))
+            highest.append(int(cells.max()))
+    return min(lowest, default=0), max(highest, default=0)
 
 
 def _rows_of(grid: Raster) -> Iterator[tuple[int, Any]]:

@@ -1,5 +1,5 @@
 # SPDX-License-Identifier: Apache-2.0 OR GPL-2.0-or-later
-"""Raster: a map in memory, which calls take and return."""
+"""Raster: a map in memory, which calls accept and return."""
 
 from __future__ import annotations
 
@@ -35,7 +35,7 @@ _COG = (".cog.tif", ".cog.tiff")
 
 
 class Raster:
-    """A map in memory, with all that an array can't say of itself.
+    """A map in memory, with everything that an array does not store.
 
     If only an array is given to a call, it has cells of side 1; `(array, transform)` is short for this class.
 
@@ -44,7 +44,8 @@ class Raster:
     array : array, masked array, or nested lists of whole numbers, rows x cols
         Any integer type, bool, or floats that are whole numbers; masked cells and NaN are null.
     transform : rasterio's Affine, six numbers, or Region, optional
-        Where the cells are; rows from south to north are turned. By default, cells have side 1, and the bottom left corner is at 0, 0.
+        Where the cells are; rows from south to north are flipped. By default, cells have side 1,
+        and the bottom left corner is at 0, 0.
     crs : any, optional
         A reference system of rasterio or pyproj, or its well-known text.
     nodata : float, optional
@@ -54,7 +55,7 @@ class Raster:
     colors : mapping of int to str, optional
         As `#rrggbb`.
     name : str
-        The name of the map, which errors, plots and DataArrays have.
+        The name of the map in errors, plots and DataArrays.
 
     Examples
     --------
@@ -83,6 +84,7 @@ class Raster:
         self._set(array_map(name, array, transform, crs, nodata, legend.labels, given_colors), None)
 
     def _set(self, source: ArrayMap, account: Aligned | Sieved | None) -> None:
+        """Take the cells, the place and the labels of a map of the core."""
         self._source = source
         self.name = source.name
         self.region = source.region
@@ -96,9 +98,9 @@ class Raster:
     @classmethod
     def _of(cls, source: ArrayMap, account: Aligned | Sieved | None = None) -> Raster:
         """Return a map of the core, and an account of how it was made."""
-        made = cls.__new__(cls)
-        made._set(source, account)
-        return made
+        raster = cls.__new__(cls)
+        raster._set(source, account)
+        return raster
 
     @cached_property
     def array(self) -> Any:
@@ -183,7 +185,7 @@ class Raster:
         Parameters
         ----------
         name : str
-            The name of the map, which errors have.
+            The name of the map in errors.
 
         Returns
         -------
@@ -212,8 +214,8 @@ class Raster:
         >>> rcell.Raster([[5, 7, 5]]).categories()
         [5, 7]
         """
-        found: list[int] = np.unique(self.array.compressed()).tolist()
-        return found
+        categories: list[int] = np.unique(self.array.compressed()).tolist()
+        return categories
 
     def write(self, path: str | os.PathLike[str], *, cog: bool = False) -> str:
         """Write the map to a file, completely or not at all.
@@ -225,7 +227,8 @@ class Raster:
             reference system, nodata, labels as category names and colours as a colour table; `.txt` for an rcell grid, which GRASS
             also reads. An existing file is replaced.
         cog : bool
-            Whether a GeoTIFF is cloud optimised, with overviews; so it is if its name ends in `.cog.tif`.
+            Whether a GeoTIFF is cloud optimised, with overviews; always if its name ends in
+            `.cog.tif`.
 
         Returns
         -------
@@ -237,7 +240,7 @@ class Raster:
         WriteFailed
             The file cannot be written; an old file is unchanged.
         Refused
-            The map was made of this file.
+            The map was made from this file.
         BadArgument
             The format of the file name extension is not known.
         MissingLibrary
@@ -350,6 +353,7 @@ class Raster:
         return ax
 
     def _add_legend(self, ax: Any, categories: list[int], colors: Any) -> None:
+        """Add a legend to the right of a drawn map."""
         patches = need("matplotlib.patches", "plot", "to draw a map")
         handles = [
             patches.Patch(color=colors(place), label=self.labels.get(category, str(category)))
@@ -377,11 +381,11 @@ class Raster:
     def _repr_html_(self) -> str:
         rows, cols = self.shape
         name = html.escape(self.name)
-        told = f"<b>{name}</b>: {rows} rows, {cols} columns, {len(self.categories())} categories"
+        summary = f"<b>{name}</b>: {rows} rows, {cols} columns, {len(self.categories())} categories"
         if not has("matplotlib"):
-            return f"<p>{told}</p>"
+            return f"<p>{summary}</p>"
         encoded = base64.b64encode(self._picture()).decode()
-        return f'<p>{told}</p><img alt="{name}" src="data:image/png;base64,{encoded}">'
+        return f'<p>{summary}</p><img alt="{name}" src="data:image/png;base64,{encoded}">'
 
     def __array__(self, dtype: Any = None) -> NDArray[Any]:
         cells: NDArray[Any] = np.ma.getdata(self.array)
@@ -397,10 +401,13 @@ def _colored(array: Any, categories: list[int], colors: dict[int, str]) -> tuple
     colors_of = need("matplotlib.colors", "plot", "to draw a map")
     if not 0 < len(categories) <= LEGEND_LIMIT:
         return array, "viridis", None
-    spare = (color for name in _PALETTES for color in matplotlib.colormaps[name].colors)
-    palette = [colors.get(category) or next(spare) for category in categories]
+    spare: list[Any] = []
+    for name in _PALETTES:
+        spare += matplotlib.colormaps[name].colors
+    unused = iter(spare)
+    palette = [colors.get(category) or next(unused) for category in categories]
     places = np.searchsorted(categories, array.filled(categories[0]))
-    shown: Any = np.ma.MaskedArray(places, np.ma.getmaskarray(array))
+    indices: Any = np.ma.MaskedArray(places, np.ma.getmaskarray(array))
     edges = np.arange(len(categories) + 1) - 0.5
     norm = colors_of.BoundaryNorm(edges, len(categories))
-    return shown, colors_of.ListedColormap(palette), norm
+    return indices, colors_of.ListedColormap(palette), norm

@@ -12,14 +12,14 @@ from .core.arrays import NDArray
 from .core.errors import BadArgument, BadMap
 from .core.files import check_output
 from .core.libraries import need
-from .core.writing import replacing, told_of
+from .core.writing import replacing, write_errors
 from .geotiff import profile_of
 
 __all__ = ["Shares"]
 
 
 class Shares:
-    """The percentage of each class in each block of cells, as `rcell.aggregate` returns it.
+    """The percentage of each class in each block of cells; returned by `rcell.aggregate`.
 
     `classes` has the classes, `names` their labels or numbers, and `percent` the percentages, classes x rows x columns, NaN in
     blocks that are null. `shares[31]` is the map of the class 31.
@@ -58,8 +58,8 @@ class Shares:
         if code not in self.classes:
             known = ", ".join(map(str, self.classes))
             raise BadArgument("class", f"must be one of {known or 'no classes'}; got {code!r}")
-        found: NDArray[Any] = self.percent[self.classes.index(code)]
-        return found
+        layer: NDArray[Any] = self.percent[self.classes.index(code)]
+        return layer
 
     def write(self, path: str | os.PathLike[str]) -> str:
         """Write a GeoTIFF with a band of percentages for each class, completely or not at all.
@@ -79,7 +79,7 @@ class Shares:
         WriteFailed
             The file cannot be written; an old file is unchanged.
         BadArgument
-            The file name extension is another one, or there is no class.
+            The file name extension is not supported, or there is no class.
         MissingLibrary
             Rasterio is required and not installed.
 
@@ -106,7 +106,7 @@ class Shares:
         rasterio = need("rasterio", "gis", "to write a GeoTIFF")
         like, layers = self._shares.blocks, self.percent
         profile = profile_of(*like.region.shape, like.transform, like.crs, "float64", math.nan)
-        with replacing(path) as beside, told_of(path, rasterio.errors.RasterioError):
+        with replacing(path) as beside, write_errors(path, rasterio.errors.RasterioError):
             with need("rasterio.io", "gis", "to write a GeoTIFF").MemoryFile() as memory:
                 with memory.open(**{**profile, "count": len(layers)}) as dataset:
                     dataset.write(layers)

@@ -9,37 +9,37 @@ import importlib
 import os
 import re
 import shlex
-import shutil
 import signal
 import sys
 import warnings
 from typing import Any, Callable, Iterator, NamedTuple, NoReturn, Optional, Sequence
 
+from .core.arguments import known_names
 from .core.errors import BadMap, Killed, OtherCrs, OtherRegion, RcellError, Refused, WriteFailed
 from .core.files import (
     Output,
     end_on_signals,
     open_standard_streams,
     opened,
-    private_folder,
     read_all,
     write_all,
     writing,
 )
 from .core.hints import lines_of_error, near
 from .core.host import Host, serving
+from .core.private_folders import PrivateFolder
 from .core.process import begin_work, end_work, has_work
 from .core.table_texts import table_text
-from .shell_files import told_at, write_maps, write_map
-from .shell_options import OPTIONS
+from .shell_files import file_errors, write_maps, write_map
+from .shell_options import NOTES, OPTIONS
 
 __all__ = ["emit", "main", "script_of"]
 
 NAME = "rcell-gis"
 DESCRIPTION = "Tables and maps of rasters, counted with rcell."
 EPILOG = """\
-MAP is anything that GDAL reads, or a grid of rcell. ZONES may also be polygons: a cell is in the one that has its centre.
-A legend is a CSV with the columns value and label, or a style of QGIS (.qml). `rcell-gis COMMAND --help` lists options.
+MAP is anything that GDAL reads, or an rcell grid. ZONES may also be polygons: a cell is in the one that contains its centre.
+A legend is a CSV with the columns value and label, or a QGIS style (.qml). `rcell-gis COMMAND --help` lists options.
 Status: 0 done; 1 bad input; 2 command line; 3 out of memory; 4 a file could not be read or written."""
 ENDINGS = {
     "": "csv",
@@ -59,7 +59,7 @@ RECORD_IS_AN_OPTION = "add --record and --out FILE.csv to the command that makes
 
 
 class _Parser(argparse.ArgumentParser):
-    """A parser whose errors have one line."""
+    """A parser that reports errors on one line."""
 
     def __init__(self, **words: Any) -> None:
         formatter = argparse.RawDescriptionHelpFormatter
@@ -86,15 +86,15 @@ class Command(NamedTuple):
 
 def _pairs(words: Sequence[str]) -> dict[str, str]:
     """Return arguments NAME=PATH as a dict."""
-    found: dict[str, str] = {}
+    paths: dict[str, str] = {}
     for word in words:
         name, equals, path = word.partition("=")
         if not (name and equals and path):
             raise Refused(f"{word}: write NAME=PATH", status=COMMAND_LINE)
-        if name in found:
+        if name in paths:
             raise Refused(f"{word}: the name {name} is given twice", status=COMMAND_LINE)
-        found[name] = path
-    return found
+        paths[name] = path
+    return paths
 
 
 def _parsed(words: list[str]) -> argparse.Namespace:
@@ -117,13 +117,13 @@ def _parsed(words: list[str]) -> argparse.Namespace:
 
 def _joined(words: list[str]) -> list[str]:
     """Join an option and its value if that begins like a negative number: argparse takes `-1,2` for an option."""
-    found: list[str] = []
+    joined: list[str] = []
     for word in words:
-        if found and re.match(r"-\d", word) and re.match(r"--\w[^=]*$", found[-1]):
-            found[-1] += f"={word}"
+        if joined and re.match(r"-\d", word) and re.match(r"--\w[^=]*$", joined[-1]):
+            joined[-1] += f"={word}"
         else:
-            found.append(word)
-    return found
+            joined.append(word)
+    return joined
 
 
 def _line(synopsis: str, does: str) -> str:
@@ -133,6 +133,7 @@ def _line(synopsis: str, does: str) -> str:
 
 
 def _parser() -> tuple[_Parser, dict[str, _Parser]]:
+    """Return the parser of the command line, and the parsers of the commands."""
     lines = (_line(f"{name} {each.synopsis}", each.does) for name, each in COMMANDS.items())
     text = "\n".join([DESCRIPTION, "", *lines])
     parser = _Parser(prog=NAME, description=text, epilog=EPILOG, usage=f"{NAME} COMMAND ..")
@@ -140,15 +141,17 @@ def _parser() -> tuple[_Parser, dict[str, _Parser]]:
     commands = parser.add_subparsers(
         prog=NAME, dest="command", metavar="COMMAND", parser_class=_Parser, help=argparse.SUPPRESS
     )
-    found = {}
+    parsers = {}
     for name, command in COMMANDS.items():
-        found[name] = commands.add_parser(name, description=f"Writes {command.does}.")
-        found[name].set_defaults(run=command.run, options=command.options.split())
+        parsers[name] = commands.add_parser(
+            name, description=f"Writes {command.does}.", epilog=NOTES.get(name)
+        )
+        parsers[name].set_defaults(run=command.run, options=command.options.split())
         work = () if name in _WITHOUT_WORK else _WORK
         for word in (*command.words.split(), *command.options.split(), *work):
             option, settings = OPTIONS[word]
-            found[name].add_argument(option, **settings)
-    return parser, found
+            parsers[name].add_argument(option, **settings)
+    return parser, parsers
 
 
 # The commands
@@ -166,27 +169,24 @@ def _call(words: argparse.Namespace) -> Callable[..., Any]:
         raise Refused(f"--record takes one map; got {len(words.maps)}", status=COMMAND_LINE)
     make = importlib.import_module("rcell.core.record").make
 
-    def recorded(*given: Any, **named: Any) -> Any:
-        words.made = make(words.out, call, given, named, words.__dict__.get("table"))
-        return words.made.found
+    def recorded(*arguments: Any, **named: Any) -> Any:
+        words.run_record = make(words.out, call, arguments, named, words.__dict__.get("table"))
+        return words.run_record.outcome
 
     return recorded
 
 
 def _options(words: argparse.Namespace) -> dict[str, Any]:
     """Return the options of a call that are given."""
-    names = (ARGUMENTS.get(name, name) for name in words.options if name not in NO_ARGUMENTS)
-    given = {name: getattr(words, name) for name in names}
-    given.update({"zones": words.zones} if words.command in ("zonal", "dominant") else {})
-    if given.get("area") == "none":
-        return {**_kept(given), "area": None}
-    return _kept(given)
-
-
-def _kept(given: dict[str, Any]) -> dict[str, Any]:
-    return {
-        name: value for name, value in given.items() if value is not None and value is not False
-    }
+    names = [ARGUMENTS.get(name, name) for name in words.options if name not in NO_ARGUMENTS]
+    if words.command in ("zonal", "dominant"):
+        names.append("zones")
+    options: dict[str, Any] = {}
+    for name in names:
+        value = getattr(words, name)
+        if value is not None and value is not False:
+            options[name] = None if (name, value) == ("area", "none") else value
+    return options
 
 
 def _map(words: argparse.Namespace, path: str, name: str = "map") -> Any:
@@ -202,48 +202,53 @@ def _of_each(words: argparse.Namespace) -> None:
     """Write the tables of one or more maps, below each other."""
     call, options, tables = _call(words), _options(words), []
     for path in words.maps:
-        words.given = {"values" if words.command == "zonal" else "map": path}
-        words.given.update({"zones": words.zones} if words.__dict__.get("zones") else {})
+        words.map_paths = {"values" if words.command == "zonal" else "map": path}
+        words.map_paths.update({"zones": words.zones} if words.__dict__.get("zones") else {})
         words.several = path if len(words.maps) > 1 else None
         table = call(_map(words, path), **options)
         tables.append((path, table.columns, table.rows))
-    words.given = {}
+    words.map_paths = {}
     if len(tables) == 1:
-        _put(words, *tables[0][1:])
+        _write_table(words, *tables[0][1:])
         return
-    columns = [*dict.fromkeys(name for _, names, _ in tables for name in names)]
-    rows = []
+    columns = list(dict.fromkeys(name for _, names, _ in tables for name in names))
+    rows: list[list[Any]] = []
     for path, names, values in tables:
-        rows += [(path, *map(dict(zip(names, row)).get, columns)) for row in values]
-    _put(words, ("file", *columns), rows)
+        for row in values:
+            value_of = dict(zip(names, row))
+            rows.append([path, *map(value_of.get, columns)])
+    _write_table(words, ("file", *columns), rows)
 
 
 def _cross(words: argparse.Namespace) -> None:
-    words.given = _pairs(words.maps)
-    maps = {name: _map(words, path, name) for name, path in words.given.items()}
+    words.map_paths = _pairs(words.maps)
+    maps = {name: _map(words, path, name) for name, path in words.map_paths.items()}
     legends = {"labels": _pairs(words.labels)} if words.labels else {}
     table = _call(words)(maps, **{**_options(words), **legends})
-    _put(words, table.columns, table.rows)
+    _write_table(words, table.columns, table.rows)
 
 
 def _change(words: argparse.Namespace) -> None:
+    """Write a table of change between maps."""
     if len(words.maps) < 2:
         raise Refused("give two maps or more, in the order of their years", status=COMMAND_LINE)
-    several = [f"map_{number}" for number in range(1, len(words.maps) + 1)]
-    words.given = dict(zip(several if len(words.maps) > 2 else ("before", "after"), words.maps))
+    names = ["before", "after"]
+    if len(words.maps) > 2:
+        names = [f"map_{number}" for number in range(1, len(words.maps) + 1)]
+    words.map_paths = dict(zip(names, words.maps))
     maps = [_map(words, path) for path in words.maps]
     table = getattr(_call(words)(maps, **_options(words)), words.table)
-    _put(words, table.columns, table.rows)
+    _write_table(words, table.columns, table.rows)
 
 
 def _accuracy(words: argparse.Namespace) -> None:
-    words.given = {"map": words.map, "reference": words.reference}
+    words.map_paths = {"map": words.map, "reference": words.reference}
     map = None if words.map == "-" else _map(words, words.map)
-    found = _call(words)(map, words.reference, **_options(words))
+    result = _call(words)(map, words.reference, **_options(words))
     is_summary = words.table == "summary"
     summary_of = importlib.import_module("rcell.core.accuracy").summary_of
-    table = summary_of(found) if is_summary else getattr(found, words.table)
-    _put(words, table.columns, table.rows)
+    table = summary_of(result) if is_summary else getattr(result, words.table)
+    _write_table(words, table.columns, table.rows)
 
 
 def _sample(words: argparse.Namespace) -> None:
@@ -253,64 +258,67 @@ def _sample(words: argparse.Namespace) -> None:
 
 def _to_map(words: argparse.Namespace) -> None:
     """Write the map that a call returns."""
-    words.given = {"map": words.map, **({"to": words.to} if words.command == "align" else {})}
+    words.map_paths = {"map": words.map, **({"to": words.to} if words.command == "align" else {})}
 
-    def made() -> list[Any]:
+    def make_maps() -> list[Any]:
         call = getattr(importlib.import_module("rcell"), words.command)
-        found = call(_map(words, words.map), **_options(words))
-        words.account = found.aligned or found.sieved
-        return [found]
+        result = call(_map(words, words.map), **_options(words))
+        words.account = result.aligned or result.sieved
+        return [result]
 
-    write_maps([words.target], made)
+    write_maps([words.target], make_maps)
     if words.account is not None:
-        _put(words, words.account._fields, [tuple(words.account)])
+        _write_table(words, words.account._fields, [tuple(words.account)])
 
 
 def _aggregate(words: argparse.Namespace) -> None:
-    words.given = {"map": words.map}
+    """Write a coarser map, and the shares of its classes if they are asked for."""
+    words.map_paths = {"map": words.map}
     if words.shares and not words.shares.lower().endswith((".tif", ".tiff")):
-        told = f"{words.shares}: shares are written as .tif or .tiff"
-        raise Refused(told, status=COMMAND_LINE)
+        rule = f"{words.shares}: shares are written as .tif or .tiff"
+        raise Refused(rule, status=COMMAND_LINE)
 
-    def made() -> list[Any]:
+    def make_maps() -> list[Any]:
         call = importlib.import_module("rcell").aggregate
-        found = call(_map(words, words.map), **_options(words))
-        return [found.majority, found.shares]
+        result = call(_map(words, words.map), **_options(words))
+        return [result.majority, result.shares]
 
-    write_maps([words.target, *([words.shares] if words.shares else [])], made)
+    write_maps([words.target, *([words.shares] if words.shares else [])], make_maps)
 
 
 def _trajectories(words: argparse.Namespace) -> None:
-    words.given = {f"map_{number}": path for number, path in enumerate(words.maps, 1)}
-    paths, found = _pairs(words.outs), []
+    """Write a table of trajectories, and the maps that are asked for."""
+    words.map_paths = {f"map_{number}": path for number, path in enumerate(words.maps, 1)}
+    paths, results = _pairs(words.outs), []
     known = importlib.import_module("rcell.core.trajectories").MAPS
     for name in paths:
         if name not in known:
-            raise Refused(f"no map {name}: there are {', '.join(known)}", status=COMMAND_LINE)
+            raise Refused(f"no map {name}: {known_names('map', known)}", status=COMMAND_LINE)
 
-    def made() -> list[Any]:
+    def make_maps() -> list[Any]:
         maps = [_map(words, path) for path in words.maps]
-        found.append(_call(words)(maps, include_maps=bool(paths), **_options(words)))
+        results.append(_call(words)(maps, include_maps=bool(paths), **_options(words)))
         raster = importlib.import_module("rcell").Raster
-        return [raster._of(found[0].maps[name]) for name in paths]
+        return [raster._of(results[0].maps[name]) for name in paths]
 
-    write_maps(list(paths.values()), made)
-    table = getattr(found[0], words.table)
-    _put(words, table.columns, table.rows)
+    write_maps(list(paths.values()), make_maps)
+    table = getattr(results[0], words.table)
+    _write_table(words, table.columns, table.rows)
 
 
 def _run(words: argparse.Namespace) -> None:
-    words.given, paths = _pairs(words.maps), _pairs(words.outs)
+    """Run a script, write the maps that are asked for, and print its tables."""
+    words.map_paths, paths = _pairs(words.maps), _pairs(words.outs)
     if words.each is not None:
         _run_each(words)
         return
     outputs: list[Any] = []
 
-    def made() -> list[Any]:
+    def make_maps() -> list[Any]:
         outputs.extend(_outputs(words, list(paths)))
         return outputs[len(outputs) - len(paths) :]
 
-    write_maps(list(paths.values()), made)
+    write_maps(list(paths.values()), make_maps)
     tables = [output.table() for output in outputs if hasattr(output, "table")]
     if tables:
         texts = (table_text(words.format or "csv", table.columns, table.rows) for table in tables)
@@ -318,17 +326,17 @@ def _run(words: argparse.Namespace) -> None:
 
 
 def _outputs(words: argparse.Namespace, wanted: Sequence[str] = ()) -> list[Any]:
-    """Return what a script writes, and then the maps that are wanted."""
-    maps = {name: _map(words, path, name) for name, path in words.given.items()}
+    """Return what a script writes, and then the requested maps."""
+    maps = {name: _map(words, path, name) for name, path in words.map_paths.items()}
     scripts = importlib.import_module("rcell.core.scripts")
     run = scripts.Run(script_of(words.script), maps, {}, words.crs)
     for name in wanted:
         if name not in run.sources and name not in run.made:
-            told = f"no map {name}: there are {', '.join([*run.sources, *run.made])}"
-            raise Refused(told, status=COMMAND_LINE)
+            problem = f"no map {name}: {known_names('map', [*run.sources, *run.made])}"
+            raise Refused(problem, status=COMMAND_LINE)
     raster = importlib.import_module("rcell").Raster
-    found = run.outputs(wanted)
-    return [output if hasattr(output, "table") else raster._of(output) for output in found]
+    outputs = run.outputs(wanted)
+    return [output if hasattr(output, "table") else raster._of(output) for output in outputs]
 
 
 def _run_each(words: argparse.Namespace) -> None:
@@ -339,20 +347,22 @@ def _run_each(words: argparse.Namespace) -> None:
     if words.outs:
         raise Refused("--each and --out exclude each other", status=COMMAND_LINE)
     outputs = _outputs(words)
-    told = importlib.import_module("rcell.core.writing").told_of
-    with told(words.each), contextlib.ExitStack() as kept:
+    errors_of = importlib.import_module("rcell.core.writing").write_errors
+    with errors_of(words.each), contextlib.ExitStack() as cleanup:
         begin_work()
-        kept.callback(end_work)
-        room = private_folder(os.path.dirname(folder), os.path.basename(folder))
-        kept.callback(shutil.rmtree, room, ignore_errors=True)
+        cleanup.callback(end_work)
+        room = PrivateFolder(os.path.dirname(folder), os.path.basename(folder))
+        cleanup.callback(room.remove)
         digits = max(2, len(str(len(outputs))))
         for number, output in enumerate(outputs, 1):
             is_table, form = hasattr(output, "table"), words.format or "csv"
-            ending = f".{'md' if form == 'markdown' else form}"
-            ending = ending if is_table else _ending_of_maps(words)
-            name = f"r.stats-{','.join(output.maps)}" if is_table else f"r.out.ascii-{output.name}"
+            if is_table:
+                name = f"r.stats-{','.join(output.maps)}"
+                ending = ".md" if form == "markdown" else f".{form}"
+            else:
+                name, ending = f"r.out.ascii-{output.name}", _ending_of_maps(words)
             name = f"{number:0{digits}}-{name}"
-            path = os.path.join(room, name[: LONGEST_NAME - len(ending)] + ending)
+            path = os.path.join(room.path, name[: LONGEST_NAME - len(ending)] + ending)
             if is_table:
                 table = output.table()
                 with open(path, "w", encoding="utf-8", errors="surrogateescape") as file:
@@ -360,7 +370,7 @@ def _run_each(words: argparse.Namespace) -> None:
             else:
                 write_map(output, path, ending)
         os.mkdir(folder)  # a folder that another process has made meanwhile is an error
-        os.rename(room, folder)
+        room.rename(folder)
         os.chmod(folder, 0o777 & ~_mask())
 
 
@@ -372,21 +382,24 @@ def _mask() -> int:
 
 def _ending_of_maps(words: argparse.Namespace) -> str:
     """Return .txt if all maps of a run are grids of rcell, else .tif."""
-    is_text = all(path.lower().endswith(".txt") for path in words.given.values())
+    is_text = all(path.lower().endswith(".txt") for path in words.map_paths.values())
     return ".txt" if is_text else ".tif"
 
 
 def _convert(words: argparse.Namespace) -> None:
-    words.given = {"map": words.map}
+    """Write a map in another format."""
+    words.map_paths = {"map": words.map}
     converting = importlib.import_module("rcell.core.converting")
     ending = os.path.splitext(words.target)[1].lower()
+    is_esri = ending == ".asc"
     is_plain = words.band is None and words.like is None and words.crs is None
     if words.target == "-" or ending in (".txt", ".asc"):
         with writing(words.target):
-            text = converting.converted(words.map, ending == ".asc") if is_plain else None
+            # A text grid needs no GDAL: its text is converted as it is read.
+            text = converting.converted(words.map, is_esri) if is_plain else None
             if text is None:
-                text = converting.printed_map(_raster(words), ending == ".asc")
-            with told_at(words.target), Output(words.target) as output:
+                text = converting.printed_map(_raster(words), is_esri)
+            with file_errors(words.target), Output(words.target) as output:
                 for piece in text:
                     write_all(output.stream(), piece)
         return
@@ -396,18 +409,18 @@ def _convert(words: argparse.Namespace) -> None:
 def _raster(words: argparse.Namespace) -> Any:
     """Return a map to convert, with the reference system and the extent of another one if asked for."""
     grid = importlib.import_module("rcell").grid
-    found = grid("", "map", {"map": _map(words, words.map)}, crs=words.crs)
+    grid_of_map = grid("", "map", {"map": _map(words, words.map)}, crs=words.crs)
     if words.like is None:
-        return found
-    return importlib.import_module("rcell.core.converting").like(found, words.like)
+        return grid_of_map
+    return importlib.import_module("rcell.core.converting").like(grid_of_map, words.like)
 
 
 def _verify(words: argparse.Namespace) -> int:
     verify = importlib.import_module("rcell").verify
-    found = [(path, verify(path)) for path in words.tables]
-    lines = [f"{path}: {told}\n" for path, listed in found for told in listed or ["verified"]]
-    emit("".join(lines))
-    return BAD_INPUT if any(listed for _, listed in found) else 0
+    differences = [(path, verify(path)) for path in words.tables]
+    for path, listed in differences:
+        emit("".join(f"{path}: {line}\n" for line in listed or ["verified"]))
+    return BAD_INPUT if any(listed for _, listed in differences) else 0
 
 
 def _report(words: argparse.Namespace) -> None:
@@ -426,7 +439,9 @@ def _explain(words: argparse.Namespace) -> int:
 # What is written
 
 
-def _put(words: argparse.Namespace, columns: Sequence[str], rows: Sequence[Sequence[Any]]) -> None:
+def _write_table(
+    words: argparse.Namespace, columns: Sequence[str], rows: Sequence[Sequence[Any]]
+) -> None:
     """Write a table to its file or to standard output."""
     out = words.__dict__.get("out")
     ending = os.path.splitext(out or "")[1].lower()
@@ -436,10 +451,10 @@ def _put(words: argparse.Namespace, columns: Sequence[str], rows: Sequence[Seque
     if out is None:
         emit(text)
         return
-    if words.__dict__.get("made"):
-        words.made.write(out, importlib.import_module("rcell").__version__)
+    if words.__dict__.get("run_record"):
+        words.run_record.write(out, importlib.import_module("rcell").__version__)
         return
-    with told_at(out), Output(out) as output:
+    with file_errors(out), Output(out) as output:
         write_all(output.stream(), text.encode("utf-8", "surrogateescape"))
 
 
@@ -450,8 +465,8 @@ def _writing_a_table(path: Optional[str]) -> Iterator[None]:
         yield
         return
     if os.path.splitext(path)[1].lower() not in ENDINGS:
-        told = f"{path}: a table is written as .csv, .tsv, .txt, .md or .json"
-        raise Refused(told, status=COMMAND_LINE)
+        rule = f"{path}: a table is written as .csv, .tsv, .txt, .md or .json"
+        raise Refused(rule, status=COMMAND_LINE)
     with writing(path):
         yield
 
@@ -459,13 +474,13 @@ def _writing_a_table(path: Optional[str]) -> Iterator[None]:
 def emit(text: str) -> None:
     """Write to standard output immediately, so that Python does not try again at exit after an error."""
     sys.stdout.flush()
-    shown = _printable(text) if os.isatty(1) else text
-    with told_at("-"), Output("-") as output:
-        write_all(output.stream(), shown.encode("utf-8", "surrogateescape"))
+    printable = _printable(text) if os.isatty(1) else text
+    with file_errors("-"), Output("-") as output:
+        write_all(output.stream(), printable.encode("utf-8", "surrogateescape"))
 
 
 def script_of(word: str) -> str:
-    """Return the text of a script: of a file, of standard input, or the word itself."""
+    """Return the text of a script: from a file, from standard input, or the word itself."""
     if word != "-" and not os.path.exists(word) and word.startswith("r."):
         return word
     try:
@@ -628,7 +643,7 @@ COMMANDS = {
     ),
     "convert": Command(
         "IN OUT",
-        "GeoTIFF, ESRI ASCII or what GDAL reads, as .tif, .asc, .txt (a grid of rcell) or a picture",
+        "GeoTIFF, ESRI ASCII or what GDAL reads, as .tif, .asc, .txt (an rcell grid) or a picture",
         "map target",
         "band like crs",
         _convert,
@@ -668,7 +683,7 @@ def main(words: Optional[Sequence[str]] = None) -> int:
     >>> main(["composition", "/nowhere.tif"])
     4
     """
-    given = list(sys.argv[1:] if words is None else words)
+    arguments = list(sys.argv[1:] if words is None else words)
     try:
         if words is None:
             open_standard_streams()
@@ -678,7 +693,7 @@ def main(words: Optional[Sequence[str]] = None) -> int:
         with warnings.catch_warnings(), serving(Host("shell", warn=_warn)):
             warnings.simplefilter("default", UserWarning)
             warnings.showwarning = lambda message, *_, **__: _warn(str(message))
-            return _status_of(given)
+            return _status_of(arguments)
     except KeyboardInterrupt:
         return INTERRUPTED
 
@@ -691,21 +706,21 @@ def _end_on_interrupt(*_: Any) -> None:
     raise KeyboardInterrupt
 
 
-def _status_of(given: list[str]) -> int:
+def _status_of(arguments: list[str]) -> int:
     """Run a command line, and return its status; errors become a line on standard error."""
-    if given == ["--version"]:
+    if arguments == ["--version"]:
         emit(f"{NAME} {importlib.import_module('rcell').__version__}\n")
         return 0
-    settings = _parsed(given)
-    settings.given = {}
+    settings = _parsed(arguments)
+    settings.map_paths = {}
     try:
         with _writing_a_table(settings.__dict__.get("out")), _working(settings):
             return _run_command(settings)
     except RcellError as error:
         if isinstance(error, (OtherRegion, OtherCrs)):
-            error.advice = _align_words(error, settings.given)
-        elif isinstance(error, BadMap) and error.advice and error.source in settings.given:
-            stem, ending = os.path.splitext(settings.given[error.source])
+            error.advice = _align_words(error, settings.map_paths)
+        elif isinstance(error, BadMap) and error.advice and error.source in settings.map_paths:
+            stem, ending = os.path.splitext(settings.map_paths[error.source])
             for mark in ("", "_rounded"):
                 new = shlex.quote(f"{stem}{mark}{ending}")
                 error.advice = error.advice.replace(f"{error.source}{mark}.tif", new)
@@ -713,8 +728,8 @@ def _status_of(given: list[str]) -> int:
         return _status(error)
     except ImportError as error:
         is_missing = isinstance(error, ModuleNotFoundError)
-        told = f"the Python library {error.name} is missing" if is_missing else str(error)
-        _tell(f"{told}; on Debian: apt-get install python3-rasterio python3-pyproj")
+        problem = f"the Python library {error.name} is missing" if is_missing else str(error)
+        _tell(f"{problem}; on Debian: apt-get install python3-rasterio python3-pyproj")
         return COMMAND_LINE
     except MemoryError:
         _tell("out of memory")
@@ -725,13 +740,13 @@ def _status_of(given: list[str]) -> int:
 
 
 def _working(settings: argparse.Namespace) -> contextlib.AbstractContextManager[None]:
-    """Set how large maps are worked on, as the options say."""
-    given = {name: settings.__dict__.get(name) for name in _WORK}
-    if not any(value is not None and value is not False for value in given.values()):
+    """Set how large maps are processed, as the options say."""
+    options = {name: settings.__dict__.get(name) for name in _WORK}
+    if not any(value is not None and value is not False for value in options.values()):
         return contextlib.nullcontext()
     working: Any = importlib.import_module("rcell.core.tiling").working
     how: contextlib.AbstractContextManager[None] = working(
-        given["workers"], given["resume"], is_dry=bool(given["dry_run"])
+        options["workers"], options["resume"], is_dry=bool(options["dry_run"])
     )
     return how
 
@@ -759,35 +774,39 @@ def _tell(text: str) -> None:
 
 
 def _printable(text: str) -> str:
-    """Return a text without what a terminal would obey."""
-    return re.sub(r"[\0-\x08\x0b-\x1f\x7f-\x9f]", lambda found: f"\\x{ord(found[0]):02x}", text)
+    """Return a text without bytes that a terminal would interpret."""
+    return re.sub(r"[\0-\x08\x0b-\x1f\x7f-\x9f]", lambda match: f"\\x{ord(match[0]):02x}", text)
 
 
 def _in_one_line(error: RcellError, path: Optional[str]) -> str:
-    """Return an error, of one of several maps with its path, the line of the script and what to write instead, in one line."""
+    """Return an error on one line, with the path if there are several maps, the script's line and a correction."""
     if not isinstance(error, Refused):
         return "; ".join(line.strip() for line in str(error).split("\n"))
     source = path or error.source if error.source in ("map", "values") else error.source
     place = "" if source == "arguments" else f"{source}: "
     place = f"{source}, line {error.line}: " if error.line else place
-    parts = [
-        place + error.text,
-        *([f"`{lines_of_error(error.content, error.column)[0].strip()}`"] if error.content else []),
-        *([f"try: {error.advice}"] if error.advice else []),
-    ]
-    return "; ".join(line.strip() for part in parts for line in part.split("\n"))
+    lines = (place + error.text).split("\n")
+    if error.content:
+        line = lines_of_error(error.content, error.column)[0]
+        lines.append(f"`{line.strip()}`")
+    if error.advice:
+        lines += f"try: {error.advice}".split("\n")
+    return "; ".join(line.strip() for line in lines)
 
 
-def _align_words(error: Refused, given: dict[str, str]) -> Optional[str]:
-    """Return the command that aligns a map with the first one, if both are known."""
-    first = next(iter(given), "")
-    if not error.advice or error.source not in given or error.source == first:
-        return "--resample nearest" if error.advice else None
-    stem, ending = os.path.splitext(given[error.source])
-    words = ["align", given[error.source], f"{stem}-aligned{ending}", "--to", given[first]]
-    return shlex.join(
-        [NAME, *words, *(["--resample", "nearest"] if "resample=" in error.advice else [])]
-    )
+def _align_words(error: Refused, paths: dict[str, str]) -> Optional[str]:
+    """Return the command that aligns a map with the first one; only its option if one of them is not known."""
+    if not error.advice:
+        return None
+    first = next(iter(paths), "")
+    if error.source not in paths or error.source == first:
+        return "--resample nearest"
+    path = paths[error.source]
+    stem, ending = os.path.splitext(path)
+    words = [NAME, "align", path, f"{stem}-aligned{ending}", "--to", paths[first]]
+    if "resample=" in error.advice:
+        words += ["--resample", "nearest"]
+    return shlex.join(words)
 
 
 def _status(error: RcellError) -> int:

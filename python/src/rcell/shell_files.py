@@ -11,7 +11,7 @@ from typing import Any, Callable, Sequence
 from .core.errors import Refused, WriteFailed
 from .core.files import writing
 
-__all__ = ["map_ending", "told_at", "write_map", "write_maps"]
+__all__ = ["map_ending", "file_errors", "write_map", "write_maps"]
 
 PICTURES = (".png", ".svg", ".pdf")
 MAPS = (".tif", ".tiff", ".txt", ".asc", *PICTURES)
@@ -19,11 +19,11 @@ _COMMAND_LINE = 2
 
 
 def write_maps(targets: Sequence[str], make: Callable[[], list[Any]]) -> None:
-    """Write maps to files, all or none; raise Refused if a file is read too, or its format is not known."""
+    """Write maps to files, all or none; raise Refused if a file is also read, or its format is unknown."""
     for path in targets:
         if not path.lower().endswith(MAPS):
-            told = f"{path}: a map is written as .tif, .tiff, .txt, .asc or a picture ({', '.join(PICTURES)})"
-            raise Refused(told, status=_COMMAND_LINE)
+            rule = f"{path}: a map is written as .tif, .tiff, .txt, .asc or a picture ({', '.join(PICTURES)})"
+            raise Refused(rule, status=_COMMAND_LINE)
     with writing(*targets):
         maps = make()
     replacing = importlib.import_module("rcell.core.writing").replacing
@@ -43,15 +43,15 @@ def map_ending(path: str) -> str:
 
 
 def write_map(raster: Any, path: str, ending: str) -> None:
-    """Write a map in the format of an ending, which `path` need not have: links are followed."""
+    """Write a map in the format given by `ending`. (`path` may end otherwise, because links have been resolved.)"""
     if ending in (".txt", ".asc"):
         converting = importlib.import_module("rcell.core.converting")
-        with told_at(path), open(path, "wb") as file:
+        with file_errors(path), open(path, "wb") as file:
             file.writelines(converting.printed_map(raster, ending == ".asc"))
     elif ending in PICTURES:
         libraries = importlib.import_module("rcell.core.libraries")
         libraries.need("matplotlib", "plot", "to draw a map").use("Agg")
-        with told_at(path):
+        with file_errors(path):
             figure = raster.plot().figure
             figure.savefig(path, format=ending[1:], bbox_inches="tight", dpi=150)
     elif hasattr(raster, "percent"):
@@ -61,9 +61,9 @@ def write_map(raster: Any, path: str, ending: str) -> None:
         write(raster, path, ending.startswith(".cog"))
 
 
-def told_at(path: str) -> contextlib.AbstractContextManager[None]:
-    """Raise what goes wrong with files as a WriteFailed of a path."""
-    told: contextlib.AbstractContextManager[None] = importlib.import_module(
+def file_errors(path: str) -> contextlib.AbstractContextManager[None]:
+    """Raise errors with files as WriteFailed with a path."""
+    errors: contextlib.AbstractContextManager[None] = importlib.import_module(
         "rcell.core.writing"
-    ).told_of("standard output" if path == "-" else path)
-    return told
+    ).write_errors("standard output" if path == "-" else path)
+    return errors

@@ -6,39 +6,58 @@ from __future__ import annotations
 import argparse
 from typing import Any
 
-__all__ = ["OPTIONS"]
+__all__ = ["NOTES", "OPTIONS"]
 
 FORMATS = ("csv", "tsv", "markdown", "json")
+
+# What the help of a command says after its options.
+NOTES = {
+    "accuracy": """\
+If the sample was drawn class by class, as `sample` does, give --areas map: without it, all but the user's accuracies and
+their errors are wrong. --table summary has the overall accuracy.""",
+    "metrics": """\
+By class: cells, area_ha, percent, patches, patches_km2, largest_patch_percent, mean_patch_ha, area_weighted_mean_patch_ha,
+effective_mesh_ha, edge_m, edge_density_m_ha, mean_shape_index, aggregation_index, cohesion, interspersion_index.
+The landscape is all cells of the map or zone that have data. Borders of zones and no data are not edges.""",
+    "sieve": """\
+The smallest patch is merged first, into the neighbour with the longest common border. patches_below counts small patches
+that are left: they touch no other class.""",
+    "verify": """\
+Hand over FILE.csv, FILE.csv.json and the files that it names, whose paths are relative to FILE.csv.""",
+    "within": """\
+OUT is 0 in the classes, 1 up to the first distance, and 2 beyond it and up to the second. Distances are between centres of
+cells. `composition MAP --zones OUT` lists the classes in each ring.""",
+}
 
 
 def _wholes(text: str) -> list[int]:
     try:
         return [int(word) for word in text.split(",")]
     except ValueError:
-        told = f"give whole numbers with commas between them, for example 31,32; got {text}"
-        raise argparse.ArgumentTypeError(told) from None
+        rule = f"give whole numbers with commas between them, for example 31,32; got {text}"
+        raise argparse.ArgumentTypeError(rule) from None
 
 
 def _distances(text: str) -> list[float]:
     try:
         return [float(word) for word in text.split(",")]
     except ValueError:
-        told = f"give numbers with commas between them, for example 100,500; got {text}"
-        raise argparse.ArgumentTypeError(told) from None
+        rule = f"give numbers with commas between them, for example 100,500; got {text}"
+        raise argparse.ArgumentTypeError(rule) from None
 
 
 def _shares(text: str) -> list[float]:
     try:
         return [float(word) for word in text.split(",")]
     except ValueError:
-        told = (
+        rule = (
             f"give numbers from 0 to 1 with commas between them, for example 0.25,0.5; got {text}"
         )
-        raise argparse.ArgumentTypeError(told) from None
+        raise argparse.ArgumentTypeError(rule) from None
 
 
 OPTIONS: dict[str, tuple[str, dict[str, Any]]] = {
-    "map": ("map", {"metavar": "MAP", "help": "a raster that GDAL reads, or a grid of rcell"}),
+    "map": ("map", {"metavar": "MAP", "help": "a raster that GDAL reads, or an rcell grid"}),
     "maps": ("maps", {"metavar": "MAP", "nargs": "+", "help": "rasters that GDAL reads, or grids"}),
     "named": (
         "maps",
@@ -67,7 +86,7 @@ OPTIONS: dict[str, tuple[str, dict[str, Any]]] = {
     "zones": ("--zones", {"metavar": "ZONES", "help": "a map, or polygons"}),
     "zone_field": (
         "--zone-field",
-        {"metavar": "FIELD", "help": "the field of polygons with the ids or names of the zones"},
+        {"metavar": "FIELD", "help": "the polygon field with the ids or names of the zones"},
     ),
     "zone_labels": ("--zone-labels", {"metavar": "LEGEND", "help": "the labels of the zones"}),
     "layer": (
@@ -96,11 +115,11 @@ OPTIONS: dict[str, tuple[str, dict[str, Any]]] = {
     "include_null": ("--include-null", {"action": "store_true", "help": "adds null cells"}),
     "crs": (
         "--crs",
-        {"metavar": "EPSG:CODE", "help": "the reference system of maps that have none"},
+        {"metavar": "EPSG:CODE", "help": "the reference system to assume for maps that have none"},
     ),
     "connectivity": (
         "--connectivity",
-        {"type": int, "choices": [4, 8], "help": "8: cells that share a corner touch as well"},
+        {"type": int, "choices": [4, 8], "help": "4: by edges, if not given; 8: also by corners"},
     ),
     "classes": (
         "--classes",
@@ -121,7 +140,12 @@ OPTIONS: dict[str, tuple[str, dict[str, Any]]] = {
     ),
     "distances": (
         "--distances",
-        {"type": _distances, "required": True, "metavar": "METRES,..", "help": "ascending"},
+        {
+            "type": _distances,
+            "required": True,
+            "metavar": "METRES,..",
+            "help": "in metres, ascending",
+        },
     ),
     "smallest": (
         "--min-cells",
@@ -134,7 +158,7 @@ OPTIONS: dict[str, tuple[str, dict[str, Any]]] = {
     "drop": ("--drop", {"action": "store_true", "help": "leaves small patches out"}),
     "summary": (
         "--summary",
-        {"choices": ["class"], "help": "a row for each class in place of each patch"},
+        {"choices": ["class"], "help": "a row per class instead of per patch"},
     ),
     "factor": (
         "--factor",
@@ -183,7 +207,7 @@ OPTIONS: dict[str, tuple[str, dict[str, Any]]] = {
         "--areas",
         {
             "metavar": "AREAS",
-            "help": "the areas of the classes: map counts them, or a CSV with value and area",
+            "help": "areas of the classes, for a sample by class: map counts them, or a CSV with value, area",
         },
     ),
     "n": (
@@ -227,7 +251,7 @@ OPTIONS: dict[str, tuple[str, dict[str, Any]]] = {
         "--size",
         {"type": int, "metavar": "N", "help": "rows and columns of the square: odd, 3 to 15"},
     ),
-    "fill": ("--fill", {"action": "store_true", "help": "gives null cells a class as well"}),
+    "fill": ("--fill", {"action": "store_true", "help": "also gives null cells a class"}),
     "rules": (
         "--rules",
         {"required": True, "metavar": "FILE", "help": "a CSV with the columns value and new"},
@@ -258,11 +282,11 @@ OPTIONS: dict[str, tuple[str, dict[str, Any]]] = {
     ),
     "resume": (
         "--resume",
-        {"metavar": "DIR", "help": "keeps finished tiles there, and takes those that are there"},
+        {"metavar": "DIR", "help": "keeps finished tiles there, and reuses them"},
     ),
     "dry_run": (
         "--dry-run",
-        {"action": "store_true", "help": "prints tiles, memory and reading; runs nothing"},
+        {"action": "store_true", "help": "prints the plan: tiles, memory, reading; runs nothing"},
     ),
     "outs": (
         "--out",

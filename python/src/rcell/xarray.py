@@ -2,23 +2,25 @@
 """`import rcell.xarray` gives the DataArrays and Datasets of xarray an accessor, `.rcell`.
 
 A DataArray is a map under its own name, or `map` if it has none; a Dataset has its variables as maps. Cells that Dask holds are computed
-window by window, with the client that is current. Expressions over them are lazy as well.
+window by window, with the client that is current. Maps made of them stay in Dask; with `compute=False` tables do as well.
 """
 
 from __future__ import annotations
 
+import functools
+import inspect
 import re
-from collections.abc import Iterable
-from typing import TYPE_CHECKING, Any
+from collections.abc import Callable, Mapping
+from typing import TYPE_CHECKING, Any, NamedTuple, Optional
 
 from . import frames
-from .core.change import Change
+from .core.aggregate import Aggregate
 from .core.errors import BadArgument, BadMap, MissingLibrary
 from .core.protocol import NULL
 from .core.runs import planned
-from .core.sources import MapLike, named_once, sources_of
+from .core.sources import MapLike, named_once
+from .core.trajectories import Trajectories
 from .raster import Raster
-from .readers.lazy import lazy_cells
 from .readers.xarray import data_array, flat_of, is_lazy, variables_of
 
 try:
@@ -35,16 +37,16 @@ _NAME = re.compile(r"[A-Za-z_][A-Za-z0-9_.]{0,63}")
 
 
 def _work_of(named: dict[str, Any]) -> dict[str, Any]:
-    """Return the words about large maps, which are not names of maps, and take them out."""
-    return {word: named.pop(word) for word in ("workers", "resume") if word in named}
+    """Remove the words about large maps, which are not names of maps, and return them."""
+    return {word: named.pop(word) for word in ("workers", "resume", "compute") if word in named}
 
 
 class Accessor:
-    """What `.rcell` of a DataArray or a Dataset is: the calls of rcell, with the array as the first map.
+    """The `.rcell` accessor of a DataArray or a Dataset: the calls of rcell, with the array as the first map.
 
     Parameters
     ----------
-    given : DataArray or Dataset
+    array : DataArray or Dataset
 
     Examples
     --------
@@ -57,247 +59,13 @@ class Accessor:
     2      3      1  16.666667
     """
 
-    def __init__(self, given: Any) -> None:
-        self._given = given
-        if hasattr(given, "data_vars"):
-            self._maps = variables_of(given)
+    def __init__(self, array: Any) -> None:
+        self._array = array
+        if hasattr(array, "data_vars"):
+            self._maps = variables_of(array)
         else:
-            is_name = given.name is not None and _NAME.fullmatch(str(given.name))
-            self._maps = {given.name if is_name else "map": given}
-
-    def composition(self, zones: Any = None, **options: Any) -> pandas.DataFrame:
-        """Count the cells of each class, with areas and percentages; see `rcell.composition`.
-
-        Parameters
-        ----------
-        zones : map or polygons, optional
-        **options
-            As in `rcell.composition`.
-
-        Returns
-        -------
-        pandas.DataFrame
-            As `rcell.composition` returns it.
-
-        Examples
-        --------
-        >>> import rcell.xarray, xarray
-        >>> xarray.DataArray([[1, 1, 2]], dims=("y", "x")).rcell.composition()["cells"].tolist()
-        [2, 1]
-        """
-        return frames.composition(self._only(), zones, **options)
-
-    def cross(self, **options: Any) -> pandas.DataFrame:
-        """Count how often the classes of maps occur together; see `rcell.cross`.
-
-        Parameters
-        ----------
-        **options
-            Further maps by name, and as in `rcell.cross`.
-
-        Returns
-        -------
-        pandas.DataFrame
-            As `rcell.cross` returns it.
-
-        Examples
-        --------
-        >>> import rcell.xarray, xarray
-        >>> land = xarray.DataArray([[1, 1, 2]], dims=("y", "x"), name="land")
-        >>> land.rcell.cross(later=land * 2)["later"].tolist()
-        [2, 4]
-        """
-        return frames.cross(self._maps, **options)
-
-    def change(self, after: Any = None, **options: Any) -> Change:
-        """Compare maps of two or more years; see `rcell.change`.
-
-        Parameters
-        ----------
-        after : map, optional
-            The map of the later year; None if the array has the dimension `time`.
-        **options
-            As in `rcell.change`.
-
-        Returns
-        -------
-        Change
-            As `rcell.change` returns it.
-
-        Examples
-        --------
-        >>> import rcell.xarray, xarray
-        >>> land = xarray.DataArray([[1, 1, 2]], dims=("y", "x"))
-        >>> land.rcell.change(land * 2).table["cells"].tolist()
-        [2, 1]
-        """
-        return frames.change(self._only(), after, **options)
-
-    def patches(self, connectivity: int = 4, **options: Any) -> pandas.DataFrame:
-        """List the patches, connected cells of one class; see `rcell.patches`.
-
-        Parameters
-        ----------
-        connectivity : {4, 8}
-        **options
-            As in `rcell.patches`.
-
-        Returns
-        -------
-        pandas.DataFrame
-            As `rcell.patches` returns it.
-
-        Examples
-        --------
-        >>> import rcell.xarray, xarray
-        >>> xarray.DataArray([[1, 1, 2]], dims=("y", "x")).rcell.patches()["cells"].tolist()
-        [2, 1]
-        """
-        return frames.patches(self._only(), connectivity, **options)
-
-    def zonal(self, zones: Any, **options: Any) -> pandas.DataFrame:
-        """Compute statistics by zone; see `rcell.zonal`.
-
-        Parameters
-        ----------
-        zones : map or polygons
-        **options
-            As in `rcell.zonal`.
-
-        Returns
-        -------
-        pandas.DataFrame
-            As `rcell.zonal` returns it.
-
-        Examples
-        --------
-        >>> import rcell.xarray, xarray
-        >>> xarray.DataArray([[7, 8, 2]], dims=("y", "x")).rcell.zonal([[1, 1, 2]])["sum"].tolist()
-        [15, 2]
-        """
-        return frames.zonal(self._only(), zones, **options)
-
-    def adjacency(self, **options: Any) -> pandas.DataFrame:
-        """Count the sides that the cells of each pair of classes share; see `rcell.adjacency`.
-
-        Parameters
-        ----------
-        **options
-            As in `rcell.adjacency`.
-
-        Returns
-        -------
-        pandas.DataFrame
-            As `rcell.adjacency` returns it.
-
-        Examples
-        --------
-        >>> import rcell.xarray, xarray
-        >>> xarray.DataArray([[1, 1, 2]], dims=("y", "x")).rcell.adjacency()["sides"].tolist()
-        [1, 1]
-        """
-        return frames.adjacency(self._only(), **options)
-
-    def majority(self, size: int = 3, **options: Any) -> Any:
-        """Give each cell the most frequent class of the square around it; see `rcell.majority`.
-
-        Parameters
-        ----------
-        size : int
-        **options
-            As in `rcell.majority`.
-
-        Returns
-        -------
-        DataArray
-            With the dimensions and coordinates of the array.
-
-        Examples
-        --------
-        >>> import rcell.xarray, xarray
-        >>> xarray.DataArray([[1, 1, 2]], dims=("y", "x")).rcell.majority().values.tolist()
-        [[1, 1, 1]]
-        """
-        return self._like(frames.majority(self._only(), size, **options))
-
-    def align(self, to: Any, resample: str | None = None, **options: Any) -> Any:
-        """Bring the map onto the grid of another map; see `rcell.align`.
-
-        Parameters
-        ----------
-        to : map
-        resample : {"nearest"}, optional
-        **options
-            As in `rcell.align`.
-
-        Returns
-        -------
-        DataArray
-            On the grid of the other map.
-
-        Examples
-        --------
-        >>> import rcell.xarray, xarray
-        >>> land = xarray.DataArray([[1, 1, 2]], dims=("y", "x"))
-        >>> land.rcell.align(to=land).values.tolist()
-        [[1, 1, 2]]
-        """
-        return frames.align(self._only(), to, resample, **options).to_xarray()
-
-    def reclass(self, rules: Any, other: str | None = None, **options: Any) -> Any:
-        """Give each class a new class; see `rcell.reclass`.
-
-        Parameters
-        ----------
-        rules : path, dict or DataFrame
-        other : {"keep", "null"}, optional
-        **options
-            As in `rcell.reclass`.
-
-        Returns
-        -------
-        DataArray
-            With the dimensions and coordinates of the array.
-
-        Examples
-        --------
-        >>> import rcell.xarray, xarray
-        >>> xarray.DataArray([[1, 1, 2]], dims=("y", "x")).rcell.reclass({1: 7, 2: 8}).values.tolist()
-        [[7, 7, 8]]
-        """
-        return self._like(frames.reclass(self._only(), rules, other, **options))
-
-    def clump(
-        self,
-        connectivity: int = 4,
-        classes: Iterable[int] | None = None,
-        min_cells: int | None = None,
-        **options: Any,
-    ) -> Any:
-        """Return the map of patches, with the numbers of `patches`; see `rcell.clump`.
-
-        Parameters
-        ----------
-        connectivity : {4, 8}
-            4 connects cells that share an edge, 8 also those that share a corner.
-        classes : iterable of int, optional
-        min_cells : int, optional
-            Only patches of these classes, and with at least this many cells.
-        **options
-            As in `rcell.clump`.
-
-        Returns
-        -------
-        DataArray
-            With the dimensions and coordinates of the array.
-
-        Examples
-        --------
-        >>> import numpy as np, rcell.xarray, xarray
-        >>> xarray.DataArray(np.array([[1, 1, 2], [3, 2, 2]]), dims=("y", "x")).rcell.clump().values.tolist()
-        [[1, 1, 2], [3, 2, 2]]
-        """
-        return self._like(frames.clump(self._only(), connectivity, classes, min_cells, **options))
+            is_name = array.name is not None and _NAME.fullmatch(str(array.name))
+            self._maps = {array.name if is_name else "map": array}
 
     def table(
         self,
@@ -318,14 +86,14 @@ class Accessor:
         percent : bool
             A column of percentages.
         crs : any, optional
-            The coordinate reference system of the maps that have none.
+            The coordinate reference system to assume for maps that have none.
         **more : DataArray or path
             Further maps by name; also `workers` and `resume`, as in `rcell.table`.
 
         Returns
         -------
         pandas.DataFrame
-            As `rcell.table` returns it.
+            The result of `rcell.table`.
 
         Examples
         --------
@@ -348,7 +116,7 @@ class Accessor:
         script : str
             An assignment `NAME = EXPRESSION`, or statements of which the last makes the map: r.mapcalc and r.reclass.
         crs : any, optional
-            The coordinate reference system of the maps that have none.
+            The coordinate reference system to assume for maps that have none.
         **more : DataArray or path
             Further maps by name; also `workers` and `resume`, as in `rcell.grid`.
 
@@ -356,7 +124,8 @@ class Accessor:
         -------
         DataArray
             Of int32, with the dimensions and coordinates of the first map; null is -2147483648, which its attribute `_FillValue` says. If
-            Dask holds the cells of all maps, and the script has no r.clump, Dask computes the result too, in the chunks of the first map.
+            Dask holds the cells of all maps, Dask also computes the result, in the chunks of the
+            first map, unless `compute` is True.
 
         Examples
         --------
@@ -371,36 +140,210 @@ class Accessor:
         plan = planned(text, maps)
         if not plan or not plan[-1].made:
             raise BadArgument("script", f"must make a map in its last line; got {script!r}")
-        name = plan[-1].made
-        is_local = not any(statement.command == "r.clump" for statement in plan)
-        if is_local and all(map(is_lazy, maps.values())):
-            return self._lazy(f"{text}\nr.out.ascii input={name}", maps, crs)
-        return self._like(frames.grid(text, name, maps, crs=crs, **work))
+        return self._made(frames.grid, text, plan[-1].made, maps, maps=maps, crs=crs, **work)
 
-    def _lazy(self, text: str, maps: dict[str, Any], crs: Any) -> Any:
-        """Return the map that a script writes, as Dask computes it when it is asked for."""
-        sources: Any
-        sources, common = sources_of(maps, crs)
-        first = next(iter(sources.values()))
-        plan = planned(text, maps)
-        cells = lazy_cells(plan, sources, first.array.chunks)
-        name, labels = plan[-2].made, plan[-2].labels
-        return data_array(cells, first.transform, common, labels, name, like=first.array)
+    def _made(
+        self, call: Any, *words: Any, maps: Any = None, is_local: bool = True, **options: Any
+    ) -> Any:
+        """Return a map as a DataArray, which stays in Dask if Dask holds all maps that it is made of."""
+        all_maps = (self._maps if maps is None else maps).values()
+        work = {word for word in ("workers", "resume") if options.get(word) is not None}
+        stays = is_local and not work and all(map(is_lazy, all_maps))
+        if not options.setdefault("compute", not stays):
+            return call(*words, **options)
+        return self._like(call(*words, **options))
 
     def _only(self) -> Any:
         names = list(self._maps)
         if len(names) != 1:
             first = names[0] if names else "name"
-            told = f"{len(names)} maps ({', '.join(names)}), but one is needed"
-            raise BadMap("dataset", f"{told}: select it, as dataset[{first!r}]")
+            problem = f"{len(names)} maps ({', '.join(names)}), but one is needed"
+            raise BadMap("dataset", f"{problem}: select it, as dataset[{first!r}]")
         return self._maps[names[0]]
 
-    def _like(self, made: Raster) -> Any:
+    def _like(self, raster: Raster) -> Any:
         """Return a map as a DataArray with the dimensions of the first map."""
         like = flat_of("map", next(iter(self._maps.values()))).array
-        cells = made.array.filled(NULL)
-        return data_array(cells, made.transform, made.crs, made.labels, made.name, like=like)
+        cells = raster.array.filled(NULL)
+        return data_array(
+            cells, raster.transform, raster.crs, raster.labels, raster.name, like=like
+        )
 
 
+def _only(accessor: Accessor) -> Any:
+    return accessor._only()
+
+
+def _maps(accessor: Accessor) -> Any:
+    return accessor._maps
+
+
+def _unchanged(accessor: Accessor, result: Any) -> Any:
+    return result
+
+
+def _on_its_grid(accessor: Accessor, raster: Raster) -> Any:
+    return raster.to_xarray()
+
+
+def _blocks(accessor: Accessor, result: Aggregate) -> Aggregate:
+    return result._replace(majority=result.majority.to_xarray(), cells=result.cells.to_xarray())
+
+
+def _with_maps(accessor: Accessor, result: Trajectories) -> Trajectories:
+    return result._replace(maps={name: raster.to_xarray() for name, raster in result.maps.items()})
+
+
+def _with_account(accessor: Accessor, raster: Raster) -> Any:
+    account = raster.sieved
+    assert account is not None
+    return accessor._like(raster).assign_attrs(account._asdict())
+
+
+class _Method(NamedTuple):
+    """How the accessor offers a call: with which maps, what becomes of its result, and an example."""
+
+    example: str
+    result: str
+    argument_of: Callable[[Accessor], Any] = _only
+    convert: Callable[[Accessor, Any], Any] = _unchanged
+    returns: str = ""
+    # Of a map of the cells of the array: whether it can stay in Dask, from the arguments.
+    is_local: Optional[Callable[[Mapping[str, Any]], bool]] = None
+
+
+def _always(arguments: Mapping[str, Any]) -> bool:
+    return True
+
+
+def _has_other(arguments: Mapping[str, Any]) -> bool:
+    return arguments.get("other") is not None  # otherwise all cells must be seen
+
+
+def _selects_nothing(arguments: Mapping[str, Any]) -> bool:
+    return arguments.get("classes") is None and arguments.get("min_cells") is None
+
+
+_MAP = "DataArray\n        With the dimensions and coordinates of the array."
+_YEARS = "xarray.concat([land, land * 2], xarray.Variable('time', [2000, 2010])).rcell"
+_METHODS = {
+    "accuracy": _Method("land.rcell.accuracy(land).overall", "1.0"),
+    "adjacency": _Method("land.rcell.adjacency()['sides'].tolist()", "[1, 1]"),
+    "aggregate": _Method(
+        "land.rcell.aggregate(3).majority.values.tolist()",
+        "[[1]]",
+        convert=_blocks,
+        returns="Aggregate\n        As `rcell.aggregate` returns it, with `majority` and `cells` as DataArrays.",
+    ),
+    "align": _Method(
+        "land.rcell.align(to=land).values.tolist()",
+        "[[1, 1, 2]]",
+        convert=_on_its_grid,
+        returns="DataArray\n        On the grid of the other map.",
+    ),
+    "change": _Method("land.rcell.change(land * 2).table['cells'].tolist()", "[2, 1]"),
+    "clump": _Method(
+        "land.rcell.clump().values.tolist()",
+        "[[1, 1, 2]]",
+        returns=_MAP,
+        is_local=_selects_nothing,
+    ),
+    "composition": _Method("land.rcell.composition()['cells'].tolist()", "[2, 1]"),
+    "cross": _Method("land.rcell.cross(b=land * 2)['b'].tolist()", "[2, 4]", argument_of=_maps),
+    "dominant": _Method("land.rcell.dominant([[7, 7, 8]])['zone'].tolist()", "[7, 8]"),
+    "majority": _Method(
+        "land.rcell.majority().values.tolist()",
+        "[[1, 1, 1]]",
+        returns=_MAP,
+        is_local=_always,
+    ),
+    "metrics": _Method("land.rcell.metrics()['patches'].tolist()", "[1, 1]"),
+    "patches": _Method("land.rcell.patches()['cells'].tolist()", "[2, 1]"),
+    "reclass": _Method(
+        "land.rcell.reclass({1: 7, 2: 8}).values.tolist()",
+        "[[7, 7, 8]]",
+        returns=_MAP,
+        is_local=_has_other,
+    ),
+    "sample": _Method("land.rcell.sample({1: 2, 2: 1}, seed=7)['col'].tolist()", "[1, 2, 3]"),
+    "sieve": _Method(
+        "land.rcell.sieve(min_cells=2).values.tolist()",
+        "[[1, 1, 1]]",
+        convert=_with_account,
+        returns=f"{_MAP} Its attributes have the numbers of patches and of changed cells.",
+    ),
+    "trajectories": _Method(
+        f"{_YEARS}.trajectories().table['class_2010'].tolist()",
+        "[2, 4]",
+        convert=_with_maps,
+        returns="Trajectories\n        As `rcell.trajectories` returns it, with maps as DataArrays.",
+    ),
+    "within": _Method(
+        "land.assign_attrs(crs='EPSG:25832').rcell.within([2], [1]).values.tolist()",
+        "[[-2147483648, 1, 0]]",
+        returns=_MAP,
+        is_local=_always,
+    ),
+    "zonal": _Method("land.rcell.zonal([[7, 7, 8]])['sum'].tolist()", "[2, 2]"),
+}
+_SECTION = re.compile(r"\n\n    (\w+)\n    -+\n")
+
+
+def _method_of(name: str, how: _Method) -> Callable[..., Any]:
+    """Return a call as a method: the array is its first map."""
+    call: Any = getattr(frames, name)
+
+    signature = inspect.signature(call)
+
+    @functools.wraps(call)
+    def method(self: Accessor, *words: Any, **named: Any) -> Any:
+        argument = how.argument_of(self)
+        if how.is_local is None:
+            return how.convert(self, call(argument, *words, **named))
+        arguments = signature.bind(argument, *words, **named).arguments
+        return self._made(call, argument, *words, is_local=how.is_local(arguments), **named)
+
+    first, *others = signature.parameters.values()
+    self_word = inspect.Parameter("self", inspect.Parameter.POSITIONAL_ONLY)
+    own: Any = method
+    own.__signature__ = signature.replace(parameters=[self_word, *others])
+    own.__qualname__, own.__module__ = f"Accessor.{name}", __name__
+    own.__doc__ = _doc_of(name, how, call.__doc__, first.name)
+    return method
+
+
+def _doc_of(name: str, how: _Method, doc: str, first: str) -> str:
+    """Return the docstring of a call without its first map, as the docstring of a method."""
+    head, *rest = _SECTION.split(doc)
+    sections = dict(zip(rest[::2], rest[1::2]))
+    section = re.sub(
+        rf"^    {first} : .*\n(?:        .*\n?)+|^    {first} : .*\n?", "", sections["Parameters"]
+    )
+    parameters = section.replace(f"    {first}, ", "    ", 1)
+    returns = how.returns or f"{sections['Returns'].strip()}"
+    summary, _, more = head.partition("\n\n")
+    return f"""{summary}
+
+    The array is the first map of `rcell.{name}`.{more and f"{chr(10)}{chr(10)}{more}"}
+
+    Parameters
+    ----------
+{parameters}
+
+    Returns
+    -------
+    {returns}
+
+    Examples
+    --------
+    >>> import rcell.xarray, xarray
+    >>> land = xarray.DataArray([[1, 1, 2]], dims=("y", "x"), name="land")
+    >>> {how.example}
+    {how.result}
+    """
+
+
+for _name, _how in _METHODS.items():
+    setattr(Accessor, _name, _method_of(_name, _how))
 for _register in (xarray.register_dataarray_accessor, xarray.register_dataset_accessor):
     _register("rcell")(Accessor)

@@ -1,5 +1,5 @@
 # SPDX-License-Identifier: Apache-2.0 OR GPL-2.0-or-later
-"""The accuracy of a map, and the areas of its classes as a reference sample corrects them."""
+"""The accuracy of a map, and the areas of its classes corrected with a reference sample."""
 
 from __future__ import annotations
 
@@ -12,21 +12,23 @@ import numpy as np
 
 from ..readers import open_features
 from .area import AUTO, unit_of
-from .arguments import MAX_CATEGORY
+from .arguments import MAX_CATEGORY, first_of
 from .arrays import NDArray
 from .columns import Column, Matrix, Table, distinct_names
-from .counting import Maps, label_column, legend_for
+from .counting import Maps, coded, legend_for
 from .crs import UNITS_OF_AREA
 from .errors import BadArgument, Refused
-from .host import option
-from .legends import is_missing, rows_of_file, whole_number
+from .host import option, warn
+from .legends import is_missing, rows_of, whole_number
 from .points import points_of
 from .sources import MapLike, source_of
 
 __all__ = ["Accuracy", "accuracy", "summary_of"]
 
 _TABLES = (".csv", ".tsv")
-_SHOWN = 5
+# A test of whether a sample is random: the normal deviate of one in a thousand, and the fewest cells expected of a class.
+_DEVIATE = 3.09
+_FEWEST = 5
 
 Integers = NDArray[np.int64]
 Floats = NDArray[np.float64]
@@ -42,11 +44,12 @@ class Accuracy(NamedTuple):
     classes : pandas.DataFrame
         A row for each class: its accuracies and its area, with standard errors.
     overall, overall_se : float
-        The share of the area that the map has right, and its standard error.
+        The share of the area that is mapped correctly, and its standard error.
     kappa : float
         Cohen's kappa of the estimated shares; NaN if there is one class.
     quantity, allocation : float
-        The disagreement in the quantities of classes, and in their places. With `overall` they add up to 1.
+        The disagreement in the quantities of classes, and in their allocation. With `overall` they
+        add up to 1.
     cells : int
         The size of the sample.
 
@@ -83,32 +86,34 @@ def accuracy(
 
     Parameters
     ----------
-    map : path, array, .. as a map of `run`, or None
+    map : path, array, or any map that `run` accepts, or None
         None if the reference is a table.
     reference : map, points or table
         A map, whose null cells are not in the sample; points, as a path, a GeoDataFrame or GeoJSON; or a table, as a CSV or a
         DataFrame, with the columns `map`, `reference` and optionally `cells`.
-    areas : "map", dict, Series or path, optional
+    areas : "map", dict, Series, DataFrame or path, optional
         The areas of the map's classes, from which the sample was drawn class by class: "map" counts them in the map; or areas by
-        class, as a dict or as a CSV with the columns `value` and `area`. Without areas the sample counts as a simple random one.
+        class, as a dict, or as a CSV or a DataFrame with the columns `value` and `area`. Without areas the sample counts as a simple
+        random one, with a warning if points are not.
     area : {"ha", "km2", "m2"} or None
         The unit of areas, as in `composition`; hectares for areas that are given.
     field : str, optional
-        The field of points with their class; by default `class`, or `reference`.
+        The field that has the class of each point; by default `class`, or `reference`.
     layer : str, optional
-        The layer of a file of points that has several.
+        The layer, if the file of points has several.
     labels : path, dict, Series or DataFrame, optional
         A legend, as in `composition`.
     crs : any, optional
-        The reference system of maps that have none.
+        The reference system to assume for maps that have none.
 
     Returns
     -------
     Accuracy
         A named tuple: `matrix`, `classes`, `overall`, `overall_se`, `kappa`, `quantity`, `allocation`, `cells`. The columns of
         `classes` are `class`, `label`, `cells_map`, `cells_reference`, `users`, `users_se`, `producers`, `producers_se`, and with areas
-        `mapped_ha`, `area_ha`, `area_se_ha`. Accuracies are shares from 0 to 1, by equations 1 to 11 of Olofsson et al. 2014. What is
-        not defined is NaN. Without areas, standard errors are right for a random sample, and mean nothing for a complete reference.
+        `mapped_ha`, `area_ha`, `area_se_ha`. Accuracies are shares from 0 to 1, by equations 1 to
+        11 of Olofsson et al. 2014. Undefined values are NaN. Without areas, standard errors are
+        right for a random sample, and mean nothing for a complete reference.
 
     Raises
     ------
@@ -127,10 +132,10 @@ def accuracy(
     0      1   0.88   1.000000    18000.0   15840.0
     1      2   1.00   0.997557   882000.0  884160.0
     """
-    pairs, maps = _pairs_of(map, reference, field, layer, crs)
+    pairs, maps = _pairs_of(map, reference, field, layer, crs, areas is None)
     if not pairs[:, 2].sum():
-        told = "the sample is empty: no cell has a class in the map and in the reference"
-        raise Refused(told, "reference")
+        problem = "the sample is empty: no cell has a class in the map and in the reference"
+        raise Refused(problem, "reference")
     sizes, unit = _sizes_of(areas, area, maps, crs)
     with_area = [code for code, size in (sizes or {}).items() if size > 0]
     classes = np.union1d(np.unique(pairs[:, :2]), np.array(with_area, np.int64))
@@ -143,9 +148,7 @@ def accuracy(
     estimate = _Estimate(counts, mapped / mapped.sum())
     own = [] if maps is None else [source.labels for source in maps.sources.values()]
     legend = legend_for(labels, next(filter(None, own), {}), [("the sample", classes)])
-    columns = [Column("class", "class", classes)]
-    columns += [label_column("label", classes, legend)] if legend else []
-    columns += estimate.columns()
+    columns = coded("class", classes, legend, "label") + estimate.columns()
     if unit is not None:
         parts = {"mapped": mapped, "area": mapped.sum() * estimate.shares}
         parts["area_se"] = mapped.sum() * estimate.shares_se
@@ -154,10 +157,10 @@ def accuracy(
     return Accuracy(matrix, Table(columns), *estimate.summary(), int(counts.sum()))
 
 
-def summary_of(found: Accuracy) -> Table:
-    """Return what an accuracy has besides its tables, as a table of one row."""
-    names = found._fields[2:]
-    parts = ((name, np.array([value])) for name, value in zip(names, found[2:]))
+def summary_of(result: Accuracy) -> Table:
+    """Return the figures of an accuracy that are not in its tables, as a table of one row."""
+    names = result._fields[2:]
+    parts = ((name, np.array([value])) for name, value in zip(names, result[2:]))
     return Table(
         Column(name, "measure" if part.dtype.kind == "f" else "count", part) for name, part in parts
     )
@@ -180,7 +183,7 @@ class _Estimate:
     counts : array of int64
         The cells of the sample.
     weights : array of float64
-        The share of the area of each class of the map.
+        Each class's share of the map's area.
     """
 
     def __init__(self, counts: Integers, weights: Floats) -> None:
@@ -236,87 +239,102 @@ def _check_strata(classes: Integers, mapped: Floats, rows: Integers) -> None:
     """Raise an error if a class has an area and no cell in the sample, or cells and no area."""
     lacking = classes[(mapped > 0) & (rows == 0)].tolist()
     if lacking:
-        told = f"no cell of the sample is in the class {_listed(lacking)} of the map, which has an area"
-        raise Refused(f"{told}: add cells, or merge the class with another one", "reference")
+        problem = f"no cell of the sample is in the class {first_of(lacking)} of the map, which has an area"
+        raise Refused(f"{problem}: add cells, or merge the class with another one", "reference")
     extra = classes[(mapped == 0) & (rows > 0)].tolist()
     if extra:
-        told = f"must have an area for each class of the sample; got none for {_listed(extra)}"
-        raise BadArgument("areas", told)
-
-
-def _listed(codes: list[int]) -> str:
-    more = f" and {len(codes) - _SHOWN} more" if len(codes) > _SHOWN else ""
-    return ", ".join(str(code) for code in codes[:_SHOWN]) + more
+        problem = f"must have an area for each class of the sample; got none for {first_of(extra)}"
+        raise BadArgument("areas", problem)
 
 
 # Samples
 
 
 def _pairs_of(
-    map: Any, reference: Any, field: Optional[str], layer: Optional[str], crs: Any
+    map: Any,
+    reference: Any,
+    field: Optional[str],
+    layer: Optional[str],
+    crs: Any,
+    is_random: bool,
 ) -> tuple[Integers, Optional[Maps]]:
-    """Return how often each class of the map and of the reference occur together, and the maps, if there is one."""
+    """Return how often each class of the map and of the reference occur together, and the maps, if there is one.
+
+    Warn if points that are said to be a random sample are not.
+    """
     points = open_features("reference", reference, layer)
     if points is None:
         for name, word in (("field", field), ("layer", layer)):
             if word is not None:
                 raise BadArgument(name, "is for points, and reference is not")
-    pairs = None if points is not None else _pairs_of_table(reference)
+        pairs = _pairs_of_table(reference)
+        if pairs is not None:
+            return pairs, None if map is None else Maps({"map": source_of("map", map)}, crs)
     if map is None:
-        if pairs is None:
-            raise BadArgument("map", "must be given, unless reference is a table; got None")
-        return pairs, None
+        raise BadArgument("map", "must be given, unless reference is a table; got None")
     source = source_of("map", map)
-    if pairs is not None:
-        return pairs, Maps({"map": source}, crs)
     if points is None:
         maps = Maps({"map": source, "reference": reference}, crs)
         return maps.tables("r.stats -c -n input=map,reference")[0], maps
     placed = points_of(points, field, source, crs)
     maps = Maps({"map": source, "point": placed.map}, crs)
-    return placed.pairs(maps.tables("r.stats -n input=point,map")[0]), maps
+    found, counts = maps.tables("r.stats -n input=point,map\nr.stats -c -n input=map")
+    pairs = placed.pairs(found)
+    if is_random:
+        _warn_of_strata(pairs, counts)
+    return pairs, maps
 
 
-def _pairs_of_table(given: Any) -> Optional[Integers]:
-    """Return how often pairs of classes occur in a CSV or a DataFrame; None for anything else."""
-    is_path = isinstance(given, (str, os.PathLike))
-    if is_path and os.path.splitext(os.fspath(given))[1].lower() in _TABLES:
-        return _pairs_of_file(os.fspath(given))
-    return _pairs_of_frame(given) if hasattr(given, "columns") else None
+def _warn_of_strata(pairs: Integers, counts: Integers) -> None:
+    """Warn if a sample has the map's classes in shares that a random sample hardly ever has, by a test of chi squared.
+
+    The rarest classes count as one, and the limit is Wilson and Hilferty's.
+    """
+    drawn = np.zeros(len(counts))
+    np.add.at(drawn, np.searchsorted(counts[:, 0], pairs[:, 0]), pairs[:, 2])
+    order = np.argsort(counts[:, 1], kind="stable")
+    expected = counts[order, 1] * (drawn.sum() / max(counts[:, 1].sum(), 1))
+    rare = np.count_nonzero(expected < _FEWEST)
+    pooled = max(rare, int(np.searchsorted(np.cumsum(expected), _FEWEST)) + 1)
+    freedom = len(counts) - pooled
+    if freedom < 1:
+        return
+    first = [0, *range(pooled, len(counts))]
+    drawn = np.add.reduceat(drawn[order], first)
+    expected = np.add.reduceat(expected, first)
+    spread = 2 / (9 * freedom)
+    limit = freedom * (1 - spread + _DEVIATE * math.sqrt(spread)) ** 3
+    if ((drawn - expected) ** 2 / expected).sum() > limit:
+        problem = "the map's classes have other shares in the sample than in the map"
+        remedy = f"if it was drawn class by class, give {option('areas', 'map')}"
+        warn(f"reference: {problem}: {remedy}")
 
 
-def _pairs_of_file(path: str) -> Integers:
-    rows = rows_of_file("reference", path, ("map", "reference"), ("cells",))
-    return _pairs((place, row["map"], row["reference"], row.get("cells", 1)) for place, row in rows)
+def _pairs_of_table(reference: Any) -> Optional[Integers]:
+    """Return how often pairs of classes occur in a CSV or a DataFrame; None for anything else.
 
-
-def _pairs_of_frame(frame: Any) -> Integers:
-    names = [str(name) for name in frame.columns]
-    if not {"map", "reference"} <= set(names):
-        told = f"no columns map and reference: there are {', '.join(names) or 'none'}"
-        raise Refused(told, "reference")
-    rows = enumerate(frame.to_dict("records"), 1)
-    return _pairs(
-        (f"row {at}", row["map"], row["reference"], row.get("cells", 1)) for at, row in rows
-    )
-
-
-def _pairs(rows: Any) -> Integers:
-    """Return the rows of a table as numbers; rows without a class in the map or in the reference are left out."""
-    found = []
-    for place, mapped, actual, cells in rows:
+    Rows without a class in the map or in the reference are left out.
+    """
+    is_path = isinstance(reference, (str, os.PathLike))
+    is_file = is_path and os.path.splitext(os.fspath(reference))[1].lower() in _TABLES
+    if not is_file and not hasattr(reference, "columns"):
+        return None
+    pairs = []
+    for place, row in rows_of("reference", reference, ("map", "reference"), ("cells",)):
+        mapped, actual = row["map"], row["reference"]
         if any(is_missing(value) or value == "" for value in (mapped, actual)):
             continue
-        numbers = [whole_number(value) for value in (mapped, actual, cells)]
-        for given, value in zip((mapped, actual, cells), numbers):
-            if value is None or abs(value) > MAX_CATEGORY:
-                raise Refused(
-                    f"{place}: {given!r} is not a class or a number of cells", "reference"
-                )
-        if (numbers[2] or 0) < 0:
+        numbers = []
+        for field in (mapped, actual, row.get("cells", 1)):
+            number = whole_number(field)
+            if number is None or abs(number) > MAX_CATEGORY:
+                problem = f"{field!r} is not a class or a number of cells"
+                raise Refused(f"{place}: {problem}", "reference")
+            numbers.append(number)
+        if numbers[2] < 0:
             raise Refused(f"{place}: {numbers[2]} cells are fewer than none", "reference")
-        found.append(numbers)
-    return np.array(found, np.int64).reshape(-1, 3)
+        pairs.append(numbers)
+    return np.array(pairs, np.int64).reshape(-1, 3)
 
 
 # Areas
@@ -325,15 +343,15 @@ def _pairs(rows: Any) -> Integers:
 def _sizes_of(
     areas: Any, area: Any, maps: Optional[Maps], crs: Any
 ) -> tuple[Optional[dict[int, float]], Optional[str]]:
-    """Return the areas of the map's classes, None if none are given, and the unit in which the result has areas."""
+    """Return the areas of the map's classes, or None, and the unit of areas in the result."""
     if areas is None:
         return None, None
     if isinstance(areas, str) and areas == "map":
         if maps is None:
             raise BadArgument("areas", 'must be areas by class if there is no map; got "map"')
         measure = maps.measure(area)
-        found = maps.counts([["map"]], measure)[0]
-        known = zip(found.classes[:, 0].tolist(), found.measured().tolist())
+        counts = maps.counts([["map"]], measure)[0]
+        known = zip(counts.classes[:, 0].tolist(), counts.areas(measure).tolist())
         return {code: float(size) for code, size in known}, measure.unit
     unit = None if area is None else "ha" if area == AUTO else area
     if unit is not None and unit not in UNITS_OF_AREA:
@@ -342,22 +360,22 @@ def _sizes_of(
 
 
 def _sizes_given(areas: Any) -> Any:
-    """Yield the area of each class of a dict, a Series or a CSV."""
-    if isinstance(areas, (str, os.PathLike)):
-        rows = rows_of_file("areas", os.fspath(areas), ("value", "area"))
+    """Yield the area of each class of a dict, a Series, a CSV or a DataFrame."""
+    if isinstance(areas, (str, os.PathLike)) or hasattr(areas, "columns"):
+        rows = rows_of("areas", areas, ("value", "area"))
         listed = [(f"{place}: ", row["value"], row["area"]) for place, row in rows]
     elif hasattr(areas, "items"):
-        listed = [("", code, size) for code, size in areas.items()]
+        listed = [("", code, number) for code, number in areas.items()]
     else:
-        told = f'must be {option("areas", "map")}, or areas by class; got {areas!r}'
-        raise BadArgument("areas", told)
-    for place, code, given in listed:
+        rule = f'must be {option("areas", "map")}, or areas by class; got {areas!r}'
+        raise BadArgument("areas", rule)
+    for place, code, size in listed:
         value = whole_number(code)
         try:
-            size = float(given)
+            number = float(size)
         except (TypeError, ValueError):
-            size = math.nan
-        if value is None or not 0 <= size < math.inf:
-            told = f"must be numbers from 0 by class; got {place}{given!r} for {code!r}"
-            raise BadArgument("areas", told)
-        yield value, size
+            number = math.nan
+        if value is None or not 0 <= number < math.inf:
+            rule = f"must be numbers from 0 by class; got {place}{size!r} for {code!r}"
+            raise BadArgument("areas", rule)
+        yield value, number

@@ -9,7 +9,7 @@ import numpy as np
 
 from .arrays import NDArray
 from .columns import Column, Table
-from .counting import Maps, label_column, legend_for
+from .counting import Maps, coded, legend_for
 from .sources import MapLike
 
 __all__ = ["adjacency", "sides_of"]
@@ -20,32 +20,30 @@ r.mapcalc below = map[1,0]
 r.stats -c -n input=map,right
 r.stats -c -n input=map,below"""
 
-_TITLES = ("class", "neighbour")
-_LABELS = ("label", "neighbour_label")
-
 
 def adjacency(map: MapLike, *, labels: Any = None, crs: Any = None) -> Table:
     """Count the sides that the cells of each pair of classes share.
 
     Parameters
     ----------
-    map : path, array, .. as a map of `run`
+    map : path, array, or any map that `run` accepts
     labels : path, dict, Series or DataFrame, optional
         A legend, as in `composition`.
     crs : any, optional
-        The reference system of a map that has none.
+        The reference system to assume for a map that has none.
 
     Returns
     -------
     pandas.DataFrame
         Columns `class`, `label`, `neighbour`, `neighbour_label`, `sides`, `border_m`. Each pair is listed once, the smaller class
-        first; a class with itself counts the sides between its own cells. Sides to null and along the map's edge are left out. In
-        degrees `border_m` is NaN, with a warning, and so it is without a reference system.
+        first; a class with itself counts the sides between its own cells. Sides to null and along
+        the map's edge are left out. `border_m` is NaN without a reference system and, with a
+        warning, in degrees.
 
     Raises
     ------
     Refused
-        As for `run`, and for invalid legends.
+        See `run`; also raised for invalid legends.
 
     Examples
     --------
@@ -62,11 +60,7 @@ def adjacency(map: MapLike, *, labels: Any = None, crs: Any = None) -> Table:
     unit = maps.measure(None).length()
     width, height = maps.first.transform[0], -maps.first.transform[4]
     legend = legend_for(labels, maps.sources["map"].labels, [("map", pairs)])
-    columns: list[Column] = []
-    for title, label, classes in zip(_TITLES, _LABELS, pairs.T):
-        columns.append(Column(title, "class", classes))
-        if legend:
-            columns.append(label_column(label, classes, legend))
+    columns = coded("class", pairs[:, 0], legend, "label") + coded("neighbour", pairs[:, 1], legend)
     columns.append(Column("sides", "count", flanks + ends))
     return Table([*columns, Column("border_m", "measure", (flanks * height + ends * width) * unit)])
 
@@ -76,9 +70,9 @@ def sides_of(
 ) -> tuple[NDArray[np.int64], NDArray[np.int64], NDArray[np.int64]]:
     """Return each pair of classes once, and how many sides they share from west to east, and from north to south."""
     pairs = np.sort(np.concatenate([right[:, :2], below[:, :2]]), axis=1)
-    kinds, at = np.unique(pairs, axis=0, return_inverse=True)
-    at = at.reshape(-1)
+    kinds, pair_of = np.unique(pairs, axis=0, return_inverse=True)
+    pair_of = pair_of.reshape(-1)
     flanks, ends = np.zeros((2, len(kinds)), np.int64)
-    np.add.at(flanks, at[: len(right)], right[:, 2])
-    np.add.at(ends, at[len(right) :], below[:, 2])
+    np.add.at(flanks, pair_of[: len(right)], right[:, 2])
+    np.add.at(ends, pair_of[len(right) :], below[:, 2])
     return kinds, flanks, ends

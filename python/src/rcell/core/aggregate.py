@@ -65,7 +65,7 @@ class BlockShares:
     entries : array of int64
         The block, the index of the class, and the cells of each class of each block.
     cells : array of int64
-        Of each block.
+        For each block.
     """
 
     blocks: ArrayMap
@@ -82,11 +82,11 @@ class BlockShares:
     @cached_property
     def percent(self) -> NDArray[np.float64]:
         """The percentages, classes x rows x columns; NaN for a null block."""
-        block, at, count = self.entries.T
-        found = np.zeros((len(self.classes), self.cells.size))
-        found[at, block] = count * 100.0 / self.cells[block]
-        found[:, self.blocks.array.reshape(-1) == NULL] = np.nan
-        return found.reshape(-1, *self.blocks.region.shape)
+        block, index, count = self.entries.T
+        percent = np.zeros((len(self.classes), self.cells.size))
+        percent[index, block] = count * 100.0 / self.cells[block]
+        percent[:, self.blocks.array.reshape(-1) == NULL] = np.nan
+        return percent.reshape(-1, *self.blocks.region.shape)
 
 
 def aggregate(map: MapLike, factor: int, min_percent: float = 0, *, crs: Any = None) -> Aggregate:
@@ -94,13 +94,14 @@ def aggregate(map: MapLike, factor: int, min_percent: float = 0, *, crs: Any = N
 
     Parameters
     ----------
-    map : path, array, .. as a map of `run`
+    map : path, array, or any map that `run` accepts
     factor : int
         Rows and columns of a block. Blocks at the southern and eastern edge may reach beyond the map.
     min_percent : float
-        A block is null if fewer of its cells, in percent, are in the map and not null. A block without such cells is always null.
+        A block is null if a smaller percentage of its cells is in the map and not null. A block
+        without such cells is always null.
     crs : any, optional
-        The reference system of a map that has none.
+        The reference system to assume for a map that has none.
 
     Returns
     -------
@@ -111,7 +112,7 @@ def aggregate(map: MapLike, factor: int, min_percent: float = 0, *, crs: Any = N
     Raises
     ------
     Refused
-        As for `run`.
+        See `run`.
     BadArgument
         An argument is out of range.
 
@@ -133,12 +134,12 @@ def aggregate(map: MapLike, factor: int, min_percent: float = 0, *, crs: Any = N
     source = maps.first
     rows, cols = (-(-size // factor) for size in source.region.shape)
     if rows * cols > MAX_CATEGORY:
-        told = f"must leave at most {MAX_CATEGORY} blocks; got {factor}, which leaves {rows * cols}"
-        raise BadArgument("factor", told)
+        rule = f"must leave at most {MAX_CATEGORY} blocks; got {factor}, which leaves {rows * cols}"
+        raise BadArgument("factor", rule)
     script = f"r.mapcalc block = (row() - 1) / {factor} * {cols} + (col() - 1) / {factor}"
     entries = maps.tables(f"{script}\nr.stats -c -n input=block,map")[0]
-    classes, at = np.unique(entries[:, 1], return_inverse=True)
-    entries[:, 1] = at.reshape(-1)
+    classes, indices = np.unique(entries[:, 1], return_inverse=True)
+    entries[:, 1] = indices.reshape(-1)
     most, cells = _counted(entries, classes, rows * cols)
     most[cells * 100.0 < min_percent * factor**2] = NULL
     width, _, west, _, height, north = source.transform
@@ -164,12 +165,12 @@ def aggregate(map: MapLike, factor: int, min_percent: float = 0, *, crs: Any = N
 
 def _counted(entries: Integers, classes: Integers, blocks: int) -> tuple[Integers, Integers]:
     """Return the most frequent class of each block, null without cells, and its cells; classes are indices, in order by block."""
-    block, at, count = entries.T
+    block, index, count = entries.T
     first = places_of(block)
     most, cells = np.full(blocks, NULL, np.int64), np.zeros(blocks, np.int64)
     if first.size:
         # Of the largest counts, the largest number has the smallest class.
-        ranks = count * classes.size + (classes.size - 1 - at)
+        ranks = count * classes.size + (classes.size - 1 - index)
         best = np.maximum.reduceat(ranks, first) % classes.size
         most[block[first]] = classes[classes.size - 1 - best]
         cells[block[first]] = np.add.reduceat(count, first)

@@ -11,14 +11,27 @@ from .arrays import NDArray
 from .crs import are_same_crs, common_crs, known
 from .errors import BadArgument, BadMap, OtherCrs, OtherRegion
 from .host import option
+from .kept import cells_for
+from .rectangles import Rectangle, rectangles_of
 from .region import Region, Shift
-from .sources import ArrayMap, Cells, MapLike, Mask, Source, source_of
+from .sources import (
+    ArrayMap,
+    Block,
+    Cells,
+    MapLike,
+    Mask,
+    Source,
+    has_windows,
+    null_cells,
+    source_of,
+)
 
 __all__ = ["Aligned", "align"]
 
 # A centre so close to the northern or western border of a cell, in cells, still lies in it.
 _ON_BORDER = 1e-6
-_BLOCK = 1 << 20
+# Cells between two reference systems are looked up in squares of this side.
+_SIDE = 1024
 
 
 class Aligned(NamedTuple):
@@ -59,7 +72,7 @@ def align(
         Each new cell gets the cell in which its centre lies; on a border, the southern or eastern one. By default, only whole rows and
         columns are cut off, or added as null.
     crs : any, optional
-        The reference system of maps that have none.
+        The reference system to assume for maps that have none.
 
     Returns
     -------
@@ -94,17 +107,18 @@ def align(
             fault.advice = None if resample else 'rcell.align(.., resample="nearest")'
             raise
         system = like.crs
-    cells, null = _cells_of(source)
+    target = _Target(source, like.region.shape)
     if source.crs is None or like.crs is None or are_same_crs(source.crs, like.crs):
-        made, is_null, aligned = _shifted(source, like, cells, null, resample)
+        aligned = _shifted(source, like, target, resample)
     else:
-        made, is_null, aligned = _projected(source, like, cells, null)
+        aligned = _projected(source, like, target)
     is_exact = Region.from_transform(like.transform, *like.region.shape) == like.region
     moved = ArrayMap(
         source.name,
-        made,
+        target.cells,
         like.region,
-        is_null,
+        target.null,
+        target.nodata,
         labels=source.labels,
         crs=system,
         exact_transform=like.transform if is_exact else None,
@@ -114,42 +128,90 @@ def align(
     return moved, aligned
 
 
-def _cells_of(source: Source) -> tuple[Cells, Mask]:
-    """Return the cells of a map, and which of them are null."""
-    blocks = list(source.blocks())
-    cells = np.concatenate([block.cells for block in blocks])
-    null = np.zeros(cells.shape, np.bool_) if source.nodata is None else cells == source.nodata
-    row = 0
-    for block in blocks:
-        if block.null is not None:
-            null[row : row + len(block.cells)] |= block.null
-        row += len(block.cells)
-    return cells, null
+class _Target:
+    """The cells of a map on another grid, all null at first: in memory, or in a file if they are too many.
+
+    Parameters
+    ----------
+    source : Source
+    shape : tuple of two ints
+        Of the grid.
+    """
+
+    def __init__(self, source: Source, shape: tuple[int, int]) -> None:
+        self.nodata = source.nodata
+        self.cells = cells_for(shape, source.dtype)
+        self.cells[...] = 0 if self.nodata is None else self.nodata
+        self.null: Optional[Mask] = None
+        if self.nodata is None:
+            self.null = cells_for(shape, np.bool_)
+            self.null[...] = True
+
+    def put(self, part: Any, cells: Cells, null: Mask, where: Any = True) -> None:
+        """Put cells into a part of the grid, as its index, or into some places of it."""
+        if self.null is not None:
+            _copy(self.null[part], null, where)
+        elif null.any():
+            cells = np.where(null, cells.dtype.type(self.nodata), cells)
+        _copy(self.cells[part], cells, where)
 
 
-def _shifted(
-    source: Source, like: Source, cells: Cells, null: Mask, resample: Optional[str]
-) -> tuple[Cells, Mask, Aligned]:
-    """Return a map on the grid of another one: moved by whole rows and columns, or with the nearest cells."""
+def _copy(target: NDArray[Any], values: NDArray[Any], where: Any) -> None:
+    """Put values into an array, or only where a mask is true."""
+    if where is True:
+        target[...] = values
+    else:
+        target[where] = values
+
+
+def _null_of(source: Source, block: Block) -> Mask:
+    """Return which cells of a block are null."""
+    return null_cells(block.cells, block.null, source.nodata)
+
+
+class _Axis(NamedTuple):
+    """The rows (or columns) of a map that a grid uses: their ascending indices, the first row of the grid inside the map, and how often each is used."""
+
+    taken: NDArray[np.int64]
+    first: int
+    often: NDArray[np.int64]
+
+    @classmethod
+    def of(cls, centres: NDArray[np.float64], size: int) -> _Axis:
+        """Return what a grid uses, from the centres of its rows in cells of the map."""
+        indices = np.floor(centres + _ON_BORDER).astype(np.int64)
+        inside = np.flatnonzero((indices >= 0) & (indices < size))
+        taken = indices[inside]
+        first = int(inside[0]) if inside.size else 0
+        often = np.bincount(taken, minlength=size)
+        return cls(taken, first, often)
+
+    def part(self, begin: int, end: int) -> tuple[slice, Any]:
+        """Return which rows of the grid use rows from `begin` to `end`, and which of these each one uses."""
+        low, high = (int(place) for place in np.searchsorted(self.taken, (begin, end)))
+        return slice(self.first + low, self.first + high), _run(self.taken[low:high] - begin)
+
+
+def _shifted(source: Source, like: Source, target: _Target, resample: Optional[str]) -> Aligned:
+    """Put a map on the grid of another one: moved by whole rows and columns, or with the nearest cells."""
     shift = Shift.between(source.transform, like.transform, like.region.shape)
     if resample is None and not shift.is_whole:
         cure = f"{option('resample', 'nearest')} takes the nearest cell"
-        raise OtherRegion(source.name, f"{shift.told(like.name)}: {cure}")
-    taken, put, often = [], [], []
-    for centres, size in zip(shift.centres(), cells.shape):
-        at = np.floor(centres + _ON_BORDER).astype(np.int64)
-        is_inside = (at >= 0) & (at < size)
-        taken.append(_run(at[is_inside]))
-        put.append(_run(np.flatnonzero(is_inside)))
-        often.append(np.bincount(at[is_inside], minlength=size))
-    made = np.zeros(like.region.shape, cells.dtype)
-    is_null = np.ones(like.region.shape, np.bool_)
-    made[put[0], put[1]] = cells[taken[0]][:, taken[1]]
-    is_null[put[0], put[1]] = null[taken[0]][:, taken[1]]
-    used = int(np.count_nonzero(~null[often[0] > 0][:, often[1] > 0]))
-    once = int(np.count_nonzero(~null[often[0] == 1][:, often[1] == 1]))
-    lost = int(null.size - np.count_nonzero(null)) - used
-    return made, is_null, Aligned(shift.rows, shift.cols, used, used - once, lost)
+        raise OtherRegion(source.name, f"{shift.misfit(like.name)}: {cure}")
+    rows, cols = map(_Axis.of, shift.centres(), source.region.shape)
+    right, across = cols.part(0, source.region.cols)
+    row = known = used = once = 0
+    for block in source.blocks():
+        end = row + len(block.cells)
+        null = _null_of(source, block)
+        low, down = rows.part(row, end)
+        target.put((low, right), block.cells[down][:, across], null[down][:, across])
+        often = rows.often[row:end]
+        known += null.size - int(np.count_nonzero(null))
+        used += int(np.count_nonzero(~null[often > 0][:, cols.often > 0]))
+        once += int(np.count_nonzero(~null[often == 1][:, cols.often == 1]))
+        row = end
+    return Aligned(shift.rows, shift.cols, used, used - once, known - used)
 
 
 def _run(places: NDArray[np.int64]) -> Any:
@@ -161,39 +223,71 @@ def _run(places: NDArray[np.int64]) -> Any:
     return slice(int(places[0]), int(places[-1]) + 1)
 
 
-def _projected(
-    source: Source, like: Source, cells: Cells, null: Mask
-) -> tuple[Cells, Mask, Aligned]:
-    """Return a map on a grid with another reference system, with the nearest cells."""
-    system, target = known(like.crs), known(source.crs)
-    assert system is not None and target is not None
+def _projected(source: Source, like: Source, target: _Target) -> Aligned:
+    """Put a map on a grid with another reference system, with the nearest cells, of which a window is read at a time."""
+    system, source_system = known(like.crs), known(source.crs)
+    assert system is not None and source_system is not None
     width, _, west, _, height, north = source.transform
-    rows, cols = cells.shape
-    made = np.zeros(like.region.shape, cells.dtype)
-    is_null = np.ones(like.region.shape, np.bool_)
-    often = np.zeros(cells.size, np.int64)
-    step = max(1, _BLOCK // like.region.cols)
-    for row in range(0, like.region.rows, step):
-        part = slice(row, min(row + step, like.region.rows))
-        x, y = system.points(target, *_centres(like, part))
+    rows, cols = shape = source.region.shape
+    windows: Any = source if has_windows(source) else _held(source)
+    often = cells_for(shape, np.uint8)  # 0, 1, and 2 for more
+    often[...] = 0
+    is_met = False
+    for place in rectangles_of(like.region.shape, (_SIDE, _SIDE)):
+        x, y = system.points(source_system, *_centres(like, place))
         down = np.floor((y - north) / height + _ON_BORDER)
         across = np.floor((x - west) / width + _ON_BORDER)
         is_inside = (down >= 0) & (down < rows) & (across >= 0) & (across < cols)
-        at = down[is_inside].astype(np.int64) * cols + across[is_inside].astype(np.int64)
-        made[part][is_inside] = cells.reshape(-1)[at]
-        is_null[part][is_inside] = null.reshape(-1)[at]
-        often += np.bincount(at, minlength=cells.size)
-    if not often.any():
+        if not is_inside.any():
+            continue
+        is_met = True
+        window = _Window.of(down[is_inside], across[is_inside])
+        block = windows.window(*window.place)
+        cells = block.cells.reshape(-1)[window.flat]
+        null = _null_of(source, block).reshape(-1)[window.flat]
+        target.put(place.slices, cells, null, is_inside)
+        window.note(often, null)
+    if not is_met:
         raise BadMap(source.name, f"has no cell in the extent of `{like.name}`")
-    often = np.where(null.reshape(-1), 0, often)
-    used = int(np.count_nonzero(often))
-    lost = int(null.size - np.count_nonzero(null)) - used
-    return made, is_null, Aligned(None, None, used, int(np.count_nonzero(often > 1)), lost)
+    total = sum(int(np.count_nonzero(~_null_of(source, block))) for block in source.blocks())
+    used, repeated = int(np.count_nonzero(often)), int(np.count_nonzero(often > 1))
+    return Aligned(None, None, used, repeated, total - used)
 
 
-def _centres(like: Source, rows: slice) -> list[NDArray[np.float64]]:
-    """Return the coordinates of the centres of some rows."""
+class _Window(NamedTuple):
+    """The window of a map that has some cells, and where these are in it, as an index of all its cells."""
+
+    place: Rectangle
+    flat: NDArray[np.int64]
+
+    @classmethod
+    def of(cls, down: NDArray[np.float64], across: NDArray[np.float64]) -> _Window:
+        """Return the window of cells that are given by their rows and columns."""
+        top, left = int(down.min()), int(across.min())
+        rows, cols = int(down.max()) + 1 - top, int(across.max()) + 1 - left
+        down_in_window = down.astype(np.int64) - top
+        across_in_window = across.astype(np.int64) - left
+        return cls(Rectangle(top, left, rows, cols), down_in_window * cols + across_in_window)
+
+    def note(self, often: NDArray[np.uint8], null: Mask) -> None:
+        """Note how often each cell is taken, unless it is null."""
+        part = often[self.place.slices]
+        times = np.bincount(self.flat[~null], minlength=self.place.cells)
+        part[...] = np.minimum(times.reshape(part.shape) + part, 2)
+
+
+def _held(source: Source) -> ArrayMap:
+    """Return a map that cannot be read in parts, such as a text grid, as a map in memory."""
+    blocks = list(source.blocks())
+    cells = np.concatenate([block.cells for block in blocks])
+    nulls = [block.null for block in blocks if block.null is not None]
+    null = np.concatenate(nulls) if nulls else None
+    return ArrayMap(source.name, cells, source.region, null, source.nodata)
+
+
+def _centres(like: Source, place: Rectangle) -> list[NDArray[np.float64]]:
+    """Return the coordinates of the centres of some cells."""
     width, _, west, _, height, north = like.transform
-    x = west + width * (np.arange(like.region.cols) + 0.5)
-    y = north + height * (np.arange(rows.start, rows.stop) + 0.5)
+    x = west + width * (np.arange(place.left, place.left + place.cols) + 0.5)
+    y = north + height * (np.arange(place.top, place.top + place.rows) + 0.5)
     return list(np.meshgrid(x, y))

@@ -16,7 +16,7 @@ from .host import option, warn
 from .region import Transform
 from .sources import Source
 
-__all__ = ["AUTO", "Measure", "flat_measure", "measure_of", "row_areas", "unit_of"]
+__all__ = ["AUTO", "Measure", "flat_measure", "measure_of", "metres_of", "row_areas", "unit_of"]
 
 AUTO = "auto"
 
@@ -68,7 +68,7 @@ def row_areas(
 
 @dataclass(frozen=True)
 class Measure:
-    """What the cells of a map measure.
+    """The sizes of the cells of a map.
 
     Attributes
     ----------
@@ -103,13 +103,13 @@ class Measure:
         """The ending of the names of columns in this unit."""
         return self.unit or "cells"
 
-    def area(self, cells: NDArray[np.int64]) -> NDArray[np.float64]:
-        """Return the area of each number of cells in a projected map."""
-        return cells * self.cell / self.divisor
+    def area(self, weights: NDArray[Any]) -> NDArray[np.float64]:
+        """Return the area of each number of cells of a projected map, or of square metres of a map in degrees."""
+        return weights * self.cell / self.divisor
 
 
 def measure_of(area: Any, source: Source, crs: Any) -> Measure:
-    """Return what the cells of a map measure.
+    """Return the sizes of the cells of a map.
 
     Parameters
     ----------
@@ -136,7 +136,7 @@ def measure_of(area: Any, source: Source, crs: Any) -> Measure:
 
 
 def flat_measure(area: str, transform: Transform, crs: Any) -> Measure:
-    """Return what the cells of a map measure if all have one area, as a table of a script needs it.
+    """Return the sizes of the cells of a map if all have one area, which tables of scripts need.
 
     Raises
     ------
@@ -147,11 +147,23 @@ def flat_measure(area: str, transform: Transform, crs: Any) -> Measure:
     metres = _metres(crs, True)
     assert unit is not None and metres is not None
     if math.isnan(metres):
-        told = (
+        rule = (
             "needs a map in metres or feet: in degrees the area of a cell differs from row to row"
         )
-        raise BadArgument("area", f"{told}; composition and cross weigh the rows")
+        raise BadArgument("area", f"{rule}; composition and cross weight the rows")
     return Measure(unit, UNITS_OF_AREA[unit], _cell(transform, metres), None, metres)
+
+
+def metres_of(name: str, crs: Any, advice: str = "") -> float:
+    """Return the length of a map's unit in metres; if it has none, the error names the argument that needs it."""
+    if crs is None:
+        rule = "must be for a map with a coordinate reference system, and this one has none"
+        raise BadArgument(name, f"{rule}: state it, for example {option('crs', 'EPSG:25832')}")
+    metres = _metres(crs, True)
+    if metres is None or math.isnan(metres):
+        rule = "must be for a map in metres or feet, and this one is in degrees"
+        raise BadArgument(name, rule + advice)
+    return metres
 
 
 def _cell(transform: Transform, metres: float) -> float:
@@ -172,9 +184,9 @@ def unit_of(area: Any, crs: Any) -> str | None:
     if not isinstance(area, str) or area not in UNITS_OF_AREA:
         raise BadArgument("area", f"must be ha, km2, m2 or None; got {area!r}")
     if crs is None:
-        told = "needs a coordinate reference system, and the maps have none"
+        problem = "needs a coordinate reference system, and the maps have none"
         example = option("crs", "EPSG:25832")
-        raise BadArgument("area", f'"{area}" {told}: state it, for example {example}')
+        raise BadArgument("area", f'"{area}" {problem}: state it, for example {example}')
     return area
 
 
@@ -189,7 +201,7 @@ def _metres(crs: Any, is_needed: bool) -> float | None:
 
 
 def _understood(crs: Any) -> Crs | None:
-    """Return a reference system that is of use but not needed, None without a library that knows it."""
+    """Return a reference system that is useful but not needed; None without a library that understands it."""
     try:
         return known(crs)
     except MissingLibrary:

@@ -1,25 +1,30 @@
 # SPDX-License-Identifier: Apache-2.0 OR GPL-2.0-or-later
-"""Checks of arguments that several calls have."""
+"""Checks of arguments that several calls share."""
 
 from __future__ import annotations
 
 import difflib
+import inspect
 import numbers
 import os
-from typing import Any, Iterable, List, Mapping, Optional
+from typing import Any, Callable, Iterable, List, Mapping, Optional
 
 from .errors import BadArgument
 
 __all__ = [
     "MAX_CATEGORY",
+    "check_arguments",
     "check_connectivity",
     "check_named_maps",
     "check_script",
     "classes_of",
+    "first_of",
+    "known_names",
     "whole_number_of",
 ]
 
 MAX_CATEGORY = 2_147_483_647
+_SHOWN = 5
 
 
 def check_connectivity(connectivity: Any) -> None:
@@ -29,7 +34,7 @@ def check_connectivity(connectivity: Any) -> None:
         raise BadArgument("connectivity", f"must be 4 or 8; got {connectivity!r}")
 
 
-def whole_number_of(name: str, given: Any, least: int, most: Optional[int] = None) -> int:
+def whole_number_of(name: str, value: Any, least: int, most: Optional[int] = None) -> int:
     """Return an argument that must be a whole number in a range.
 
     Examples
@@ -39,35 +44,83 @@ def whole_number_of(name: str, given: Any, least: int, most: Optional[int] = Non
       ...
     rcell.BadArgument: core_depth must be a whole number from 1 to 20; got 0
     """
-    is_whole = isinstance(given, numbers.Integral) and not isinstance(given, bool)
-    if not is_whole or given < least or (most is not None and given > most):
+    is_whole = isinstance(value, numbers.Integral) and not isinstance(value, bool)
+    if not is_whole or value < least or (most is not None and value > most):
         limits = f", at least {least}" if most is None else f" from {least} to {most}"
-        raise BadArgument(name, f"must be a whole number{limits}; got {given!r}")
-    return int(given)
+        raise BadArgument(name, f"must be a whole number{limits}; got {value!r}")
+    return int(value)
 
 
-def classes_of(given: Any) -> Optional[List[int]]:
+def classes_of(classes: Any) -> Optional[List[int]]:
     """Return the classes that a call is limited to; None for all.
 
     Examples
     --------
-    >>> classes_of([31, 32.0])
-    [31, 32]
+    >>> classes_of([31, 32.0]), classes_of(31)
+    ([31, 32], [31])
     """
-    if given is None:
+    if classes is None:
         return None
-    if isinstance(given, (str, bytes)) or not isinstance(given, Iterable):
+    if isinstance(classes, numbers.Real):
+        classes = [classes]
+    if isinstance(classes, (str, bytes)) or not isinstance(classes, Iterable):
         raise BadArgument(
-            "classes", f"must be a list of whole numbers, for example [31, 32]; got {given!r}"
+            "classes", f"must be a list of whole numbers, for example [31, 32]; got {classes!r}"
         )
-    found = []
-    for value in given:
+    numbers_of_classes = []
+    for value in classes:
         is_number = isinstance(value, numbers.Real) and not isinstance(value, bool)
         if not is_number or not abs(value) <= MAX_CATEGORY or value != int(value):
             limits = f"from -{MAX_CATEGORY} to {MAX_CATEGORY}"
             raise BadArgument("classes", f"must be whole numbers {limits}; got {value!r}")
-        found.append(int(value))
-    return found
+        numbers_of_classes.append(int(value))
+    return numbers_of_classes
+
+
+def first_of(values: Iterable[Any], most: int = _SHOWN) -> str:
+    """Return the first of some values as a text, and how many more there are.
+
+    Examples
+    --------
+    >>> first_of([31, 32], 1), first_of("ab")
+    ('31 and 1 more', 'a, b')
+    """
+    texts = [str(value) for value in values]
+    more = f" and {len(texts) - most:,} more" if len(texts) > most else ""
+    return ", ".join(texts[:most]) + more
+
+
+def known_names(noun: str, names: Iterable[str]) -> str:
+    """Return the names that could be meant, for a message about an unknown one.
+
+    Examples
+    --------
+    >>> known_names("field", ["name"]), known_names("field", ["name", "code"]), known_names("field", [])
+    ('the only field is name', 'the fields are name, code', 'there are no fields')
+    """
+    known = list(names)
+    if len(known) == 1:
+        return f"the only {noun} is {known[0]}"
+    return f"the {noun}s are {', '.join(known)}" if known else f"there are no {noun}s"
+
+
+def check_arguments(call: Callable[..., Any], named: Iterable[str]) -> None:
+    """Raise BadArgument if a call does not have an argument of a name.
+
+    Examples
+    --------
+    >>> check_arguments(first_of, ["most", "last"])
+    Traceback (most recent call last):
+      ...
+    rcell.BadArgument: last is not an argument of first_of: the arguments are values, most
+    """
+    known = inspect.signature(call).parameters
+    if any(each.kind is inspect.Parameter.VAR_KEYWORD for each in known.values()):
+        return
+    for name in named:
+        if name not in known:
+            rule = f"is not an argument of {call.__name__}: {known_names('argument', known)}"
+            raise BadArgument(name, rule)
 
 
 def check_script(script: Any) -> None:
@@ -77,35 +130,35 @@ def check_script(script: Any) -> None:
 
 
 def check_named_maps(maps: Any, named: Mapping[str, Any], words: Iterable[str]) -> None:
-    """Raise BadArgument unless maps are given by name, and none is a misspelt word of the call.
+    """Raise BadArgument unless maps are given by name, and no name is a misspelt parameter of the call.
 
     Parameters
     ----------
     maps : any
         The argument without a name: a mapping of maps, a Dataset, or None.
     named : mapping of str to any
-        The arguments with a name that the call takes for maps.
+        The keyword arguments that the call treats as maps.
     words : iterable of str
-        The words of the call.
+        The parameters of the call.
     """
     known = list(words)
-    for name, given in named.items():
+    for name, value in named.items():
         close = difflib.get_close_matches(name, known, 1, 0.75)
-        if close and not _may_be_map(given):
-            told = f"is taken for a map, and {given!r} is not one: did you mean {close[0]}=?"
-            raise BadArgument(name, told)
+        if close and not _may_be_map(value):
+            problem = f"is taken for a map, and {value!r} is not one: did you mean {close[0]}=?"
+            raise BadArgument(name, problem)
     is_mapping = isinstance(maps, Mapping) or hasattr(maps, "data_vars")
     if is_mapping and len(maps) or (maps is None and named):
         return
-    met = "none"
+    description = "none"
     if maps is not None and not is_mapping:
         is_short = isinstance(maps, (str, os.PathLike, int))
-        met = repr(maps) if is_short else f"a {type(maps).__name__}"
-    raise BadArgument("maps", f'must be given by name, for example a="a.tif"; got {met}')
+        description = repr(maps) if is_short else f"a {type(maps).__name__}"
+    raise BadArgument("maps", f'must be given by name, for example a="a.tif"; got {description}')
 
 
-def _may_be_map(given: Any) -> bool:
+def _may_be_map(value: Any) -> bool:
     """Return whether something may be meant as a map: a name with a dot, a path, or anything but a plain value."""
-    if isinstance(given, str):
-        return "." in given or os.sep in given or os.path.exists(given)
-    return not (given is None or isinstance(given, (bool, int, float)))
+    if isinstance(value, str):
+        return "." in value or os.sep in value or os.path.exists(value)
+    return not (value is None or isinstance(value, (bool, int, float)))

@@ -1,5 +1,5 @@
 # SPDX-License-Identifier: Apache-2.0 OR GPL-2.0-or-later
-"""Types of arrays, for annotations alone: a run does not import numpy.typing."""
+"""Types of arrays, only for annotations: a run does not import numpy.typing."""
 
 from __future__ import annotations
 

@@ -20,33 +20,46 @@ _USUAL = (255, -9999, -32768)
 
 
 class Watch:
-    """Counts usual nodata values along the border of a map, in blocks or windows of it that come in any order."""
+    """Counts usual nodata values along the border of a map. Its blocks or windows may come in any order.
 
-    def __init__(self, name: str, source: Source) -> None:
+    Parameters
+    ----------
+    name : str
+    source : Source
+        The map, or a part of it.
+    shape : tuple of two ints
+        The rows and columns of the map.
+    """
+
+    def __init__(self, name: str, source: Any, shape: tuple[int, int]) -> None:
         self._name = name
-        self._shape = source.region.shape
+        self._shape = shape
         self._scale = getattr(source, "scale", 1)
         self._values = [
             value for value in _USUAL if _may_be_undeclared(source, value * self._scale)
         ]
-        self._counts = np.zeros(len(self._values), np.int64)
+        self.counts = np.zeros(len(self._values), np.int64)
         self._lock = threading.Lock()
 
     def add(self, block: Block, row: int, col: int) -> None:
         """Count the cells of a block that begins at a row and a column."""
         if self._values:
             cells, null = _border(block, row, col, self._shape)
-            found = [
+            counts = [
                 np.count_nonzero((cells == value * self._scale) & ~null) for value in self._values
             ]
-            with self._lock:
-                self._counts += found
+            self.merge(np.array(counts, np.int64))
+
+    def merge(self, counts: NDArray[np.int64]) -> None:
+        """Add the counts of other windows of the map."""
+        with self._lock:
+            self.counts += counts
 
     def finish(self) -> None:
         """Warn if a usual nodata value fills more than half of the border."""
         rows, cols = self._shape
         border = rows * cols - max(rows - 2, 0) * max(cols - 2, 0)
-        for value, count in zip(self._values, self._counts.tolist()):
+        for value, count in zip(self._values, self.counts.tolist()):
             if 2 * count > border:
                 warn(
                     f"{self._name}: {count:,} of the {border:,} cells along its border are {value}, and no nodata value is declared: "
@@ -56,7 +69,7 @@ class Watch:
 
 def watched(name: str, source: Source) -> Iterator[Block]:
     """Yield the blocks of a map; after the last one, warn if a usual nodata value fills more than half of its border."""
-    watch, row = Watch(name, source), 0
+    watch, row = Watch(name, source, source.region.shape), 0
     for block in source.blocks():
         watch.add(block, row, 0)
         row += len(block.cells)
@@ -64,8 +77,8 @@ def watched(name: str, source: Source) -> Iterator[Block]:
     watch.finish()
 
 
-def _may_be_undeclared(source: Source, value: int) -> bool:
-    """Return whether a map can have a value that is not null; only in bytes 255 is the end of the type."""
+def _may_be_undeclared(source: Any, value: int) -> bool:
+    """Return whether a value can be a non-null value of a map; 255 is the end of the type only in bytes."""
     if source.nodata == value:
         return False
     limits = np.iinfo(source.dtype)
@@ -79,11 +92,16 @@ def _border(
     (rows, cols), (high, wide) = shape, block.cells.shape
     is_last = row + high == rows and rows > 1
     inner = slice(int(row == 0), high - is_last)
-    parts: list[Any] = [np.s_[0, :]] if row == 0 else []
-    parts += [np.s_[-1, :]] if is_last else []
-    parts += [np.s_[inner, 0]] if col == 0 else []
-    parts += [np.s_[inner, -1]] if col + wide == cols and cols > 1 else []
-    cells = np.concatenate([block.cells[:0, 0], *(block.cells[part] for part in parts)])
+    parts: list[Any] = [np.s_[:0, 0]]  # no cell, for a block without a border
+    if row == 0:
+        parts.append(np.s_[0, :])
+    if is_last:
+        parts.append(np.s_[-1, :])
+    if col == 0:
+        parts.append(np.s_[inner, 0])
+    if col + wide == cols and cols > 1:
+        parts.append(np.s_[inner, -1])
+    cells = np.concatenate([block.cells[part] for part in parts])
     if block.null is None:
         return cells, np.zeros(cells.shape, np.bool_)
-    return cells, np.concatenate([block.null[:0, 0], *(block.null[part] for part in parts)])
+    return cells, np.concatenate([block.null[part] for part in parts])

@@ -13,7 +13,7 @@ import numpy as np
 from .area import Measure
 from .arrays import NDArray
 from .columns import Column, Matrix, Table, distinct_names
-from .counting import Counts, Maps, label_column, legend_for
+from .counting import Counts, Maps, legend_for
 from .errors import BadArgument
 from .sources import MapLike
 
@@ -69,7 +69,7 @@ def change(
 
     Parameters
     ----------
-    before, after : path, array, .. as a map of `run`
+    before, after : path, array, or any map that `run` accepts
         Two maps; or as `before` a list of maps in the order of their years, or a DataArray with the dimension `time`. Each map is
         compared with the next one.
     years : iterable of int, optional
@@ -80,7 +80,7 @@ def change(
         The legend of all maps, which replaces their own labels, as in `composition`. By default, maps without labels get the labels of
         the first map that has some.
     crs : any, optional
-        The reference system of maps that have none.
+        The reference system to assume for maps that have none.
 
     Returns
     -------
@@ -90,7 +90,7 @@ def change(
     Raises
     ------
     Refused
-        As for `run`.
+        See `run`.
     BadArgument
         There is not one year for each map.
 
@@ -101,18 +101,18 @@ def change(
     >>> found.summary.iloc[0].tolist()
     [1, 2, 1, 0, 1, -1, 0, 1]
     """
-    given, told_years = _maps_of(before, after, years)
-    checked = checked_years(told_years, len(given))
-    maps = Maps(given, crs)
+    named_maps, listed_years = _maps_of(before, after, years)
+    checked = checked_years(listed_years, len(named_maps))
+    maps = Maps(named_maps, crs)
     measure = maps.measure(area)
     names = list(maps.sources)
     pairs = maps.counts(list(zip(names, names[1:])), measure)
     own = [maps.sources[name].labels for name in names]
     shared: Labels = next(filter(None, own), {})
     if labels is not None:
-        occurring = [(name, _classes_of(pairs, at)) for at, name in enumerate(names)]
+        occurring = [(name, _classes_of(pairs, index)) for index, name in enumerate(names)]
         own = [legend_for(labels, {}, occurring)] * len(names)
-    changes = _Changes(pairs, checked, [each or shared for each in own], measure)
+    changes = _Changes(pairs, checked, [labels_of_map or shared for labels_of_map in own], measure)
     return Change(changes.table(), changes.matrix(), changes.summary())
 
 
@@ -125,17 +125,17 @@ def _maps_of(before: Any, after: Any, years: Any) -> tuple[dict[str, Any], Any]:
         raise BadArgument("after", "must be a map, unless before is a list of maps; got None")
     if len(maps) == 2:
         return dict(zip(("before", "after"), maps)), years
-    return {f"map_{at}": map for at, map in enumerate(maps, 1)}, years
+    return {f"map_{number}": map for number, map in enumerate(maps, 1)}, years
 
 
-def maps_in_time(given: Any, years: Any) -> tuple[list[Any], Any]:
+def maps_in_time(maps: Any, years: Any) -> tuple[list[Any], Any]:
     """Return the maps of a list, or of a DataArray with the dimension `time`, and their years."""
-    if "time" in getattr(given, "dims", ()):
+    if "time" in getattr(maps, "dims", ()):
         from ..readers.xarray import series_of
 
-        maps, own = series_of(given)
-        return list(maps), own if years is None else years
-    return list(given) if isinstance(given, (list, tuple)) else [given], years
+        bands, own = series_of(maps)
+        return list(bands), own if years is None else years
+    return list(maps) if isinstance(maps, (list, tuple)) else [maps], years
 
 
 def checked_years(years: Any, maps: int) -> Optional[list[int]]:
@@ -143,24 +143,28 @@ def checked_years(years: Any, maps: int) -> Optional[list[int]]:
     if years is None and maps == 2:
         return None
     if isinstance(years, str) or not (years is None or isinstance(years, Iterable)):
-        told = f"must be a list of whole numbers, for example [2000, 2020]; got {years!r}"
-        raise BadArgument("years", told)
-    found = [] if years is None else list(years)
-    for year in found:
+        rule = f"must be a list of whole numbers, for example [2000, 2020]; got {years!r}"
+        raise BadArgument("years", rule)
+    listed = [] if years is None else list(years)
+    for year in listed:
         if not isinstance(year, numbers.Integral) or isinstance(year, bool):
             raise BadArgument("years", f"must be whole numbers; got {year!r}")
-        if found.count(year) > 1:
+        if listed.count(year) > 1:
             raise BadArgument("years", f"must differ; got {year} twice")
-    if len(found) != maps:
-        told = f"must have one year for each map; got {len(found) or 'none'} for {maps} maps"
-        raise BadArgument("years", told)
-    return [int(year) for year in found]
+    if len(listed) != maps:
+        rule = f"must have one year for each map; got {len(listed) or 'none'} for {maps} maps"
+        raise BadArgument("years", rule)
+    return [int(year) for year in listed]
 
 
-def _classes_of(pairs: Sequence[Counts], at: int) -> NDArray[np.int64]:
-    """Return the classes that occur in a map of a series, of which each pair has two."""
-    parts = [pairs[at].classes[:, 0]] if at < len(pairs) else []
-    return np.concatenate(parts + ([pairs[at - 1].classes[:, 1]] if at else []))
+def _classes_of(pairs: Sequence[Counts], index: int) -> NDArray[np.int64]:
+    """Return the classes that occur in a map of a series; each pair of years has two maps."""
+    parts = []
+    if index < len(pairs):
+        parts.append(pairs[index].classes[:, 0])  # it is the map before
+    if index > 0:
+        parts.append(pairs[index - 1].classes[:, 1])  # it is the map after
+    return np.concatenate(parts)
 
 
 @dataclass(frozen=True)
@@ -180,8 +184,8 @@ class _Changes:
             columns += self._with_labels(name, f"{name}_label", classes, self.labels[place:])
         cells = np.concatenate([pair.cells for pair in self.pairs])
         area = None
-        if self.measure.unit is not None:
-            area = np.concatenate([pair.measured() for pair in self.pairs])
+        if self.measure.by_row is not None:
+            area = np.concatenate([pair.weights() for pair in self.pairs])
         percent = np.concatenate([pair.percent() for pair in self.pairs])
         together = Counts(np.empty((cells.size, 0), np.int64), cells, area)
         return Table(columns + together.columns(self.measure, percent))
@@ -189,11 +193,17 @@ class _Changes:
     def matrix(self) -> Matrix:
         """Return a matrix with a row for each class before and a column for each class after."""
         after = np.unique(np.concatenate([pair.classes[:, 1] for pair in self.pairs]))
-        parts = [_matrix_of(pair, after) for pair in self.pairs]
+        is_sized = self.measure.unit is not None
+        parts = [
+            _matrix_of(pair, pair.areas(self.measure) if is_sized else pair.cells, after)
+            for pair in self.pairs
+        ]
         classes = [before for before, _ in parts]
         keys = self._years_of([before.size for before in classes])
         taken = [*(column.name for column in keys), "from"]
-        later = {code: text for labels in self.labels[1:] for code, text in labels.items()}
+        later: dict[int, str] = {}
+        for labels in self.labels[1:]:
+            later.update(labels)
         axes = [(after, later), *zip(classes, self.labels)]
         titles, *texts = distinct_names(axes, taken)
         if any(self.labels):
@@ -205,20 +215,21 @@ class _Changes:
 
     def summary(self) -> Table:
         """Return a table with a row for each class."""
-        is_weighed = self.measure.by_row is not None
-        parts = [
-            _summary_of(pair, pair.measured() if is_weighed else pair.cells) for pair in self.pairs
-        ]
-        classes = [found for found, _ in parts]
+        classes, parts = [], []
+        for pair in self.pairs:
+            codes, sums = _summary_of(pair, pair.weights())
+            classes.append(codes)
+            parts.append(sums)
         both = [{**before, **after} for before, after in zip(self.labels, self.labels[1:])]
-        columns = self._years_of([found.size for found in classes])
+        columns = self._years_of([codes.size for codes in classes])
         columns += self._with_labels("class", "label", classes, both)
-        values = np.concatenate([part for _, part in parts], axis=1)
-        if self.measure.unit is not None and not is_weighed:
+        values = np.concatenate(parts, axis=1)
+        if self.measure.unit is not None and self.measure.by_row is None:
             values = self.measure.area(values)
         kind = "count" if self.measure.unit is None else "measure"
-        titles = (f"{part}_{self.measure.column}" for part in _PARTS)
-        return Table(columns + [Column(title, kind, part) for title, part in zip(titles, values)])
+        for part, row in zip(_PARTS, values):
+            columns.append(Column(f"{part}_{self.measure.column}", kind, row))
+        return Table(columns)
 
     def _years_of(self, rows: list[int]) -> list[Column]:
         """Return the columns of years; `rows` has the number of rows of each pair."""
@@ -238,29 +249,31 @@ class _Changes:
         """Return the column of classes of all pairs, and the column of labels if any map has labels."""
         columns = [Column(name, "class", np.concatenate(classes))]
         if any(self.labels):
-            texts = [label_column(title, codes, own).values for codes, own in zip(classes, labels)]
-            columns.append(Column(title, "label", [text for part in texts for text in part]))
+            pairs = zip(classes, labels)
+            texts = [own.get(code) for codes, own in pairs for code in codes.tolist()]
+            columns.append(Column(title, "label", texts))
         return columns
 
 
-def _matrix_of(pair: Counts, after: NDArray[np.int64]) -> tuple[NDArray[np.int64], NDArray[Any]]:
-    """Return the classes before, and what each changed into: a row for each, a column for each class after."""
-    before, at = np.unique(pair.classes[:, 0], return_inverse=True)
-    measured = pair.measured()
+def _matrix_of(
+    pair: Counts, measured: NDArray[Any], after: NDArray[np.int64]
+) -> tuple[NDArray[np.int64], NDArray[Any]]:
+    """Return the classes before, and the classes they changed into: a row per class before, a column per class after."""
+    before, down = np.unique(pair.classes[:, 0], return_inverse=True)
     values = np.zeros((before.size, after.size), measured.dtype)
-    values[at, np.searchsorted(after, pair.classes[:, 1])] = measured
+    values[down, np.searchsorted(after, pair.classes[:, 1])] = measured
     return before, values
 
 
 def _summary_of(pair: Counts, measured: NDArray[Any]) -> tuple[NDArray[np.int64], NDArray[Any]]:
     """Return the classes of two years, and for each of them the seven measures of a summary."""
-    classes, at = np.unique(pair.classes, return_inverse=True)
-    before, after = at.reshape(-1, 2).T
-    kept = before == after
+    classes, indices = np.unique(pair.classes, return_inverse=True)
+    before, after = indices.reshape(-1, 2).T
+    persists = before == after
     sums = np.zeros((3, classes.size), measured.dtype)
     np.add.at(sums[0], before, measured)
     np.add.at(sums[1], after, measured)
-    np.add.at(sums[2], before[kept], measured[kept])
+    np.add.at(sums[2], before[persists], measured[persists])
     begun, ended, same = sums
     gain, loss = ended - same, begun - same
     swap = 2 * np.minimum(gain, loss)

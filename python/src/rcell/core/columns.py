@@ -61,9 +61,9 @@ class Table:
     """
 
     def __init__(self, columns: Iterable[Column]) -> None:
-        given = list(columns)
-        names = unique_names(column.name for column in given)
-        self.data = [replace(column, name=name) for column, name in zip(given, names)]
+        unnamed = list(columns)
+        names = unique_names(column.name for column in unnamed)
+        self.data = [replace(column, name=name) for column, name in zip(unnamed, names)]
 
     @property
     def columns(self) -> tuple[str, ...]:
@@ -103,10 +103,11 @@ class Matrix(Table):
         is_numbered: bool,
     ) -> None:
         kind = "measure" if values.dtype.kind == "f" else "count"
-        super().__init__(
-            [*keys, *(Column(title, kind, part) for title, part in zip(titles, values.T))]
-        )
-        self.keys = len(keys)
+        columns = list(keys)
+        for title, column in zip(titles, values.T):
+            columns.append(Column(title, kind, column))
+        super().__init__(columns)
+        self.key_count = len(keys)
         self.across = across
         self.is_numbered = is_numbered
 
@@ -126,21 +127,23 @@ class Matrix(Table):
         >>> Matrix.of(["a", "b"], pairs, np.array([3, 4, 5]), [{}, {7: "x", 8: "x"}]).columns
         ('a', 'x (7)', 'x (8)')
         """
-        (rows, at), (columns, across) = (_codes(part) for part in classes.T)
-        made = np.zeros((rows.size, columns.size), values.dtype)
-        made[at, across] = values
-        texts, titles = distinct_names([(rows, labels[0]), (columns, labels[1])], [names[0]])
+        rows, down = _codes(classes[:, 0])
+        columns, across = _codes(classes[:, 1])
+        cells = np.zeros((rows.size, columns.size), values.dtype)
+        cells[down, across] = values
+        axes = [(rows, labels[0]), (columns, labels[1])]
+        texts, titles = distinct_names(axes, [names[0]])
         head = Column(names[0], "class", rows)
         if labels[0]:
             head = Column(names[0], "label", texts)
-        return cls([head], names[1], titles, made, not labels[1])
+        return cls([head], names[1], titles, cells, not labels[1])
 
 
 def _codes(classes: NDArray[np.int64]) -> tuple[NDArray[np.int64], NDArray[np.intp]]:
     """Return the classes that occur, null last, and the index of each among them."""
     last = np.iinfo(np.int64).max
-    found, at = np.unique(np.where(classes == NULL, last, classes), return_inverse=True)
-    return np.where(found == last, NULL, found), at
+    codes, indices = np.unique(np.where(classes == NULL, last, classes), return_inverse=True)
+    return np.where(codes == last, NULL, codes), indices
 
 
 def distinct_names(
@@ -169,9 +172,13 @@ def distinct_names(
     def name(code: int, label: str | None) -> str:
         if not label:
             return _number(code)
-        return f"{label} ({code})" if len(owners[label]) > 1 or label in taken else label
+        is_ambiguous = len(owners[label]) > 1 or label in taken
+        return f"{label} ({code})" if is_ambiguous else label
 
-    return [[name(code, labels.get(code)) for code in classes.tolist()] for classes, labels in axes]
+    names = []
+    for classes, labels in axes:
+        names.append([name(code, labels.get(code)) for code in classes.tolist()])
+    return names
 
 
 def _number(code: int) -> str:
@@ -186,12 +193,12 @@ def unique_names(names: Iterable[str]) -> list[str]:
     >>> unique_names(["lc", "lc", "lc_2"])
     ['lc', 'lc_2', 'lc_2_2']
     """
-    found: list[str] = []
+    unique: list[str] = []
     for name in names:
         new = name
         number = 2
-        while new in found:
+        while new in unique:
             new = f"{name}_{number}"
             number += 1
-        found.append(new)
-    return found
+        unique.append(new)
+    return unique

@@ -33,7 +33,7 @@ def composition(
 
     Parameters
     ----------
-    map : path, array, .. as a map of `run`
+    map : path, array, or any map that `run` accepts
     zones : map, or path of polygons, GeoDataFrame or GeoSeries, optional
         A cell belongs to the polygon that contains its centre. A feature without geometry, or without a value, has no zone.
     area : {"ha", "km2", "m2"} or None
@@ -45,24 +45,25 @@ def composition(
         The field of the polygons with the ids or names of the zones; by default the zone is the feature's own id (the index of a
         GeoDataFrame).
     layer : str, optional
-        The layer of a file of polygons that has several.
+        The layer, if the file of polygons has several.
     each : bool
-        Whether polygons that overlap are taken one after another. By default the later one has the cells, with a warning.
+        Whether to process overlapping polygons one after another. By default the later one gets the
+        cells, with a warning.
     include_null : bool
         Whether to add the cells that are null.
     crs : any, optional
-        The reference system of maps that have none.
+        The reference system to assume for maps that have none.
 
     Returns
     -------
     pandas.DataFrame
         Columns `zone` and `zone_label` (with zones), `class`, `label` (if there are labels), `cells`, `area_ha`, and `percent` of the
-        non-null part of the zone: of its area, or without areas of its cells.
+        non-null part of the zone: of its area, or of its cells if there are no areas.
 
     Raises
     ------
     Refused
-        As for `run`, and for invalid legends and polygons.
+        See `run`; also raised for invalid legends and polygons.
 
     Examples
     --------
@@ -77,13 +78,13 @@ def composition(
     maps = Maps({"map": map}, crs, zones, zone_field, layer, each)
     measure = maps.measure(area)
     names = ["map"] if zones is None else ["zones", "map"]
-    found = maps.counts([names], measure, include_null)[0]
+    counts = maps.counts([names], measure, include_null)[0]
     if zones is not None:
-        found = found.where(found.classes[:, 0] != NULL)
-    columns = maps.columns("class", found.classes[:, -1], "map", labels, "label")
+        counts = counts.where(counts.classes[:, 0] != NULL)
+    columns = maps.columns("class", counts.classes[:, -1], "map", labels, "label")
     if zones is not None:
-        columns[:0] = maps.columns("zone", found.classes[:, 0], "zones", zone_labels)
-    return Table(columns + found.columns(measure, found.percent(len(names) - 1)))
+        columns[:0] = maps.columns("zone", counts.classes[:, 0], "zones", zone_labels)
+    return Table(columns + counts.columns(measure, counts.percent(len(names) - 1)))
 
 
 def cross(
@@ -109,7 +110,7 @@ def cross(
     include_null : bool
         Whether to add combinations with null.
     crs : any, optional
-        The reference system of maps that have none.
+        The reference system to assume for maps that have none.
     **named
         Maps by name, up to 16, in degrees up to 15.
 
@@ -122,7 +123,7 @@ def cross(
     Raises
     ------
     Refused
-        As for `run`, and for invalid legends.
+        See `run`; also raised for invalid legends.
 
     Examples
     --------
@@ -135,20 +136,20 @@ def cross(
     2  2  8      1  33.333333
     """
     check_named_maps(maps, named, ("area", "labels", "include_null", "crs"))
-    given = named_once(maps, named)
+    sources = named_once(maps, named)
     legends = {} if labels is None else labels
-    if not isinstance(legends, Mapping) or set(legends) - set(given):
-        met = (
-            next(iter(set(legends) - set(given)), labels)
+    if not isinstance(legends, Mapping) or set(legends) - set(sources):
+        wrong = (
+            next(iter(set(legends) - set(sources)), labels)
             if isinstance(legends, Mapping)
             else labels
         )
-        told = f'must be by the names of the maps; got {met!r}: write {{{next(iter(given))!r}: "legend.csv"}}'
-        raise BadArgument("labels", told)
-    crossed = Maps(given, crs)
+        rule = f'must be by the names of the maps; got {wrong!r}: write {{{next(iter(sources))!r}: "legend.csv"}}'
+        raise BadArgument("labels", rule)
+    crossed = Maps(sources, crs)
     measure = crossed.measure(area)
-    found = crossed.counts([list(given)], measure, include_null)[0]
+    counts = crossed.counts([list(sources)], measure, include_null)[0]
     columns: list[Column] = []
-    for place, name in enumerate(given):
-        columns += crossed.columns(name, found.classes[:, place], name, legends.get(name))
-    return Table(columns + found.columns(measure, found.percent()))
+    for place, name in enumerate(sources):
+        columns += crossed.columns(name, counts.classes[:, place], name, legends.get(name))
+    return Table(columns + counts.columns(measure, counts.percent()))

@@ -1,5 +1,5 @@
 # SPDX-License-Identifier: Apache-2.0 OR GPL-2.0-or-later
-"""Maps from one format to another: `rcell-gis convert`. Texts need the standard library alone."""
+"""Maps from one format to another: `rcell-gis convert`. Texts need only the standard library."""
 
 from __future__ import annotations
 
@@ -19,7 +19,7 @@ _STATUS = 2
 
 
 def converted(path: str, to_esri: bool) -> Optional[Iterator[bytes]]:
-    """Return the text of a grid of rcell, or of an ESRI ASCII grid, in one of the two formats; None if the file is neither."""
+    """Return the text of an rcell grid, or of an ESRI ASCII grid, in one of the two formats; None if the file is neither."""
     try:
         with open(path, "rb") as file:
             start = read_some(file.fileno(), HEAD_BYTES)
@@ -35,13 +35,14 @@ def converted(path: str, to_esri: bool) -> Optional[Iterator[bytes]]:
 
 
 def _printed(path: str) -> Iterator[bytes]:
+    """Yield a grid as rcell prints it."""
     program = find_program()
     with program_errors("", ["map"], program), printed(program, path) as pieces:
         yield from pieces
 
 
 def printed_map(raster: Any, to_esri: bool) -> Iterator[bytes]:
-    """Yield the text of a map as a grid of rcell, or as an ESRI ASCII grid."""
+    """Yield the text of a map as an rcell grid, or as an ESRI ASCII grid."""
     pieces = iter([raster.text()])
     return esri_of_grid(pieces) if to_esri else pieces
 
@@ -52,20 +53,22 @@ def like(raster: Any, path: str) -> Any:
     Raises
     ------
     Refused
-        Its size is another one, or an edge differs by more.
+        Its size differs, or an edge differs by more.
     """
     from .sources import source_of
 
     other = source_of("like", path)
     mine, its = raster.region, other.region
     if mine.shape != its.shape:
-        told = f"{its.rows} rows and {its.cols} columns; the map has {mine.rows} and {mine.cols}"
-        raise Refused(f"{path} has {told}", "like", status=1)
-    height, width = ((its.north - its.south) / its.rows, (its.east - its.west) / its.cols)
-    for edge, size in (("north", height), ("south", height), ("east", width), ("west", width)):
-        if abs(getattr(mine, edge) - getattr(its, edge)) * 2 > size:
-            told = f"{edge} is {getattr(its, edge)}, and {getattr(mine, edge)} in the map"
-            raise Refused(f"{path}: {told}: more than half a cell apart", "like", status=1)
+        sizes = f"{its.rows} rows and {its.cols} columns; the map has {mine.rows} and {mine.cols}"
+        raise Refused(f"{path} has {sizes}", "like", status=1)
+    height = (its.north - its.south) / its.rows
+    width = (its.east - its.west) / its.cols
+    for name, size in (("north", height), ("south", height), ("east", width), ("west", width)):
+        edge, other_edge = getattr(mine, name), getattr(its, name)
+        if abs(edge - other_edge) * 2 > size:
+            difference = f"{name} is {other_edge}, and {edge} in the map"
+            raise Refused(f"{path}: {difference}: more than half a cell apart", "like", status=1)
     crs = raster.crs if other.crs is None else other.crs
-    kept = {"labels": raster.labels, "colors": raster.colors}
-    return type(raster)(raster.array, other.transform, crs, **kept)
+    legend = {"labels": raster.labels, "colors": raster.colors}
+    return type(raster)(raster.array, other.transform, crs, **legend)

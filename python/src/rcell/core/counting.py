@@ -13,20 +13,20 @@ from ..readers import open_features
 from .area import Measure, measure_of
 from .arrays import NDArray
 from .columns import Column
+from .arguments import first_of
 from .errors import BadArgument
 from .host import warn
 from .legends import labels_of
-from .protocol import NULL
-from .runs import execute
+from .protocol import NULL, Question
+from .runs import PatchFold, ask, execute
 from .sources import Source, source_of, sources_of
 from .tile_tables import in_order, order_of
 from .zones import Zones, zones_of
 
-__all__ = ["Counts", "Maps", "label_column", "legend_for", "places_of"]
+__all__ = ["Counts", "Maps", "coded", "legend_for", "places_of"]
 
 # The most maps of an r.stats; in degrees the number of the row is one of them.
 MOST_MAPS = 16
-_SHOWN = 5
 
 Integers = NDArray[np.int64]
 
@@ -41,24 +41,35 @@ class Counts:
         Ascending, -2147483648 for null, which comes last.
     cells : array of int64
     area : array of float64 or None
-        In the unit of the call.
+        In degrees, in the unit of the call; elsewhere it follows from the cells.
     """
 
     classes: Integers
     cells: Integers
     area: Optional[NDArray[np.float64]]
 
-    def where(self, kept: NDArray[np.bool_]) -> Counts:
-        """Return some of the entries."""
+    def where(self, kept: NDArray[Any]) -> Counts:
+        """Return the entries that are kept, or the entries of some places in their order."""
         area = None if self.area is None else self.area[kept]
         return Counts(self.classes[kept], self.cells[kept], area)
 
-    def measured(self) -> NDArray[Any]:
-        """Return the areas, or the cells if there are no areas."""
+    def summed(self, first: NDArray[np.intp]) -> Counts:
+        """Return the sums of the entries from each of some places to the next one, with the classes of the first."""
+        if not first.size:
+            return self
+        area = None if self.area is None else np.add.reduceat(self.area, first)
+        return Counts(self.classes[first], np.add.reduceat(self.cells, first), area)
+
+    def weights(self) -> NDArray[Any]:
+        """Return what shares are computed from: the areas in degrees, else the cells, whose sums are exact."""
         return self.cells if self.area is None else self.area
 
+    def areas(self, measure: Measure) -> NDArray[np.float64]:
+        """Return the areas; the cells if there is no unit."""
+        return measure.area(self.cells) if self.area is None else self.area
+
     def percent(self, groups: int = 0) -> NDArray[np.float64]:
-        """Return what each entry is of the non-null part of the entries with the same first classes; NaN for null.
+        """Return each entry's share of the non-null entries with the same first classes; NaN for null.
 
         Parameters
         ----------
@@ -66,7 +77,7 @@ class Counts:
             The number of classes, from the first on, that make a group.
         """
         is_null = (self.classes == NULL).any(axis=1)
-        counted = np.where(is_null, 0, self.measured())
+        counted = np.where(is_null, 0, self.weights())
         if not counted.size:
             return np.empty(0)
         first = places_of(self.classes[:, :groups])
@@ -74,12 +85,14 @@ class Counts:
         totals = np.repeat(totals, np.diff([*first, counted.size]))
         return np.where(is_null, np.nan, counted * 100.0 / np.where(totals == 0, 1, totals))
 
-    def columns(self, measure: Measure, percent: NDArray[np.float64]) -> list[Column]:
+    def columns(
+        self, measure: Measure, percent: Optional[NDArray[np.float64]] = None
+    ) -> list[Column]:
         """Return the last columns of a table: cells, area and percent."""
         columns = [Column("cells", "count", self.cells)]
-        if self.area is not None:
-            columns.append(Column(f"area_{measure.unit}", "measure", self.area))
-        return [*columns, Column("percent", "measure", percent)]
+        if measure.unit is not None:
+            columns.append(Column(f"area_{measure.unit}", "measure", self.areas(measure)))
+        return columns if percent is None else [*columns, Column("percent", "measure", percent)]
 
 
 class Maps:
@@ -89,13 +102,13 @@ class Maps:
     ----------
     maps : mapping of str to any
     crs : any
-        The reference system of maps that have none.
+        The reference system to assume for maps that have none.
     zones : any, optional
         A map, or polygons, which become the map `zones`.
     zone_field, layer : str, optional
         The field of the polygons with their ids or names, and the layer of their file.
     each : bool
-        Whether polygons that overlap are taken one after another.
+        Whether to process overlapping polygons one after another.
     """
 
     def __init__(
@@ -126,7 +139,7 @@ class Maps:
         self.first = next(iter(self.sources.values()))
 
     def measure(self, area: Any) -> Measure:
-        """Return what their cells measure."""
+        """Return the sizes of their cells."""
         return measure_of(area, self.first, self.crs)
 
     def tables(self, script: str, once: int = 0) -> list[Integers]:
@@ -147,6 +160,12 @@ class Maps:
         merged = [in_order(np.concatenate(parts)) for parts in list(zip(*runs))[once:]]
         return runs[0][:once] + merged
 
+    def ask(self, question: Question, clump: str, fold: PatchFold) -> bool:
+        """Give the patches of a map to a fold, as `runs.ask` does; not if polygons are taken one after another."""
+        if self._zones is not None and len(self._zones.maps) > 1:
+            return False
+        return ask(question, clump, self.sources, fold)
+
     def counts(
         self, tables: Sequence[Sequence[str]], measure: Measure, include_null: bool = False
     ) -> list[Counts]:
@@ -164,32 +183,25 @@ class Maps:
     def columns(
         self, title: str, classes: Integers, name: str, legend: Any = None, label: str = "{}_label"
     ) -> list[Column]:
-        """Return the column of classes of a map, and the column of their labels if there are some: a legend, or its own."""
+        """Return a map's column of classes and, if a legend or the map has labels, the column of labels."""
         argument, own = "labels", self.sources[name].labels
         if name == "zones" and self._zones is not None:
             is_null = classes == NULL
             classes = np.where(is_null, NULL, self._zones.ids[np.where(is_null, 0, classes - 1)])
             argument, own = "zone_labels", self._zones.labels
         labels = legend_for(legend, own, [(self.sources[name].name, classes)], argument)
-        columns = [Column(title, "class", classes)]
-        if labels:
-            columns.append(label_column(label.format(title), classes, labels))
-        return columns
+        return coded(title, classes, labels, label)
 
 
 def counts_of(values: Integers, measure: Measure) -> Counts:
-    """Return the entries of a table; of one that begins with rows, the sums over the rows."""
+    """Return the entries of a table; if it begins with rows, the sums over the rows."""
     if measure.by_row is None:
-        cells = values[:, -1].copy()
-        return Counts(values[:, :-1], cells, None if measure.unit is None else measure.area(cells))
+        return Counts(values[:, :-1], values[:, -1].copy(), None)
     area = values[:, -1] * measure.by_row[values[:, 0] - 1]
-    order = order_of(values[:, 1:-1])
-    classes = values[order, 1:-1]
-    first = places_of(classes)
-    if not first.size:
-        return Counts(classes, values[:, -1], area)
-    cells = np.add.reduceat(values[order, -1], first)
-    return Counts(classes[first], cells, np.add.reduceat(area[order], first) / measure.divisor)
+    by_row = Counts(values[:, 1:-1], values[:, -1], area).where(order_of(values[:, 1:-1]))
+    sums = by_row.summed(places_of(by_row.classes))
+    assert sums.area is not None
+    return Counts(sums.classes, sums.cells, sums.area / measure.divisor)
 
 
 def places_of(ordered: Integers) -> NDArray[np.intp]:
@@ -207,7 +219,7 @@ def legend_for(
     classes: Sequence[tuple[str, Integers]],
     argument: str = "labels",
 ) -> Mapping[int, str]:
-    """Return the labels of classes: of a legend, with a warning of the classes that it lacks, else a map's own.
+    """Return class labels: from a legend, with a warning about classes that it lacks, or else the map's own.
 
     Parameters
     ----------
@@ -227,13 +239,17 @@ def legend_for(
             lacking.setdefault(code, []).append(name)
     if lacking:
         codes = sorted(lacking)
-        more = f", and {len(codes) - _SHOWN} more" if len(codes) > _SHOWN else ""
         names = dict.fromkeys(name for code in codes for name in lacking[code])
-        shown = ", ".join(map(str, codes[:_SHOWN])) + more
-        warn(f"{argument}: no label for {shown} of {' and '.join(names)}")
+        warn(f"{argument}: no label for {first_of(codes)} of {' and '.join(names)}")
     return labels
 
 
-def label_column(title: str, classes: Integers, labels: Mapping[int, str]) -> Column:
-    """Return the column of the labels of classes."""
-    return Column(title, "label", [labels.get(code) for code in classes.tolist()])
+def coded(
+    title: str, classes: Integers, labels: Mapping[int, str], label: str = "{}_label"
+) -> list[Column]:
+    """Return the column of classes, and the column of their labels if there are some."""
+    columns = [Column(title, "class", classes)]
+    if labels:
+        texts = [labels.get(code) for code in classes.tolist()]
+        columns.append(Column(label.format(title), "label", texts))
+    return columns

@@ -1,20 +1,24 @@
 # SPDX-License-Identifier: Apache-2.0 OR GPL-2.0-or-later
-"""Threads that work on tiles, each with programs of its own."""
+"""Threads that process tiles, each with its own programs, or the workers of a cluster."""
 
 from __future__ import annotations
 
 import contextvars
 import dataclasses
+import math
 import threading
+import time
 from collections.abc import Callable, Iterator, Sequence
 from concurrent.futures import FIRST_COMPLETED, Future, ThreadPoolExecutor, wait
 from types import TracebackType
 from typing import Any, Optional, TypeVar
 
+from .clusters import PATIENCE_SECONDS, Cluster, result_of
 from .host import host, serving, warn
 from .process import WATCH_SECONDS
-from .showing import Bar
 from .rectangles import Rectangle
+from .showing import Bar
+from .tile_work import TileDone, TileWork, run_work
 
 __all__ = ["Crew"]
 
@@ -24,8 +28,15 @@ AHEAD = 2
 Made = TypeVar("Made")
 
 
+def _ready(done: TileDone) -> Future[TileDone]:
+    """Return the outcome of a tile whose results were kept, like any other outcome."""
+    future: Future[TileDone] = Future()
+    future.set_result(done)
+    return future
+
+
 class _Stopped(Exception):
-    """The call has ended, and so do the programs of its other tiles."""
+    """The call has ended, so the programs of its other tiles are stopped."""
 
 
 class Crew:
@@ -34,16 +45,25 @@ class Crew:
     Parameters
     ----------
     workers : int
-        The number of tiles that are worked on at a time.
+        The number of tiles that are processed at a time.
     steps : int
-        The number of tiles of the call, each as often as it is worked on, for the progress.
+        The number of steps for the progress: each tile counts as often as it is processed.
     is_shown : bool
-        Whether the host hears of the progress.
+        Whether to report progress to the host.
+    cluster : Cluster, optional
+        The cluster whose workers process tiles instead of threads.
     """
 
-    def __init__(self, workers: int, steps: int, is_shown: bool = True) -> None:
+    def __init__(
+        self,
+        workers: int,
+        steps: int,
+        is_shown: bool = True,
+        cluster: Optional[Cluster] = None,
+    ) -> None:
         self._caller = host()
-        self._ahead = AHEAD * workers
+        self._workers = workers
+        self._cluster = cluster
         self._steps = steps
         self._done = 0
         self._stop = threading.Event()
@@ -59,6 +79,8 @@ class Crew:
         self, kind: Optional[type[BaseException]], _: Any, __: Optional[TracebackType]
     ) -> None:
         self._stop.set()
+        if self._cluster is not None:
+            self._cluster.cancel()
         self._pool.shutdown(wait=True, cancel_futures=True)
         self._bar.close()
         if kind is None:
@@ -68,21 +90,57 @@ class Crew:
     def each(
         self, do: Callable[[Rectangle], Made], places: Sequence[Rectangle]
     ) -> Iterator[tuple[int, Made]]:
-        """Yield what a function returns of each place, with the index of the place, as it comes."""
+        """Yield what a function returns for each place, with the index of the place, in the order of completion."""
+        yield from self._in_turn(lambda place: self._pool.submit(self._run, do, place), places)
+
+    def run(
+        self,
+        prepare: Callable[[Rectangle], TileWork],
+        finish: Callable[[TileWork, TileDone], Made],
+        places: Sequence[Rectangle],
+    ) -> Iterator[tuple[int, Made]]:
+        """Run the work of each place, and yield what `finish` returns, with the index of the place, in the order of completion."""
+
+        def do(place: Rectangle) -> Made:
+            work = prepare(place)
+            return finish(work, self._without_warnings(run_work(work)))
+
+        if self._cluster is None:
+            yield from self.each(do, places)
+            return
+        cluster, works = self._cluster, {}
+
+        def submit(place: Rectangle) -> Future[TileDone]:
+            works[place] = work = prepare(place)
+            return _ready(work.known) if work.known is not None else cluster.submit(work)
+
+        for index, done in self._in_turn(submit, places):
+            yield index, finish(works.pop(places[index]), self._without_warnings(done))
+
+    def _without_warnings(self, done: TileDone) -> TileDone:
+        """Keep the warnings of a tile for the end."""
+        self._warnings.update(dict.fromkeys(done.warnings))
+        return done
+
+    def _in_turn(
+        self, submit: Callable[[Rectangle], Future[Made]], places: Sequence[Rectangle]
+    ) -> Iterator[tuple[int, Made]]:
+        """Submit places, a few more than there are workers, and yield each result with its index as it is ready."""
         running: dict[Future[Any], int] = {}
         waiting = iter(enumerate(places))
         while True:
-            while len(running) < self._ahead and (following := next(waiting, None)):
-                at, place = following
-                running[self._pool.submit(self._run, do, place)] = at
+            ahead = AHEAD * (self._workers if self._cluster is None else self._cluster.threads)
+            while len(running) < ahead and (following := next(waiting, None)):
+                index, place = following
+                running[submit(place)] = index
             if not running:
                 return
             for future in self._ended(running):
-                yield running.pop(future), future.result()
+                yield running.pop(future), result_of(future)
                 self._step()
 
     def _run(self, do: Callable[[Rectangle], Any], place: Rectangle) -> Any:
-        """Work on a tile in a thread, for a host that collects warnings: the caller's host gets them at the end."""
+        """Process a tile in a thread, with a host that collects warnings for the caller's host."""
         caller = dataclasses.replace(
             self._caller,
             warn=lambda text: self._warnings.setdefault(text, None),
@@ -103,13 +161,17 @@ class Crew:
             raise _Stopped
 
     def _ended(self, running: dict[Future[Any], int]) -> set[Future[Any]]:
-        """Return the tiles that have ended; what watches the call is asked meanwhile."""
+        """Return the finished tiles; meanwhile, check whether the call was interrupted."""
+        patience = time.monotonic() + PATIENCE_SECONDS
         while True:
             if self._caller.watch is not None:
                 self._caller.watch()
             ended = wait(list(running), WATCH_SECONDS, FIRST_COMPLETED).done
             if ended:
                 return ended
+            if self._cluster is not None and time.monotonic() > patience:
+                self._cluster.warn_if_empty()
+                patience = math.inf
 
     def _step(self) -> None:
         self._done += 1

@@ -1,5 +1,5 @@
 # SPDX-License-Identifier: Apache-2.0 OR GPL-2.0-or-later
-"""Coordinate reference systems: which one maps have, and what the cells of a map measure."""
+"""Coordinate reference systems: which one maps have, and the sizes of cells."""
 
 from __future__ import annotations
 
@@ -68,7 +68,7 @@ class Crs:
         return self.codes[0] if self.codes else "WKT"
 
     def same(self, other: Crs) -> bool:
-        """Return whether it is another one for coordinates in the order x, y."""
+        """Return whether it differs, for coordinates in the order x, y."""
         return (
             self.wkt == other.wkt
             or bool(set(self.codes) & set(other.codes))
@@ -82,7 +82,7 @@ class Crs:
     def points(
         self, to: Crs, x: NDArray[Any], y: NDArray[Any]
     ) -> tuple[NDArray[Any], NDArray[Any]]:
-        """Return points in another system; what lies outside of it is not finite."""
+        """Return points in another system; points outside it are not finite."""
         raise NotImplementedError
 
 
@@ -132,9 +132,10 @@ def _text_of(crs: Any) -> str:
         if hasattr(crs, method):
             return str(getattr(crs, method)())
     if isinstance(crs, Mapping):
-        return " ".join(
-            f"+{key}" if value is True else f"+{key}={value}" for key, value in crs.items()
-        )
+        words = []
+        for key, value in crs.items():
+            words.append(f"+{key}" if value is True else f"+{key}={value}")
+        return " ".join(words)
     return f"EPSG:{crs}" if isinstance(crs, int) else str(crs)
 
 
@@ -151,7 +152,7 @@ def wkt_of(crs: Any) -> str:
 
 
 def _checked(name: str, crs: Any) -> Any:
-    """Return a reference system unless it cannot be understood; without a library it is not looked at."""
+    """Return a reference system, or raise an error if it cannot be understood; without a library it is not checked."""
     try:
         return None if known(crs) is None else crs
     except MissingLibrary:
@@ -184,18 +185,18 @@ def common_crs(
     maps : mapping of str to any
         The reference systems by the names of the maps; None for none.
     stated : any, optional
-        The one that maps without one are said to have.
+        The reference system to assume for maps that have none.
     warp : str
         The program of GDAL that reprojects them.
     titles : mapping of str to str, optional
-        The names of the maps in messages, if they are others.
+        The names of the maps in messages, if they differ.
 
     Raises
     ------
     OtherCrs
         Two of them differ, or some maps have none and none is stated.
     Refused
-        The one that is stated cannot be understood.
+        The stated reference system cannot be understood.
 
     Examples
     --------
@@ -205,8 +206,8 @@ def common_crs(
     try:
         common = _checked("arguments", stated)
     except BadMap:
-        told = f"must be a coordinate reference system; got {str(stated)[:_SHOWN]!r}"
-        raise BadArgument("crs", told) from None
+        rule = f"must be a coordinate reference system; got {str(stated)[:_SHOWN]!r}"
+        raise BadArgument("crs", rule) from None
     systems = {name: _checked(name, crs) for name, crs in maps.items()}
     first = next((name for name, crs in systems.items() if crs is not None), None)
     if first is None:
@@ -228,22 +229,22 @@ def common_crs(
 
 
 def _warping(program: str, code: str) -> str:
-    """Return what reprojects a map or polygons, as the host names it."""
+    """Return the command that reprojects a map or polygons, as the host calls it."""
     if host().words == "qgis":
         return "Warp (reproject)" if program == "gdalwarp" else "Reproject layer"
     return f"{program} -t_srs {code}"
 
 
-def are_same_crs(one: Any, other: Any) -> bool:
+def are_same_crs(crs: Any, other: Any) -> bool:
     """Return whether two reference systems are the same."""
-    if one is other or _text_of(one) == _text_of(other):
+    if crs is other or _text_of(crs) == _text_of(other):
         return True
-    mine, its = known(one), known(other)
+    mine, its = known(crs), known(other)
     return mine is its or (mine is not None and its is not None and mine.same(its))
 
 
 def is_geographic(crs: Any) -> bool:
-    """Return whether a reference system is in degrees; none is not.
+    """Return whether a reference system is in degrees; False without one.
 
     Examples
     --------
@@ -255,7 +256,7 @@ def is_geographic(crs: Any) -> bool:
 
 
 def metres_of_unit(crs: Any) -> float:
-    """Return how many metres the unit of a projected reference system has; 1 without one.
+    """Return the length of a projected reference system's unit in metres; 1 without a reference system.
 
     Raises
     ------

@@ -8,7 +8,7 @@ from typing import Any
 import numpy as np
 
 from .columns import Column, Table
-from .counting import Maps, label_column, legend_for, places_of
+from .counting import Maps, coded, legend_for, places_of
 from .sources import MapLike
 
 __all__ = ["dominant"]
@@ -30,31 +30,31 @@ def dominant(
 
     Parameters
     ----------
-    map : path, array, .. as a map of `run`
+    map : path, array, or any map that `run` accepts
     zones : map, or path of polygons, GeoDataFrame or GeoSeries
-        As in `composition`.
+        See `composition`.
     area : {"ha", "km2", "m2"} or None
         The unit of areas, as in `composition`.
     labels, zone_labels : path, dict, Series or DataFrame, optional
         Legends, as in `composition`.
     zone_field, layer : str, optional
-        As in `composition`.
+        See `composition`.
     each : bool
-        Whether polygons that overlap are taken one after another, as in `composition`.
+        Whether to process overlapping polygons one after another, as in `composition`.
     crs : any, optional
-        The reference system of maps that have none.
+        The reference system to assume for maps that have none.
 
     Returns
     -------
     pandas.DataFrame
         Columns `zone`, `zone_label`, `cells`, `area_ha`, `classes` (how many occur), `majority`, `majority_label`,
         `majority_percent`, `minority`, `minority_label`, `minority_percent`. Frequencies and percentages are of the zone's cells that
-        are not null, in degrees as well; of equally frequent classes the smallest counts. Zones without such a cell have no row.
+        are not null, also in degrees; of equally frequent classes the smallest counts. Zones without such a cell have no row.
 
     Raises
     ------
     Refused
-        As for `run`, and for invalid legends and polygons.
+        See `run`; also raised for invalid legends and polygons.
 
     Examples
     --------
@@ -67,25 +67,17 @@ def dominant(
     """
     maps = Maps({"map": map}, crs, zones, zone_field, layer, each)
     measure = maps.measure(area)
-    found = maps.counts([["zones", "map"]], measure)[0]
-    zone, classes = found.classes.T
+    counts = maps.counts([["zones", "map"]], measure)[0]
+    zone, classes = counts.classes.T
     first = places_of(zone)
-    sums = [
-        np.add.reduceat(part, first) if first.size else part
-        for part in (found.cells, found.measured())
-    ]
-    columns = maps.columns("zone", zone[first], "zones", zone_labels)
-    columns.append(Column("cells", "count", sums[0]))
-    if found.area is not None:
-        columns.append(Column(f"area_{measure.unit}", "measure", sums[1]))
+    sums = counts.summed(first)
+    columns = maps.columns("zone", zone[first], "zones", zone_labels) + sums.columns(measure)
     columns.append(Column("classes", "count", np.diff([*first, len(zone)]).astype(np.int64)))
     legend = legend_for(labels, maps.sources["map"].labels, [(maps.first.name, classes)])
     for title, sign in (("majority", -1), ("minority", 1)):
         # The entries of each zone stay together, so its first one is the one that is wanted.
-        at = np.lexsort([classes, sign * found.cells, zone])[first]
-        columns.append(Column(title, "class", classes[at]))
-        if legend:
-            columns.append(label_column(f"{title}_label", classes[at], legend))
-        percent = found.cells[at] * 100.0 / sums[0]
+        entries = np.lexsort([classes, sign * counts.cells, zone])[first]
+        columns += coded(title, classes[entries], legend)
+        percent = counts.cells[entries] * 100.0 / sums.cells
         columns.append(Column(f"{title}_percent", "measure", percent))
     return Table(columns)

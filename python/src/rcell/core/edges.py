@@ -19,7 +19,7 @@ def edge_text(units: int) -> str:
     return f"{sign}{whole}.{part:0{DECIMALS}d}".rstrip("0").rstrip(".")
 
 
-def differences_of(mine: Iterable[int], its: Iterable[int]) -> list[str]:
+def differences_of(own: Iterable[int], others: Iterable[int]) -> list[str]:
     """Return a text for each difference of two grids, each of four edges in units of 10^-8, rows and columns.
 
     Examples
@@ -27,11 +27,13 @@ def differences_of(mine: Iterable[int], its: Iterable[int]) -> list[str]:
     >>> differences_of((3 * UNITS, 0, UNITS, 0, 3, 1), (4 * UNITS, 0, UNITS, 0, 4, 1))
     ['north is 4, not 3 (1 more)', 'rows is 4, not 3 (1 more)']
     """
+    names = ("north", "south", "east", "west", "rows", "cols")
     texts: list[Callable[[int], str]] = [edge_text] * 4 + [str] * 2
-    return [
-        f"{name} is {text(other)}, not {text(one)} ({text(abs(other - one))} {'more' if other > one else 'less'})"
-        for name, text, one, other in zip(
-            ("north", "south", "east", "west", "rows", "cols"), texts, mine, its
-        )
-        if one != other
-    ]
+    differences = []
+    for name, text, own_edge, other_edge in zip(names, texts, own, others):
+        if own_edge == other_edge:
+            continue
+        more = "more" if other_edge > own_edge else "less"
+        difference = f"{text(abs(other_edge - own_edge))} {more}"
+        differences.append(f"{name} is {text(other_edge)}, not {text(own_edge)} ({difference})")
+    return differences

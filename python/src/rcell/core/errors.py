@@ -1,5 +1,5 @@
 # SPDX-License-Identifier: Apache-2.0 OR GPL-2.0-or-later
-"""What goes wrong, each with a name of its own."""
+"""The errors of the package, one class for each kind."""
 
 from __future__ import annotations
 
@@ -50,7 +50,7 @@ class BadArgument(RcellError, ValueError):
     argument : str
         Its name.
     reason : str
-        What is wrong, with the value met.
+        The error, with the value met.
 
     Examples
     --------
@@ -80,7 +80,7 @@ class Refused(Fault, RcellError):
     Parameters
     ----------
     text : str
-        What is wrong; errors of the program have its own text.
+        The error; errors of the program have the program's own text.
     source : str
         The name of the map, or `script`, `labels` or `output`.
     line : int
@@ -130,7 +130,7 @@ class BadMap(Refused, ValueError):
     Parameters
     ----------
     name : str
-        The name of the map; it is the `source` of the error as well.
+        The name of the map; it is also the `source` of the error.
     text : str
         What is wrong.
     row, col : int, optional
@@ -158,7 +158,7 @@ class BadMap(Refused, ValueError):
         value: Any = None,
     ) -> None:
         super().__init__(text, name)
-        self.args = (name, text, row, col, value)
+        self.args = (name, text, row, col, value)  # with which pickle makes the error again
         self.row = row
         self.col = col
         self.value = value
@@ -182,7 +182,7 @@ class OtherRegion(BadMap):
     ...     rcell.table("r.stats -c input=a,b", a=np.ones((2, 2), int), b=np.ones((2, 3), int))
     ... except rcell.OtherRegion as error:
     ...     print(error.text.splitlines()[0])
-    not of the region of `a`, and nothing is resampled: east is 3, not 2 (1 more); cols is 3, not 2 (1 more)
+    its grid differs from `a`, and rcell does not resample: east is 3, not 2 (1 more); cols is 3, not 2 (1 more)
     """
 
 
@@ -246,7 +246,7 @@ class MissingProgram(RcellError, FileNotFoundError):
 
 
 class WrongProgram(RcellError):
-    """What was found under the name of the program is not `rcell`, or a version that this package does not know.
+    """The file with the name of the program is not `rcell`, or is a version that this package does not support.
 
     Examples
     --------
@@ -289,7 +289,7 @@ class Killed(RcellError):
 
 
 class WriteFailed(RcellError, OSError):
-    """A file could not be written whole: a full disk, a folder that is missing. Nothing is left of it.
+    """A file could not be written completely, for example because the disk is full. Nothing is left of it.
 
     Examples
     --------

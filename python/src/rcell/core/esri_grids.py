@@ -1,5 +1,5 @@
 # SPDX-License-Identifier: Apache-2.0 OR GPL-2.0-or-later
-"""ESRI ASCII grids (GDAL's AAIGrid) as grids of rcell, and back, with exact edges. Needs the standard library alone."""
+"""ESRI ASCII grids (GDAL's AAIGrid) as rcell grids, and back, with exact edges. Needs only the standard library."""
 
 from __future__ import annotations
 
@@ -29,14 +29,15 @@ _LONGEST = 64  # bytes of a number
 
 
 def is_esri(start: bytes) -> bool:
-    """Return whether a file that starts so is an ESRI ASCII grid.
+    """Return whether a file with this beginning is an ESRI ASCII grid.
 
     Examples
     --------
     >>> is_esri(b"NCOLS 3\\n"), is_esri(b"north: 3\\n")
     (True, False)
     """
-    return start.split(None, 1)[:1] != [] and start.split(None, 1)[0].lower() in KEYS
+    words = start.split(None, 1)
+    return bool(words) and words[0].lower() in KEYS
 
 
 def _number(text: bytes) -> Optional[Fraction]:
@@ -56,17 +57,18 @@ class _Header:
         self.end, self.line = 0, 1
         for raw in start.splitlines(keepends=True):
             words = raw.split()
-            if words and words[0].lower() not in KEYS:
+            key = words[0].lower() if words else b""
+            if words and key not in KEYS:
                 break
-            if words and (len(words) != 2 or words[0].lower() in self.values):
-                raise Refused(
-                    "a line of the header must have one key and one value, and no key may appear twice",
-                    "map",
-                    self.line,
-                )
-            self.values.update({words[0].lower(): words[1]} if words else {})
-            self.end, self.line = self.end + len(raw), self.line + 1
-        self.cols, self.rows = self.side(b"ncols"), self.side(b"nrows")
+            if words and (len(words) != 2 or key in self.values):
+                rule = "must have one key and one value, and no key may appear twice"
+                raise Refused(f"a line of the header {rule}", "map", self.line)
+            if words:
+                self.values[key] = words[1]
+            self.end += len(raw)
+            self.line += 1
+        self.cols = self.side(b"ncols")
+        self.rows = self.side(b"nrows")
         west, east = self.edges(b"x", b"dx", self.cols, "east")
         south, north = self.edges(b"y", b"dy", self.rows, "north")
         texts = [edge_text(round(edge * UNITS)) for edge in (north, south, east, west)]
@@ -80,34 +82,38 @@ class _Header:
         return int(text)
 
     def value(self, *keys: bytes) -> tuple[Fraction, bytes]:
-        """Return the value of the first of these keys that is there, and its text."""
+        """Return the value of the first of these keys that is present, and its text."""
         key = next((key for key in keys if key in self.values), None)
         if key is None:
             raise Refused(f"the header has no {keys[0].decode()}", "map")
-        found = _number(self.values[key])
-        if found is None:
+        number = _number(self.values[key])
+        if number is None:
             raise Refused(f"{key.decode()} is a number, not {_shown(self.values[key])}", "map")
-        return found, self.values[key]
+        return number, self.values[key]
 
     def edges(self, axis: bytes, step: bytes, count: int, name: str) -> tuple[Fraction, Fraction]:
         """Return the two edges of an axis; the upper one is corrected if the cell size was cut."""
         size, text = self.value(step, b"cellsize")
-        is_centre = axis + b"llcorner" not in self.values and axis + b"llcenter" in self.values
-        low = self.value(axis + (b"llcenter" if is_centre else b"llcorner"))[0]
-        low -= size / 2 if is_centre else 0
+        corner, centre = axis + b"llcorner", axis + b"llcenter"
+        if corner in self.values or centre not in self.values:
+            low = self.value(corner)[0]
+        else:
+            low = self.value(centre)[0] - size / 2
         high = low + size * count
         decimals = len(text.partition(b".")[2])
         if decimals < GDAL_DECIMALS or text.endswith(b"0") or b"e" in text.lower():
             return low, high
         most = Fraction(count, 2 * 10**decimals)
-        near = (round(high, digits) for digits in range(DECIMALS + 1))
-        right = next((edge for edge in near if abs(edge - high) <= most), high)
-        if edge_text(round(right * UNITS)) != edge_text(round(high * UNITS)):
+        rounded = (round(high, digits) for digits in range(DECIMALS + 1))
+        corrected = next((edge for edge in rounded if abs(edge - high) <= most), high)
+        new_text = edge_text(round(corrected * UNITS))
+        old_text = edge_text(round(high * UNITS))
+        if new_text != old_text:
             warn(
-                f"{name}: {edge_text(round(right * UNITS))}, because the {decimals} decimals of the cell size would make it "
-                f"{edge_text(round(high * UNITS))}"
+                f"{name}: {new_text}, because the {decimals} decimals of the cell size would make it "
+                f"{old_text}"
             )
-        return low, right
+        return low, corrected
 
 
 class _Cells(dict[bytes, bytes]):
@@ -142,7 +148,7 @@ class _Cells(dict[bytes, bytes]):
 
 
 def grid_of_esri(path: str) -> Iterator[bytes]:
-    """Yield an ESRI ASCII grid as a grid of rcell.
+    """Yield an ESRI ASCII grid as an rcell grid.
 
     Raises
     ------
@@ -156,7 +162,7 @@ def grid_of_esri(path: str) -> Iterator[bytes]:
             start += piece
         header = _Header(start)
         yield header.text.encode()
-        cells, count = _Cells(header.values.get(b"nodata_value")), 0
+        cells, count = _Cells(header.values.get(b"nodata_value")), 0  # converts each word once
         for number, line in enumerate(_lines(start[header.end :], pieces), header.line):
             words = line.split()
             count += len(words)
@@ -167,8 +173,8 @@ def grid_of_esri(path: str) -> Iterator[bytes]:
             except Refused as error:
                 raise Refused(error.text, "map", number) from None
     if count != header.rows * header.cols:
-        told = f"{header.rows} rows of {header.cols} cells in the header, and {count} cells"
-        raise Refused(told, "map")
+        difference = f"{header.rows} rows of {header.cols} cells in the header, and {count} cells"
+        raise Refused(difference, "map")
     for word in sorted(cells.forgotten):
         warn(f"cells are {word.decode()}, which the header does not declare as null")
 

@@ -1,5 +1,5 @@
 # SPDX-License-Identifier: Apache-2.0 OR GPL-2.0-or-later
-"""Run rcell on text grids, and explain its message: `rcell-gis explain`. Needs the standard library alone."""
+"""Run rcell on text grids, and explain its message: `rcell-gis explain`. Needs only the standard library."""
 
 from __future__ import annotations
 
@@ -25,18 +25,18 @@ LONGEST_LINE = 1 << 20  # bytes of a line that is looked at
 
 
 def explain(script: str, words: Sequence[str]) -> int:
-    """Run rcell on a script and NAME=PATH words, print after its message what to do, and return its status.
+    """Run rcell on a script and NAME=PATH words, print advice after its message, and return its status.
 
     Its output goes to standard output unchanged.
     """
     ran = subprocess.run([find_program(), script, *words], stderr=subprocess.PIPE, check=False)
     message = ran.stderr.decode("utf-8", "backslashreplace")
-    found = _MESSAGE.match(message)
+    match = _MESSAGE.match(message)
     lines = [message.rstrip("\n")] if message else []
-    if found:
+    if match:
         paths = dict(word.partition("=")[::2] for word in words)
         lines += [
-            "  " + line for line in _explained(script, paths, found[1], int(found[2]), found[3])
+            "  " + line for line in _explained(script, paths, match[1], int(match[2]), match[3])
         ]
     sys.stdout.flush()
     sys.stderr.write("".join(f"{_printable(line)}\n" for line in lines))
@@ -57,34 +57,39 @@ def _explained(
     elif source in paths:
         yield from _of_grid(paths, source, line, message)
     else:
-        yield f"try: {sentence('arguments', 'usage: rcell SCRIPT NAME=PATH...' if 'usage' in text else text)}"
+        message = "usage: rcell SCRIPT NAME=PATH..." if "usage" in text else text
+        yield f"try: {sentence('arguments', message)}"
 
 
 def _near_file(path: str) -> Optional[str]:
-    """Return the nearest name of a file that is not there."""
+    """Return the file name most similar to a missing file's."""
     folder, name = os.path.split(path)
-    if os.path.exists(path) or not os.path.isdir(folder or "."):
+    listed = folder or "."
+    if os.path.exists(path) or not os.path.isdir(listed):
         return None
-    return next(
-        (os.path.join(folder, close) for close in near(name, os.listdir(folder or "."))), None
-    )
+    for close in near(name, os.listdir(listed)):
+        return os.path.join(folder, close)
+    return None
 
 
 def _of_script(script: str, names: list[str], line: int, text: str) -> Iterator[str]:
+    """Yield the line of a script with a mark, and the corrected line if the program accepts one."""
     with open(script, "rb") as file:
         content = file.read(SCRIPT_BYTES) if os.path.isfile(script) else b""
     lines = content.decode("utf-8", "surrogateescape").split("\n")
     if not 0 < line <= len(lines):
         yield f"try: {sentence('script', text)}"
         return
-    place, tried = advice(find_pipe(), content, names, line, text)
-    found = _COLUMN.search(text)
-    yield from lines_of_error(lines[line - 1].rstrip("\r"), int(found[1]) if found else place)
-    if tried:
-        yield "try: " + tried.replace("\n", "\n       ")
+    place, corrected = advice(find_pipe(), content, names, line, text)
+    match = _COLUMN.search(text)
+    column = int(match[1]) if match else place
+    yield from lines_of_error(lines[line - 1].rstrip("\r"), column)
+    if corrected:
+        yield "try: " + corrected.replace("\n", "\n       ")
 
 
 def _of_grid(paths: dict[str, str], name: str, line: int, text: str) -> Iterator[str]:
+    """Yield the line of a text grid with a mark, and what to do."""
     path = paths[name]
     if not os.path.isfile(path):
         yield f"try: {sentence('grid', text)}"
@@ -92,7 +97,7 @@ def _of_grid(paths: dict[str, str], name: str, line: int, text: str) -> Iterator
     with open(path, "rb") as file:
         start = file.read(HEAD_BYTES)
         if not is_text_grid(start):
-            yield f"{path} is not a grid of rcell"
+            yield f"{path} is not an rcell grid"
             yield f"try: rcell-gis convert {path} {os.path.splitext(path)[0]}.grid.txt"
             return
         file.seek(0)
@@ -107,8 +112,8 @@ def _of_grid(paths: dict[str, str], name: str, line: int, text: str) -> Iterator
 
 def _bad_word(raw: bytes, start: bytes) -> Optional[int]:
     """Return the column of the first word that is not a cell."""
-    found = re.search(rb"(?m)^[ \t]*null:[ \t]*(\S+)", start)
-    null = found[1] if found else b"*"
+    match = re.search(rb"(?m)^[ \t]*null:[ \t]*(\S+)", start)
+    null = match[1] if match else b"*"
     for word in re.finditer(rb"\S+", raw):
         is_cell = _WHOLE.fullmatch(word[0]) and abs(int(word[0])) < 2**31
         if word[0] != null and not is_cell:
@@ -123,11 +128,13 @@ def _other_region(paths: dict[str, str], name: str, start: bytes) -> Iterator[st
         wanted = dict(_EDGE.findall(file.read(HEAD_BYTES)))
     for key, value in _EDGE.findall(start):
         if wanted.get(key, value) != value:
-            told = f"{key.decode()} is {value.decode()} in {name}"
-            yield f"{told}, and {wanted[key].decode()} in {first}"
+            difference = f"{key.decode()} is {value.decode()} in {name}"
+            yield f"{difference}, and {wanted[key].decode()} in {first}"
 
 
 def _printable(text: str) -> str:
-    return "".join(
-        each if each.isprintable() or each == "\t" else f"\\x{ord(each):02x}" for each in text
-    )
+    shown = ""
+    for character in text:
+        is_shown = character.isprintable() or character == "\t"
+        shown += character if is_shown else f"\\x{ord(character):02x}"
+    return shown

@@ -1,5 +1,5 @@
 # SPDX-License-Identifier: Apache-2.0 OR GPL-2.0-or-later
-"""Files: what a call reads, outputs that are written completely or not at all, and the standard streams."""
+"""Files: inputs of a call, outputs that are written completely or not at all, and the standard streams."""
 
 from __future__ import annotations
 
@@ -19,6 +19,7 @@ from types import TracebackType
 
 from . import process
 from .errors import Refused
+from .private_folders import PrivateFolder
 
 __all__ = [
     "SIDECARS",
@@ -28,10 +29,8 @@ __all__ = [
     "is_same_file",
     "open_standard_streams",
     "opened",
-    "private_folder",
     "read_all",
     "read_some",
-    "remove_folder",
     "writing",
     "write_all",
 ]
@@ -39,7 +38,6 @@ __all__ = [
 SIDECARS = (".aux.xml", ".msk", ".ovr")
 """The endings of GDAL's files next to a raster: a new raster must not get an old mask or old labels."""
 
-LONGEST_STEM = 200
 MOST_LINKS = 40
 PIECE = 1 << 20
 OWN_DESCRIPTORS = "/proc/self/fd"
@@ -95,10 +93,10 @@ def writing(*paths: str) -> Iterator[None]:
       ...
     rcell.Refused: arguments: ./a.csv: two outputs go to one file: choose another name
     """
-    for one, other in combinations(paths, 2):
-        if os.path.realpath(one) == os.path.realpath(other) or is_same_file(one, other):
+    for first, second in combinations(paths, 2):
+        if os.path.realpath(first) == os.path.realpath(second) or is_same_file(first, second):
             raise Refused(
-                f"{other}: two outputs go to one file: choose another name",
+                f"{second}: two outputs go to one file: choose another name",
                 status=_STATUS,
             )
     token = _outputs.set(paths)
@@ -121,7 +119,7 @@ def check_output(output: str, inputs: Iterable[str]) -> None:
     ----------
     output : str
     inputs : iterable of str
-        A layer is `FILE|layername=NAME`. All files of a Shapefile and all sources of a VRT count as well.
+        A layer is `FILE|layername=NAME`. All files of a Shapefile and all sources of a VRT also count.
     """
     names = {os.path.realpath(output) + ending for ending in ("", *SIDECARS)}
     for path in _files_of(inputs):
@@ -131,13 +129,13 @@ def check_output(output: str, inputs: Iterable[str]) -> None:
             or os.path.realpath(path) in names
             or is_same_file(output, path)
         ):
-            told = "the output file is the input file" + ("" if path == output else f" {path}")
-            raise Refused(f"{output}: {told}: choose another name", status=_STATUS)
+            problem = "the output file is the input file" + ("" if path == output else f" {path}")
+            raise Refused(f"{output}: {problem}: choose another name", status=_STATUS)
 
 
 def _files_of(inputs: Iterable[str]) -> Iterator[str]:
     """Yield the files that are read when paths are opened."""
-    found: dict[str, None] = {}
+    yielded: dict[str, None] = {}
     waiting = list(inputs)
     while waiting:
         path = waiting.pop().partition("|layername=")[0]
@@ -145,9 +143,9 @@ def _files_of(inputs: Iterable[str]) -> Iterator[str]:
             path = _VIRTUAL.sub("", path)
             while path and not os.path.isfile(path):
                 path = os.path.dirname(path) if os.path.dirname(path) != path else ""
-        if path in found or not os.path.isfile(path):
+        if path in yielded or not os.path.isfile(path):
             continue
-        found[path] = None
+        yielded[path] = None
         yield path
         stem, ending = os.path.splitext(path)
         waiting += [stem + part for part in _PARTS.get(ending.lower(), ())]
@@ -177,7 +175,7 @@ def _wait(descriptor: int, event: int) -> None:
 
 
 def read_some(descriptor: int, most: int) -> bytes:
-    """Read from a descriptor, even if it is not ready; only the end is empty."""
+    """Read from a descriptor, even if it is not ready; an empty result means the end."""
     while True:
         try:
             return os.read(descriptor, most)
@@ -200,25 +198,6 @@ def write_all(descriptor: int, data: bytes | memoryview) -> None:
             _wait(descriptor, select.POLLOUT)
 
 
-def private_folder(folder: str, name: str) -> str:
-    """Create a hidden folder for this user only, named after a file."""
-    stem = os.fsdecode(os.fsencode(name)[:LONGEST_STEM])
-    while True:
-        path = os.path.join(folder, f".{stem}-{os.urandom(4).hex()}")
-        try:
-            os.mkdir(path, 0o700)
-        except FileExistsError:
-            continue
-        return path
-
-
-def remove_folder(path: str) -> None:
-    """Remove a folder and the files in it."""
-    for entry in os.scandir(path):
-        os.unlink(entry.path)
-    os.rmdir(path)
-
-
 def _own_descriptor(path: str) -> int | None:
     """Return the number of the open descriptor to which a path such as /dev/stdout leads."""
     own = os.path.realpath(OWN_DESCRIPTORS)
@@ -233,6 +212,7 @@ def _own_descriptor(path: str) -> int | None:
 
 
 def _opened_for_writing(descriptor: int) -> int:
+    """Return a copy of an open descriptor, unless it is closed for writing."""
     if fcntl.fcntl(descriptor, fcntl.F_GETFL) & os.O_ACCMODE == os.O_RDONLY:
         name = "standard output" if descriptor == 1 else f"descriptor {descriptor}"
         raise OSError(errno.EBADF, "is closed", name)
@@ -254,7 +234,7 @@ def _opened_special(path: str) -> int | None:
 class Output:
     """A file to write, which gets its name when the block ends without an exception.
 
-    It is written in a private folder next to the target. Links are followed, and a file that is replaced keeps its mode. GDAL's
+    It is written in a private folder next to the target, which the next one removes if this process is killed. Links are followed, and a file that is replaced keeps its mode. GDAL's
     files next to a raster are replaced with it. An existing device or FIFO is opened and written, never replaced.
 
     Parameters
@@ -269,7 +249,7 @@ class Output:
         self._given = path
         self._special = _opened_special(path)
         self._target = os.path.realpath(path)
-        self._room: str | None = None
+        self._room: PrivateFolder | None = None
         self._stream: int | None = self._special
         self._is_kept = False
 
@@ -291,10 +271,10 @@ class Output:
                     folder = os.environ.get("TMPDIR") or "/tmp"
                 elif os.path.exists(self._target) and not os.access(self._target, os.W_OK):
                     raise PermissionError(errno.EACCES, os.strerror(errno.EACCES))
-                self._room = private_folder(folder, name)
+                self._room = PrivateFolder(folder, name)
             except OSError as error:
                 raise OSError(error.errno, error.strerror, self._given) from None
-        return os.path.join(self._room, name)
+        return os.path.join(self._room.path, name)
 
     def stream(self) -> int:
         """Return a descriptor to which the file is written."""
@@ -325,7 +305,7 @@ class Output:
             if self._stream is not None:
                 os.close(self._stream)
             if self._room is not None:
-                remove_folder(self._room)
+                self._room.remove()
             process.end_work()
 
     def _copy(self) -> None:
@@ -354,18 +334,19 @@ class Output:
         with open(part, "rb") as file:
             os.fsync(file.fileno())
         self._adopt(part)
-        done: list[tuple[str, str]] = []
+        moves: list[tuple[str, str]] = []
         try:
-            for at, ending in enumerate(SIDECARS):
-                sidecar, kept = self._target + ending, os.path.join(self._room, f"old-{at}")
+            for number, ending in enumerate(SIDECARS):
+                backup = os.path.join(self._room.path, f"old-{number}")
+                sidecar = self._target + ending
                 if os.path.lexists(sidecar):
-                    os.rename(sidecar, kept)
-                    done.append((kept, sidecar))
+                    os.rename(sidecar, backup)
+                    moves.append((backup, sidecar))
                 if os.path.lexists(part + ending):
                     os.rename(part + ending, sidecar)
-                    done.append((sidecar, part + ending))
+                    moves.append((sidecar, part + ending))
             os.replace(part, self._target)
         except BaseException:
-            for now, before in reversed(done):
-                os.rename(now, before)
+            for current, original in reversed(moves):
+                os.rename(current, original)
             raise

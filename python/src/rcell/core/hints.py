@@ -1,8 +1,9 @@
 # SPDX-License-Identifier: Apache-2.0 OR GPL-2.0-or-later
-"""What to write instead of a line of a script that rcell rejects: a line that rcell accepts, or one sentence.
+"""Corrections for script lines that rcell rejects: a line that rcell accepts, or one sentence.
 
-The corrections are guesses at usual mistakes. rcell-pipe judges at most two of them, and only one that it accepts is proposed. No
-result of a run depends on this module. Lines have one character per byte here, as columns count bytes.
+The corrections are guesses at common mistakes. rcell-pipe judges at most two of them, and only one
+that it accepts is proposed. No result of a run depends on this module. Lines have one character per
+byte here, as columns count bytes.
 """
 
 from __future__ import annotations
@@ -67,8 +68,12 @@ def _whole(match: re.Match[str]) -> str:
         return f"{sign} {value // 1 + (value.denominator > 1 and sign in ('<', '>='))}"
     if value.denominator == 1 or sign not in ("*", "/") or not value:
         return f"{match[1]}{value}" if value.denominator == 1 else match[0]
-    up, down = value.as_integer_ratio() if sign == "*" else value.as_integer_ratio()[::-1]
-    return f"* {up} / {down}" if up > 1 < down else f"/ {down}" if down > 1 else f"* {up}"
+    up, down = value.as_integer_ratio()
+    if sign == "/":
+        up, down = down, up
+    if up == 1 and down > 1:
+        return f"/ {down}"
+    return f"* {up} / {down}" if down > 1 else f"* {up}"
 
 
 _COMMENT = (r"[ \t]*\0?#.*", "")
@@ -149,14 +154,16 @@ REWRITES: dict[str, list[tuple[str, Replacement]]] = {
 
 
 class _Error:
-    """A line that is rejected: its bytes as text, the message, and the names of the maps that are there."""
+    """A line that is rejected: its bytes as text, the message, and the names of the known maps."""
 
     def __init__(self, text: str, line: str, column: int, names: list[str]) -> None:
         self.text, self.line, self.names = text, line, names
         self.part = "expression" if column else "script"
         self.command = (_WORD.findall(line) or [""])[0]
         self.bad = None if column else self.bad_word()
-        self.at = column - 1 if column else self.bad.start() if self.bad else 0
+        self.place = max(column - 1, 0)
+        if self.bad:
+            self.place = self.bad.start()
 
     def bad_word(self) -> Optional[re.Match[str]]:
         """Return the word that is not an option, or the name that is not a map."""
@@ -166,15 +173,16 @@ class _Error:
             return next((word for word in words if word[0] not in self.names), None)
         if self.text not in ("bad option", "bad name"):
             return None
-        seen: set[str] = set()
+        keys: set[str] = set()
         for word in [*_WORD.finditer(self.line)][1:]:
             key, equals, value = word[0].partition("=")
-            if not self.is_option(key, equals, value) or key in seen:
+            if not self.is_option(key, equals, value) or key in keys:
                 return word
-            seen.add(key)
+            keys.add(key)
         return None
 
     def is_option(self, key: str, equals: str, value: str) -> bool:
+        """Return whether a word of the line is an option of its command with a possible value."""
         flags, keys = OPTIONS.get(self.command, ("", ()))
         if key.startswith("-"):
             return len(key) > 1 and set(key[1:]) <= set(flags) and not equals
@@ -192,23 +200,23 @@ class _Error:
 
     def lines(self) -> Iterator[str]:
         """Yield lines that may be meant, the likeliest first."""
-        marked = self.line[: self.at] + _MARK + self.line[self.at :]
+        marked = self.line[: self.place] + _MARK + self.line[self.place :]
         changed, first = marked, None
         for pattern, new in REWRITES.get(self.text, ()):
             after = re.sub(pattern, new, changed, flags=re.ASCII)
-            first = after if first is None and after != changed else first
+            if first is None and after != changed:
+                first = after
             changed = after
-        found = [changed, first, *self.near_lines()]
-        for line in found:
-            if (
-                line is not None
-                and (line := line.replace(_MARK, "").rstrip()) != self.line.rstrip()
-            ):
+        for candidate in (changed, first, *self.near_lines()):
+            if candidate is None:
+                continue
+            line = candidate.replace(_MARK, "").rstrip()
+            if line != self.line.rstrip():
                 yield line
 
     def near_lines(self) -> Iterator[str]:
         """Yield the line with the nearest map, command, option or function, or with what is missing."""
-        head, tail = self.line[: self.at], self.line[self.at :]
+        head, tail = self.line[: self.place], self.line[self.place :]
         word = (_NAME.match(tail) or _WORD.match(tail) or [""])[0]
         rest = tail[len(word) :]
         if self.text == "unknown command":
@@ -223,17 +231,17 @@ class _Error:
         elif self.text == "unknown function":
             yield from (head + name + rest for name in near(word, FUNCTIONS))
         elif self.text == "map exists":
-            made = _MADE.search(self.line)
-            name = made and (made[1] or made[2])
-            yield from [self.line.replace(f"{name}", f"{name}_2", 1)] if name else []
+            match = _MADE.search(self.line)
+            name = match and (match[1] or match[2])
+            if name:
+                yield self.line.replace(name, f"{name}_2", 1)
         elif self.text == "missing option":
-            missing = [key for key in ("input", "output") if f"{key}=" not in self.line]
-            yield " ".join(
-                [
-                    self.line,
-                    *(f"{key}={self.names[0] if key == 'input' else 'NAME'}" for key in missing),
-                ]
-            )
+            line = self.line
+            if "input=" not in self.line:
+                line += f" input={self.names[0]}"
+            if "output=" not in self.line:
+                line += " output=NAME"
+            yield line
         elif self.text == "unexpected token":
             yield self.line + ")" * (self.line.count("(") - self.line.count(")"))
 
@@ -244,18 +252,20 @@ class _Error:
         key, equals, value = self.bad[0].partition("=")
         if key.startswith("-"):
             known = "".join(dict.fromkeys(letter for letter in key[1:] if letter in flags))
-            yield "-" + known if known else key.lower() if set(key[1:].lower()) <= set(
-                flags
-            ) and key != "-" else ""
+            is_lower = key != "-" and set(key[1:].lower()) <= set(flags)
+            if known:
+                yield "-" + known
+            else:
+                yield key.lower() if is_lower else ""
         elif not equals:
             yield f"input={key}"
         elif key not in keys:
-            yield from (
-                f"{new}={value}" for new in [KEYS.get(key), *near(key, keys)] if new in keys
-            )
-        yield "" if key not in ("separator", "null_value", "input") or self.line.count(
-            key + "="
-        ) > 1 else self.bad[0]
+            for new in (KEYS.get(key), *near(key, keys)):
+                if new in keys:
+                    yield f"{new}={value}"
+        has_value = key in ("separator", "null_value", "input")
+        is_once = self.line.count(key + "=") <= 1
+        yield self.bad[0] if has_value and is_once else ""
 
     def divides(self, new: str) -> bool:
         """Return whether a correction divides where the line multiplied."""
@@ -270,11 +280,11 @@ class _Error:
                 key = self.bad[0].partition("=")[0]
                 text = key if sentence("script", key) else self.text
         flags, keys = OPTIONS.get(self.command, ("", ()))
-        options = " ".join([*(f"-{flag}" for flag in flags), *(f"{key}=" for key in keys)])
+        options = [f"-{flag}" for flag in flags] + [f"{key}=" for key in keys]
         return sentence(self.part, text).format(
             maps=", ".join(self.names[:12]) or "no map",
             command=self.command,
-            options=options,
+            options=" ".join(options),
             functions=", ".join(FUNCTIONS),
         )
 
@@ -290,7 +300,7 @@ def advice(
         The path of rcell-pipe.
     script : bytes
     names : sequence of str
-        The maps that are given.
+        The given maps.
     line : int
         The line that is rejected, from 1.
     text : str
@@ -298,12 +308,12 @@ def advice(
     """
     lines = script.decode("latin-1").split("\n")
     column = _COLUMN.search(text)
-    made = (name or other for name, other in _MADE.findall("\n".join(lines[: line - 1])))
+    made_maps = (name or other for name, other in _MADE.findall("\n".join(lines[: line - 1])))
     error = _Error(
         _COLUMN.sub("", text),
         lines[line - 1].rstrip("\r"),
         int(column[1]) if column else 0,
-        [*dict.fromkeys([*names, *made])],
+        [*dict.fromkeys([*names, *made_maps])],
     )
     tried = dict.fromkeys(error.lines()) if len(error.line) <= LONGEST_MENDED else {}
     place = error.bad.start() + 1 if error.bad else None
@@ -343,8 +353,8 @@ def near(word: str, known: Iterable[str], cutoff: float = 0.6) -> list[str]:
 def _sentences() -> dict[str, dict[str, str]]:
     path = os.path.join(os.path.dirname(os.path.realpath(__file__)), "messages.json")
     with open(path, encoding="utf-8") as file:
-        found: dict[str, dict[str, str]] = json.load(file)
-    return found
+        sentences: dict[str, dict[str, str]] = json.load(file)
+    return sentences
 
 
 def sentence(part: str, text: str) -> str:

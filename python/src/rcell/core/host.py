@@ -1,5 +1,5 @@
 # SPDX-License-Identifier: Apache-2.0 OR GPL-2.0-or-later
-"""The program that calls the core: a package, the command line or a plugin, with its words, its programs, and what watches a run."""
+"""The program that calls the core: a package, the command line or a plugin, with its wording, its programs, and what watches a run."""
 
 from __future__ import annotations
 
@@ -36,9 +36,9 @@ class Host:
     warn : callable
         Called with the text of a warning.
     find : callable, optional
-        Returns the path of a program from its name; None: it is looked for where Python's packages have it.
+        Returns the path of a program by name; None to look where Python packages install it.
     watch : callable, optional
-        Called while a program runs; what it raises ends the run.
+        Called while a program runs; an exception ends the run.
     progress : callable, optional
         Called with the share of the maps that was sent, from 0 to 1.
     started : callable, optional

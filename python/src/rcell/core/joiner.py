@@ -72,7 +72,7 @@ def _probe(path: str) -> None:
 def numbering_of(
     borders: Sequence[bytes], diagonal: bool = False, program: str | os.PathLike[str] | None = None
 ) -> NDArray[Any]:
-    """Join the clumps of tiles by their borders, which come row by row of tiles from the top left.
+    """Join the clumps of tiles using their borders, which come row by row of tiles from the top left.
 
     Returns
     -------
@@ -107,16 +107,16 @@ def check_files(count: int) -> None:
         )
 
 
-def _checked(path: str, status: int, output: bytes, told: str) -> bytes:
-    """Return the output of a run that ended well."""
+def _checked(path: str, status: int, output: bytes, errors: str) -> bytes:
+    """Return the output of a successful run."""
     if status == 0:
         return output
     if status < 0:
         raise Killed(-status)
-    found = _MESSAGE.fullmatch(told)
-    if found and status == 3:
-        raise OutOfMemory(found[3], found[1], int(found[2]), status)
-    raise WrongProgram(f"{path} ended in status {status} and said: {told or 'nothing'}")
+    match = _MESSAGE.fullmatch(errors)
+    if match and status == 3:
+        raise OutOfMemory(match[3], match[1], int(match[2]), status)
+    raise WrongProgram(f"{path} ended in status {status} and said: {errors or 'nothing'}")
 
 
 def _run(
@@ -171,7 +171,7 @@ def _files_allowed(count: int) -> Iterator[None]:
 
 
 def _unnamed() -> int:
-    """Return the descriptor of a file without a name: in memory, if this Python knows such files."""
+    """Return the descriptor of an unnamed file: in memory, if this Python supports that."""
     if hasattr(os, "memfd_create"):
         return os.memfd_create("table")
     with tempfile.TemporaryFile() as file:
@@ -179,7 +179,7 @@ def _unnamed() -> int:
 
 
 def _held(text: bytes) -> int:
-    """Return the descriptor of a file that has a text and no name."""
+    """Return the descriptor of an unnamed file with this text."""
     try:
         file = above_standard(_unnamed())
     except OSError as error:

@@ -31,7 +31,7 @@ def _size_of(shape: tuple[int, int], dtype: Any) -> int:
 
 
 def cells_for(shape: tuple[int, int], dtype: Any) -> NDArray[Any]:
-    """Return an array for the cells of a map: in memory, or else in a file without a name, which ends with the array.
+    """Return an array for the cells of a map: in memory, or else in an unnamed file that is removed with the array.
 
     Raises
     ------
@@ -50,5 +50,7 @@ def cells_for(shape: tuple[int, int], dtype: Any) -> NDArray[Any]:
             os.posix_fallocate(file.fileno(), 0, size)
             return np.memmap(file, dtype, "r+", shape=shape)
     except OSError as error:
-        told = f"{size:,} bytes for the cells of a map can't be kept in {folder}: {error.strerror}"
-        raise WriteFailed(f"{told}; set TMPDIR to a folder with more room") from None
+        problem = (
+            f"{size:,} bytes for the cells of a map can't be kept in {folder}: {error.strerror}"
+        )
+        raise WriteFailed(f"{problem}; set TMPDIR to a folder with more room") from None

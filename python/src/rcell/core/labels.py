@@ -1,5 +1,5 @@
 # SPDX-License-Identifier: Apache-2.0 OR GPL-2.0-or-later
-"""Labels and colours of the categories of a raster: GDAL's category names, attribute tables, colour tables, and styles of QGIS."""
+"""Labels and colours of the categories of a raster: GDAL's category names, attribute tables, colour tables, and QGIS styles."""
 
 from __future__ import annotations
 
@@ -41,17 +41,17 @@ def checked_labels(name: str, labels: Any) -> dict[int, str]:
     >>> checked_labels("land", {"1": "wood"})
     Traceback (most recent call last):
       ...
-    rcell.BadMap: land: a label of '1': labels are of whole numbers from -2147483647 to 2147483647, as {1: 'wood'}
+    rcell.BadMap: land: a label of '1': labels belong to whole numbers from -2147483647 to 2147483647, for example {1: 'wood'}
     """
     if not isinstance(labels, Mapping):
         raise BadMap(
-            name, f"labels are a dict, as {{1: 'wood'}}, and not a {type(labels).__name__}"
+            name, f"labels must be a dict, for example {{1: 'wood'}}; got a {type(labels).__name__}"
         )
     for category, label in labels.items():
         if not (isinstance(category, numbers.Integral) and abs(int(category)) < -NULL):
             raise BadMap(
                 name,
-                f"a label of {category!r}: labels are of whole numbers from -2147483647 to 2147483647, as {{1: 'wood'}}",
+                f"a label of {category!r}: labels belong to whole numbers from -2147483647 to 2147483647, for example {{1: 'wood'}}",
             )
         if not isinstance(label, str):
             raise BadMap(name, f"the label of {category} is {label!r}, which is not text")
@@ -66,7 +66,7 @@ def checked_labels(name: str, labels: Any) -> dict[int, str]:
 def legend_of_band(band: ElementTree.Element, path: str) -> Legend:
     """Return the labels and colours of a band of a raster, from GDAL's description of the raster as a VRT.
 
-    Labels are category names, the names of an attribute table, CF's `flag_meanings`, or a style of QGIS next to the raster;
+    Labels are category names, the names of an attribute table, CF's `flag_meanings`, or a QGIS style next to the raster;
     colours are from a colour table, an attribute table, or the style.
 
     Parameters
@@ -104,35 +104,32 @@ def _style_beside(path: str) -> Legend:
 
 
 def flags_of(values: Any, meanings: Any) -> dict[int, str]:
-    """Return labels as CF has them: whole numbers, and words in their order.
+    """Return labels in the form of CF: whole numbers, and words in their order.
 
     Examples
     --------
     >>> flags_of("{1,2}", "wood water")
     {1: 'wood', 2: 'water'}
     """
-    codes = (
-        re.findall(r"[+-]?[0-9]+", str(values))
-        if isinstance(values, str)
-        else []
-        if values is None
-        else list(values)
-    )
+    codes: list[Any] = []
+    if isinstance(values, str):
+        codes = re.findall(r"[+-]?[0-9]+", values)
+    elif values is not None:
+        codes = list(values)
     words = str(meanings).split() if meanings else []
-    return _labels_of_rows(zip(codes, words)) if len(codes) == len(words) else {}
+    if len(codes) != len(words):
+        return {}
+    return _labels_of_rows(zip(codes, words))
 
 
 def _color_table(band: ElementTree.Element, labels: Mapping[int, str]) -> dict[int, str]:
     """Return the colours of a colour table; black means that a category has no colour."""
-    colors = [
-        [int(entry.get(f"c{place}", "0")) for place in (1, 2, 3)]
-        for entry in band.findall("ColorTable/Entry")
-    ]
-    return {
-        code: "#" + bytes(color).hex()
-        for code, color in enumerate(colors)
-        if code in labels or any(color)
-    }
+    colors = {}
+    for code, entry in enumerate(band.findall("ColorTable/Entry")):
+        parts = [int(entry.get(key, "0")) for key in ("c1", "c2", "c3")]
+        if code in labels or any(parts):
+            colors[code] = "#" + bytes(parts).hex()
+    return colors
 
 
 class _Attributes:
@@ -149,12 +146,14 @@ class _Attributes:
         table = band.find("GDALRasterAttributeTable")
         if table is None:
             return cls([], [], [])
-        fields = table.findall("FieldDefn")
-        return cls(
-            [_category_of(field.findtext("Usage", "0")) or 0 for field in fields],
-            [field.findtext("Name", "") for field in fields],
-            [[cell.text or "" for cell in row.findall("F")] for row in table.findall("Row")],
-        )
+        usages, titles = [], []
+        for field in table.findall("FieldDefn"):
+            usages.append(_category_of(field.findtext("Usage", "0")) or 0)
+            titles.append(field.findtext("Name", ""))
+        rows = []
+        for row in table.findall("Row"):
+            rows.append([cell.text or "" for cell in row.findall("F")])
+        return cls(usages, titles, rows)
 
     def _column(self, usages: Sequence[int], titles: Sequence[str]) -> Optional[int]:
         """Return the first column with one of some usages, or else with a usual title."""
@@ -182,10 +181,12 @@ class _Attributes:
         if value is None or not set(_USAGES_RGB) <= set(self.usages):
             return {}
         places = [self.usages.index(usage) for usage in _USAGES_RGB]
-        return _labels_of_rows(
-            (row[value], "#" + bytes((_category_of(row[at]) or 0) & 255 for at in places).hex())
-            for row in self.rows
-        )
+        colors = []
+        for row in self.rows:
+            parts = [_category_of(row[place]) or 0 for place in places]
+            color = bytes(part & 255 for part in parts)
+            colors.append((row[value], "#" + color.hex()))
+        return _labels_of_rows(colors)
 
 
 def _labels_of_rows(rows: Iterable[Sequence[Any]]) -> dict[int, str]:
@@ -201,7 +202,7 @@ def _labels_of_rows(rows: Iterable[Sequence[Any]]) -> dict[int, str]:
 
 
 def _category_of(number: Any) -> Optional[int]:
-    """Return the category that a number is or a text spells, or None."""
+    """Return a number or a text as a category, or None."""
     with contextlib.suppress(TypeError, ValueError, OverflowError):
         if float(number).is_integer() and abs(float(number)) < -NULL:
             return int(float(number))
@@ -249,7 +250,7 @@ def write_labels(path: str, labels: Mapping[int, str]) -> str | None:
 
 
 def _root_of(beside: str) -> ElementTree.Element:
-    """Return what a file next to a raster has already."""
+    """Return what a file next to a raster already contains."""
     with contextlib.suppress(OSError, ElementTree.ParseError):
         root = ElementTree.parse(beside).getroot()
         if root.tag == "PAMDataset":
@@ -258,6 +259,7 @@ def _root_of(beside: str) -> ElementTree.Element:
 
 
 def _put_table(band: ElementTree.Element, labels: Mapping[int, str]) -> None:
+    """Add an attribute table with the values and their labels, in the form of GDAL."""
     table = ElementTree.SubElement(band, "GDALRasterAttributeTable", tableType="thematic")
     columns = [("Value", _INTEGER, _USAGE_VALUE), ("Class_Name", _TEXT, _USAGE_NAME)]
     for place, (title, kind, usage) in enumerate(columns):

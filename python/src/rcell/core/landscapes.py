@@ -3,6 +3,7 @@
 
 from __future__ import annotations
 
+from collections.abc import Sequence
 from dataclasses import dataclass
 from typing import Any, NamedTuple
 
@@ -22,27 +23,27 @@ Floats = NDArray[np.float64]
 class Sides(NamedTuple):
     """Pairs of members that share sides, by their indices, and how many of these sides are ends and flanks."""
 
-    one: Integers
-    other: Integers
+    first: Integers
+    second: Integers
     ends: Integers
     flanks: Integers
 
 
 @dataclass(frozen=True)
 class Landscapes:
-    """The counts of the landscapes: one for each zone, or one.
+    """The counts of each landscape: one per zone, or one for the full map.
 
     Attributes
     ----------
     zones : array
-        Of each landscape.
+        For each landscape.
     classes, zone_at : array
-        Of each member, which is a class in a landscape: the class, and the index of its landscape.
-    member_at, cells, sizes, ends, flanks : array
-        Of each patch, in the order of zones and first cells: the index of its member, its cells, its area (or its cells if there are no
-        areas), and the sides of cells on its border that are ends (north, south) or flanks (west, east).
+        For each member, which is a class in a landscape: the class, and the index of its landscape.
+    member_at, cells, weights, ends, flanks : array
+        For each patch, in the order of zones and first cells: the index of its member, its cells, its weight (in degrees its square metres,
+        else its cells), and the sides of cells on its border that are ends (north, south) or flanks (west, east).
     like : array
-        Of each member the sides between its own cells.
+        The sides between the cells of each member.
     sides : Sides
         Between two members of a landscape.
     end, flank : float
@@ -54,7 +55,7 @@ class Landscapes:
     zone_at: Integers
     member_at: Integers
     cells: Integers
-    sizes: Floats
+    weights: Floats
     ends: Integers
     flanks: Integers
     like: Integers
@@ -81,9 +82,9 @@ class Landscapes:
         return summed(self.zone_at, values, self.zones.size)
 
 
-def summed(at: Integers, values: NDArray[Any], size: int) -> NDArray[Any]:
+def summed(groups: Integers, values: NDArray[Any], size: int) -> NDArray[Any]:
     """Return the sums of values by group."""
-    sums: NDArray[Any] = np.bincount(at, values, size).astype(values.dtype)
+    sums: NDArray[Any] = np.bincount(groups, values, size).astype(values.dtype)
     return sums
 
 
@@ -93,23 +94,21 @@ def landscapes_of(maps: Maps, connectivity: int, measure: Measure, has_zones: bo
     zones, classes, steps = np.zeros(1, np.int64), None, 1
     if has_zones:
         # Zone and class as one number, so that patches end where a zone ends.
-        found = maps.tables("r.stats -n input=zones,map")[0]
-        (zones, classes), name = (np.unique(part) for part in found.T), "member"
+        occurring = maps.tables("r.stats -n input=zones,map")[0]
+        zones, classes = np.unique(occurring[:, 0]), np.unique(occurring[:, 1])
         steps = max(classes.size, 1)
+        name = "member"
         lines = _ranked("zones", "zone", zones, steps) + _ranked("map", "code", classes, 1)
         lines.append("r.mapcalc member = zone + code")
-    tables = maps.tables("\n".join(lines + _script(name, connectivity, measure)))
+    lines += _script(name, connectivity, measure)
+    sides, right, below, *by_row = maps.tables("\n".join(lines))
     # Polygons that overlap are in several runs, each with its own numbers of patches; a member is in one of them.
-    first = places_of(tables[0][:, :2])
-    codes, kinds = tables[0][first, 1], tables[0][:, 2]
-    cells = _sums(tables[0][:, 3], first)
-    beside, under = (_sums(tables[0][:, 3] * part, first) for part in (kinds % 2, kinds // 2))
-    sizes = cells.astype(np.float64)
-    if measure.by_row is not None:
-        areas = tables[3][:, 3] * measure.by_row[tables[3][:, 2] - 1]
-        sizes = _sums(areas, places_of(tables[3][:, :2])) / measure.divisor
-    elif measure.unit is not None:
-        sizes = measure.area(cells)
+    first = places_of(sides[:, :2])
+    codes, kinds = sides[first, 1], sides[:, 2]
+    cells = _sums(sides[:, 3], first)
+    beside = _sums(sides[:, 3] * (kinds % 2), first)
+    under = _sums(sides[:, 3] * (kinds // 2), first)
+    weights = _weights(cells, by_row, measure)
     members, member_at = np.unique(codes, return_inverse=True)
     of_zone = members // steps if has_zones else np.zeros(members.size, np.int64)
     present, zone_at = np.unique(of_zone, return_inverse=True)
@@ -123,14 +122,24 @@ def landscapes_of(maps: Maps, connectivity: int, measure: Measure, has_zones: bo
         zone_at,
         member_at[order],
         cells[order],
-        sizes[order],
+        weights[order],
         2 * (cells - under)[order],
         2 * (cells - beside)[order],
         like,
-        _borders(members, zone_at, *tables[1:3]),
+        _borders(members, zone_at, right, below),
         transform[0] * unit,
         -transform[4] * unit,
     )
+
+
+def _weights(cells: Integers, by_row: Sequence[Integers], measure: Measure) -> Floats:
+    """Return the square metres of patches in degrees, from the table of their rows; else their cells."""
+    if measure.by_row is None:
+        return cells.astype(np.float64)
+    [table] = by_row
+    row, cells_of_row = table[:, 2], table[:, 3]
+    areas = cells_of_row * measure.by_row[row - 1]
+    return _sums(areas, places_of(table[:, :2]))
 
 
 def _sums(values: NDArray[Any], first: NDArray[np.intp]) -> NDArray[Any]:
@@ -145,12 +154,19 @@ def _ranked(source: str, name: str, values: Integers, step: int) -> list[str]:
 
 def _script(name: str, connectivity: int, measure: Measure) -> list[str]:
     """Return lines whose tables have patches with their sides, the pairs of neighbours, and the rows of patches."""
-    lines = [f"r.clump {'-d ' if connectivity == 8 else ''}input={name} output=patch"]
+    flag = "-d " if connectivity == 8 else ""
     # Cells of a class that share a side are of one patch: two comparisons give the perimeters of all patches.
-    right, below = (f"nmax({name} == {name}[{place}], 0)" for place in ("0,1", "1,0"))
-    lines += [f"r.mapcalc like = {right} + 2 * {below}", f"r.stats -c -n input=patch,{name},like"]
-    lines += [f"r.mapcalc right = {name}[0,1]", f"r.mapcalc below = {name}[1,0]"]
-    lines += [f"r.stats -c -n input={name},{side}" for side in ("right", "below")]
+    is_like_right = f"nmax({name} == {name}[0,1], 0)"
+    is_like_below = f"nmax({name} == {name}[1,0], 0)"
+    lines = [
+        f"r.clump {flag}input={name} output=patch",
+        f"r.mapcalc like = {is_like_right} + 2 * {is_like_below}",
+        f"r.stats -c -n input=patch,{name},like",
+        f"r.mapcalc right = {name}[0,1]",
+        f"r.mapcalc below = {name}[1,0]",
+        f"r.stats -c -n input={name},right",
+        f"r.stats -c -n input={name},below",
+    ]
     if measure.by_row is not None:
         lines += ["r.mapcalc row = row()", f"r.stats -c -n input=patch,{name},row"]
     return lines
@@ -159,7 +175,7 @@ def _script(name: str, connectivity: int, measure: Measure) -> list[str]:
 def _borders(members: Integers, zone_at: Integers, right: Integers, below: Integers) -> Sides:
     """Return the pairs of members of a landscape that share sides."""
     pairs, flanks, ends = sides_of(right, below)
-    one, other = np.searchsorted(members, pairs.T)
-    kept = one != other
-    kept[kept] = zone_at[one[kept]] == zone_at[other[kept]]
-    return Sides(one[kept], other[kept], ends[kept], flanks[kept])
+    first, second = np.searchsorted(members, pairs.T)
+    is_border = first != second
+    is_border[is_border] = zone_at[first[is_border]] == zone_at[second[is_border]]
+    return Sides(first[is_border], second[is_border], ends[is_border], flanks[is_border])

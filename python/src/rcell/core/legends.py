@@ -1,5 +1,5 @@
 # SPDX-License-Identifier: Apache-2.0 OR GPL-2.0-or-later
-"""Legends: labels and colours of classes, of a CSV or TSV, a style of QGIS, a raster, or in memory."""
+"""Legends: labels and colours of classes, from a CSV or TSV, a QGIS style, a raster, or memory."""
 
 from __future__ import annotations
 
@@ -11,6 +11,7 @@ import re
 from typing import Any, Dict, Iterable, Iterator, List, Mapping, NamedTuple, Optional, Tuple
 from xml.parsers import expat
 
+from .arguments import known_names
 from .errors import BadArgument, ReadFailed, Refused
 from .files import opened
 
@@ -20,7 +21,7 @@ __all__ = [
     "legend_of",
     "legend_of_qml",
     "is_missing",
-    "rows_of_file",
+    "rows_of",
     "whole_number",
 ]
 
@@ -58,7 +59,7 @@ class Entry(NamedTuple):
     color: Any
 
 
-def labels_of(given: Any) -> Mapping[int, str]:
+def labels_of(source: Any) -> Mapping[int, str]:
     """Return the labels of a legend of any kind.
 
     Examples
@@ -66,16 +67,16 @@ def labels_of(given: Any) -> Mapping[int, str]:
     >>> labels_of({1: "wood", 2: None})
     {1: 'wood'}
     """
-    return legend_of(given).labels
+    return legend_of(source).labels
 
 
-def legend_of(given: Any) -> Legend:
+def legend_of(source: Any) -> Legend:
     """Return a legend.
 
     Parameters
     ----------
-    given : path, dict, Series or DataFrame
-        A CSV or TSV with the columns `value` and `label` and optionally `colour`, a style of QGIS (`.qml`), or a raster with labels;
+    source : path, dict, Series or DataFrame
+        A CSV or TSV with the columns `value` and `label` and optionally `colour`, a QGIS style (`.qml`), or a raster with labels;
         labels by value; a DataFrame with these columns.
 
     Raises
@@ -85,25 +86,30 @@ def legend_of(given: Any) -> Legend:
     ReadFailed
         The file cannot be opened.
     BadArgument
-        It is nothing of this.
+        It is none of these.
     """
-    if isinstance(given, (str, os.PathLike)):
-        return _of_path(os.fspath(given))
-    if isinstance(given, Mapping):
-        return _of_entries(Entry(repr(value), value, label, None) for value, label in given.items())
-    if hasattr(given, "columns") and hasattr(given, "itertuples"):
-        return _of_frame(given)
-    if hasattr(given, "items") and hasattr(given, "index"):
-        return _of_entries(Entry(repr(value), value, label, None) for value, label in given.items())
-    raise BadArgument("labels", f"must be a path, a dict, a Series or a DataFrame; got {given!r}")
+    if isinstance(source, (str, os.PathLike)):
+        return _of_path(os.fspath(source))
+    if isinstance(source, Mapping):
+        return _of_entries(
+            Entry(repr(value), value, label, None) for value, label in source.items()
+        )
+    if hasattr(source, "columns") and hasattr(source, "itertuples"):
+        return _of_entries(_entries_of(source))
+    if hasattr(source, "items") and hasattr(source, "index"):
+        return _of_entries(
+            Entry(repr(value), value, label, None) for value, label in source.items()
+        )
+    raise BadArgument("labels", f"must be a path, a dict, a Series or a DataFrame; got {source!r}")
 
 
 def _of_path(path: str) -> Legend:
+    """Return the legend of a file, by its ending: a style, a table, or else a raster."""
     ending = os.path.splitext(path)[1].lower()
     if ending == _STYLE:
         return legend_of_qml(path)
     if ending in _TEXTS:
-        entries = list(_entries_of_file(path))
+        entries = list(_entries_of(path))
         if not entries:
             raise _refused(f"{path} has no class: it must have at least one line below its header")
         return _of_entries(entries)
@@ -117,34 +123,34 @@ def _of_path(path: str) -> Legend:
     return Legend(dict(source.labels), dict(source.colors))
 
 
-def _entries_of_file(path: str) -> Iterator[Entry]:
-    for place, row in rows_of_file("labels", path, ("value", "label"), _COLOR_NAMES):
+def _entries_of(source: Any) -> Iterator[Entry]:
+    """Yield the rows of a table as entries of a legend."""
+    for place, row in rows_of("labels", source, ("value", "label"), _COLOR_NAMES):
         yield Entry(place, row["value"], row["label"], row.get("colour") or row.get("color"))
 
 
-def _of_frame(frame: Any) -> Legend:
-    titles = [str(name) for name in frame.columns]
-    at = _columns_of("labels", titles, ("value", "label"), "the columns are " + ", ".join(titles))
-    color = next((at[name] for name in _COLOR_NAMES if name in at), None)
-    rows = enumerate(frame.itertuples(index=False, name=None), 1)
-    return _of_entries(
-        Entry(
-            f"row {number}",
-            row[at["value"]],
-            row[at["label"]],
-            None if color is None else row[color],
-        )
-        for number, row in rows
-    )
+# Tables
 
 
-# Texts with a header
+def rows_of(
+    source: str, table: Any, needed: Tuple[str, ...], optional: Tuple[str, ...] = ()
+) -> Iterator[Tuple[str, Dict[str, Any]]]:
+    """Yield the rows of a DataFrame, a CSV or a TSV as fields by the titles of its columns, each with its place."""
+    if isinstance(table, (str, os.PathLike)):
+        yield from _rows_of_file(source, os.fspath(table), needed, optional)
+        return
+    titles = [str(name) for name in table.columns]
+    problem = f"no columns {' and '.join(needed)}: {known_names('column', titles)}"
+    columns = _columns_of(source, titles, needed, problem)
+    wanted = {name: columns[name] for name in (*needed, *optional) if name in columns}
+    for number, row in enumerate(table.itertuples(index=False, name=None), 1):
+        yield f"row {number}", {name: row[place] for name, place in wanted.items()}
 
 
-def rows_of_file(
+def _rows_of_file(
     source: str, path: str, needed: Tuple[str, ...], optional: Tuple[str, ...] = ()
 ) -> Iterator[Tuple[str, Dict[str, str]]]:
-    """Yield the rows of a CSV or TSV as fields by the titles of its header, each with its place.
+    """Yield the rows of a CSV or TSV.
 
     Titles may have any case and order, other columns are ignored, and lines without a field are skipped.
 
@@ -161,11 +167,12 @@ def rows_of_file(
     delimiter = "\t" if "\t" in lines[0] else ","
     rows = csv.reader(lines, delimiter=delimiter, skipinitialspace=True)
     header = next(rows)
-    told = f"line 1 is {lines[0].strip()!r}"
+    problem = f"line 1 is {lines[0].strip()!r}"
     if len(header) == 1 and ";" in header[0]:
-        told += ", which is separated by ';': save it with commas"
-    at = _columns_of(source, header, needed, told)
-    wanted = {name: at[name] for name in (*needed, *optional) if name in at}
+        problem += ", which is separated by ';': save it with commas"
+    problem = f"no header with {' and '.join(needed)}: {problem}"
+    columns = _columns_of(source, header, needed, problem)
+    wanted = {name: columns[name] for name in (*needed, *optional) if name in columns}
     while True:
         first = rows.line_num + 1
         try:
@@ -181,9 +188,8 @@ def rows_of_file(
             raise Refused(
                 f"line {first}: {text}: put a label with a comma in quotes", source, status=1
             )
-        yield f"line {first}", {
-            name: row[place] if place < len(row) else "" for name, place in wanted.items()
-        }
+        fields = row + [""] * (len(header) - len(row))
+        yield f"line {first}", {name: fields[place] for name, place in wanted.items()}
 
 
 def _lines_of(source: str, path: str) -> List[str]:
@@ -193,8 +199,8 @@ def _lines_of(source: str, path: str) -> List[str]:
         with open(path, "rb") as file:
             content = file.read()
     except (OSError, ValueError) as error:
-        told = getattr(error, "strerror", None) or error
-        raise ReadFailed(source, f"cannot open: {path}: {told}") from None
+        reason = getattr(error, "strerror", None) or error
+        raise ReadFailed(source, f"cannot open: {path}: {reason}") from None
     if content[:2] in (b"\xff\xfe", b"\xfe\xff"):
         raise Refused(f"{path} is UTF-16: save it as UTF-8 (in Excel: CSV UTF-8)", source, status=1)
     try:
@@ -207,21 +213,22 @@ def _lines_of(source: str, path: str) -> List[str]:
 
 
 def _columns_of(
-    source: str, titles: List[str], needed: Tuple[str, ...], told: str
+    source: str, titles: List[str], needed: Tuple[str, ...], problem: str
 ) -> Dict[str, int]:
-    """Return the places of columns by their titles in small letters."""
-    at: Dict[str, int] = {}
+    """Return the places of columns by their titles in lower case."""
+    columns: Dict[str, int] = {}
     for place, title in enumerate(titles):
-        at.setdefault(title.strip().lower(), place)
-    if any(name not in at for name in needed):
-        raise Refused(f"no header with {' and '.join(needed)}: {told}", source, status=1)
-    return at
+        columns.setdefault(title.strip().lower(), place)
+    if any(name not in columns for name in needed):
+        raise Refused(problem, source, status=1)
+    return columns
 
 
 # Classes
 
 
 def _of_entries(entries: Iterable[Entry]) -> Legend:
+    """Return the legend of checked entries: whole numbers, each once, with labels and colours in their forms."""
     legend = Legend({}, {})
     places: Dict[int, str] = {}
     for entry in entries:
@@ -231,11 +238,9 @@ def _of_entries(entries: Iterable[Entry]) -> Legend:
         if value is None:
             raise _refused(f"{entry.place}: {entry.value!s} is not a whole number")
         if abs(value) > LARGEST_CLASS:
-            raise _refused(f"{entry.place}: {value} is beyond {LARGEST_CLASS} either way")
+            raise _refused(f"{entry.place}: {value} is outside -{LARGEST_CLASS} to {LARGEST_CLASS}")
         if value in places:
-            raise _refused(
-                f"{entry.place}: the value {value} is there twice, first in {places[value]}"
-            )
+            raise _refused(f"{entry.place}: value {value} occurs twice, first in {places[value]}")
         places[value] = entry.place
         label = _text(entry.label)
         if _UNWRITABLE in label:
@@ -252,45 +257,47 @@ def _of_entries(entries: Iterable[Entry]) -> Legend:
 
 def _of_parts(color: str) -> str:
     """Return a colour that is given by its parts as `#rrggbb`; any other text unchanged."""
-    found = _PARTS.fullmatch(color)
-    parts = [int(part) for part in found.groups()[:3]] if found else [256]
+    match = _PARTS.fullmatch(color)
+    if not match:
+        return color
+    parts = [int(part) for part in match.groups()[:3]]
     return color if max(parts) > 255 else "#" + bytes(parts).hex()
 
 
-def is_missing(given: Any) -> bool:
+def is_missing(value: Any) -> bool:
     """Return whether a value is None, NaN or the missing value of pandas."""
     try:
-        return given is None or bool(given != given)
+        return value is None or bool(value != value)
     except TypeError:
         return True
 
 
-def _text(given: Any) -> str:
+def _text(value: Any) -> str:
     """Return a field as text; empty if it is missing."""
-    return "" if is_missing(given) else str(given).strip(_BLANKS)
+    return "" if is_missing(value) else str(value).strip(_BLANKS)
 
 
-def whole_number(given: Any) -> Optional[int]:
-    """Return the whole number that a text or a number is, or None.
+def whole_number(value: Any) -> Optional[int]:
+    """Return a text or a number as a whole number, or None.
 
     Examples
     --------
-    >>> [whole_number(given) for given in (1.0, " +2.00 ", "1e3", "1.5", True, float("nan"), "0x1f")]
+    >>> [whole_number(value) for value in (1.0, " +2.00 ", "1e3", "1.5", True, float("nan"), "0x1f")]
     [1, 2, None, None, None, None, None]
     """
-    if isinstance(given, str):
-        found = re.fullmatch(r"([+-]?[0-9]+)(\.0*)?", given.strip(_BLANKS), re.ASCII)
-        return int(found[1]) if found else None
-    if isinstance(given, bool) or not isinstance(given, numbers.Real):
+    if isinstance(value, str):
+        match = re.fullmatch(r"([+-]?[0-9]+)(\.0*)?", value.strip(_BLANKS), re.ASCII)
+        return int(match[1]) if match else None
+    if isinstance(value, bool) or not isinstance(value, numbers.Real):
         return None
-    return int(given) if given - given == 0 and given == int(given) else None
+    return int(value) if value - value == 0 and value == int(value) else None
 
 
-# Styles of QGIS
+# QGIS styles
 
 
 def legend_of_qml(path: str) -> Legend:
-    """Return the legend of a style of QGIS: the entries of a palette, or the items of a colour ramp.
+    """Return the legend of a QGIS style: the entries of a palette, or the items of a colour ramp.
 
     Raises
     ------
@@ -324,11 +331,11 @@ def legend_of_qml(path: str) -> Legend:
         with open(path, "rb") as file:
             parser.ParseFile(file)
     except (OSError, ValueError) as error:
-        told = getattr(error, "strerror", None) or error
-        raise ReadFailed("labels", f"cannot open: {path}: {told}") from None
+        reason = getattr(error, "strerror", None) or error
+        raise ReadFailed("labels", f"cannot open: {path}: {reason}") from None
     except expat.ExpatError as error:
-        told = expat.errors.messages[error.code]
-        raise _refused(f"{path} is not a style of QGIS: line {error.lineno}: {told}") from None
+        reason = expat.errors.messages[error.code]
+        raise _refused(f"{path} is not a QGIS style: line {error.lineno}: {reason}") from None
     if not palette and not ramp:
         raise _refused(f"{path} has no classes: neither a palette nor a colour ramp")
     return _of_entries(palette or ramp)

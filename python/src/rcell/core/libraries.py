@@ -24,7 +24,7 @@ def has(library: str) -> bool:
 
 
 def need(library: str, extra: str, purpose: str) -> Any:
-    """Return a module by its full name; raise MissingLibrary if the module, or a library that it needs, is not installed.
+    """Return the module with this full name; raise MissingLibrary if the module, or a library that it needs, is not installed.
 
     Examples
     --------

@@ -1,8 +1,9 @@
 # SPDX-License-Identifier: Apache-2.0 OR GPL-2.0-or-later
 """The only reader of what the programs print as text. Needs numpy.
 
-rcell-pipe takes and returns bytes. Two things are text: the grids of a user, which rcell alone reads, and prints again in one form;
-and what rcell-join prints, tables and numberings, whose formats are in docs/rcell-join.md.
+rcell-pipe takes and returns bytes. Two things are text: the grids of a user, which only rcell
+reads, and prints again in one form; and what rcell-join prints, tables and numberings, whose
+formats are in docs/rcell-join.md.
 """
 
 from __future__ import annotations
@@ -25,9 +26,8 @@ __all__ = ["PrintedGrid", "numbers_of", "printed_grid"]
 
 # The bytes of lines of numbers: each kind has a bit, and in the upper half the bits of the kinds that never follow it.
 _KINDS = {b"0123456789": 0x61, b"-": 0xE2, b"*": 0x74, b" \n": 0x88}
-_CODES = bytes(
-    next((code for kind, code in _KINDS.items() if byte in kind), 0xFF) for byte in range(256)
-)
+_CODE_OF = {byte: code for kind, code in _KINDS.items() for byte in kind}
+_CODES = bytes(_CODE_OF.get(byte, 0xFF) for byte in range(256))
 _HEADER = re.compile(
     rb"north: (.*)\nsouth: (.*)\neast: (.*)\nwest: (.*)\nrows: (\d+)\ncols: (\d+)\n"
 )
@@ -35,7 +35,7 @@ _HEADER_BYTES = 1 << 8
 
 
 def numbers_of(text: bytes, width: int) -> NDArray[np.int64]:
-    """Return lines of so many whole numbers, `NULL` for null; a number from 2^63 to 2^64 - 1 is returned less 2^64.
+    """Return lines of `width` whole numbers, `NULL` for null; 2^64 is subtracted from numbers of 2^63 or more.
 
     Raises
     ------
@@ -48,17 +48,14 @@ def numbers_of(text: bytes, width: int) -> NDArray[np.int64]:
     [[1, 20], [-3, -2147483648]]
     """
     codes = np.frombuffer((b"\n" + text).translate(_CODES), np.uint8)
+    may_not_follow = codes[:-1] >> 4
+    separators = text.translate(None, b"0123456789-*")
     line = b" " * (width - 1) + b"\n"
-    if (
-        text.translate(None, b"0123456789-*") != line * text.count(b"\n")
-        or (codes[:-1] >> 4 & codes[1:]).any()
-    ):
+    if separators != line * text.count(b"\n") or (may_not_follow & codes[1:]).any():
         raise NoAnswer(f"not lines of {width} numbers: {text[:60]!r}")
-    return (
-        np.fromstring(text.replace(b"*", b"%d" % NULL), np.ulonglong, sep=" ")
-        .view(np.int64)
-        .reshape(-1, width)
-    )
+    words = text.replace(b"*", b"%d" % NULL)
+    numbers = np.fromstring(words, np.ulonglong, sep=" ")
+    return numbers.view(np.int64).reshape(-1, width)
 
 
 class PrintedGrid(NamedTuple):
@@ -77,21 +74,21 @@ def printed_grid(
     seconds: Optional[float] = None,
     watch: Optional[Callable[[], None]] = None,
 ) -> Iterator[PrintedGrid]:
-    """Read what rcell prints of a grid; parameters and errors are the same as in `printing.printed`."""
+    """Read what rcell prints for a grid; parameters and errors are the same as in `printing.printed`."""
     with printed(program, path, seconds, watch) as pieces:
-        text, found = b"", None
-        while not found and len(text) < _HEADER_BYTES and (piece := next(pieces, b"")):
+        text, header = b"", None
+        while not header and len(text) < _HEADER_BYTES and (piece := next(pieces, b"")):
             text += piece
-            found = _HEADER.match(text)
-        if not found:
+            header = _HEADER.match(text)
+        if not header:
             raise NoAnswer(f"no grid: {text[:60]!r}")
-        *edges, rows, cols = map(bytes.decode, found.groups())
-        rest = chain([text[found.end() :]], pieces)
+        *edges, rows, cols = map(bytes.decode, header.groups())
+        rest = chain([text[header.end() :]], pieces)
         yield PrintedGrid(tuple(edges), int(rows), int(cols), _blocks(rest, int(rows), int(cols)))
 
 
 def _blocks(pieces: Iterator[bytes], rows: int, cols: int) -> Iterator[NDArray[np.int32]]:
-    """Yield so many rows."""
+    """Yield that many rows."""
     rest = b""
     for piece in pieces:
         lines, end, rest = (rest + piece).rpartition(b"\n")

@@ -4,6 +4,7 @@
 from __future__ import annotations
 
 import dataclasses
+import itertools
 import numbers
 from typing import Any
 
@@ -24,13 +25,13 @@ def majority(map: MapLike, size: int = 3, fill: bool = False, *, crs: Any = None
 
     Parameters
     ----------
-    map : path, array, .. as a map of `run`
+    map : path, array, or any map that `run` accepts
     size : int
         Rows and columns of the square: odd, 3 to 15. Cells outside the map are null; nulls do not count.
     fill : bool
         Whether null cells also get a class; by default they stay null.
     crs : any, optional
-        The reference system of a map that has none.
+        The reference system to assume for a map that has none.
 
     Returns
     -------
@@ -40,7 +41,7 @@ def majority(map: MapLike, size: int = 3, fill: bool = False, *, crs: Any = None
     Raises
     ------
     Refused
-        As for `run`.
+        See `run`.
     BadArgument
         The size is even or out of range.
 
@@ -53,8 +54,8 @@ def majority(map: MapLike, size: int = 3, fill: bool = False, *, crs: Any = None
     if not isinstance(size, numbers.Integral) or size not in SIZES:
         raise BadArgument("size", f"must be odd, from {SIZES[0]} to {SIZES[-1]}; got {size!r}")
     source = source_of("map", map)
-    [found] = Run(majority_script(int(size), fill), {"map": source}, {}, crs).maps(["majority"])
-    return dataclasses.replace(found, labels=source.labels, colors=source.colors)
+    [filtered] = Run(majority_script(int(size), fill), {"map": source}, {}, crs).maps(["majority"])
+    return dataclasses.replace(filtered, labels=source.labels, colors=source.colors)
 
 
 def majority_script(size: int, fill: bool) -> str:
@@ -69,21 +70,22 @@ def majority_script(size: int, fill: bool) -> str:
     r.mapcalc majority = nmode(map[-1,-1],map[-1,0],map[-1,1],map[0,-1],map,map[0,1],map[1,-1],map[1,0],map[1,1])
     """
     reach = range(-(size // 2), size // 2 + 1)
-    offsets = [(row, col) for row in reach for col in reach]
-    terms = {place: "map[{},{}]".format(*place) if any(place) else "map" for place in offsets}
-    # A term and its comma: map [ row , col ] and a sign for each negative offset.
-    tokens = {
-        place: 7 + (place[0] < 0) + (place[1] < 0) if any(place) else _TOKENS_OF_NAME
-        for place in offsets
-    }
+    terms: dict[tuple[int, int], str] = {}
+    tokens: dict[tuple[int, int], int] = {}
+    for row, col in itertools.product(reach, reach):
+        # A term and its comma: map [ row , col ] and a sign for each negative offset.
+        terms[row, col] = f"map[{row},{col}]"
+        tokens[row, col] = 7 + (row < 0) + (col < 0)
+    terms[0, 0], tokens[0, 0] = "map", _TOKENS_OF_NAME
     lines: list[str] = []
-    for place in sorted(offsets, key=lambda place: -tokens[place]):
+    for place in sorted(terms, key=lambda place: -tokens[place]):
         if sum(tokens.values()) + _TOKENS_AROUND <= _MOST_TOKENS:
             break
         name = f"c{len(lines)}"
         lines.append(f"r.mapcalc {name} = {terms[place]}")
         terms[place], tokens[place] = name, _TOKENS_OF_NAME
-    mode = f"nmode({','.join(terms.values())})"
-    return "\n".join(
-        [*lines, f"r.mapcalc majority = {mode if fill else f'if(isnull(map), null(), {mode})'}"]
-    )
+    text = f"nmode({','.join(terms.values())})"
+    if not fill:
+        text = f"if(isnull(map), null(), {text})"
+    lines.append(f"r.mapcalc majority = {text}")
+    return "\n".join(lines)

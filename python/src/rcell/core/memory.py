@@ -22,14 +22,14 @@ def processors() -> int:
 
 def free_memory() -> int:
     """Return the bytes that this machine, or the group of processes that this one belongs to, has left."""
-    found = [_UNKNOWN]
+    limits = [_UNKNOWN]
     with contextlib.suppress(OSError, ValueError, KeyError, IndexError):
         with open("/proc/meminfo", encoding="ascii") as file:
             lines = dict(line.split(":", 1) for line in file)
-        found = [int(lines["MemAvailable"].split()[0]) * 1024]
+        limits = [int(lines["MemAvailable"].split()[0]) * 1024]
     with contextlib.suppress(OSError, ValueError):
-        found.append(_number(f"{_GROUP}/memory.max") - _number(f"{_GROUP}/memory.current"))
-    return max(min(found), 0)
+        limits.append(_number(f"{_GROUP}/memory.max") - _number(f"{_GROUP}/memory.current"))
+    return max(min(limits), 0)
 
 
 def _number(path: str) -> int:

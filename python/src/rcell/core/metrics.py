@@ -48,37 +48,39 @@ def metrics(
 
     Parameters
     ----------
-    map : path, array, .. as a map of `run`
+    map : path, array, or any map that `run` accepts
     level : {"class", "landscape", "patch"}
     connectivity : {4, 8}
-        Which cells belong to one patch, as in `patches`.
+        Which cells belong to one patch: 4 connects cells that share an edge, 8 also cells that share a corner.
     area : {"ha", "km2", "m2"} or None
         The unit of areas, as in `composition`. Without areas, sizes are in cells.
     zones : map, or path of polygons, GeoDataFrame or GeoSeries, optional
-        Each zone is a landscape of its own: patches end at its border, and have numbers from 1.
+        Each zone is a landscape of its own: patches end at its border, and have numbers from 1. Sides along it are not edges.
     labels, zone_labels : path, dict, Series or DataFrame, optional
         Legends, as in `composition`.
     zone_field, layer : str, optional
-        As in `composition`.
+        See `composition`.
     each : bool
-        Whether polygons that overlap are taken one after another, as in `composition`.
+        Whether to process overlapping polygons one after another, as in `composition`.
     crs : any, optional
-        The reference system of maps that have none.
+        The reference system to assume for maps that have none.
 
     Returns
     -------
     pandas.DataFrame
-        After `zone`, `zone_label`, `class`, `label`, by class: `cells`, `area_ha`, `percent`, `patches`, `patches_km2`,
+        The landscape is all cells of the map or zone that have data: percentages and densities are of it, and edges are sides between two
+        of its classes. After `zone`, `zone_label`, `class`, `label`, by class: `cells`, `area_ha`, `percent`, `patches`, `patches_km2`,
         `largest_patch_percent`, `mean_patch_ha`, `area_weighted_mean_patch_ha`, `effective_mesh_ha`, `edge_m`, `edge_density_m_ha`,
-        `mean_shape_index`, `aggregation_index`, `cohesion`, `interspersion_index`. Of the landscape, which consists of all cells that
-        are not null, also `classes`, `contagion`, `shannon_diversity`, `shannon_evenness` and `simpson_diversity`. By patch: `patch`,
-        `class`, `label`, `cells`, `area_ha`, `perimeter_m`, `shape_index`, `fractal_dimension`. What is not defined is NaN; so is all
-        that needs a length, without a reference system and in degrees, there with a warning.
+        `mean_shape_index`, `aggregation_index`, `cohesion`, `interspersion_index`. Of the landscape also `classes`, `contagion`,
+        `shannon_diversity`, `shannon_evenness` and `simpson_diversity`. By patch: `patch`, `class`, `label`, `cells`, `area_ha`,
+        `perimeter_m`, `shape_index`, `fractal_dimension`.
+        Undefined measures are NaN. So are those that need a length, without a reference system and,
+        with a warning, in degrees.
 
     Raises
     ------
     Refused
-        As for `run`, and for invalid legends and polygons.
+        See `run`; also raised for invalid legends and polygons.
     BadArgument
         An argument is out of range.
 
@@ -98,26 +100,26 @@ def metrics(
         )
     maps = Maps({"map": map}, crs, zones, zone_field, layer, each)
     measure = maps.measure(area)
-    found = landscapes_of(maps, connectivity, measure, zones is not None)
-    members = {"patch": found.member_at, "class": np.arange(found.classes.size)}.get(level)
-    landscapes = np.arange(found.zones.size) if members is None else found.zone_at[members]
+    land = landscapes_of(maps, connectivity, measure, zones is not None)
+    members = {"patch": land.member_at, "class": np.arange(land.classes.size)}.get(level)
+    zone_of_row = np.arange(land.zones.size) if members is None else land.zone_at[members]
     columns: list[Column] = []
     if zones is not None:
-        columns += maps.columns("zone", found.zones[landscapes], "zones", zone_labels)
+        columns += maps.columns("zone", land.zones[zone_of_row], "zones", zone_labels)
     if level == "patch":
-        first = np.searchsorted(landscapes, landscapes)
-        columns.append(Column("patch", "class", np.arange(landscapes.size) - first + 1))
+        first = np.searchsorted(zone_of_row, zone_of_row)
+        columns.append(Column("patch", "class", np.arange(zone_of_row.size) - first + 1))
     if members is not None:
-        columns += maps.columns("class", found.classes[members], "map", labels, "label")
+        columns += maps.columns("class", land.classes[members], "map", labels, "label")
     of_level = {"patch": _of_patches, "class": _of_classes, "landscape": _of_landscapes}[level]
-    return Table(columns + of_level(found, measure))
+    return Table(columns + of_level(land, measure))
 
 
-def _sized(cells: Integers, sizes: Floats, measure: Measure) -> list[Column]:
+def _sized(cells: Integers, weights: Floats, measure: Measure) -> list[Column]:
     """Return the columns of cells and areas."""
     columns = [Column("cells", "count", cells)]
     if measure.unit is not None:
-        columns.append(Column(f"area_{measure.unit}", "measure", sizes))
+        columns.append(Column(f"area_{measure.unit}", "measure", measure.area(weights)))
     return columns
 
 
@@ -125,116 +127,122 @@ def _measures(values: dict[str, Floats]) -> list[Column]:
     return [Column(name, "measure", part) for name, part in values.items()]
 
 
-def _shapes(of: Landscapes) -> Floats:
-    """Return 0.25 times the perimeter by the root of the area: 1 for a square."""
-    shapes: Floats = 0.25 * of.perimeters / np.sqrt(of.cells * of.end * of.flank)
+def _shapes(land: Landscapes) -> Floats:
+    """Return 0.25 times the perimeter, divided by the root of the area: 1 for a square."""
+    shapes: Floats = 0.25 * land.perimeters / np.sqrt(land.cells * land.end * land.flank)
     return shapes
 
 
-def _of_patches(of: Landscapes, measure: Measure) -> list[Column]:
-    areas = of.cells * of.end * of.flank
+def _of_patches(land: Landscapes, measure: Measure) -> list[Column]:
+    areas = land.cells * land.end * land.flank
     areas[np.abs(areas - 1) <= _NEARLY_ONE] = np.nan
     values = {
-        "perimeter_m": of.perimeters,
-        "shape_index": _shapes(of),
-        "fractal_dimension": 2 * np.log(0.25 * of.perimeters) / np.log(areas),
+        "perimeter_m": land.perimeters,
+        "shape_index": _shapes(land),
+        "fractal_dimension": 2 * np.log(0.25 * land.perimeters) / np.log(areas),
     }
-    return _sized(of.cells, of.sizes, measure) + _measures(values)
+    return _sized(land.cells, land.weights, measure) + _measures(values)
 
 
-def _of_classes(of: Landscapes, measure: Measure) -> list[Column]:
-    cells, sizes = of.by_member(of.cells), of.by_member(of.sizes)
-    whole = of.by_zone(sizes)[of.zone_at]
+def _of_classes(land: Landscapes, measure: Measure) -> list[Column]:
+    cells, weights = land.by_member(land.cells), land.by_member(land.weights)
+    whole = land.by_zone(weights)[land.zone_at]
     # Both sides of a border belong to it.
-    at, borders = np.concatenate([of.sides.one, of.sides.other]), np.tile(of.borders, 2)
-    edges = _edges(at, borders, cells.size, of)
-    others = np.bincount(of.zone_at, minlength=of.zones.size)[of.zone_at] - 1
+    members, borders = np.concatenate([land.sides.first, land.sides.second]), np.tile(
+        land.borders, 2
+    )
+    edges = summed(members, borders, cells.size) + 0 * land.end  # not known without borders either
+    others = np.bincount(land.zone_at, minlength=land.zones.size)[land.zone_at] - 1
     values = {
-        "aggregation_index": _aggregation(of),
-        "cohesion": _cohesion(of.member_at, of, of.by_zone(cells)[of.zone_at]),
-        "interspersion_index": _interspersion(at, borders, edges, others, others),
+        "aggregation_index": _aggregation(land),
+        "cohesion": _cohesion(land.member_at, land, land.by_zone(cells)[land.zone_at]),
+        "interspersion_index": _interspersion(members, borders, edges, others, others),
     }
-    columns = _sized(cells, sizes, measure)
-    columns.append(Column("percent", "measure", 100 * sizes / whole))
-    return columns + _of_sizes(of.member_at, of, sizes, whole, edges, measure) + _measures(values)
+    columns = _sized(cells, weights, measure)
+    columns.append(Column("percent", "measure", 100 * weights / whole))
+    columns += _of_sizes(land.member_at, land, weights, whole, edges, measure)
+    return columns + _measures(values)
 
 
-def _of_landscapes(of: Landscapes, measure: Measure) -> list[Column]:
-    size, at = of.zones.size, of.zone_at[of.member_at]
-    members = of.by_member(of.sizes)
-    cells, whole = of.by_zone(of.by_member(of.cells)), of.by_zone(members)
-    classes, shares = np.bincount(of.zone_at, minlength=size), members / whole[of.zone_at]
-    across, borders = of.zone_at[of.sides.one], of.borders
-    edges = _edges(across, borders, size, of)
+def _of_landscapes(land: Landscapes, measure: Measure) -> list[Column]:
+    size, zone_of_patch = land.zones.size, land.zone_at[land.member_at]
+    members = land.by_member(land.weights)
+    cells, whole = land.by_zone(land.by_member(land.cells)), land.by_zone(members)
+    classes, shares = np.bincount(land.zone_at, minlength=size), members / whole[land.zone_at]
+    across, borders = land.zone_at[land.sides.first], land.borders
+    edges = summed(across, borders, size) + 0 * land.end
     # The logarithm of one class is 0: what it would divide is not defined.
     most = np.where(classes >= 2, np.log(np.maximum(classes, 2)), np.nan)
-    diversity = _entropy(of.zone_at, members, size)
+    diversity = _entropy(land.zone_at, members, size)
     pairs = classes * (classes - 1) // 2
     values = {
-        "aggregation_index": of.by_zone(np.nan_to_num(_aggregation(of)) * shares),
-        "cohesion": _cohesion(at, of, cells),
+        "aggregation_index": land.by_zone(np.nan_to_num(_aggregation(land)) * shares),
+        "cohesion": _cohesion(zone_of_patch, land, cells),
         "interspersion_index": _interspersion(across, borders, edges, pairs, classes - 1),
-        "contagion": 100 * (1 - _entropy_of_sides(of, shares) / (2 * most)),
+        "contagion": 100 * (1 - _entropy_of_sides(land, shares) / (2 * most)),
         "shannon_diversity": diversity,
         "shannon_evenness": diversity / most,
-        "simpson_diversity": 1 - of.by_zone(shares**2),
+        "simpson_diversity": 1 - land.by_zone(shares**2),
     }
     columns = [*_sized(cells, whole, measure), Column("classes", "count", classes)]
-    return columns + _of_sizes(at, of, whole, whole, edges, measure) + _measures(values)
+    columns += _of_sizes(zone_of_patch, land, whole, whole, edges, measure)
+    return columns + _measures(values)
 
 
 def _of_sizes(
-    at: Integers, of: Landscapes, sizes: Floats, whole: Floats, edges: Floats, measure: Measure
+    groups: Integers,
+    land: Landscapes,
+    weights: Floats,
+    whole: Floats,
+    edges: Floats,
+    measure: Measure,
 ) -> list[Column]:
-    """Return the measures that classes and landscapes have in common; `at` has the index of each patch's group."""
-    unit, groups = measure.column, sizes.size
-    count = np.bincount(at, minlength=groups)
-    largest = np.zeros(groups)
-    np.maximum.at(largest, at, of.sizes)
-    squares = summed(at, of.sizes**2, groups)
+    """Return the measures that classes and landscapes have in common; `groups` has the index of each patch's group."""
+    unit, size, full = measure.column, weights.size, measure.area(whole)
+    count = np.bincount(groups, minlength=size)
+    largest = np.zeros(size)
+    np.maximum.at(largest, groups, land.weights)
+    squares = summed(groups, land.weights**2, size)
     values = {
-        "patches_km2": count / (whole * (measure.divisor / _SQUARE_KM)),
+        "patches_km2": count / (full * (measure.divisor / _SQUARE_KM)),
         "largest_patch_percent": 100 * largest / whole,
-        f"mean_patch_{unit}": sizes / count,
-        f"area_weighted_mean_patch_{unit}": squares / sizes,
-        f"effective_mesh_{unit}": squares / whole,
+        f"mean_patch_{unit}": measure.area(weights) / count,
+        f"area_weighted_mean_patch_{unit}": measure.area(squares / weights),
+        f"effective_mesh_{unit}": measure.area(squares / whole),
         "edge_m": edges,
-        f"edge_density_m_{unit}": edges / whole,
-        "mean_shape_index": summed(at, _shapes(of), groups) / count,
+        f"edge_density_m_{unit}": edges / full,
+        "mean_shape_index": summed(groups, _shapes(land), size) / count,
     }
     if measure.unit is None:
         del values["patches_km2"], values[f"edge_density_m_{unit}"]
     return [Column("patches", "count", count), *_measures(values)]
 
 
-def _edges(at: Integers, borders: Floats, size: int, of: Landscapes) -> Floats:
-    """Return the lengths of the borders of each group: NaN if lengths are not known, also without a border."""
-    return summed(at, borders, size) + (0.0 if of.end == of.end else np.nan)
-
-
-def _aggregation(of: Landscapes) -> Floats:
+def _aggregation(land: Landscapes) -> Floats:
     """Return the aggregation index of each member (He, DeZonia and Mladenoff 2000).
 
     It divides the like sides by the most that an area of this size can have.
     """
-    cells = of.by_member(of.cells)
+    cells = land.by_member(land.cells)
     side = np.sqrt(cells).astype(np.int64)  # exact, since the cells of a map are fewer than 2^31
     rest = cells - side**2
     more = np.where(rest <= side, 2 * rest - 1, 2 * rest - 2)
     most = 2 * side * (side - 1) + np.where(rest == 0, 0, more)
-    return np.where(most > 0, 100 * of.like / np.maximum(most, 1), np.nan)
+    return np.where(most > 0, 100 * land.like / np.maximum(most, 1), np.nan)
 
 
-def _cohesion(at: Integers, of: Landscapes, whole: Integers) -> Floats:
+def _cohesion(groups: Integers, land: Landscapes, whole: Integers) -> Floats:
     """Return the patch cohesion index, with perimeters in sides and areas in cells (Schumaker 1996); NaN in a landscape of one cell."""
-    sides = (of.ends + of.flanks).astype(np.float64)
-    above, below = (summed(at, part, whole.size) for part in (sides, sides * np.sqrt(of.cells)))
+    sides = (land.ends + land.flanks).astype(np.float64)
+    above, below = (
+        summed(groups, part, whole.size) for part in (sides, sides * np.sqrt(land.cells))
+    )
     most = np.where(whole > 1, 1 - 1 / np.sqrt(whole), np.nan)
     return np.asarray(100 * (1 - above / below) / most)
 
 
 def _interspersion(
-    at: Integers, borders: Floats, edges: Floats, kinds: Integers, others: Integers
+    groups: Integers, borders: Floats, edges: Floats, kinds: Integers, others: Integers
 ) -> Floats:
     """Return the interspersion index: the entropy of borders, divided by its maximum for this number of classes.
 
@@ -242,21 +250,25 @@ def _interspersion(
     """
     known = (others >= 2) & (edges > 0)
     most = np.where(known, np.log(np.maximum(kinds, 2)), np.nan)
-    return np.asarray(100 * _entropy(at, borders, edges.size) / most)
+    return np.asarray(100 * _entropy(groups, borders, edges.size) / most)
 
 
-def _entropy(at: Integers, parts: Floats, size: int) -> Floats:
+def _entropy(groups: Integers, parts: Floats, size: int) -> Floats:
     """Return the entropy of the parts of each group in nats."""
-    total = summed(at, parts, size)[at]
+    total = summed(groups, parts, size)[groups]
     shares = parts / np.where(total > 0, total, np.nan)
-    return summed(at, -shares * np.log(np.where(shares > 0, shares, 1)), size)
+    return summed(groups, -shares * np.log(np.where(shares > 0, shares, 1)), size)
 
 
-def _entropy_of_sides(of: Landscapes, shares: Floats) -> Floats:
+def _entropy_of_sides(land: Landscapes, shares: Floats) -> Floats:
     """Return the entropy of each landscape's sides by their two classes, each counted from both sides (Riitters et al. 1996)."""
-    at = np.concatenate([of.sides.one, of.sides.other, np.arange(of.classes.size)])
-    unlike = of.sides.ends + of.sides.flanks
-    counts = np.concatenate([unlike, unlike, 2 * of.like]).astype(np.float64)
-    total = summed(at, counts, of.classes.size)[at]
-    parts = np.where(counts > 0, shares[at] * counts / np.maximum(total, 1), 0)
-    return summed(of.zone_at[at], -parts * np.log(np.where(parts > 0, parts, 1)), of.zones.size)
+    members = np.concatenate([land.sides.first, land.sides.second, np.arange(land.classes.size)])
+    unlike = land.sides.ends + land.sides.flanks
+    counts = np.concatenate([unlike, unlike, 2 * land.like]).astype(np.float64)
+    total = summed(members, counts, land.classes.size)[members]
+    parts = np.where(counts > 0, shares[members] * counts / np.maximum(total, 1), 0)
+    return summed(
+        land.zone_at[members],
+        -parts * np.log(np.where(parts > 0, parts, 1)),
+        land.zones.size,
+    )

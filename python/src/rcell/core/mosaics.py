@@ -7,6 +7,7 @@ import glob
 import os
 from collections.abc import Iterator, Mapping, Sequence
 from dataclasses import dataclass, replace
+from functools import cached_property
 from typing import Any, ClassVar, NamedTuple, Optional
 
 import numpy as np
@@ -45,7 +46,7 @@ def open_pattern(name: str, pattern: str) -> Source:
 
 
 def open_files(name: str, paths: Sequence[Any]) -> Source:
-    """Return files of one grid as one map: gaps are null, and of files that overlap the later one has the cells that are not null in it.
+    """Return files of one grid as one map: gaps are null, and if files overlap, the later one has the cells that are not null in it.
 
     Parameters
     ----------
@@ -84,9 +85,12 @@ def open_files(name: str, paths: Sequence[Any]) -> Source:
     width, _, west, _, height, north = first.transform
     transform = (width, 0.0, west + left * width, 0.0, height, north + top * height)
     region = in_region(name, Region.from_transform, transform, rows, cols)
-    made = MosaicMap(name, parts, region, transform, crs)
-    _warn_of_overlaps(made)
-    return made
+    # Gaps need a mask if no value is null.
+    may_have_gaps = first.nodata is None and not _is_full(parts, rows * cols)
+    is_masked = may_have_gaps or any(part.source.is_masked for part in parts)
+    mosaic = MosaicMap(name, parts, region, transform, crs, is_masked)
+    _warn_of_overlaps(mosaic)
+    return mosaic
 
 
 def _shift_of(name: str, first: Any, source: Any) -> tuple[int, int]:
@@ -95,24 +99,41 @@ def _shift_of(name: str, first: Any, source: Any) -> tuple[int, int]:
     shift = Shift.between(first.transform, source.transform, source.region.shape)
     if not shift.is_whole:
         other = Shift.between(source.transform, first.transform, first.region.shape)
-        raise OtherRegion(name, f"{both} differ: {other.told(first.name)}")
+        raise OtherRegion(name, f"{both} differ: {other.misfit(first.name)}")
     for what, its, own in (
         ("type of cells", source.dtype, first.dtype),
         ("nodata value", source.nodata, first.nodata),
     ):
         if its != own:
-            told = f"{both} differ: the {what} is {its} in the one, and {own} in the other"
-            raise BadMap(name, f"{told}; write them alike first, for example with gdal_translate")
+            difference = f"{both} differ: the {what} is {its} in the one, and {own} in the other"
+            raise BadMap(
+                name, f"{difference}; write them alike first, for example with gdal_translate"
+            )
     return int(shift.rows), int(shift.cols)
 
 
-def _warn_of_overlaps(made: MosaicMap) -> None:
-    pairs = made.overlaps
+def _is_full(parts: Sequence[Part], cells: int) -> bool:
+    """Return whether files that do not overlap fill a map of the given number of cells."""
+    corners = np.array([place for _, place in parts])
+    is_apart = all(len(_near(corners, place)) == 1 for _, place in parts)
+    return is_apart and sum(place.cells for _, place in parts) == cells
+
+
+def _near(places: NDArray[Any], place: Rectangle) -> NDArray[np.intp]:
+    """Return which of some rectangles have cells in another one."""
+    tops, lefts, rows, cols = places.T
+    in_rows = (tops < place.top + place.rows) & (tops + rows > place.top)
+    in_cols = (lefts < place.left + place.cols) & (lefts + cols > place.left)
+    return np.flatnonzero(in_rows & in_cols)
+
+
+def _warn_of_overlaps(mosaic: MosaicMap) -> None:
+    pairs = mosaic.overlaps
     if pairs:
-        later, earlier = (made.parts[at].source.name for at in pairs[0])
+        later, earlier = (mosaic.parts[index].source.name for index in pairs[0])
         more = f", and {len(pairs) - 1:,} more pairs of files" if len(pairs) > 1 else ""
         warn(
-            f"{made.name}: {earlier} and {later} overlap{more}: the later file has the cells, unless they are null there"
+            f"{mosaic.name}: {earlier} and {later} overlap{more}: the later file has the cells, unless they are null there"
         )
 
 
@@ -127,6 +148,8 @@ class MosaicMap:
     region : Region
     transform : tuple of six float
     crs : any
+    is_masked : bool
+        Whether its blocks have masks: if a file has one, or there may be gaps and no value is null.
     """
 
     name: str
@@ -134,30 +157,33 @@ class MosaicMap:
     region: Region
     transform: Transform
     crs: Any
+    is_masked: bool
     is_file: ClassVar[bool] = True
 
-    def __post_init__(self) -> None:
-        corners = [(at.top, at.left, at.top + at.rows, at.left + at.cols) for _, at in self.parts]
-        object.__setattr__(self, "_corners", np.array(corners))
-        object.__setattr__(self, "overlaps", self._overlaps())
+    @cached_property
+    def _places(self) -> NDArray[Any]:
+        return np.array([place for _, place in self.parts])
 
-    overlaps: Sequence[tuple[int, int]] = ()
+    @cached_property
+    def overlaps(self) -> Sequence[tuple[int, int]]:
+        """The pairs of files that overlap, the later one first."""
+        pairs = []
+        for index, (_, place) in enumerate(self.parts):
+            for other in _near(self._places, place).tolist():
+                if other < index:
+                    pairs.append((index, other))
+        return pairs
 
-    def _overlaps(self) -> list[tuple[int, int]]:
-        """Return the pairs of files that overlap, the later one first."""
-        found = []
-        for at, (_, place) in enumerate(self.parts):
-            found += [(at, int(other)) for other in self._near(place) if other < at]
-        return found
-
-    def _near(self, place: Rectangle) -> NDArray[np.intp]:
-        """Return which files have cells in a rectangle."""
-        corners: NDArray[np.int64] = vars(self)["_corners"]
-        low, right = place.top + place.rows, place.left + place.cols
-        is_before = (corners[:, 0] < low) & (corners[:, 1] < right)
-        return np.flatnonzero(
-            is_before & (corners[:, 2] > place.top) & (corners[:, 3] > place.left)
-        )
+    def sent(self, outer: Rectangle) -> Optional[MosaicMap]:
+        """Return a map with the files of a window, or at least one of them."""
+        parts = []
+        for index in _near(self._places, outer).tolist() or [0]:
+            source, place = self.parts[index]
+            sent = source.sent(outer) if hasattr(source, "sent") else None
+            if sent is None:
+                return None
+            parts.append(Part(sent, place))
+        return replace(self, parts=tuple(parts))
 
     @property
     def dtype(self) -> np.dtype[Any]:
@@ -167,18 +193,9 @@ class MosaicMap:
 
     @property
     def nodata(self) -> Optional[int]:
-        """The value of its blocks that is null."""
+        """The value that marks null in its blocks."""
         nodata: Optional[int] = self.parts[0].source.nodata
         return nodata
-
-    @property
-    def is_masked(self) -> bool:
-        """Whether its blocks have masks: if a file has one, or there may be gaps and no value is null."""
-        rows, cols = self.region.shape
-        may_have_gaps = bool(self.overlaps) or sum(at.cells for _, at in self.parts) < rows * cols
-        return any(part.source.is_masked for part in self.parts) or (
-            self.nodata is None and may_have_gaps
-        )
 
     @property
     def labels(self) -> Mapping[int, str]:
@@ -199,7 +216,7 @@ class MosaicMap:
 
     @property
     def block_shape(self) -> tuple[int, int]:
-        """Rows and columns that the first file keeps together."""
+        """Rows and columns of a block of the first file."""
         shape: tuple[int, int] = self.parts[0].source.block_shape
         return shape
 
@@ -215,20 +232,20 @@ class MosaicMap:
         place, nodata = Rectangle(row, col, rows, cols), self.nodata
         cells = np.full((rows, cols), 0 if nodata is None else nodata, self.dtype)
         null = np.ones((rows, cols), np.bool_) if self.is_masked else None
-        for at in self._near(place):
-            source, own = self.parts[at]
+        for index in _near(self._places, place):
+            source, own = self.parts[index]
             top, left = max(row, own.top), max(col, own.left)
             low = min(row + rows, own.top + own.rows)
             right = min(col + cols, own.left + own.cols)
             block = source.window(top - own.top, left - own.left, low - top, right - left)
             target = np.s_[top - row : low - row, left - col : right - col]
-            kept: Any = True
+            is_written: Any = True
             if self.overlaps:
-                kept = ~null_cells(block.cells, block.null, nodata)
-            np.copyto(cells[target], block.cells, where=kept)
+                is_written = ~null_cells(block.cells, block.null, nodata)
+            np.copyto(cells[target], block.cells, where=is_written)
             if null is not None:
                 is_null = (
                     np.zeros(block.cells.shape, np.bool_) if block.null is None else block.null
                 )
-                np.copyto(null[target], is_null, where=kept)
+                np.copyto(null[target], is_null, where=is_written)
         return Block(cells, null)

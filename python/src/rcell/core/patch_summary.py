@@ -1,9 +1,10 @@
 # SPDX-License-Identifier: Apache-2.0 OR GPL-2.0-or-later
-"""The patches of each class in numbers: no table of all patches is ever made."""
+"""Summaries of the patches of each class, without a table of all patches."""
 
 from __future__ import annotations
 
-from typing import Any, Optional
+from collections.abc import Callable
+from typing import Any, NamedTuple, Optional
 
 import numpy as np
 
@@ -42,31 +43,65 @@ def class_summary(
     labels : any, optional
         A legend.
     """
-    found = _Summary(measure, classes, fewest)
+    summary = _Summary(measure, classes, fewest)
     rows = [] if measure.by_row is None else ["r.mapcalc row = row()"]
     inputs = "map,patch" + (",row" if rows else "")
     script = "\n".join([clump, *rows, f"r.stats -c -n input={inputs}"])
-    execute(script, maps.sources, fold=found.add)
-    return Table(found.columns(maps, labels))
+    execute(script, maps.sources, fold=summary)
+    return Table(summary.columns(maps, labels))
+
+
+class Numbers(NamedTuple):
+    """What is counted of the patches of a class."""
+
+    patches: int = 0
+    cells: int = 0
+    area: float = 0.0
+    largest_cells: int = 0
+    largest_area: float = 0.0
+
+    def plus(self, more: Numbers) -> Numbers:
+        """Return the numbers of these and of more patches of the class."""
+        return Numbers(
+            self.patches + more.patches,
+            self.cells + more.cells,
+            self.area + more.area,
+            max(self.largest_cells, more.largest_cells),
+            max(self.largest_area, more.largest_area),
+        )
 
 
 class _Summary:
-    """The patches of classes, of which those that may continue in other tiles are waiting."""
+    """The patches of classes in tables of tiles; patches that may continue in other tiles wait until the tiles are joined.
+
+    Tiles come in any order. Areas are added in the order of the tiles, so the sums are always the same.
+    """
 
     def __init__(self, measure: Measure, classes: Optional[list[int]], fewest: int) -> None:
         self._measure, self._listed, self._fewest = measure, classes, fewest
-        self._waiting: list[tuple[Integers, Floats]] = []
-        # Of each class its patches, their cells and their measure, and the largest cells and measure of a patch.
-        self._classes: dict[int, tuple[int, int, float, int, float]] = {}
+        self._waiting: dict[int, tuple[Integers, Floats]] = {}
+        self._complete: dict[int, dict[int, Numbers]] = {}
 
-    def add(self, table: Integers, open_patches: Integers) -> None:
-        """Add a table of classes, patches, rows of a map in degrees, and cells; some patches continue in other tables."""
+    def add(self, tile: int, table: Integers, waiting: Integers) -> None:
+        """Add the table of a tile: classes, patches, rows of a map in degrees, and cells; and the patches that may continue."""
         if self._listed is not None:
             table = table[np.isin(table[:, 0], self._listed)]
         patches, area = self._patches_of(table)
-        is_open = np.isin(patches[:, 1], open_patches)
-        self._waiting.append((patches[is_open], area[is_open]))
-        self._count(patches[~is_open], area[~is_open])
+        is_open = np.isin(patches[:, 1], waiting)
+        self._waiting[tile] = patches[is_open], area[is_open]
+        self._complete[tile] = self._counted(patches[~is_open], area[~is_open])
+
+    def join(self, numbers_of: Callable[[int, Integers], Integers]) -> None:
+        """Count the patches that waited, by the numbers that the patches of each tile have in the full map."""
+        if not self._waiting:
+            return
+        tiles = sorted(self._waiting)
+        for tile in tiles:
+            patches = self._waiting[tile][0]
+            patches[:, 1] = numbers_of(tile, patches[:, 1])
+        tables, areas = zip(*(self._waiting.pop(tile) for tile in tiles))
+        joined = _added(np.concatenate(tables), np.concatenate(areas))
+        self._complete[tiles[-1] + 1] = self._counted(*joined)
 
     def _patches_of(self, table: Integers) -> tuple[Integers, Floats]:
         """Return class, number and cells of each patch, and its area."""
@@ -75,41 +110,39 @@ class _Summary:
         area = table[:, -1] * self._measure.by_row[table[:, 2] - 1] / self._measure.divisor
         return _added(table[:, [0, 1, 3]], area)
 
-    def _count(self, patches: Integers, area: Floats) -> None:
-        """Count patches that are complete."""
-        kept = patches[:, 2] >= self._fewest
-        patches, area = patches[kept], area[kept]
+    def _counted(self, patches: Integers, area: Floats) -> dict[int, Numbers]:
+        """Return the numbers of each class, of patches that are complete."""
+        is_large = patches[:, 2] >= self._fewest
+        patches, area = patches[is_large], area[is_large]
         first = places_of(patches[:, 0])
         if not first.size:
-            return
-        counts = np.diff([*first, len(patches)]).tolist()
-        cells, areas = (np.add.reduceat(of, first) for of in (patches[:, 2], area))
-        most, largest = (np.maximum.reduceat(of, first) for of in (patches[:, 2], area))
-        parts = zip(
-            patches[first, 0].tolist(),
-            zip(counts, cells.tolist(), areas.tolist(), most.tolist(), largest.tolist()),
+            return {}
+        cells = patches[:, 2]
+        measures = (
+            np.diff([*first, len(patches)]),
+            np.add.reduceat(cells, first),
+            np.add.reduceat(area, first),
+            np.maximum.reduceat(cells, first),
+            np.maximum.reduceat(area, first),
         )
-        for code, new in parts:
-            old = self._classes.get(code, (0, 0, 0.0, 0, 0.0))
-            self._classes[code] = (
-                old[0] + new[0],
-                old[1] + new[1],
-                old[2] + new[2],
-                max(old[3], new[3]),
-                max(old[4], new[4]),
-            )
+        numbers = map(Numbers, *(measure.tolist() for measure in measures))
+        return dict(zip(patches[first, 0].tolist(), numbers))
+
+    def _by_class(self) -> dict[int, Numbers]:
+        """Return the numbers of each class in all tiles."""
+        by_class: dict[int, Numbers] = {}
+        for tile in sorted(self._complete):
+            for code, numbers in self._complete[tile].items():
+                by_class[code] = by_class.get(code, Numbers()).plus(numbers)
+        return by_class
 
     def columns(self, maps: Maps, labels: Any) -> list[Column]:
         """Return the columns of the table."""
-        tables, areas = zip(*self._waiting)
-        self._waiting = []
-        self._count(*_added(np.concatenate(tables), np.concatenate(areas)))
-        codes = np.array(sorted(self._classes), np.int64)
-        numbers = [self._classes[code] for code in codes.tolist()]
-        count, cells, area, most, largest = (
-            np.array([number[at] for number in numbers], kind)
-            for at, kind in enumerate((np.int64, np.int64, np.float64, np.int64, np.float64))
-        )
+        by_class = self._by_class()
+        codes = np.array(sorted(by_class), np.int64)
+        numbers = [by_class[code] for code in codes.tolist()]
+        count = np.array([number.patches for number in numbers], np.int64)
+        cells = np.array([number.cells for number in numbers], np.int64)
         columns = [
             *maps.columns("class", codes, "map", labels, "label"),
             Column("patches", "count", count),
@@ -117,8 +150,13 @@ class _Summary:
         ]
         unit = self._measure.unit
         if unit is None:
-            columns.append(Column("largest_cells", "count", most))
+            largest_cells = np.array([number.largest_cells for number in numbers], np.int64)
+            columns.append(Column("largest_cells", "count", largest_cells))
             return [*columns, Column("mean_cells", "measure", cells / np.maximum(count, 1))]
+        area = np.array([number.area for number in numbers], np.float64)
+        if self._measure.by_row is None:  # without the rounding of a sum
+            area = self._measure.area(cells)
+        largest = np.array([number.largest_area for number in numbers], np.float64)
         columns.append(Column(f"area_{unit}", "measure", area))
         columns.append(Column(f"largest_{unit}", "measure", largest))
         return [*columns, Column(f"mean_{unit}", "measure", area / np.maximum(count, 1))]
@@ -131,6 +169,6 @@ def _added(patches: Integers, area: Floats) -> tuple[Integers, Floats]:
     first = places_of(patches[:, :2])
     if not first.size:
         return patches, area
-    found = patches[first]
-    found[:, 2] = np.add.reduceat(patches[:, 2], first)
-    return found, np.add.reduceat(area, first)
+    sums = patches[first]
+    sums[:, 2] = np.add.reduceat(patches[:, 2], first)
+    return sums, np.add.reduceat(area, first)

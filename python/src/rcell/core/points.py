@@ -9,7 +9,7 @@ from typing import Any, Optional
 
 import numpy as np
 
-from .arguments import MAX_CATEGORY
+from .arguments import MAX_CATEGORY, known_names
 from .arrays import NDArray
 from .crs import common_crs
 from .errors import BadMap
@@ -37,7 +37,7 @@ class Points:
     map : ArrayMap
         The cells that have points, numbered from 1; all others are null.
     cells, classes : array of int64
-        Of each point the number of its cell, and its class.
+        The number of the cell of each point, and its class.
     left_out : list of str
         Why points are not in a cell.
     total : int
@@ -59,15 +59,15 @@ class Points:
         """
         mapped = np.full(int(self.cells.max(initial=0)) + 1, NULL, np.int64)
         mapped[table[:, 0]] = table[:, 1]
-        found = mapped[self.cells]
-        kept = found != NULL
-        told = list(self.left_out)
-        if not kept.all():
-            told.append(f"{np.count_nonzero(~kept):,} on null cells")
-        if told:
-            lost = self.total - np.count_nonzero(kept)
-            warn(f"reference: {lost:,} of {self.total:,} points are left out: {', '.join(told)}")
-        both = np.column_stack([found[kept], self.classes[kept]])
+        classes = mapped[self.cells]
+        has_class = classes != NULL
+        reasons = list(self.left_out)
+        if not has_class.all():
+            reasons.append(f"{np.count_nonzero(~has_class):,} on null cells")
+        if reasons:
+            lost = self.total - np.count_nonzero(has_class)
+            warn(f"reference: {lost:,} of {self.total:,} points are left out: {', '.join(reasons)}")
+        both = np.column_stack([classes[has_class], self.classes[has_class]])
         kinds, cells = np.unique(both, axis=0, return_counts=True)
         return np.column_stack([kinds, cells])
 
@@ -84,12 +84,12 @@ def points_of(layer: Layer, field: Optional[str], like: Source, crs: Any = None)
         The field with the class of each point.
     like : Source
     crs : any
-        The reference system of maps that have none.
+        The reference system to assume for maps that have none.
 
     Raises
     ------
     OtherCrs
-        The points have another reference system than the map.
+        The points' reference system differs from the map's.
     BadMap
         There is no such field, a feature is not a point, or a class is not a whole number.
     """
@@ -98,21 +98,23 @@ def points_of(layer: Layer, field: Optional[str], like: Source, crs: Any = None)
     common_crs({"map": like.crs, "reference": layer.crs}, crs, "ogr2ogr", titles)
     rows = list(_points(layer, name))
     known = np.array([row for row in rows if row is not None], np.float64).reshape(-1, 3)
+    x, y, codes = known.T
     width, _, west, _, height, north = like.transform
-    col = np.floor((known[:, 0] - west) / width)
-    row = np.floor((north - known[:, 1]) / -height)
+    col = np.floor((x - west) / width)
+    row = np.floor((north - y) / -height)
     high, wide = like.region.shape
     inside = (row >= 0) & (row < high) & (col >= 0) & (col < wide)
-    told = [
-        (len(rows) - len(known), "without a class"),
-        (np.count_nonzero(~inside), "outside the map"),
-    ]
-    left_out = [f"{count:,} {why}" for count, why in told if count]
+    left_out = []
+    without, outside = len(rows) - len(known), np.count_nonzero(~inside)
+    if without:
+        left_out.append(f"{without:,} without a class")
+    if outside:
+        left_out.append(f"{outside:,} outside the map")
     places = row[inside].astype(np.int64) * wide + col[inside].astype(np.int64)
     distinct, cells = np.unique(places, return_inverse=True)
     numbers = np.full(high * wide, NULL, np.int32)
     numbers[distinct] = np.arange(1, distinct.size + 1)
-    made = ArrayMap(
+    numbered = ArrayMap(
         layer.name,
         numbers.reshape(high, wide),
         like.region,
@@ -122,8 +124,8 @@ def points_of(layer: Layer, field: Optional[str], like: Source, crs: Any = None)
         like.crs,
         like.transform,
     )
-    classes = known[inside, 2].astype(np.int64)
-    return Points(made, cells.reshape(-1) + 1, classes, left_out, len(rows))
+    classes = codes[inside].astype(np.int64)
+    return Points(numbered, cells.reshape(-1) + 1, classes, left_out, len(rows))
 
 
 def _field_of(layer: Layer, field: Optional[str]) -> str:
@@ -132,13 +134,11 @@ def _field_of(layer: Layer, field: Optional[str]) -> str:
     if field is None and len(usual) == 1:
         return usual[0]
     if field is None and usual:
-        told = f"has the fields {' and '.join(usual)}: name one, for example {option('field', usual[1])}"
-        raise BadMap(layer.name, told)
+        problem = f"has the fields {' and '.join(usual)}: name one, for example {option('field', usual[1])}"
+        raise BadMap(layer.name, problem)
     if field is None or field not in layer.fields:
         wanted = " or ".join(_FIELDS) if field is None else field
-        raise BadMap(
-            layer.name, f"no field {wanted}: there are {', '.join(layer.fields) or 'none'}"
-        )
+        raise BadMap(layer.name, f"no field {wanted}: {known_names('field', layer.fields)}")
     return field
 
 
@@ -156,6 +156,6 @@ def _points(layer: Layer, field: str) -> Iterator[Optional[tuple[float, float, i
             raise BadMap(layer.name, f"not points: feature {feature.id} has several")
         code = whole_number(value)
         if code is None or abs(code) > MAX_CATEGORY:
-            told = f"the class of feature {feature.id} is {value!r}, which is not a whole number"
-            raise BadMap(layer.name, told)
+            problem = f"the class of feature {feature.id} is {value!r}, which is not a whole number"
+            raise BadMap(layer.name, problem)
         yield west, south, code

@@ -1,8 +1,8 @@
 # SPDX-License-Identifier: Apache-2.0 OR GPL-2.0-or-later
-"""Text grids: rcell reads a grid of a user, and prints it in one form.
+"""Text grids: rcell reads a user's grid, and prints it in one form.
 
-This is the only module that starts `rcell`: rcell-pipe does all else, and its requests have maps as bytes. It goes once a
-request takes text grids.
+This is the only module that starts `rcell`: rcell-pipe does everything else, and its requests have
+maps as bytes. It can go once requests accept text grids.
 """
 
 from __future__ import annotations
@@ -26,7 +26,7 @@ _MESSAGE = re.compile(r"rcell: [^:]*:(\d+): (.*)")
 
 
 def is_text_grid(start: bytes) -> bool:
-    """Return whether a file that starts so is a grid of rcell.
+    """Return whether a file with this beginning is an rcell grid.
 
     Examples
     --------
@@ -38,7 +38,7 @@ def is_text_grid(start: bytes) -> bool:
 
 @contextlib.contextmanager
 def spooled(pieces: Iterable[bytes]) -> Iterator[str]:
-    """Keep a text in a file of its own until the block ends, since a program opens paths alone.
+    """Keep a text in a file of its own until the block ends, since a program only opens paths.
 
     Examples
     --------
@@ -64,21 +64,21 @@ def printed(
     seconds: Optional[float] = None,
     watch: Optional[Callable[[], None]] = None,
 ) -> Iterator[Iterator[bytes]]:
-    """Let rcell read a grid, and yield what it prints of it, piece by piece; that is whole if nothing is raised.
+    """Let rcell read a grid, and yield its output piece by piece; the output is complete if nothing is raised.
 
     Parameters
     ----------
     program : str
-        The path of rcell.
+        The path of `rcell`.
     path : str
         The grid.
     seconds, watch
-        As in `protocol.run`; so are the errors.
+        See `protocol.run`, which also lists the errors raised.
     """
-    with contextlib.ExitStack() as kept:
+    with contextlib.ExitStack() as cleanup:
         begin_work()
-        kept.callback(end_work)
-        folder = kept.enter_context(tempfile.TemporaryDirectory(prefix="rcell-"))
+        cleanup.callback(end_work)
+        folder = cleanup.enter_context(tempfile.TemporaryDirectory(prefix="rcell-"))
         script, grid = (os.path.join(folder, name) for name in ("script", "grid"))
         with open(script, "wb") as file:
             file.write(_SCRIPT)
@@ -94,8 +94,8 @@ def printed(
 def _pieces(process: Started) -> Iterator[bytes]:
     yield from process.pieces()
     status, message = process.end()
-    found = _MESSAGE.match(message.decode("utf-8", "surrogateescape"))
-    if status > 0 and found:
-        raise Rejected(status, "request", 0, int(found[1]), 0, found[2])
+    match = _MESSAGE.match(message.decode("utf-8", "surrogateescape"))
+    if status > 0 and match:
+        raise Rejected(status, "request", 0, int(match[1]), 0, match[2])
     if status:
         raise failure_of(status, message)

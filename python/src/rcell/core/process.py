@@ -1,5 +1,5 @@
 # SPDX-License-Identifier: Apache-2.0 OR GPL-2.0-or-later
-"""Programs that are found and started: with pipes that no other process holds open, and always ended."""
+"""Find, start and always stop programs, with pipes that no other process holds open."""
 
 from __future__ import annotations
 
@@ -60,19 +60,19 @@ def begin_work() -> None:
 
 
 def end_work() -> None:
-    """Note that it is finished, or removed, or ended."""
+    """Note that it is finished, removed or stopped."""
     global _works
     with _lock:
         _works -= 1
 
 
 def has_work() -> bool:
-    """Return whether this process may not just end."""
+    """Return whether this process must clean up before it ends."""
     return _works > 0
 
 
 def found_on_path(name: str) -> str | None:
-    """Return the first program of this name on the path; folders that are not absolute are passed over."""
+    """Return the first program with this name on the path; folders that are not absolute are skipped."""
     for folder in os.get_exec_path():
         path = os.path.join(folder, name)
         if os.path.isabs(folder) and os.path.isfile(path) and os.access(path, os.X_OK):
@@ -81,7 +81,7 @@ def found_on_path(name: str) -> str | None:
 
 
 def above_standard(descriptor: int) -> int:
-    """Return a descriptor of the same file that is none of a program's standard streams."""
+    """Return a descriptor of the same file that is not one of a program's standard streams."""
     if descriptor > 2:
         return descriptor
     try:
@@ -108,7 +108,7 @@ def close(descriptor: int) -> None:
 
 
 class Started:
-    """A running program; leaving the block ends it, whatever has happened.
+    """A running program; leaving the block always stops it.
 
     Parameters
     ----------
@@ -140,23 +140,27 @@ class Started:
         self._watch = watch
         self._message = b""
         self._output, output = pipe()
-        self._told, told = pipe()
+        self._errors, errors = pipe()
         try:
             self._process = subprocess.Popen(
                 words,
                 stdin=stdin,
                 stdout=output,
-                stderr=told,
+                stderr=errors,
                 pass_fds=inherited,
                 env={**LARGE_PAGES, **os.environ},
             )
         except BaseException:
             close(self._output)
-            close(self._told)
+            close(self._errors)
             raise
         finally:
             close(output)
-            close(told)
+            close(errors)
+        self._poll = select.poll()
+        self._open_ends = {self._output, self._errors}
+        for end in self._open_ends:
+            self._poll.register(end, select.POLLIN)
 
     def __enter__(self) -> Started:
         begin_work()
@@ -169,26 +173,44 @@ class Started:
             self._process.kill()
         self._process.wait()
         close(self._output)
-        close(self._told)
+        close(self._errors)
         end_work()
 
     def pieces(self) -> Iterator[bytes]:
         """Yield the output as it comes, until it and the message have ended."""
-        poll = select.poll()
-        open_ends = {self._output, self._told}
-        for end in open_ends:
-            poll.register(end, select.POLLIN)
-        while open_ends:
+        while self._has_output():
+            if piece := os.read(self._output, READ_BYTES):
+                yield piece
+            else:
+                self._ended(self._output)
+
+    def fill(self, room: memoryview) -> int:
+        """Read output into a buffer until it is full or the output has ended; return how many bytes were read."""
+        filled = 0
+        while filled < len(room) and self._has_output():
+            count = os.readv(self._output, [room[filled:]])
+            if not count:
+                self._ended(self._output)
+            filled += count
+        return filled
+
+    def _has_output(self) -> bool:
+        """Wait for output and keep the message that comes meanwhile; return False once both have ended."""
+        while self._open_ends:
             wait = self._longest_wait()
-            for end, _ in poll.poll(None if wait is None else wait * 1000):
-                piece = os.read(end, READ_BYTES)
+            ready = {end for end, _ in self._poll.poll(None if wait is None else wait * 1000)}
+            if self._errors in ready:
+                piece = os.read(self._errors, READ_BYTES)
+                self._message = (self._message + piece)[:MESSAGE_LIMIT]
                 if not piece:
-                    poll.unregister(end)
-                    open_ends.discard(end)
-                elif end == self._told:
-                    self._message = (self._message + piece)[:MESSAGE_LIMIT]
-                else:
-                    yield piece
+                    self._ended(self._errors)
+            if self._output in ready:
+                return True
+        return False
+
+    def _ended(self, end: int) -> None:
+        self._poll.unregister(end)
+        self._open_ends.discard(end)
 
     def _longest_wait(self) -> float | None:
         left = self._seconds_left()

@@ -64,8 +64,9 @@ def find_beside(
 ) -> str:
     """Return the path of a program.
 
-    The host may name it. Else it is the first of: the argument, an environment variable, next to the program that RCELL names, the
-    scripts of this installation of Python (where the wheel puts it), the path.
+    The host may name it. Otherwise it is the first of: the argument, an environment variable, next
+    to the program that RCELL names, the scripts of this installation of Python (where the wheel
+    puts it), the path.
 
     Raises
     ------
@@ -83,13 +84,13 @@ def find_beside(
         is_beside = "RCELL" in os.environ and os.path.isfile(beside)
         path = beside if is_beside else next(candidates(name), "")
     if not path:
-        told = f"neither in the environment variable {variable}, nor next to this Python, nor on the path"
-        raise MissingProgram(f"the program {name} was not found: {told}")
+        places = f"neither in the environment variable {variable}, nor next to this Python, nor on the path"
+        raise MissingProgram(f"the program {name} was not found: {places}")
     return known_after(probe, os.path.abspath(path))
 
 
 def known_after(probe: Callable[[str], None], path: str) -> str:
-    """Return the path of a program, once it has been probed; as long as the file stays what it is, once is enough."""
+    """Return the path of a program after testing it; it is tested again only if its file has changed."""
     if not os.path.isfile(path) or not os.access(path, os.X_OK):
         raise MissingProgram(f"the program {path} is not there, or may not be executed")
     state = os.stat(path)

@@ -12,12 +12,13 @@ import os
 import re
 import select
 import struct
-from collections.abc import Callable, Iterable, Iterator, Mapping, Sequence
+from collections.abc import Callable, Iterator, Mapping, Sequence
 from dataclasses import dataclass, field, replace
 from typing import Any, NamedTuple, NoReturn, Optional, Union
 
 from .hints import advice, lines_of_error
 from .process import WATCH_SECONDS, Started, close, pipe
+from .requests import Block, Buffer, Map, Margin, Question, plan_request, request
 
 __all__ = [
     "COMMANDS",
@@ -34,6 +35,8 @@ __all__ = [
     "Margin",
     "NoAnswer",
     "NotStarted",
+    "PatchesFrame",
+    "Question",
     "Rejected",
     "Statement",
     "TableFrame",
@@ -53,140 +56,18 @@ NULL = -2_147_483_648
 NULL_BYTE = 255
 """Null among cells of u8 that come back."""
 
-CELL_BYTES = {"u8": 1, "i8": 1, "u16": 2, "i16": 2, "u32": 4, "i32": 4, "i64": 8}
-"""The types of cells that go in, in the order of their codes, which begin at 1."""
-
 COMMANDS = ("r.mapcalc", "r.reclass", "r.clump", "r.stats", "r.out.ascii")
 """The commands, in the order of their codes, which begin at 1."""
 
-_CODES = {name: code for code, name in enumerate(CELL_BYTES, 1)}
-_SOURCES = {1: "request", 2: "script"}
+_SOURCES = {1: "request", 2: "script", 3: "question"}
 _OPTIONS = "cl1nN"
 _CALLED = ("row", "col", "nrows", "ncols")
 _NO_MEMORY = 3  # a status
+PATCH_BYTES, ZONE_BYTES = 68, 4
 _AT_COLUMN = re.compile(r" at column (\d+)$")
-# Rows and their masks are put together in pieces that stay in the cache of a processor.
-PIECE_BYTES = 1 << 18
-
-Buffer = Union[bytes, bytearray, memoryview]
-
-
-class Block(NamedTuple):
-    """Some whole rows of a map: C-contiguous bytes in the byte order of x86.
-
-    Attributes
-    ----------
-    cells : buffer
-    mask : buffer, optional
-        A byte for each cell, 1 if it is null; needed if the map is masked.
-    """
-
-    cells: Buffer
-    mask: Optional[Buffer] = None
-
-
-@dataclass(frozen=True)
-class Map:
-    """A map that goes in.
-
-    Attributes
-    ----------
-    name : str
-    edges : tuple of str
-        North, south, east and west, as decimal texts.
-    rows, cols : int
-    type : {"u8", "i8", "u16", "i16", "u32", "i32", "i64"}
-    blocks : iterable of Block
-        All rows from north to south. They are asked for one after another, while the program reads.
-    nodata : int, optional
-        A value of the type that is null.
-    is_masked : bool
-        Whether each block has a mask.
-    labels : mapping of int to str
-    """
-
-    name: str
-    edges: tuple[str, str, str, str]
-    rows: int
-    cols: int
-    type: str
-    blocks: Iterable[Block]
-    nodata: Optional[int] = None
-    is_masked: bool = False
-    labels: Mapping[int, str] = field(default_factory=dict)
-
-    def pieces(self) -> Iterator[Buffer]:
-        """Yield the bytes of the map.
-
-        Raises
-        ------
-        ValueError
-            The blocks have another number of rows.
-        """
-        yield self._head()
-        row_bytes, rows = self.cols * CELL_BYTES[self.type], 0
-        for block in self.blocks:
-            cells = memoryview(block.cells).cast("B")
-            rows += len(cells) // row_bytes
-            if self.is_masked:
-                yield from _interleaved(
-                    cells, memoryview(block.mask or b"").cast("B"), row_bytes, self.cols
-                )
-            else:
-                yield cells
-            if len(cells) % row_bytes:
-                break
-        if rows != self.rows:
-            raise ValueError(f"{rows} rows of the map {self.name}, which has {self.rows}")
-
-    def _head(self) -> bytes:
-        flags = (self.nodata is not None) + 2 * self.is_masked
-        texts = b"".join(_short(text) for text in (self.name, *self.edges))
-        numbers = struct.pack(
-            "<IIBBqI",
-            self.rows,
-            self.cols,
-            _CODES[self.type],
-            flags,
-            self.nodata or 0,
-            len(self.labels),
-        )
-        labels = (
-            (category, text.encode("utf-8", "surrogateescape"))
-            for category, text in self.labels.items()
-        )
-        return (
-            texts
-            + numbers
-            + b"".join(struct.pack("<iH", category, len(text)) + text for category, text in labels)
-        )
-
-
-def _short(text: str) -> bytes:
-    return bytes([len(text)]) + text.encode("ascii")
-
-
-def _interleaved(cells: memoryview, mask: memoryview, row_bytes: int, cols: int) -> Iterator[bytes]:
-    """Yield rows, each followed by its mask."""
-    rows = len(cells) // row_bytes
-    if len(mask) != rows * cols:
-        raise ValueError(f"a mask of {len(mask)} bytes for {rows} rows of {cols} cells")
-    step = max(1, PIECE_BYTES // (row_bytes + cols))
-    for first in range(0, rows, step):
-        places = range(first, min(first + step, rows))
-        parts = (
-            (cells[row * row_bytes : (row + 1) * row_bytes], mask[row * cols : (row + 1) * cols])
-            for row in places
-        )
-        yield b"".join(part for pair in parts for part in pair)
-
-
-def request(maps: Sequence[Map], script: bytes, magic: bytes = b"RCELLQ1\n") -> Iterator[Buffer]:
-    """Yield the bytes of a request."""
-    yield magic + struct.pack("<I", len(maps))
-    for each in maps:
-        yield from each.pieces()
-    yield struct.pack("<I", len(script)) + script
+# Cells of fewer bytes are put together from pieces, and more no map has.
+DIRECT_BYTES = 1 << 20
+MOST_CELL_BYTES = 1 << 33
 
 
 def script_bytes(script: str) -> bytes:
@@ -212,13 +93,6 @@ def script_bytes(script: str) -> bytes:
         ) from None
 
 
-def _plan_request(names: Sequence[str], script: bytes) -> Iterator[Buffer]:
-    """Yield the bytes of a request for a plan."""
-    yield b"RCELLP1\n" + struct.pack("<I", len(names)) + b"".join(map(_short, names)) + struct.pack(
-        "<I", len(script)
-    ) + script
-
-
 # The response
 
 
@@ -237,7 +111,7 @@ class TableFrame:
     entries : int
         Combinations or cells.
     counts : memoryview or None
-        An unsigned number of 64 bits for each entry; None without the flag `-c`.
+        An unsigned 64-bit number for each entry; None without the flag `-c`.
     cells : memoryview
         Numbers of 32 bits, entry by entry, in which `NULL` is null.
     labels : list of bytes or None
@@ -284,20 +158,28 @@ class GridFrame:
 
     @property
     def null(self) -> int:
-        """The number that is null."""
+        """The number that marks null."""
         return NULL_BYTE if self.type == "u8" else NULL
 
 
-Frame = Union[TableFrame, GridFrame]
+@dataclass(frozen=True)
+class PatchesFrame:
+    """The program's response to a question about patches.
+
+    Attributes
+    ----------
+    question : int
+        Its place among the questions, from 0.
+    rows : memoryview
+        `PATCH_BYTES` for each patch, in the order of their numbers: class as i32, then as u64 cells, ends, flanks, core, first and
+        last row, first and last column, from 0. If the question has zones, the zone follows as i32, `NULL` if there is none.
+    """
+
+    question: int
+    rows: memoryview
 
 
-class Margin(NamedTuple):
-    """Rows above and below, and columns to the left and to the right of a cell."""
-
-    up: int = 0
-    down: int = 0
-    left: int = 0
-    right: int = 0
+Frame = Union[TableFrame, GridFrame, PatchesFrame]
 
 
 class Call(NamedTuple):
@@ -322,15 +204,16 @@ class Statement:
     reads : dict of str to Margin
         Each map that it reads, and how far around a cell.
     needs : dict of str to Margin or None
-        Each given map that it depends on, through maps made before too, and how far around a cell; None is the full map.
+        Each given map that it depends on, also through earlier maps, and how far around a cell;
+        None for the full map.
     options : str
-        The letters of the flags of r.stats.
+        The flags of r.stats, as letters.
     inputs : tuple of str
         The maps of `input=`, in its order.
     after : tuple of int
         The categories of `after=`.
     calls : tuple of Call
-        Calls of functions of the position, from left to right.
+        Calls of position functions, from left to right.
     labels : dict of int to str
         The labels that its rules give.
     text : str
@@ -373,8 +256,8 @@ class Fault(Exception):
         self.status = status
         self.content = content
         self.advice = advice
-        found = _AT_COLUMN.search(text)
-        self.column = int(found[1]) if found else column
+        match = _AT_COLUMN.search(text)
+        self.column = int(match[1]) if match else column
 
     def __str__(self) -> str:
         place = f"{self.source}, line {self.line}" if self.line else self.source
@@ -393,9 +276,9 @@ class Rejected(Exception):
     ----------
     status : int
         1: the request or the script is invalid; 3: out of memory; 4: the program could not read.
-    source : {"request", "script", ""}
+    source : {"request", "script", "question", ""}
     map : int
-        The place of the map that is wrong, from 0, if the source is the request.
+        The index of the invalid map, if the source is the request.
     line : int
         The line of the script; of a map its row, from 1; 0 if there is none.
     column : int
@@ -422,6 +305,8 @@ class Rejected(Exception):
         parts = {"text": self.text, "source": "script", "line": self.line, "status": self.status}
         if self.source == "request" and self.map < len(names):
             return {**parts, "source": names[self.map]}
+        if self.source == "question":
+            return {**parts, "source": "question"}
         lines = script.split("\n")
         if not 0 < self.line <= len(lines):
             return parts
@@ -457,8 +342,11 @@ class _NotUnderstood(Exception):
 class _Response:
     """A response that is read from left to right; memory grows with what has come, not with what a length announces."""
 
-    def __init__(self, pieces: Iterator[bytes]) -> None:
+    def __init__(
+        self, pieces: Iterator[bytes], fill: Optional[Callable[[memoryview], int]] = None
+    ) -> None:
         self._pieces = pieces
+        self._fill = fill
         self._held = memoryview(b"")
 
     def _next(self) -> bytes:
@@ -467,14 +355,14 @@ class _Response:
         raise _NotUnderstood
 
     def take(self, count: int) -> bytearray:
-        found = bytearray()
-        while len(found) < count:
+        taken = bytearray()
+        while len(taken) < count:
             if not self._held:
                 self._held = memoryview(self._next())
-            part = self._held[: count - len(found)]
-            found += part
+            part = self._held[: count - len(taken)]
+            taken += part
             self._held = self._held[len(part) :]
-        return found
+        return taken
 
     def numbers(self, count: int) -> tuple[int, ...]:
         return struct.unpack(f"<{count}Q", self.take(8 * count))
@@ -492,9 +380,22 @@ class _Response:
         return tuple(self.name() for _ in range(count))
 
     def cells(self, count: int, letter: str) -> memoryview:
-        return memoryview(self.take(count * struct.calcsize(letter))).cast(letter)
+        """Read numbers of a type of `struct`; long ones go straight into their own memory."""
+        size = count * struct.calcsize(letter)
+        if self._fill is None or not DIRECT_BYTES <= size <= MOST_CELL_BYTES:
+            return memoryview(self.take(size)).cast(letter)
+        import numpy as np  # Texts need the standard library alone.
+
+        room = np.empty(size, np.uint8).data  # Its pages are taken as they are written.
+        held = self._held[:size]
+        room[: len(held)] = held
+        self._held = self._held[len(held) :]
+        if self._fill(room[len(held) :]) < size - len(held):
+            raise _NotUnderstood
+        return room.cast(letter)
 
     def table(self) -> TableFrame:
+        """Read the table of an r.stats."""
         line, entries, width = self.numbers(3)
         counts, labels, separator = self.take(3)
         return TableFrame(
@@ -509,42 +410,55 @@ class _Response:
         )
 
     def grid(self) -> GridFrame:
-        line, null_text, name, edges = (
-            self.count(),
-            bytes(self.text()),
-            self.name(),
-            self.names(4),
-        )
+        """Read the map of an r.out.ascii."""
+        line = self.count()
+        null_text = bytes(self.text())
+        name = self.name()
+        edges = self.names(4)
         rows, cols = self.numbers(2)
-        kind, letter = {1: ("u8", "B"), 6: ("i32", "i")}.get(self.take(1)[0]) or self.unknown()
-        return GridFrame(
-            line, name, null_text, edges, rows, cols, kind, self.cells(rows * cols, letter)
-        )
+        kinds = {1: ("u8", "B"), 6: ("i32", "i")}
+        kind, letter = kinds.get(self.take(1)[0]) or self.unknown()
+        cells = self.cells(rows * cols, letter)
+        return GridFrame(line, name, null_text, edges, rows, cols, kind, cells)
+
+    def patches(self) -> PatchesFrame:
+        question = self.count()
+        *_, has_zones = self.take(6)  # after connectivity and depth, as asked
+        row_bytes = PATCH_BYTES + (ZONE_BYTES if has_zones else 0)
+        return PatchesFrame(question, self.cells(row_bytes * self.count(), "B"))
 
     def statement(self) -> Statement:
+        """Read what a statement of a plan does."""
         line, (command, _) = self.count(), self.take(2)
+        if not 0 < command <= len(COMMANDS):
+            self.unknown()
         return Statement(
             line=line,
-            command=COMMANDS[command - 1] if 0 < command <= len(COMMANDS) else self.unknown(),
+            command=COMMANDS[command - 1],
             made=self.name(),
             reads={self.name(): Margin(*self.numbers(4)) for _ in range(self.count())},
             needs={self.name(): self.need() for _ in range(self.count())},
-            options="".join(
-                letter
-                for bit, letter in zip(f"{self.take(1)[0]:05b}"[::-1], _OPTIONS)
-                if bit == "1"
-            ),
+            options=self.options(),
             inputs=self.names(self.count()),
             after=tuple(self.cells(self.count(), "i")),
             calls=tuple(self.call() for _ in range(self.count())),
             labels={self.cells(1, "i")[0]: self.name() for _ in range(self.count())},
         )
 
+    def options(self) -> str:
+        """Read the flags of a statement, a bit for each letter from the lowest."""
+        [bits] = self.take(1)
+        flags = ""
+        for place, letter in enumerate(_OPTIONS):
+            if bits >> place & 1:
+                flags += letter
+        return flags
+
     def call(self) -> Call:
         (first, last), [code] = self.numbers(2), self.take(1)
-        return Call(
-            _CALLED[code - 1] if 0 < code <= len(_CALLED) else self.unknown(), first - 1, last
-        )
+        if not 0 < code <= len(_CALLED):
+            self.unknown()
+        return Call(_CALLED[code - 1], first - 1, last)
 
     def need(self) -> Optional[Margin]:
         margin = Margin(*self.numbers(4))
@@ -554,6 +468,7 @@ class _Response:
         raise _NotUnderstood
 
     def done(self) -> Rejected:
+        """Read how the run ended."""
         status, source, map, line, column = self.numbers(5)
         return Rejected(
             status,
@@ -566,32 +481,34 @@ class _Response:
 
     def frames(self) -> tuple[list[_AnyFrame], Rejected]:
         """Return the frames, and how the run ended."""
-        found: list[_AnyFrame] = []
+        frames: list[_AnyFrame] = []
         kinds: dict[bytes, Callable[[], _AnyFrame]] = {
             b"TABL": self.table,
             b"CELL": self.table,
             b"GRID": self.grid,
+            b"PTCH": self.patches,
             b"PLAN": self.statement,
         }
         if self.take(8) != b"RCELLA1\n":
             raise _NotUnderstood
         while (kind := bytes(self.take(4))) != b"DONE":
-            found.append(kinds.get(kind, self.unknown)())
+            frames.append(kinds.get(kind, self.unknown)())
         end = self.done()
         if self._held or any(self._pieces):
             raise _NotUnderstood
-        return found, end
+        return frames, end
 
 
 def run(
     program: str,
     maps: Sequence[Map],
     script: bytes,
+    questions: Sequence[Question] = (),
     *,
     seconds: Optional[float] = None,
     watch: Optional[Callable[[], None]] = None,
 ) -> list[Frame]:
-    """Run a script over maps and return the frames of its outputs, in the order of the script.
+    """Run a script over maps and return the frames of its outputs, in the order of the script, then the frames of questions.
 
     Parameters
     ----------
@@ -602,7 +519,7 @@ def run(
     seconds : float, optional
         How long the run may take.
     watch : callable, optional
-        Called at least ten times a second; what it raises ends the run.
+        Called at least ten times a second; an exception ends the run.
 
     Raises
     ------
@@ -619,7 +536,7 @@ def run(
     """
     return [
         frame
-        for frame in _answered(program, request(maps, script), seconds, watch)
+        for frame in _answered(program, request(maps, script, questions), seconds, watch)
         if not isinstance(frame, Statement)
     ]
 
@@ -635,8 +552,8 @@ def text(
     seconds: Optional[float] = None,
     watch: Optional[Callable[[], None]] = None,
 ) -> Iterator[bytes]:
-    """Yield the text that rcell prints for a script over maps, piece by piece; it is complete if nothing is raised. The rest is as in `run`."""
-    with asked([program], request(maps, script, b"RCELLT1\n"), seconds, watch) as process:
+    """Yield the text that rcell prints for a script over maps, piece by piece; it is complete if nothing is raised. See also `run`."""
+    with asked([program], request(maps, script, magic=b"RCELLT1\n"), seconds, watch) as process:
         pieces, held = process.pieces(), b""
         for piece in pieces:
             held += piece
@@ -670,7 +587,8 @@ def is_known(program: str, seconds: float) -> bool:
         frames = run(program, [probe], _PROBE_SCRIPT, seconds=seconds)
     except (Rejected, Killed, NoAnswer):
         return False
-    return [bytes(frame.cells) for frame in frames] == _PROBE_CELLS
+    cells = [bytes(frame.cells) for frame in frames if not isinstance(frame, PatchesFrame)]
+    return cells == _PROBE_CELLS
 
 
 def plan(
@@ -681,19 +599,22 @@ def plan(
     seconds: Optional[float] = None,
     watch: Optional[Callable[[], None]] = None,
 ) -> list[Statement]:
-    """Return what each statement of a script does, over maps of these names; no map is needed. The rest is as in `run`."""
-    found = [
+    """Return what each statement of a script does, over maps of these names; no map is needed. See also `run`."""
+    statements = [
         frame
-        for frame in _answered(program, _plan_request(names, script), seconds, watch)
+        for frame in _answered(program, plan_request(names, script), seconds, watch)
         if isinstance(frame, Statement)
     ]
     lines = script.decode("utf-8", "surrogateescape").split("\n")
-    ends = [*(each.line - 1 for each in found[1:]), len(lines)]
-    texts = (
-        lines[each.line - 1 : end if each.command == "r.reclass" else each.line]
-        for each, end in zip(found, ends)
-    )
-    return [replace(each, text="\n".join(text)) for each, text in zip(found, texts)]
+    ends = [statement.line - 1 for statement in statements[1:]]
+    ends.append(len(lines))
+    planned = []
+    for statement, end in zip(statements, ends):
+        # Only an r.reclass has rules in the lines below it.
+        last = end if statement.command == "r.reclass" else statement.line
+        text = "\n".join(lines[statement.line - 1 : last])
+        planned.append(replace(statement, text=text))
+    return planned
 
 
 def _answered(
@@ -704,22 +625,21 @@ def _answered(
 ) -> list[_AnyFrame]:
     """Send a request, and return the frames of its response."""
     with asked([program], sent, seconds, watch) as process:
-        return _check(_response(process.pieces()), *process.end())
+        return _check(_response(process.pieces(), process.fill), *process.end())
 
 
 def failure_of(status: int, message: bytes) -> Exception:
-    """Return the error of a program whose output does not say why it ended so."""
+    """Return the error of a program whose output does not explain it."""
     if status < 0:
         return Killed(-status)
-    return NoAnswer(
-        f"the program ended in status {status} and said: {message.decode('utf-8', 'replace').strip() or 'nothing'}"
-    )
+    text = message.decode("utf-8", "replace").strip() or "nothing"
+    return NoAnswer(f"the program ended in status {status} and said: {text}")
 
 
 def _check(
     response: Optional[tuple[list[_AnyFrame], Rejected]], status: int, message: bytes
 ) -> list[_AnyFrame]:
-    """Return the frames of a response, if the program ended well."""
+    """Return the frames of a response, if the program succeeded."""
     if response is None or status != response[1].status:
         raise failure_of(status, message)
     if status:
@@ -777,10 +697,12 @@ def _send(writer: int, pieces: Iterator[Buffer], watch: Optional[Callable[[], No
                 return
 
 
-def _response(pieces: Iterator[bytes]) -> Optional[tuple[list[_AnyFrame], Rejected]]:
-    """Return the response, or None if it is not understood; all pieces are read."""
+def _response(
+    pieces: Iterator[bytes], fill: Optional[Callable[[memoryview], int]] = None
+) -> Optional[tuple[list[_AnyFrame], Rejected]]:
+    """Return the response, or None if it is not understood; all pieces are read. Long cells are read by `fill`, if there is one."""
     try:
-        return _Response(pieces).frames()
+        return _Response(pieces, fill).frames()
     except _NotUnderstood:
         for _ in pieces:
             pass

@@ -9,10 +9,10 @@ import re
 from collections.abc import Iterable, Iterator, Mapping, Sequence
 from typing import Any, NamedTuple, Optional
 
-from .arguments import MAX_CATEGORY
+from .arguments import MAX_CATEGORY, first_of
 from .errors import BadArgument, Refused
 from .host import option
-from .legends import is_missing, rows_of_file, whole_number
+from .legends import is_missing, rows_of, whole_number
 from .protocol import NULL
 from .scripts import Run, Stats
 from .sources import ArrayMap, MapLike, source_of
@@ -20,7 +20,6 @@ from .sources import ArrayMap, MapLike, source_of
 __all__ = ["reclass"]
 
 _RANGE = re.compile(r"([+-]?[0-9]+) *- *([+-]?[0-9]+)")
-_SHOWN = 5
 
 
 class Rule(NamedTuple):
@@ -43,14 +42,14 @@ def reclass(map: MapLike, rules: Any, other: Optional[str] = None, *, crs: Any =
 
     Parameters
     ----------
-    map : path, array, .. as a map of `run`
+    map : path, array, or any map that `run` accepts
     rules : path, dict or DataFrame
         A CSV or DataFrame with the columns `value` (a class, or a range such as `31-39`), `new` (a class; empty for null) and
         optionally `label`; or a dict of new classes by class or by `(first, last)`.
     other : {"keep", "null"}, optional
         What becomes of classes without a rule. By default they are an error that names them.
     crs : any, optional
-        The reference system of a map that has none.
+        The reference system to assume for a map that has none.
 
     Returns
     -------
@@ -74,21 +73,28 @@ def reclass(map: MapLike, rules: Any, other: Optional[str] = None, *, crs: Any =
         raise BadArgument("other", f'must be "keep", "null" or None; got {other!r}')
     listed = _checked(_rules_of(rules))
     source = source_of("map", map)
-    lines = [rule.text for rule in _joined(listed)] + (["* = *"] if other == "keep" else [])
-    script = ["r.reclass input=map output=new", *lines, "end", "r.stats -c input=map,new"]
-    table, made = Run("\n".join(script), {"map": source}, {}, crs).outputs(["new"])
-    assert isinstance(table, Stats) and isinstance(made, ArrayMap)
+    lines = ["r.reclass input=map output=new"]
+    lines += [rule.text for rule in _joined(listed)]
+    if other == "keep":
+        lines.append("* = *")
+    lines.append("end")
     if other is None:
+        lines.append("r.stats -c input=map,new")
+    run = Run("\n".join(lines), {"map": source}, {}, crs)
+    *tables, reclassified = run.outputs(["new"])
+    assert isinstance(reclassified, ArrayMap)
+    for table in tables:
+        assert isinstance(table, Stats)
         _check_all(table.categories.tolist(), listed)
     labels = {rule.new: rule.label for rule in listed if rule.new is not None and rule.label}
     own = dict(source.labels) if other == "keep" else {}
     is_path = isinstance(rules, (str, os.PathLike))
-    files = (*made.files, *([os.fspath(rules)] if is_path else []))
-    return dataclasses.replace(made, labels={**own, **labels}, files=files)
+    files = (*reclassified.files, *([os.fspath(rules)] if is_path else []))
+    return dataclasses.replace(reclassified, labels={**own, **labels}, files=files)
 
 
 def _checked(rules: Iterable[Rule]) -> Sequence[Rule]:
-    """Return rules in the order of their classes, each of which has one."""
+    """Return rules in the order of their classes, one per class."""
     listed = sorted(rules, key=lambda rule: (rule.low, rule.high))
     if not listed:
         raise BadArgument("rules", "must have at least one rule; got none")
@@ -113,44 +119,36 @@ def _joined(listed: Sequence[Rule]) -> Iterator[Rule]:
 
 
 def _check_all(entries: list[list[int]], listed: Sequence[Rule]) -> None:
-    """Raise Refused if a class became null without a rule that says so."""
-    lost = [
-        str(old)
-        for old, new in entries
-        if old != NULL and new == NULL and not any(rule.low <= old <= rule.high for rule in listed)
-    ]
+    """Raise Refused if a class became null without a rule for it."""
+    lost = []
+    for old, new in entries:
+        has_rule = any(rule.low <= old <= rule.high for rule in listed)
+        if old != NULL and new == NULL and not has_rule:
+            lost.append(old)
     if lost:
-        more = f", and {len(lost) - _SHOWN} more" if len(lost) > _SHOWN else ""
-        told = (
-            f"no rule for the class{'es' if len(lost) > 1 else ''} {', '.join(lost[:_SHOWN])}{more}"
-        )
+        problem = f"no rule for the class{'es' if len(lost) > 1 else ''} {first_of(lost)}"
         cure = f"add rules, or {option('other', 'keep')} or {option('other', 'null')}"
-        raise Refused(f"{told}: {cure}", "map")
+        raise Refused(f"{problem}: {cure}", "map")
 
 
-def _rules_of(given: Any) -> Iterator[Rule]:
+def _rules_of(crosswalk: Any) -> Iterator[Rule]:
     """Yield the rules of a crosswalk of any kind."""
-    if isinstance(given, (str, os.PathLike)):
-        for place, row in rows_of_file("rules", os.fspath(given), ("value", "new"), ("label",)):
-            yield _rule(f"{place}: ", row["value"], row["new"], row.get("label", ""))
-    elif isinstance(given, Mapping):
-        for value, new in given.items():
+    if isinstance(crosswalk, (str, os.PathLike)) or hasattr(crosswalk, "columns"):
+        for place, row in rows_of("rules", crosswalk, ("value", "new"), ("label",)):
+            yield _rule(f"{place}: ", row["value"], row["new"], row.get("label"))
+    elif isinstance(crosswalk, Mapping):
+        for value, new in crosswalk.items():
             yield _rule("", value, new, "")
-    elif hasattr(given, "columns") and hasattr(given, "to_dict"):
-        if not {"value", "new"} <= set(given.columns):
-            names = ", ".join(map(str, given.columns))
-            raise BadArgument("rules", f"must have the columns value and new; got {names}")
-        for number, row in enumerate(given.to_dict("records"), 1):
-            yield _rule(f"row {number}: ", row["value"], row["new"], row.get("label"))
     else:
-        raise BadArgument("rules", f"must be a dict, a DataFrame or a CSV; got {given!r}")
+        raise BadArgument("rules", f"must be a dict, a DataFrame or a CSV; got {crosswalk!r}")
 
 
 def _rule(place: str, value: Any, new: Any, label: Any) -> Rule:
+    """Return a rule for a class, or for a range of classes as a pair or a text such as `1-9`."""
     low, high = value if isinstance(value, tuple) and len(value) == 2 else (value, value)
-    found = _RANGE.fullmatch(value.strip()) if isinstance(value, str) else None
-    if found:
-        low, high = found.groups()
+    match = _RANGE.fullmatch(value.strip()) if isinstance(value, str) else None
+    if match:
+        low, high = match.groups()
     first, last = _class_of(place, low), _class_of(place, high)
     if last < first:
         raise BadArgument("rules", f"{place}{first}-{last} is not a range of classes")
@@ -159,8 +157,8 @@ def _rule(place: str, value: Any, new: Any, label: Any) -> Rule:
     return Rule(first, last, None if is_null else _class_of(place, new), text)
 
 
-def _class_of(place: str, given: Any) -> int:
-    value = whole_number(given)
-    if value is None or abs(value) > MAX_CATEGORY:
-        raise BadArgument("rules", f"{place}{given!r} is not a class")
-    return value
+def _class_of(place: str, value: Any) -> int:
+    code = whole_number(value)
+    if code is None or abs(code) > MAX_CATEGORY:
+        raise BadArgument("rules", f"{place}{value!r} is not a class")
+    return code

@@ -1,5 +1,5 @@
 # SPDX-License-Identifier: Apache-2.0 OR GPL-2.0-or-later
-"""Tables with a record of what they were made of, which anyone can verify later."""
+"""Tables with a record of their inputs, which anyone can verify later."""
 
 from __future__ import annotations
 
@@ -17,6 +17,8 @@ import numpy as np
 
 from ..readers import open_raster
 from .accuracy import Accuracy, summary_of
+from .arguments import check_arguments
+from .calls import call_named
 from .columns import Table
 from .errors import BadArgument, RcellError, Refused
 from .files import writing
@@ -27,7 +29,20 @@ from .sources import Source, null_cells
 from .table_texts import table_text
 from .writing import write_beside
 
-__all__ = ["BandOf", "Made", "differences", "file_sum", "make", "read_record", "sum_of_cells"]
+__all__ = [
+    "BandOf",
+    "RecordedCall",
+    "csv_of",
+    "differences",
+    "file_sum",
+    "files_in",
+    "is_of_r",
+    "make",
+    "placed",
+    "read_record",
+    "sum_of_cells",
+    "table_of",
+]
 
 FORM = 1
 # Arguments that are words; other texts are paths if there is such a file.
@@ -35,6 +50,12 @@ _WORDS = ("area", "crs", "zone_field", "field", "layer", "level", "allocation", 
 # Files that are not sent as cells, so that their bytes count.
 _TEXTS = (".csv", ".tsv", ".qml")
 _FILES = 4
+# How each host is asked for a record.
+_ASKED = {
+    "python": "write it with rcell.record",
+    "shell": "add --record to the command that makes it",
+    "qgis": "tick RECORD in the algorithm that makes it",
+}
 
 
 class BandOf(NamedTuple):
@@ -45,12 +66,12 @@ class BandOf(NamedTuple):
 
 
 @dataclasses.dataclass
-class Made:
-    """The result of a call, its table, and what it was made of.
+class RecordedCall:
+    """The result of a call, its table, and its inputs.
 
     Attributes
     ----------
-    found : any
+    outcome : any
     table : Table
     call : dict
         The name of the call, its arguments, and the part of its result.
@@ -58,21 +79,16 @@ class Made:
         Each script that was run, with the SHA-256 of the cells of each map by its name.
     """
 
-    found: Any
+    outcome: Any
     table: Table
     call: Mapping[str, Any]
     runs: list[dict[str, Any]]
 
-    def csv(self) -> bytes:
-        """Return the table as a CSV."""
-        text = table_text("csv", self.table.columns, self.table.rows)
-        return text.encode("utf-8", "surrogateescape")
-
     def write(self, path: str, version: str) -> None:
         """Write the table, and next to it the record: the same maps, call and versions give the same bytes."""
-        table = self.csv()
+        table = csv_of(self.table)
         versions = {"rcell": version, "python": platform.python_version(), "numpy": np.__version__}
-        told = {
+        record = {
             "rcell_record": FORM,
             "call": self.call,
             "runs": self.runs,
@@ -80,7 +96,7 @@ class Made:
             "versions": versions,
             "table": {"name": os.path.basename(path), "sha256": _sum(table)},
         }
-        text = json.dumps(told, indent=1, sort_keys=True, ensure_ascii=False) + "\n"
+        text = json.dumps(record, indent=1, sort_keys=True, ensure_ascii=False) + "\n"
         write_beside(path, table)
         write_beside(_beside(path), text.encode("utf-8", "surrogateescape"))
 
@@ -91,7 +107,7 @@ def make(
     words: Sequence[Any],
     named: Mapping[str, Any],
     part: Optional[str] = None,
-) -> Made:
+) -> RecordedCall:
     """Run a call whose table will be written to a path.
 
     Raises
@@ -101,20 +117,36 @@ def make(
     """
     if not path.lower().endswith(".csv"):
         raise BadArgument("path", f"must end in .csv; got {path!r}")
+    check_arguments(call, named)
     folder = os.path.dirname(os.path.abspath(path))
-    titles = [*inspect.signature(call).parameters]
-    told = {
+    known = inspect.signature(call).parameters
+    own = {name: word for name, word in named.items() if not _is_default(known.get(name), word)}
+    recorded_call = {
         "name": call.__name__,
-        "words": [_plain(title, word, folder) for title, word in zip(titles, words)],
-        "named": {name: _plain(name, value, folder) for name, value in named.items()},
+        "words": [_plain(title, word, folder) for title, word in zip(known, words)],
+        "named": {name: _plain(name, value, folder) for name, value in own.items()},
         "part": part,
     }
     with writing(path, _beside(path)):
-        return _made(told, call, folder)
+        return _recorded(recorded_call, call, folder)
 
 
-def _made(told: Mapping[str, Any], call: Callable[..., Any], folder: str) -> Made:
-    """Run a call as it is recorded."""
+def csv_of(table: Table) -> bytes:
+    """Return a table as a CSV."""
+    text = table_text("csv", table.columns, table.rows)
+    return text.encode("utf-8", "surrogateescape")
+
+
+def _is_default(known: Optional[inspect.Parameter], argument: Any) -> bool:
+    """Return whether an argument has its default value."""
+    is_plain = argument is None or isinstance(argument, (bool, int, float, str))
+    return known is not None and is_plain and argument == known.default
+
+
+def _recorded(
+    recorded_call: Mapping[str, Any], call: Callable[..., Any], folder: str
+) -> RecordedCall:
+    """Run a call in the way it is recorded."""
     before, runs = host().started, []
 
     def started(script: str, maps: Mapping[str, Source]) -> None:
@@ -123,21 +155,23 @@ def _made(told: Mapping[str, Any], call: Callable[..., Any], folder: str) -> Mad
         if before is not None:
             before(script, maps)
 
-    words = [_placed(word, folder) for word in told["words"]]
-    named = {name: _placed(value, folder) for name, value in told["named"].items()}
+    words = [placed(word, folder) for word in recorded_call["words"]]
+    named = {name: placed(value, folder) for name, value in recorded_call["named"].items()}
     with serving(dataclasses.replace(host(), started=started)):
-        found = call(*words, **named)
-    return Made(found, _table_of(found, told["part"]), told, runs)
+        result = call(*words, **named)
+    return RecordedCall(result, table_of(result, recorded_call["part"]), recorded_call, runs)
 
 
-def _table_of(found: Any, part: Optional[str]) -> Table:
-    if isinstance(found, Accuracy) and part == "summary":
-        return summary_of(found)
-    tables = {"": found} if isinstance(found, Table) else {}
-    if hasattr(found, "_asdict"):
-        tables = {name: it for name, it in found._asdict().items() if isinstance(it, Table)}
+def table_of(result: Any, part: Optional[str] = None) -> Table:
+    """Return a table of the result of a call, by default the first."""
+    if isinstance(result, Accuracy) and part == "summary":
+        return summary_of(result)
+    tables = {"": result} if isinstance(result, Table) else {}
+    if hasattr(result, "_asdict"):
+        parts = result._asdict()
+        tables = {name: value for name, value in parts.items() if isinstance(value, Table)}
     if not tables:
-        raise BadArgument("call", f"must return a table; got a {type(found).__name__}")
+        raise BadArgument("call", f"must return a table; got a {type(result).__name__}")
     if part not in (None, *tables):
         names = ", ".join(filter(None, tables)) or "the result has one table"
         raise BadArgument("table", f"must be one of the result ({names}); got {part!r}")
@@ -153,27 +187,46 @@ def read_record(path: str) -> dict[str, Any]:
         There is no record, or it is not one of this version.
     """
     beside = _beside(path)
+    if os.path.exists(path) and not os.path.exists(beside):
+        advice = _ASKED[host().words]
+        raise Refused(f"{path} has no record, which is {beside}: {advice}", "record", status=_FILES)
     try:
-        with open(beside, "rb") as file:
-            told: dict[str, Any] = json.loads(file.read().decode("utf-8", "surrogateescape"))
-    except OSError as error:
-        raise Refused(f"cannot open {beside}: {error.strerror}", "record", status=_FILES) from None
+        text = _bytes_of(beside if os.path.exists(path) else path)
+        record: dict[str, Any] = json.loads(text.decode("utf-8", "surrogateescape"))
     except ValueError as error:
         raise Refused(f"{beside} is not a record: {error}", "record") from None
-    if not _is_record(told):
+    if not _is_record(record):
         raise Refused(f"{beside} is not a record of this version of rcell", "record")
-    return told
+    return record
 
 
-def _is_record(told: Any) -> bool:
-    """Return whether an object has what a record has."""
+def _bytes_of(path: str) -> bytes:
     try:
-        call, runs = told["call"], told["runs"]
-        texts = [told["program"], told["versions"]["rcell"], told["table"]["sha256"], call["name"]]
+        with open(path, "rb") as file:
+            return file.read()
+    except OSError as error:
+        raise Refused(f"cannot open {path}: {error.strerror}", "record", status=_FILES) from None
+
+
+def is_of_r(record: Mapping[str, Any]) -> bool:
+    """Return whether the package for R has made a record; its scripts have other lines."""
+    return "R" in record["versions"]
+
+
+def _is_record(record: Any) -> bool:
+    """Return whether an object has the keys of a record."""
+    try:
+        call, runs = record["call"], record["runs"]
+        texts = [
+            record["program"],
+            record["versions"]["rcell"],
+            record["table"]["sha256"],
+            call["name"],
+        ]
         texts += [run["script"] for run in runs]
         tables = [call["named"], *(run["maps"] for run in runs)]
         return (
-            told["rcell_record"] == FORM
+            record["rcell_record"] == FORM
             and isinstance(call["words"], list)
             and isinstance(call["part"], (str, type(None)))
             and all(isinstance(text, str) for text in texts)
@@ -183,72 +236,82 @@ def _is_record(told: Any) -> bool:
         return False
 
 
-def differences(path: str, call: Callable[..., Any], version: str) -> Iterator[str]:
-    """Run the call of a record again, and yield in a line each what differs: nothing if all is the same."""
-    told, folder = read_record(path), os.path.dirname(os.path.abspath(path))
+def differences(path: str, version: str) -> Iterator[str]:
+    """Run the call of a record again, and yield one line for each difference."""
+    record, folder = read_record(path), os.path.dirname(os.path.abspath(path))
+    if is_of_r(record):
+        text = (
+            f'{path} was recorded by the package for R: verify it there with rcell_verify("{path}")'
+        )
+        raise Refused(text, "record")
+    call, table = call_named(record["call"]["name"]), _bytes_of(path)
+    if _sum(table) != record["table"]["sha256"]:
+        yield "the table has changed since it was written"
+    yield from _other_texts([record["call"]["words"], record["call"]["named"]], folder)
+    if _sum_of_program() != record["program"]:
+        yield f"the program differs: it was rcell {record['versions']['rcell']}, and this is {version}"
     try:
-        with open(path, "rb") as file:
-            kept = file.read()
-    except OSError as error:
-        raise Refused(f"cannot open {path}: {error.strerror}", "record", status=_FILES) from None
-    if _sum(kept) != told["table"]["sha256"]:
-        yield "the table is not as it was written"
-    yield from _other_texts([told["call"]["words"], told["call"]["named"]], folder)
-    if _sum_of_program() != told["program"]:
-        yield f"the program differs: it was of rcell {told['versions']['rcell']}, and this is {version}"
-    try:
-        made = _made(told["call"], call, folder)
+        repeated = _recorded(record["call"], call, folder)
     except (RcellError, KeyError, TypeError) as error:
         yield f"the call fails: {str(error).splitlines()[0]}"
         return
-    yield from _other_runs(made.runs, told["runs"], _paths_of(told["call"], call))
-    yield from _other_lines(kept, made.csv())
+    yield from _other_runs(repeated.runs, record["runs"], _paths_of(record["call"], call))
+    yield from _other_lines(table, csv_of(repeated.table))
 
 
-def _other_runs(now: Sequence[Any], then: Sequence[Any], paths: Mapping[str, str]) -> Iterator[str]:
+def _other_runs(
+    runs: Sequence[Any], recorded_runs: Sequence[Any], paths: Mapping[str, str]
+) -> Iterator[str]:
     """Yield which maps and scripts of two lists of runs differ."""
     maps: dict[str, None] = {}
-    for run, recorded in zip(now, then):
+    for run, recorded in zip(runs, recorded_runs):
         for name, sum_then in recorded["maps"].items():
             if run["maps"].get(name) != sum_then:
-                shown = f"{name} ({paths[name]})" if name in paths else name
-                maps[f"the cells of {shown} differ"] = None
+                title = f"{name} ({paths[name]})" if name in paths else name
+                maps[f"the cells of {title} differ"] = None
     yield from maps
-    if [run["script"] for run in now] != [run["script"] for run in then]:
+    if [run["script"] for run in runs] != [run["script"] for run in recorded_runs]:
         yield "the scripts differ: other lines were run"
 
 
-def _other_lines(kept: bytes, now: bytes) -> Iterator[str]:
-    """Yield the first line in which a table differs from what its call returns now."""
-    lines, others = (text.decode("utf-8", "replace").split("\n") for text in (kept, now))
-    if kept != now:
-        pairs = enumerate(zip(lines, others), 1)
-        first = next((it for it in pairs if it[1][0] != it[1][1]), None)
-        if first is None:
-            yield f"the table has {len(lines) - 1} lines, and its call returns {len(others) - 1}"
-        else:
-            number, (line, other) = first
-            yield f"the table differs in line {number}: `{line}`, and its call returns `{other}`"
+def _other_lines(recorded: bytes, returned: bytes) -> Iterator[str]:
+    """Yield the first line in which a table differs from what its call returns now, and how many others do."""
+    lines, others = (text.decode("utf-8", "replace").split("\n") for text in (recorded, returned))
+    pairs = enumerate(zip(lines, others), 1)
+    different = [(number, *pair) for number, pair in pairs if pair[0] != pair[1]]
+    if different:
+        (number, line, other), *rest = different
+        noun = "line" if len(rest) == 1 else "lines"
+        more = f" and in {len(rest)} more {noun}" if rest else ""
+        yield f"the table differs in line {number}{more}: `{line}`, and its call returns `{other}`"
+    elif recorded != returned:
+        yield f"the table has {len(lines) - 1} lines, and its call returns {len(others) - 1}"
 
 
-def _other_texts(told: Any, folder: str) -> Iterator[str]:
+def _other_texts(arguments: Any, folder: str) -> Iterator[str]:
     """Yield which legends and other texts of a call have changed."""
-    if isinstance(told, dict) and "sha256" in told:
-        path = os.path.join(folder, told["path"])
-        if os.path.exists(path) and file_sum(path) != told["sha256"]:
-            yield f"{told['path']} differs"
-    elif isinstance(told, (dict, list)):
-        for part in told.values() if isinstance(told, dict) else told:
-            yield from _other_texts(part, folder)
+    for file in files_in(arguments):
+        path = os.path.join(folder, file["path"])
+        if "sha256" in file and os.path.exists(path) and file_sum(path) != file["sha256"]:
+            yield f"{file['path']} differs"
 
 
-def _paths_of(told: Mapping[str, Any], call: Callable[..., Any]) -> dict[str, str]:
+def files_in(argument: Any) -> Iterator[Mapping[str, Any]]:
+    """Yield the files among recorded arguments, in order."""
+    if isinstance(argument, dict) and "path" in argument:
+        yield argument
+    elif isinstance(argument, (dict, list)):
+        for part in argument.values() if isinstance(argument, dict) else argument:
+            yield from files_in(part)
+
+
+def _paths_of(recorded_call: Mapping[str, Any], call: Callable[..., Any]) -> dict[str, str]:
     """Return the paths of maps by the names of arguments."""
     titles = [*inspect.signature(call).parameters]
-    given = {**dict(zip(titles, told["words"])), **told["named"]}
+    arguments = {**dict(zip(titles, recorded_call["words"])), **recorded_call["named"]}
     return {
         name: value["path"]
-        for name, value in given.items()
+        for name, value in arguments.items()
         if isinstance(value, dict) and "path" in value
     }
 
@@ -256,25 +319,25 @@ def _paths_of(told: Mapping[str, Any], call: Callable[..., Any]) -> dict[str, st
 # Arguments
 
 
-def _plain(title: str, given: Any, folder: str) -> Any:
-    """Return an argument as JSON has it; files as their paths relative to a folder."""
-    if isinstance(given, BandOf):
-        return {**_plain(title, given.path, folder), "band": given.band}
-    if isinstance(given, (list, tuple)):
-        return [_plain(title, part, folder) for part in given]
-    if isinstance(given, Mapping):
-        items = [[key, _plain(title, part, folder)] for key, part in given.items()]
+def _plain(title: str, argument: Any, folder: str) -> Any:
+    """Return an argument in JSON's types; files as paths relative to a folder."""
+    if isinstance(argument, BandOf):
+        return {**_plain(title, argument.path, folder), "band": argument.band}
+    if isinstance(argument, (list, tuple)):
+        return [_plain(title, part, folder) for part in argument]
+    if isinstance(argument, Mapping):
+        items = [[key, _plain(title, part, folder)] for key, part in argument.items()]
         return {"items": items}
-    if isinstance(given, (str, os.PathLike)):
-        text = os.fspath(given)
+    if isinstance(argument, (str, os.PathLike)):
+        text = os.fspath(argument)
         file = text.partition("|")[0]
         if title in _WORDS or not (os.path.isfile(file) or _is_pattern(file)):
             return text
         path = {"path": os.path.relpath(os.path.abspath(text), folder)}
         return {**path, "sha256": file_sum(file)} if file.lower().endswith(_TEXTS) else path
-    if given is None or isinstance(given, (bool, int, float)):
-        return given
-    kind = type(given).__name__
+    if argument is None or isinstance(argument, (bool, int, float)):
+        return argument
+    kind = type(argument).__name__
     raise BadArgument(title, f"must be a path, a number or a text to be recorded; got a {kind}")
 
 
@@ -284,16 +347,16 @@ def _is_pattern(path: str) -> bool:
     return bool(re.search("[*?[]", name)) and os.path.isdir(folder or os.curdir)
 
 
-def _placed(told: Any, folder: str) -> Any:
+def placed(argument: Any, folder: str) -> Any:
     """Return an argument from a record."""
-    if isinstance(told, list):
-        return [_placed(part, folder) for part in told]
-    if not isinstance(told, dict):
-        return told
-    if "items" in told:
-        return {key: _placed(part, folder) for key, part in told["items"]}
-    path = os.path.join(folder, told["path"])
-    return open_raster("map", path, told["band"]) if "band" in told else path
+    if isinstance(argument, list):
+        return [placed(part, folder) for part in argument]
+    if not isinstance(argument, dict):
+        return argument
+    if "items" in argument:
+        return {key: placed(part, folder) for key, part in argument["items"]}
+    path = os.path.join(folder, argument["path"])
+    return open_raster("map", path, argument["band"]) if "band" in argument else path
 
 
 # Sums
@@ -318,7 +381,7 @@ def _sum_of_program() -> str:
 
 
 def sum_of_cells(source: Source) -> str:
-    """Return the sum of a map's region and cells, as 32-bit integers with -2147483648 for null, whatever its file has."""
+    """Return the checksum of a map's region and cells, as 32-bit integers with -2147483648 for null, whatever its file has."""
     region = source.region
     state = hashlib.sha256(f"{' '.join(region.edges)} {region.rows} {region.cols}\n".encode())
     for block in source.blocks():

@@ -1,5 +1,5 @@
 # SPDX-License-Identifier: Apache-2.0 OR GPL-2.0-or-later
-"""Rectangles of the cells of a map, into which large maps are cut."""
+"""Rectangles of cells, into which large maps are cut."""
 
 from __future__ import annotations
 
@@ -28,10 +28,21 @@ class Rectangle(NamedTuple):
         return self.rows * self.cols
 
     @property
+    def slices(self) -> tuple[slice, slice]:
+        """Its rows and columns, as an index of an array of the map."""
+        return slice(self.top, self.top + self.rows), slice(self.left, self.left + self.cols)
+
+    @property
     def region(self) -> Region:
         """The region of these cells in a map whose cells have sides of 1 and whose top left corner is at 0, 0."""
         low, right = self.top + self.rows, self.left + self.cols
         return Region(-self.top, -low, right, self.left, self.rows, self.cols)
+
+    def is_within(self, outer: Rectangle) -> bool:
+        """Return whether another rectangle has all cells of this one."""
+        row, col = self.top - outer.top, self.left - outer.left
+        fits = row + self.rows <= outer.rows and col + self.cols <= outer.cols
+        return fits and row >= 0 and col >= 0
 
     def with_halo(self, reach: Margin, shape: tuple[int, int]) -> Rectangle:
         """Return the rectangle with a margin around it, as far as the map goes.
@@ -61,8 +72,9 @@ def rectangles_of(shape: tuple[int, int], size: tuple[int, int]) -> list[Rectang
     [(0, 0, 2, 3), (0, 3, 2, 2)]
     """
     (rows, cols), (high, wide) = shape, size
-    return [
-        Rectangle(top, left, min(high, rows - top), min(wide, cols - left))
-        for top in range(0, rows, high)
-        for left in range(0, cols, wide)
-    ]
+    rectangles = []
+    for top in range(0, rows, high):
+        for left in range(0, cols, wide):
+            place = Rectangle(top, left, min(high, rows - top), min(wide, cols - left))
+            rectangles.append(place)
+    return rectangles

@@ -1,5 +1,5 @@
 # SPDX-License-Identifier: Apache-2.0 OR GPL-2.0-or-later
-"""The region of a map: its edges, as the program sees them, and its numbers of rows and columns."""
+"""The region of a map: its edges, as the program reads them, and its numbers of rows and columns."""
 
 from __future__ import annotations
 
@@ -56,16 +56,18 @@ def fits_one_run(shape: tuple[int, int]) -> bool:
     return max(shape) <= SIDE_LIMIT and shape[0] * shape[1] <= CELL_LIMIT
 
 
-def _is_number(given: Any) -> bool:
-    return isinstance(given, numbers.Real)
+def _is_number(value: Any) -> bool:
+    return isinstance(value, numbers.Real)
 
 
-def six_numbers(name: str, given: Any) -> Transform:
+def six_numbers(name: str, transform: Any) -> Transform:
     """Return the six numbers of a transform of any kind."""
     try:
-        a, b, c, d, e, f = (float(number) for number in tuple(given)[:6])
+        a, b, c, d, e, f = (float(number) for number in tuple(transform)[:6])
     except (TypeError, ValueError):
-        raise BadMap(name, f"a transform is an Affine or six numbers, not {given!r}") from None
+        raise BadMap(
+            name, f"a transform must be an Affine or six numbers; got {transform!r}"
+        ) from None
     return a, b, c, d, e, f
 
 
@@ -76,7 +78,7 @@ def check_upright(name: str, transform: Transform) -> None:
         raise BadMap(name, f"a transform with a number that is not finite: {transform}")
     if b or d:
         raise BadMap(
-            name, f"a rotated transform {transform}: warp the map to rows from west to east first"
+            name, f"a rotated transform {transform}: warp the map to a north-up grid first"
         )
     if a <= 0 or e >= 0:
         raise BadMap(
@@ -147,6 +149,7 @@ class Region:
             )
 
     def _check_sizes(self) -> None:
+        """Raise BadMap unless the numbers of rows and columns are whole and at least 1."""
         if not (
             isinstance(self.rows, numbers.Integral) and isinstance(self.cols, numbers.Integral)
         ):
@@ -356,39 +359,37 @@ class Shift:
         >>> shift.rows, shift.cols, shift.is_whole
         (-0.5, 2, False)
         """
-        rows, cols = (other[5] - grid[5]) / -other[4], (grid[2] - other[2]) / other[0]
-        height, width = grid[4] / other[4], grid[0] / other[0]
-        sizes = ((-other[4], other[0]), (-grid[4], grid[0]))
-        return cls(_whole(rows), _whole(cols), height, width, shape, sizes)
+        other_width, _, other_west, _, other_height, other_north = other
+        width, _, west, _, height, north = grid
+        rows = (other_north - north) / -other_height
+        cols = (west - other_west) / other_width
+        sizes = ((-other_height, other_width), (-height, width))
+        shift = _whole(rows), _whole(cols)
+        return cls(*shift, height / other_height, width / other_width, shape, sizes)
 
     @property
     def has_other_cells(self) -> bool:
         """Whether the sizes of cells differ so much that the last cell is off."""
-        return any(
-            abs(size - 1) * count > NEARLY_WHOLE
-            for size, count in zip((self.height, self.width), self.shape)
-        )
+        rows, cols = self.shape
+        down, across = abs(self.height - 1) * rows, abs(self.width - 1) * cols
+        return max(down, across) > NEARLY_WHOLE
 
     @property
     def is_whole(self) -> bool:
         """Whether each cell coincides with a cell of the other grid."""
-        return (
-            isinstance(self.rows, int) and isinstance(self.cols, int) and not self.has_other_cells
-        )
+        is_shifted_by_cells = isinstance(self.rows, int) and isinstance(self.cols, int)
+        return is_shifted_by_cells and not self.has_other_cells
 
     def centres(self) -> tuple[NDArray[np.float64], NDArray[np.float64]]:
         """Return the centres of the rows and columns, in rows and columns of the other grid."""
+        rows, cols = self.shape
         if self.is_whole:
-            return (
-                self.rows + np.arange(self.shape[0]) + 0.5,
-                self.cols + np.arange(self.shape[1]) + 0.5,
-            )
-        (rows, cols) = self.shape
-        return self.rows + self.height * (np.arange(rows) + 0.5), self.cols + self.width * (
-            np.arange(cols) + 0.5
-        )
+            return self.rows + np.arange(rows) + 0.5, self.cols + np.arange(cols) + 0.5
+        down = self.rows + self.height * (np.arange(rows) + 0.5)
+        across = self.cols + self.width * (np.arange(cols) + 0.5)
+        return down, across
 
-    def told(self, name: str) -> str:
+    def misfit(self, name: str) -> str:
         """Return the reason why whole cells cannot be taken."""
         if self.has_other_cells:
             mine, its = (f"{width:.10g} x {height:.10g}" for height, width in self.sizes)

@@ -4,39 +4,94 @@
 from __future__ import annotations
 
 import base64
-import colorsys
 import csv
 import html
+import json
 import math
 import os
 import shlex
 import struct
 import zlib
 from collections.abc import Iterator, Mapping, Sequence
-from typing import Any, Optional
+from typing import Any
 
 import numpy as np
 
-from ..readers import open_raster
 from .arrays import NDArray
-from .errors import RcellError, Refused
+from .errors import BadArgument, RcellError, Refused
+from .files import writing
 from .labels import checked_labels
 from .legends import labels_of
+from .palette import colour_at
 from .protocol import NULL
-from .record import file_sum, read_record, sum_of_cells
+from .record import file_sum, files_in, is_of_r, placed, read_record, sum_of_cells
 from .report_texts import DEFINITIONS, PAGE, WORDS
 from .sources import Source, null_cells, source_of
+from .writing import write_beside
 
-__all__ = ["page_of"]
+__all__ = ["page_of", "report"]
 
 # The rows of a table, the classes of a legend, and the longer side of a picture in pixels, at most.
 MOST_ROWS = 200
 MOST_CLASSES = 40
 MOST_PIXELS = 480
 _DIGITS, _MOST_DECIMALS = 6, 6
-_GOLDEN = 0.618033988749895
 _SIGNATURE = b"\x89PNG\r\n\x1a\n"
 _RGBA = 6
+
+
+def report(
+    tables: Sequence[str | os.PathLike[str]],
+    out: str | os.PathLike[str],
+    title: str = "Report",
+) -> str:
+    """Write one HTML page with recorded tables: what they mean, a picture of the map, and how to verify them.
+
+    Parameters
+    ----------
+    tables : sequence of path
+        CSVs that `record` has written. The page loads nothing from elsewhere, and is the same for the same records and maps.
+    out : path
+        The page to write; it ends in `.html`.
+    title : str
+        Its title.
+
+    Returns
+    -------
+    str
+        The path of the page.
+
+    Raises
+    ------
+    Refused
+        A table has no record, or has changed since it was written.
+    BadArgument
+        The path has another ending, or there is no table.
+    WriteFailed
+        The page cannot be written.
+
+    Examples
+    --------
+    >>> import os, rcell, tempfile
+    >>> with tempfile.TemporaryDirectory() as folder:
+    ...     lc = rcell.Raster([[5, 7, 5]]).write(os.path.join(folder, "lc.txt"))
+    ...     table = os.path.join(folder, "t.csv")
+    ...     found = rcell.record(table, rcell.composition, lc)
+    ...     page = rcell.report([table], os.path.join(folder, "report.html"))
+    ...     open(page).readline()
+    '<!DOCTYPE html>\\n'
+    """
+    if isinstance(tables, (str, os.PathLike)):
+        raise BadArgument("tables", f"must be a list of paths; got {tables!r}")
+    if not tables:
+        raise BadArgument("tables", "must have at least one path; got none")
+    path = os.fspath(out)
+    if not path.lower().endswith((".html", ".htm")):
+        raise BadArgument("out", f"must end in .html; got {path!r}")
+    with writing(path):
+        page = page_of([os.fspath(table) for table in tables], title)
+        write_beside(path, page.encode("utf-8", "replace"))
+    return path
 
 
 def page_of(paths: Sequence[str], title: str) -> str:
@@ -45,7 +100,7 @@ def page_of(paths: Sequence[str], title: str) -> str:
     Raises
     ------
     Refused
-        A table has no record, or is not as it was written.
+        A table has no record, or has changed since it was written.
     """
     parts = "\n".join(_section_of(path) for path in paths)
     return PAGE.format(title=html.escape(title), body=parts)
@@ -53,38 +108,44 @@ def page_of(paths: Sequence[str], title: str) -> str:
 
 def _section_of(path: str) -> str:
     """Return the part of a page about a table."""
-    told, name = read_record(path), os.path.basename(path)
-    if file_sum(path) != told["table"]["sha256"]:
-        raise Refused("it is not as it was written: record it again", path)
-    call = told["call"]
+    record, name = read_record(path), os.path.basename(path)
+    if file_sum(path) != record["table"]["sha256"]:
+        raise Refused("it has changed since it was written: record it again", path)
+    call = record["call"]
+    definition = DEFINITIONS.get(call["name"].removeprefix("rcell_"), "")
+    verify = f"rcell-gis verify {shlex.quote(name)}"
+    if is_of_r(record):
+        verify = f"Rscript -e {shlex.quote(f'rcell::rcell_verify({json.dumps(name)})')}"
     lines = [
         f"<section>\n<h2>{_text(name)}</h2>",
-        f"<p>{_text(DEFINITIONS.get(call['name'], ''))}</p>",
-        *_picture_of(told, os.path.dirname(os.path.abspath(path))),
+        f"<p>{_text(definition)}</p>",
+        *_picture_of(record, os.path.dirname(os.path.abspath(path))),
         *_table_of(path, name),
         f"<p>{WORDS['call']}: <code>{_text(_call_text(call))}</code></p>",
-        f"<p>{WORDS['made']}:</p>\n{_sums_of(told)}",
+        f"<p>{WORDS['made']}:</p>\n{_sums_of(record)}",
         f"<p>{WORDS['verify'].format(_text(name))}</p>",
-        f"<pre>rcell-gis verify {_text(shlex.quote(name))}</pre>\n</section>",
+        f"<pre>{_text(verify)}</pre>\n</section>",
     ]
     return "\n".join(lines)
 
 
-def _text(given: Any) -> str:
-    return html.escape(str(given))
+def _text(value: Any) -> str:
+    return html.escape(str(value))
 
 
 # Tables
 
 
 def _table_of(path: str, name: str) -> Iterator[str]:
+    """Yield the lines of a table: its first rows, and how many more there are."""
     with open(path, encoding="utf-8", errors="replace", newline="") as file:
         titles, *rows = csv.reader(file)
     columns = [_shown(column) for column in zip(*rows)] or [(False, [])] * len(titles)
     marks = [' class="number"' if is_number else "" for is_number, _ in columns]
     head = "".join(f"<th{mark}>{_text(title)}</th>" for mark, title in zip(marks, titles))
     yield f"<table>\n<thead><tr>{head}</tr></thead>\n<tbody>"
-    for row in list(zip(*(texts for _, texts in columns)))[:MOST_ROWS]:
+    shown_rows = list(zip(*(texts for _, texts in columns)))
+    for row in shown_rows[:MOST_ROWS]:
         cells = "".join(f"<td{mark}>{_text(cell)}</td>" for mark, cell in zip(marks, row))
         yield f"<tr>{cells}</tr>"
     yield "</tbody>\n</table>"
@@ -94,17 +155,18 @@ def _table_of(path: str, name: str) -> Iterator[str]:
 
 
 def _shown(column: Sequence[str]) -> tuple[bool, list[str]]:
-    """Return whether a column has numbers, and its texts; decimals have some six digits in all."""
+    """Return whether a column has numbers, and its texts; decimals have about six digits in all."""
     try:
         numbers = [float(text) if text else None for text in column]
     except ValueError:
         return False, list(column)
     if all(text.lstrip("-").isdigit() or not text for text in column):
         return True, list(column)
-    largest = max((abs(it) for it in numbers if it is not None and math.isfinite(it)), default=0.0)
+    known = [abs(number) for number in numbers if number is not None and math.isfinite(number)]
+    largest = max(known, default=0.0)
     before = len(str(int(largest)))
     decimals = max(0, min(_MOST_DECIMALS, _DIGITS - before))
-    return True, ["" if it is None else f"{it:.{decimals}f}" for it in numbers]
+    return True, ["" if number is None else f"{number:.{decimals}f}" for number in numbers]
 
 
 # Calls and sums
@@ -113,62 +175,65 @@ def _shown(column: Sequence[str]) -> tuple[bool, list[str]]:
 def _call_text(call: Mapping[str, Any]) -> str:
     words = [_argument(word) for word in call["words"]]
     words += [f"{name}={_argument(value)}" for name, value in call["named"].items()]
-    return f"{call['name']}({', '.join(words)})" + (f".{call['part']}" if call["part"] else "")
+    text = f"{call['name']}({', '.join(words)})"
+    return f"{text}.{call['part']}" if call["part"] else text
 
 
-def _argument(told: Any) -> str:
-    if isinstance(told, list):
-        return f"[{', '.join(map(_argument, told))}]"
-    if not isinstance(told, dict):
-        return repr(told)
-    if "items" in told:
-        pairs = (f"{key!r}: {_argument(value)}" for key, value in told["items"])
+def _argument(value: Any) -> str:
+    if isinstance(value, list):
+        return f"[{', '.join(map(_argument, value))}]"
+    if not isinstance(value, dict):
+        return repr(value)
+    if "items" in value:
+        pairs = (f"{key!r}: {_argument(item)}" for key, item in value["items"])
         return f"{{{', '.join(pairs)}}}"
-    return repr(told["path"]) + (f", band {told['band']}" if "band" in told else "")
+    return repr(value["path"]) + (f", band {value['band']}" if "band" in value else "")
 
 
-def _sums_of(told: Mapping[str, Any]) -> str:
+def _sums_of(record: Mapping[str, Any]) -> str:
     """Return a table with all SHA-256 of a record."""
     sums = {}
-    for number, run in enumerate(told["runs"], 1):
+    for number, run in enumerate(record["runs"], 1):
         for line in run["script"].split("\n"):
             sums[f"script {number}: {line}"] = ""
         for name, digest in run["maps"].items():
             sums[f"cells of {name}"] = digest
-    sums[f"program of rcell {told['versions']['rcell']}"] = told["program"]
-    sums["table"] = told["table"]["sha256"]
-    rows = (
-        f"<tr><td>{_text(name)}</td><td><code>{_text(digest)}</code></td></tr>"
-        for name, digest in sums.items()
-    )
-    head = "<thead><tr><th>what</th><th>SHA-256</th></tr></thead>"
-    return f"<table>\n{head}\n<tbody>\n" + "\n".join(rows) + "\n</tbody>\n</table>"
+    sums[f"program of rcell {record['versions']['rcell']}"] = record["program"]
+    sums["table"] = record["table"]["sha256"]
+    lines = ["<table>", "<thead><tr><th>what</th><th>SHA-256</th></tr></thead>", "<tbody>"]
+    for name, digest in sums.items():
+        lines.append(f"<tr><td>{_text(name)}</td><td><code>{_text(digest)}</code></td></tr>")
+    lines += ["</tbody>", "</table>"]
+    return "\n".join(lines)
 
 
 # Pictures
 
 
-def _picture_of(told: Mapping[str, Any], folder: str) -> Iterator[str]:
+def _picture_of(record: Mapping[str, Any], folder: str) -> Iterator[str]:
     """Yield the picture of the first map of a call, with a legend; or why there is none."""
-    first = next(_files_of([told["call"]["words"], told["call"]["named"]]), None)
-    if first is None or not told["runs"]:
+    first = next(files_in([record["call"]["words"], record["call"]["named"]]), None)
+    if first is None or not record["runs"]:
         return
     try:
-        source = _source_of(first, folder)
-        known = {digest for run in told["runs"] for digest in run["maps"].values()}
+        source = source_of("map", placed(first, folder))
+        known = {digest for run in record["runs"] for digest in run["maps"].values()}
         if sum_of_cells(source) not in known:
             yield f"<p>{WORDS['changed'].format(_text(first['path']))}</p>"
             return
     except RcellError:
         yield f"<p>{WORDS['absent'].format(_text(first['path']))}</p>"
         return
-    legend = told["call"]["named"].get("labels")
+    legend = record["call"]["named"].get("labels")
     labels = checked_labels("map", source.labels)
     if isinstance(legend, dict) and "path" in legend:
         labels = dict(labels_of(os.path.join(folder, legend["path"])))
     cells, step = _thinned(source)
     classes = [code for code in np.unique(cells).tolist() if code != NULL]
-    colours = {code: source.colors.get(code) or _colour(at) for at, code in enumerate(classes)}
+    colours = {
+        code: source.colors.get(code) or f"#{bytes(colour_at(index)).hex()}"
+        for index, code in enumerate(classes)
+    }
     picture = base64.b64encode(_png(cells, colours)).decode()
     name = _text(os.path.basename(first["path"]))
     every = f", one of {step} rows and columns" if step > 1 else ""
@@ -180,21 +245,6 @@ def _picture_of(told: Mapping[str, Any], folder: str) -> Iterator[str]:
     more = len(classes) - MOST_CLASSES
     rest = f" and {more} more" if more > 0 else ""
     yield f"<figcaption>{name}{every}<br>{entries}{rest}</figcaption>\n</figure>"
-
-
-def _files_of(told: Any) -> Iterator[Mapping[str, Any]]:
-    """Yield the files among arguments, in order."""
-    if isinstance(told, dict) and "path" in told:
-        yield told
-    elif isinstance(told, (dict, list)):
-        for part in told.values() if isinstance(told, dict) else told:
-            yield from _files_of(part)
-
-
-def _source_of(told: Mapping[str, Any], folder: str) -> Source:
-    path = os.path.join(folder, told["path"])
-    band: Optional[int] = told.get("band")
-    return source_of("map", path) if band is None else open_raster("map", path, band)
 
 
 def _thinned(source: Source) -> tuple[NDArray[np.int64], int]:
@@ -212,7 +262,7 @@ def _thinned(source: Source) -> tuple[NDArray[np.int64], int]:
 def _png(cells: NDArray[np.int64], colours: Mapping[int, str]) -> bytes:
     """Return a picture with null transparent; small maps are enlarged."""
     classes = [NULL, *colours]
-    shades = [(0, 0, 0, 0), *((*bytes.fromhex(it[1:7]), 255) for it in colours.values())]
+    shades = [(0, 0, 0, 0), *((*bytes.fromhex(colour[1:7]), 255) for colour in colours.values())]
     pixels = np.array(shades, np.uint8)[np.searchsorted(classes, cells)]
     times = max(1, MOST_PIXELS // 2 // max(cells.shape))
     pixels = pixels.repeat(times, 0).repeat(times, 1)
@@ -225,11 +275,3 @@ def _png(cells: NDArray[np.int64], colours: Mapping[int, str]) -> bytes:
         struct.pack(">I", len(data)) + name + data + struct.pack(">I", zlib.crc32(name + data))
         for name, data in chunks
     )
-
-
-def _colour(place: int) -> str:
-    """Return the colour of a place in a legend: always the same one, and different from its neighbours'."""
-    shade = colorsys.hsv_to_rgb(
-        (0.33 + place * _GOLDEN) % 1.0, 0.45 + 0.15 * (place % 3), 0.92 - 0.16 * (place // 3 % 3)
-    )
-    return "#" + "".join(f"{round(part * 255):02x}" for part in shade)

@@ -1,5 +1,5 @@
 # SPDX-License-Identifier: Apache-2.0 OR GPL-2.0-or-later
-"""What reports say about calls, and the form of their pages."""
+"""The texts of reports about calls, and the layout of their pages."""
 
 from __future__ import annotations
 
@@ -51,10 +51,10 @@ DEFINITIONS = {
 WORDS = {
     "call": "Call",
     "made": "Made of",
-    "rows": "The table has {0} rows more; they are in {1}.",
+    "rows": "The table has {0} more rows; they are in {1}.",
     "rounded": "Numbers are rounded here; the CSV has all digits.",
     "verify": "To verify this table, run in the folder of {0}:",
-    "changed": "No picture: {0} has other cells now than the table was made of.",
+    "changed": "No picture: the cells of {0} have changed since the table was made.",
     "absent": "No picture: {0} cannot be read.",
 }
 

@@ -4,7 +4,7 @@
 from __future__ import annotations
 
 from dataclasses import dataclass, replace
-from typing import Any, Callable, Iterable, Iterator, Mapping, Sequence
+from typing import Any, Callable, Iterable, Iterator, Mapping, Protocol, Sequence
 
 import numpy as np
 
@@ -14,12 +14,15 @@ from .borders import watched
 from .errors import BadMap
 from .host import host
 from .programs import Path, find_pipe, program_errors
-from .protocol import NULL
+from .rectangles import Rectangle
 from .region import CELL_LIMIT, SIDE_LIMIT, fits_one_run
 from .sources import Source
 
 __all__ = [
+    "Fold",
     "Output",
+    "PatchFold",
+    "ask",
     "check_size",
     "entries_of",
     "execute",
@@ -43,8 +46,8 @@ class Output:
         The maps that it read.
     values : array
         Of a table int64, entries x columns: the categories of each map, and the number of cells if it was asked for. `NULL` is null.
-        Of a map rows x cols, int32 with `NULL` for null. Put together from tiles, it may be of bytes with 255 for null, or of patch
-        numbers of 64 bits.
+        Of a map rows x cols, int32 with `NULL` for null, or bytes with 255 for null. Assembled from
+        tiles, it may have 64-bit patch numbers.
     has_counts, has_labels : bool
         Whether the statement has the flags `-c` and `-l`.
     """
@@ -57,15 +60,42 @@ class Output:
     has_labels: bool = False
 
 
+class Fold(Protocol):
+    """Takes the table of an r.stats over patches, so that no table of all patches is ever made."""
+
+    def add(self, tile: int, table: NDArray[Any], waiting: NDArray[Any]) -> None:
+        """Take the table of a tile, with the numbers that its patches have in it, and the patches that may continue in other tiles."""
+
+    def join(self, numbers_of: Callable[[int, NDArray[Any]], NDArray[Any]]) -> None:
+        """Count the patches that waited, by the numbers that the patches of each tile have in the full map."""
+
+
+class PatchFold(Protocol):
+    """Takes what the program counts of patches."""
+
+    def add(
+        self,
+        tile: int,
+        place: Rectangle,
+        rows: NDArray[Any],
+        waiting: NDArray[Any],
+        tables: list[NDArray[Any]],
+    ) -> None:
+        """Take the rows of a tile, the patches that may continue in other tiles, and tables that begin with patches, numbered in the tile."""
+
+    def join(self, numbers_of: Callable[[int, NDArray[Any]], NDArray[Any]]) -> None:
+        """Join the patches, by the numbers that the patches of each tile have in the full map."""
+
+
 def execute(
     script: str,
     maps: Mapping[str, Source],
     *,
     wanted: Sequence[str] = (),
     program: Path | None = None,
-    fold: Callable[[NDArray[Any], NDArray[Any]], None] | None = None,
+    fold: Fold | None = None,
 ) -> list[Output]:
-    """Run a script over maps of one region: in one run, or by tiles if the maps are large, with equal outputs.
+    """Run a script over maps of one region: in one run, or in tiles if the maps are large, with equal outputs.
 
     Every call gets its tables and maps here.
 
@@ -78,14 +108,14 @@ def execute(
         Maps of the planned script. Their cells are returned after its outputs.
     program : path, optional
         Of rcell-pipe.
-    fold : callable, optional
-        Gets the table of the script, which has one r.clump and one r.stats, tile by tile as it comes, with the numbers of patches that
-        may be in other tiles too. Then the table is not among the outputs.
+    fold : Fold, optional
+        Gets the table of the script, which has an r.clump and an r.stats of its map, tile by tile as it comes. Then the table is not
+        among the outputs.
 
     Returns
     -------
     list of Output
-        In the order of the script's statements, then those wanted.
+        In the order of the script's statements, then the requested maps.
 
     Raises
     ------
@@ -98,12 +128,17 @@ def execute(
     from .tile_runs import demand_of, run_tiles
     from .tiling import DryRun, describe, is_small, takes_one_run, work
 
+    engine = work().engine
+    if engine is not None:
+        outputs: list[Output] = engine(script, maps, wanted, fold)
+        return _numbered(outputs, len(wanted))
     lines = "\n".join([script, *(f"r.out.ascii input={name}" for name in wanted)])
     if not is_small(maps) or work().is_dry:
         plan = planned(lines, maps, program=program)
         demand = demand_of(plan, maps)
         if work().is_dry:
-            raise DryRun(describe(plan, maps, demand))
+            reads = 1 + sum(each.command == "r.clump" for each in plan) * (fold is None)
+            raise DryRun(describe(plan, maps, demand, reads))
         if not takes_one_run(plan, maps, demand):
             _tell_host(script, maps)
             outputs = run_tiles(plan, maps, demand, fold)
@@ -111,7 +146,7 @@ def execute(
     outputs = execute_once(script, maps, wanted=wanted, program=program)
     if fold is None:
         return outputs
-    fold(outputs[0].values, np.empty(0, np.int64))
+    fold.add(0, outputs[0].values, np.empty(0, np.int64))
     return []
 
 
@@ -122,9 +157,56 @@ def execute_once(
     wanted: Sequence[str] = (),
     program: Path | None = None,
 ) -> list[Output]:
-    """Run a script over maps in one run; all else is as in `execute`."""
-    frames = _frames(script, maps, wanted, program)
+    """Run a script over maps in one run; otherwise the same as `execute`."""
+    frames = _frames(script, maps, (), wanted, program)
     return _numbered([_output(frame) for frame in frames], len(wanted))
+
+
+def ask(
+    question: protocol.Question,
+    clump: str,
+    maps: Mapping[str, Source],
+    fold: PatchFold,
+) -> bool:
+    """Give the patches of a map to a fold: in one run, or by tiles if the maps are large.
+
+    Parameters
+    ----------
+    question : Question
+    clump : str
+        The line of a script that numbers the patches as `patch`, for tiles. These count the zones of patches in a table.
+    maps : mapping of str to Source
+    fold : PatchFold
+
+    Returns
+    -------
+    bool
+        Whether it was done: the host may run scripts in its own way, which has no questions.
+    """
+    from .tile_patches import PATCH, ZONED_PATCH
+    from .tile_runs import ask_tiles, demand_of
+    from .tiling import DryRun, describe, is_small, takes_one_run, work
+
+    if work().engine is not None:
+        return False
+    if not is_small(maps) or work().is_dry:
+        lines = [clump, "r.out.ascii input=patch"]
+        lines += [f"r.stats -c -n input=patch,{question.zones}"] if question.zones else []
+        plan = planned("\n".join(lines), maps)
+        demand = replace(demand_of(plan, maps), reach=question.reach)
+        if work().is_dry:
+            raise DryRun(describe(plan, maps, demand, 1))
+        if not takes_one_run(plan, maps, demand):
+            _tell_host("\n".join(["", question.text()]), maps)
+            ask_tiles(question._replace(zones=""), plan, maps, demand, fold)
+            return True
+    [found] = _frames("", maps, (question,))
+    assert isinstance(found, protocol.PatchesFrame)
+    full = Rectangle(0, 0, *next(iter(maps.values())).region.shape)
+    rows = np.frombuffer(found.rows, ZONED_PATCH if question.zones else PATCH)
+    fold.add(0, full, rows, np.empty(0, np.int64), [])
+    fold.join(lambda _, numbers: numbers)
+    return True
 
 
 def planned(
@@ -153,16 +235,17 @@ def grid_text(source: Source) -> bytes:
 def _frames(
     script: str,
     maps: Mapping[str, Source],
+    questions: Sequence[protocol.Question] = (),
     wanted: Sequence[str] = (),
     program: Path | None = None,
 ) -> list[protocol.Frame]:
-    """Return the frames of a script, and then the frames of some of its maps."""
+    """Return the frames of a script, then the frames of some of its maps, and then the frames of questions."""
     check_size(maps)
     lines = [script, *(f"r.out.ascii input={name}" for name in wanted)]
-    _tell_host(script, maps)
+    _tell_host("\n".join([script, *(question.text() for question in questions)]), maps)
     with program_errors(script, list(maps), path := find_pipe(program)):
         words = protocol.script_bytes("\n".join(lines))
-        return protocol.run(path, _sent(maps), words, watch=host().watch)
+        return protocol.run(path, _sent(maps), words, questions, watch=host().watch)
 
 
 def _tell_host(script: str, maps: Mapping[str, Source]) -> None:
@@ -177,8 +260,8 @@ def check_size(maps: Mapping[str, Source]) -> None:
     if not fits_one_run(source.region.shape):
         rows, cols = source.region.shape
         limits = f"up to {SIDE_LIMIT:,} rows and columns, and {CELL_LIMIT:,} cells"
-        told = f"{rows:,} rows and {cols:,} columns; this call takes {limits}"
-        raise BadMap(source.name, f"{told}: cut the map first, for example with gdal_translate")
+        size = f"{rows:,} rows and {cols:,} columns; this call takes {limits}"
+        raise BadMap(source.name, f"{size}: cut the map first, for example with gdal_translate")
 
 
 def _sent(maps: Mapping[str, Source]) -> list[protocol.Map]:
@@ -221,14 +304,16 @@ class _Progress:
 
 
 def _numbered(outputs: list[Output], wanted: int) -> list[Output]:
-    """Return outputs in which maps that were asked for by name are of no line."""
+    """Return outputs; maps that were requested by name get no line."""
     first = len(outputs) - wanted
-    return [replace(one, line=0) if at >= first else one for at, one in enumerate(outputs)]
+    return outputs[:first] + [replace(output, line=0) for output in outputs[first:]]
 
 
 def _output(frame: protocol.Frame) -> Output:
+    """Return a table or a map of the program as an output."""
     if isinstance(frame, protocol.GridFrame):
         return Output("r.out.ascii", frame.line, (frame.name,), _cells(frame))
+    assert isinstance(frame, protocol.TableFrame)
     return Output(
         "r.stats",
         frame.line,
@@ -249,11 +334,6 @@ def entries_of(frame: protocol.TableFrame) -> NDArray[np.int64]:
     return columns.T
 
 
-def _cells(frame: protocol.GridFrame) -> NDArray[np.int32]:
-    """Return the cells of a map as int32, with `NULL` for null."""
-    cells = np.asarray(frame.cells).reshape(frame.rows, frame.cols)
-    if frame.null == NULL:
-        return cells
-    wide = cells.astype(np.int32)
-    np.copyto(wide, NULL, where=cells == frame.null)
-    return wide
+def _cells(frame: protocol.GridFrame) -> NDArray[Any]:
+    """Return the cells of a map as they came: bytes with `NULL_BYTE` for null, or int32 with `NULL`."""
+    return np.asarray(frame.cells).reshape(frame.rows, frame.cols)

@@ -12,7 +12,7 @@ from typing import Any
 
 import numpy as np
 
-from .arguments import MAX_CATEGORY, whole_number_of
+from .arguments import MAX_CATEGORY, first_of, whole_number_of
 from .arrays import NDArray
 from .columns import Column, Table
 from .counting import Maps, places_of
@@ -29,7 +29,6 @@ MOST_POINTS = 1_000_000
 _MOST_LISTED = 1 << 22
 # Bits of a hash that are used: floats of R are exact for them.
 _BITS = 48
-_SHOWN = 5
 _OF_CLASSES = re.compile(r"-?[0-9]+:[0-9]+(,-?[0-9]+:[0-9]+)*")
 
 Integers = NDArray[np.int64]
@@ -51,7 +50,7 @@ def sample(
 
     Parameters
     ----------
-    map : path, array, .. as a map of `run`
+    map : path, array, or any map that `run` accepts
         The strata: one for each class.
     n : int, or dict of int by class
         How many cells in all, or of each class; as a text, `500` or `11:50,31:100`.
@@ -61,18 +60,18 @@ def sample(
     labels : path, dict, Series or DataFrame, optional
         A legend, as in `composition`.
     crs : any, optional
-        The reference system of a map that has none.
+        The reference system to assume for a map that has none.
 
     Returns
     -------
     pandas.DataFrame
-        Columns `point`, `class`, `label`, `row`, `col` (from 1 at the top left), and `x`, `y` of the centre of the cell. A class with too
-        few cells has all of them, with a warning.
+        Columns `point`, `class`, `label`, `row`, `col` (from 1 at the top left), and `x`, `y` of
+        the centre of the cell. If a class has too few cells, all of them are drawn, with a warning.
 
     Raises
     ------
     Refused
-        As for `run`, and for invalid legends.
+        See `run`; also raised for invalid legends.
     BadArgument
         An argument is out of range, or `n` has a class that does not occur.
 
@@ -87,7 +86,7 @@ def sample(
     """
     if isinstance(seed, bool) or not isinstance(seed, (numbers.Integral, str)):
         raise BadArgument("seed", f"must be a whole number or a text; got {seed!r}")
-    asked = _asked(n, allocation)
+    requested = _requested(n, allocation)
     maps = Maps({"map": map}, crs)
     entries = maps.tables("r.mapcalc row = row()\nr.stats -c -n input=map,row")[0]
     first = places_of(entries[:, 0])
@@ -95,15 +94,16 @@ def sample(
     until = np.cumsum(entries[:, 2])
     before = until - entries[:, 2]
     sizes = np.diff([*before[first], *until[-1:]]).tolist()
-    wanted = _divided(asked, allocation, classes, sizes)
+    wanted = _divided(requested, allocation, classes, sizes)
     _warn_of_few(classes, sizes, wanted)
-    picked: list[
-        tuple[int, int, int]
-    ] = []  # class, row, and place among the row's cells of the class
+    # The class and the row of each cell, and its place among the row's cells of this class.
+    picked: list[tuple[int, int, int]] = []
     for code, size, start, count in zip(classes, sizes, before[first].tolist(), wanted):
         ranks = start + np.array(drawn(f"{seed}:{code}", size, count), np.int64)
-        at = np.searchsorted(until, ranks, "right")
-        picked += zip([code] * ranks.size, entries[at, 1].tolist(), (ranks - before[at]).tolist())
+        indices = np.searchsorted(until, ranks, "right")
+        places = ranks - before[indices]
+        for row, place in zip(entries[indices, 1].tolist(), places.tolist()):
+            picked.append((code, row, place))
     codes, rows, _ = np.array(picked, np.int64).reshape(-1, 3).T
     cols = _columns(maps, picked)
     width, _, west, _, height, north = maps.first.transform
@@ -120,18 +120,18 @@ def sample(
 
 
 def _columns(maps: Maps, picked: Sequence[tuple[int, int, int]]) -> Integers:
-    """Return the columns of the cells that are picked: the program lists the cells of their rows, some rows at a time."""
+    """Return the columns of the selected cells; the program lists the cells of their rows, some rows at a time."""
     rows = sorted({row for _, row, _ in picked})
     step = max(1, _MOST_LISTED // maps.first.region.cols)
-    found: dict[tuple[int, ...], Integers] = {}
+    columns: dict[tuple[int, ...], Integers] = {}
     for start in range(0, len(rows), step):
         rules = "\n".join(f"{row} = {row}" for row in rows[start : start + step])
         script = f"r.mapcalc every = row()\nr.reclass input=every output=row\n{rules}\nend"
         cells = maps.tables(f"{script}\nr.mapcalc col = col()\nr.stats -n input=map,row,col")[0]
         first = places_of(cells[:, :2])
         keys = [tuple(key) for key in cells[first, :2].tolist()]
-        found.update(zip(keys, np.split(cells[:, 2], first[1:])))
-    return np.array([found[code, row][place] for code, row, place in picked], np.int64)
+        columns.update(zip(keys, np.split(cells[:, 2], first[1:])))
+    return np.array([columns[code, row][place] for code, row, place in picked], np.int64)
 
 
 def drawn(key: str, size: int, count: int) -> list[int]:
@@ -146,7 +146,7 @@ def drawn(key: str, size: int, count: int) -> list[int]:
     ([60, 63, 64, 67, 73], [0, 1, 2, 3, 4])
     """
     counter = itertools.count(1)
-    found: set[int] = set()
+    numbers: set[int] = set()
     for last in range(size - min(count, size), size):
         limit = last + 1
         most = (1 << _BITS) // limit * limit
@@ -154,46 +154,47 @@ def drawn(key: str, size: int, count: int) -> list[int]:
         while value >= most:
             digest = hashlib.sha256(f"{key}:{next(counter)}".encode()).digest()
             value = int.from_bytes(digest[: _BITS // 8], "big")
-        found.add(last if value % limit in found else value % limit)
-    return sorted(found)
+        numbers.add(last if value % limit in numbers else value % limit)
+    return sorted(numbers)
 
 
-def _asked(n: Any, allocation: Any) -> int | dict[int, int]:
-    """Return how many cells are asked for: in all, or of each class."""
+def _requested(n: Any, allocation: Any) -> int | dict[int, int]:
+    """Return the number of cells requested: in all, or for each class."""
     if allocation not in ALLOCATIONS:
         raise BadArgument("allocation", f"must be equal or proportional; got {allocation!r}")
     if isinstance(n, str) and _OF_CLASSES.fullmatch(n):
-        n = {int(code): int(count) for code, _, count in (it.partition(":") for it in n.split(","))}
+        pairs = [word.split(":") for word in n.split(",")]
+        n = {int(code): int(count) for code, count in pairs}
     elif isinstance(n, str) and n.isdecimal():
         n = int(n)
     if not isinstance(n, Mapping):
         return whole_number_of("n", n, 1, MOST_POINTS)
     if allocation != ALLOCATIONS[0]:
-        told = f"is for a number of cells in all, and n has one for each class; got {allocation!r}"
-        raise BadArgument("allocation", told)
-    found = {}
+        rule = f"is for a number of cells in all, and n has one for each class; got {allocation!r}"
+        raise BadArgument("allocation", rule)
+    counts = {}
     for code, count in n.items():
         whole_number_of("n", code, -MAX_CATEGORY, MAX_CATEGORY)
-        found[int(code)] = whole_number_of("n", count, 0, MOST_POINTS)
-    return found
+        counts[int(code)] = whole_number_of("n", count, 0, MOST_POINTS)
+    return counts
 
 
 def _divided(
-    asked: int | dict[int, int], allocation: str, classes: list[int], sizes: list[int]
+    requested: int | dict[int, int], allocation: str, classes: list[int], sizes: list[int]
 ) -> list[int]:
     """Return how many cells are wanted of each class."""
-    if isinstance(asked, dict):
-        lacking = sorted(set(asked) - set(classes))
+    if isinstance(requested, dict):
+        lacking = sorted(set(requested) - set(classes))
         if lacking:
             raise BadArgument("n", f"must be for classes that occur; got {lacking[0]}")
-        return [asked.get(code, 0) for code in classes]
+        return [requested.get(code, 0) for code in classes]
     parts = sizes if allocation == "proportional" else [1] * len(classes)
     whole = max(sum(parts), 1)
-    counts = [asked * part // whole for part in parts]
-    rest = [asked * part % whole for part in parts]
-    order = sorted(range(len(parts)), key=lambda at: (-rest[at], at))
-    for at in order[: asked - sum(counts)]:
-        counts[at] += 1
+    counts = [requested * part // whole for part in parts]
+    rest = [requested * part % whole for part in parts]
+    order = sorted(range(len(parts)), key=lambda index: (-rest[index], index))
+    for index in order[: requested - sum(counts)]:
+        counts[index] += 1
     return counts
 
 
@@ -204,5 +205,4 @@ def _warn_of_few(classes: list[int], sizes: list[int], wanted: list[int]) -> Non
         if size < count
     ]
     if few:
-        more = f", and {len(few) - _SHOWN} more" if len(few) > _SHOWN else ""
-        warn(f"fewer cells than wanted of the class {', '.join(few[:_SHOWN])}{more}")
+        warn(f"fewer cells than wanted of the class {first_of(few)}")

@@ -69,8 +69,8 @@ class Stats:
     def matrix(self, measure: Optional[Measure] = None, percent: bool = False) -> Matrix:
         """Return the table of two maps as a matrix: of percentages or areas, or else of cells."""
         if len(self.maps) != 2:
-            told = f"pivot= needs a table of two maps, and this one has {len(self.maps)}"
-            raise Refused(told, "script", self.line)
+            problem = f"pivot= needs a table of two maps, and this one has {len(self.maps)}"
+            raise Refused(problem, "script", self.line)
         values = self._percent() if percent else self._counted("pivot=")
         if measure is not None and not percent:
             values = self._areas(measure)
@@ -84,14 +84,14 @@ class Stats:
         cells = self._counted("percent=")
         return cells * 100.0 / max(int(cells.sum()), 1)
 
-    def _counted(self, asked: str) -> NDArray[np.int64]:
+    def _counted(self, option: str) -> NDArray[np.int64]:
         if self.cells is None:
-            raise Refused(f"{asked} needs a table with cells: r.stats -c", "script", self.line)
+            raise Refused(f"{option} needs a table with cells: r.stats -c", "script", self.line)
         return self.cells
 
 
 class Run:
-    """A script over maps, and what its results need to know of them.
+    """A script over maps, and what its results need to know about them.
 
     Parameters
     ----------
@@ -116,13 +116,11 @@ class Run:
         return {statement.made: statement for statement in plan if statement.made}
 
     def outputs(self, wanted: Sequence[str] = ()) -> list[Union[Stats, ArrayMap]]:
-        """Run the script and return its outputs; after them the maps that are wanted."""
+        """Run the script and return its outputs, followed by the requested maps."""
         for name in wanted:
             if name not in self.sources and name not in self.made:
                 known = ", ".join([*self.sources, *self.made])
-                raise BadArgument(
-                    "name", f"must be a map of the script; got {name!r}, and there are {known}"
-                )
+                raise BadArgument("name", f"must be a map of the script ({known}); got {name!r}")
         ran = execute(self.script, self.sources, wanted=wanted)
         return [
             self._map(output) if output.command == "r.out.ascii" else self._stats(output)
@@ -136,7 +134,9 @@ class Run:
 
     def labels(self, name: str) -> Mapping[int, str]:
         """Return the labels of a map: from the rules that made it, or from the input map."""
-        return self.sources[name].labels if name in self.sources else self.made[name].labels
+        if name in self.sources:
+            return self.sources[name].labels
+        return self.made[name].labels
 
     def _stats(self, output: Output) -> Stats:
         count = len(output.maps)
@@ -145,8 +145,15 @@ class Run:
         return Stats(output.line, output.maps, output.values[:, :count], cells, labels)
 
     def _map(self, output: Output) -> ArrayMap:
+        """Return an output as a map on the grid of the inputs, with its labels and colours."""
         [name] = output.maps
         is_narrow = output.values.dtype == np.uint8
+        colors: Mapping[int, str] = {}
+        if name in self.sources:
+            colors = self.sources[name].colors
+        files: list[str] = []
+        for source in self.sources.values():
+            files += source.files
         return ArrayMap(
             name,
             output.values,
@@ -155,8 +162,8 @@ class Run:
             labels=self.labels(name),
             crs=self.crs,
             exact_transform=self.first.transform,
-            colors=self.sources[name].colors if name in self.sources else {},
-            files=tuple(file for source in self.sources.values() for file in source.files),
+            colors=colors,
+            files=tuple(files),
             is_narrow=is_narrow,
         )
 
@@ -178,11 +185,10 @@ def run(
     maps : mapping, optional
         Maps by name, as in `named`; for names that Python has no keyword for.
     **named
-        Maps by name. A map is a path to anything that rasterio opens or to a grid of the program's own form; an array or
-        masked array of whole numbers (with cells of side 1), `(array, region)` or `(array, transform)`; a `Raster`; a
-        DataArray; an open dataset or a band of rasterio.
+        Maps by name. A map is a path to anything that rasterio opens or to an rcell grid; an array or masked array of whole numbers (with cells of side 1), `(array, region)`
+        or `(array, transform)`; a `Raster`; a DataArray; an open dataset or a band of rasterio.
     crs : any, optional
-        The reference system of maps that have none.
+        The reference system to assume for maps that have none.
 
     Returns
     -------
@@ -229,16 +235,16 @@ def table(
     script : str
         A line `r.stats ..`, or a script with one.
     maps : mapping, optional
-        As in `run`.
+        See `run`.
     area : {"m2", "ha", "km2"}, optional
         Adds a column of areas. A map in degrees is an error, since the area of a cell differs from row to row: `composition` and
-        `cross` weigh the rows. So is a map without a reference system.
+        `cross` weight the rows. So is a map without a reference system.
     percent : bool
         Adds a column of percentages of all cells of the table.
     pivot : bool
         Returns a table of two maps as a matrix, of percentages or areas if these are asked for, else of cells.
     crs : any, optional
-        The reference system of maps that have none.
+        The reference system to assume for maps that have none.
     **named
         Maps by name, as in `run`.
 
@@ -251,7 +257,8 @@ def table(
     Raises
     ------
     Refused
-        As `run`; the script has not one table; there is no area.
+        As in `run`; also raised if the script does not have exactly one table, or if areas are not
+        known.
 
     Examples
     --------
@@ -268,9 +275,9 @@ def table(
     outputs = ran.outputs()
     if len(outputs) != 1 or not isinstance(outputs[0], Stats):
         tables = sum(isinstance(output, Stats) for output in outputs)
-        met = f"{tables} tables and {len(outputs) - tables} maps" if outputs else "no r.stats"
-        told = f"expected one table, but the script has {met}: rcell.run returns all outputs"
-        raise Refused(told, "script")
+        outcome = f"{tables} tables and {len(outputs) - tables} maps" if outputs else "no r.stats"
+        problem = f"expected one table, but the script has {outcome}: rcell.run returns all outputs"
+        raise Refused(problem, "script")
     stats = outputs[0]
     return stats.matrix(measure, percent) if pivot else stats.table(measure, percent)
 
@@ -289,13 +296,13 @@ def grid(
     Parameters
     ----------
     script : str
-        It need write nothing; what it writes is left out.
+        Need not write any output; output is ignored.
     name : str
-        A map that it makes, or one that is given.
+        A map that it makes, or one of the given maps.
     maps : mapping, optional
-        As in `run`.
+        See `run`.
     crs : any, optional
-        The reference system of maps that have none.
+        The reference system to assume for maps that have none.
     **named
         Maps by name, as in `run`.
 

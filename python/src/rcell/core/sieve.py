@@ -1,23 +1,24 @@
 # SPDX-License-Identifier: Apache-2.0 OR GPL-2.0-or-later
-"""A smallest mapping unit: small patches are merged into their neighbours."""
+"""A minimum mapping unit: small patches are merged into their neighbours."""
 
 from __future__ import annotations
 
 import dataclasses
-import heapq
 import math
 import numbers
+from collections import defaultdict
 from collections.abc import Mapping, Sequence
 from typing import Any, NamedTuple, Optional
 
 import numpy as np
 
-from .area import measure_of
+from .area import metres_of
 from .arguments import check_connectivity, whole_number_of
 from .arrays import NDArray
+from .crs import UNITS_OF_AREA
 from .errors import BadArgument, RcellError
 from .host import option
-from .patches import clump_line
+from .patch_measures import clump_line
 from .protocol import NULL
 from .scripts import Run, Stats
 from .sources import ArrayMap, MapLike, Source, source_of
@@ -75,7 +76,7 @@ def sieve(
 
     Parameters
     ----------
-    map : path, array, .. as a map of `run`
+    map : path, array, or any map that `run` accepts
     min_cells : int
         The smallest number of cells of a patch.
     min_ha : float
@@ -85,7 +86,7 @@ def sieve(
     drop : bool
         Whether small patches become null instead of being merged.
     crs : any, optional
-        The reference system of a map that has none.
+        The reference system to assume for a map that has none.
 
     Returns
     -------
@@ -96,7 +97,7 @@ def sieve(
     Raises
     ------
     Refused
-        As for `run`.
+        See `run`.
     BadArgument
         Both sizes are given, or none; a size is out of range, or in hectares for a map in degrees or without a reference system.
 
@@ -121,11 +122,11 @@ def sieve(
         sides, corners = (_Touching.of(cells.size, part) for part in (touching[:2], touching[2:]))
         new = _Merging(classes, cells, sides, corners).run(fewest)
     by_number = np.concatenate([[NULL], new]).astype(np.int32)
-    made = by_number[patch.filled(0)]
+    classes_of_cells = by_number[patch.filled(0)]
     sieved = dataclasses.replace(
         patch,
         name="sieved",
-        array=made,
+        array=classes_of_cells,
         null=None,
         nodata_value=NULL,
         is_narrow=False,
@@ -140,29 +141,23 @@ def sieve(
 def _fewest(min_cells: Any, min_ha: Any, source: Source, crs: Any) -> int:
     """Return the smallest number of cells of a patch."""
     if (min_cells is None) == (min_ha is None):
-        met = "neither" if min_cells is None else "both"
+        outcome = "neither" if min_cells is None else "both"
         raise BadArgument(
-            "min_cells", f"or {option('min_ha').rstrip('=')} must be given; got {met}"
+            "min_cells", f"or {option('min_ha').rstrip('=')} must be given; got {outcome}"
         )
     if min_ha is None:
         return whole_number_of("min_cells", min_cells, 1)
     return cells_of_hectares("min_ha", min_ha, source, crs)
 
 
-def cells_of_hectares(name: str, given: Any, source: Source, crs: Any) -> int:
-    """Return how many cells an argument in hectares is: parts of a cell count as one."""
-    is_number = isinstance(given, numbers.Real) and not isinstance(given, bool)
-    if not is_number or not 0 < given < math.inf:
-        raise BadArgument(name, f"must be a number above 0; got {given!r}")
-    if crs is None:
-        example = option("crs", "EPSG:25832")
-        told = "needs a coordinate reference system, and the map has none: state it, for example"
-        raise BadArgument(name, f"{told} {example}; got {given!r}")
-    measure = measure_of("ha", source, crs)
-    if measure.by_row is not None:
-        told = "is not for maps in degrees, whose cells differ in area"
-        raise BadArgument(name, f"{told}; got {given!r}: give {option('min_cells')}")
-    return max(1, math.ceil(round(float(given) * measure.divisor / measure.cell, _DIGITS)))
+def cells_of_hectares(name: str, hectares: Any, source: Source, crs: Any) -> int:
+    """Return the number of cells in some hectares; parts of a cell count as one."""
+    is_number = isinstance(hectares, numbers.Real) and not isinstance(hectares, bool)
+    if not is_number or not 0 < hectares < math.inf:
+        raise BadArgument(name, f"must be a number above 0; got {hectares!r}")
+    metres = metres_of(name, crs, f": give {option('min_cells')}")
+    cell = -source.transform[0] * source.transform[4] * metres**2
+    return max(1, math.ceil(round(float(hectares) * UNITS_OF_AREA["ha"] / cell, _DIGITS)))
 
 
 def _script(name: str, connectivity: int, tables: Sequence[str], steps: Mapping[str, str]) -> str:
@@ -183,7 +178,7 @@ class _Touching(NamedTuple):
 
     @classmethod
     def of(cls, patches: int, tables: Sequence[Any]) -> _Touching:
-        """Return what tables of pairs of patches say, in both directions; patches count from 0."""
+        """Return the pairs of patches in tables, in both directions; patches count from 0."""
         pairs = [table.categories - 1 for table in tables] or [np.empty((0, 2), np.int64)]
         both = np.concatenate([*pairs, *(pair[:, ::-1] for pair in pairs)])
         order = np.argsort(both[:, 0], kind="stable")
@@ -199,7 +194,7 @@ class _Merging:
     Parameters
     ----------
     classes, cells : array of int64
-        Of each patch, in the order of their first cells.
+        For each patch, in the order of first cells.
     sides, corners : _Touching
     """
 
@@ -213,25 +208,28 @@ class _Merging:
         self._parts: dict[int, list[int]] = {}
 
     def run(self, fewest: int) -> Integers:
-        """Return the class of each patch in the end."""
-        small = [(size, patch) for patch, size in enumerate(self._cells) if size < fewest]
-        heapq.heapify(small)
-        while small:
-            size, patch = heapq.heappop(small)
-            if self._into[patch] != patch or self._cells[patch] != size:
-                continue  # it is part of another patch, or has grown
-            shared = self._shared(patch, self._sides)
-            if not shared:
-                continue  # it borders null alone
-            most = max(shared.values())
-            into = min(near for near, times in shared.items() if times == most)
-            touched = [*shared, *self._shared(patch, self._corners)]
-            code = self._classes[into]
-            joined = {patch, *(near for near in touched if self._classes[near] == code)}
-            self._classes[min(joined)] = code
-            grown = self._join(joined, fewest)
-            if self._cells[grown] < fewest:
-                heapq.heappush(small, (self._cells[grown], grown))
+        """Return the final class of each patch."""
+        classes, cells, into = self._classes, self._cells, self._into
+        waiting: defaultdict[int, list[int]] = defaultdict(list)
+        for patch in np.flatnonzero(np.array(cells) < fewest).tolist():
+            waiting[cells[patch]].append(patch)
+        # A patch that grows is larger than all that were tried, so that each size has all its patches in its turn.
+        for size in range(1, min(fewest, sum(cells) + 1)):
+            for patch in sorted(waiting.pop(size, ())):
+                if into[patch] != patch or cells[patch] != size:
+                    continue  # it is part of another patch, or has grown
+                shared = self._shared(patch, self._sides)
+                if not shared:
+                    continue  # it borders null alone
+                most = max(shared.values())
+                code = classes[min([near for near, times in shared.items() if times == most])]
+                if self._corners.near.nbytes:
+                    shared.update(self._shared(patch, self._corners))
+                alike = [near for near in shared if classes[near] == code]
+                grown = self._join([patch, *alike], fewest)
+                classes[grown] = code
+                if cells[grown] < fewest:
+                    waiting[cells[grown]].append(grown)
         roots = np.array(self._into, np.int64)
         while (roots[roots] != roots).any():
             roots = roots[roots]
@@ -239,17 +237,17 @@ class _Merging:
 
     def _shared(self, patch: int, touching: _Touching) -> dict[int, int]:
         """Return how often a small patch touches each other patch."""
-        found: dict[int, int] = {}
+        shared: dict[int, int] = {}
         starts, into = touching.starts, self._into
         for part in self._parts.get(patch, (patch,)):
             ends = slice(starts[part], starts[part + 1])
             for near, times in zip(touching.near[ends].tolist(), touching.times[ends].tolist()):
                 near = near if into[near] == near else self._root(near)
                 if near != patch:
-                    found[near] = found.get(near, 0) + times
-        return found
+                    shared[near] = shared.get(near, 0) + times
+        return shared
 
-    def _join(self, joined: set[int], fewest: int) -> int:
+    def _join(self, joined: list[int], fewest: int) -> int:
         """Merge patches into one and return it; the parts are kept only if it is still small."""
         grown = min(joined)
         cells = sum(self._cells[part] for part in joined)
@@ -270,7 +268,7 @@ class _Merging:
 
 
 def _counted(run: Run, fewest: int, before: int) -> Sieved:
-    """Count the result: a small patch that is left must not share a side with another class."""
+    """Check the result by counting: a remaining small patch must not share a side with another class."""
     sizes, changes, *pairs = (part for part in run.outputs() if isinstance(part, Stats))
     assert sizes.cells is not None and changes.cells is not None
     small = sizes.categories[sizes.cells < fewest, 0]

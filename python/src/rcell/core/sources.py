@@ -1,9 +1,10 @@
 # SPDX-License-Identifier: Apache-2.0 OR GPL-2.0-or-later
-"""Maps in: what a caller gives, as cells that the program takes."""
+"""Input maps: what a caller passes, as cells that the program accepts."""
 
 from __future__ import annotations
 
 import contextvars
+import functools
 import json
 import math
 import numbers
@@ -69,7 +70,7 @@ MapLike = Union[str, "os.PathLike[str]", "list[str]", ArrayLike, tuple[Any, Any]
 
 @dataclass(frozen=True)
 class Block:
-    """Some whole rows of a map, or a window of it.
+    """Complete rows of a map, or a window of it.
 
     Attributes
     ----------
@@ -85,8 +86,10 @@ class Block:
 class Source(Protocol):
     """A map as the program needs it.
 
-    Maps that can be read by parts also have `window(row, col, rows, cols)`, which returns a block of them, from any thread; a map
-    that keeps its cells in blocks has their `block_shape`. A map that has the cells of its files, unchanged, has `is_file`.
+    Maps that can be read in parts also have `window(row, col, rows, cols)`, which returns a block
+    of them, from any thread; a map that keeps its cells in blocks has their `block_shape`. A map
+    that has the cells of its files, unchanged, has `is_file`. A map that other processes can read
+    without its cells has `sent(window)`, which returns what they need, or None.
     """
 
     @property
@@ -107,7 +110,7 @@ class Source(Protocol):
 
     @property
     def nodata(self) -> int | None:
-        """A value of the type that is null."""
+        """A value of the type that marks null."""
 
     @property
     def is_masked(self) -> bool:
@@ -144,8 +147,8 @@ def as_bools(array: NDArray[Any]) -> Mask:
     >>> as_bools(np.array([0, 4], np.uint8).view(bool)).view(np.uint8).tolist()
     [0, 1]
     """
-    found: Mask = array.view(np.uint8) != 0
-    return found
+    bools: Mask = array.view(np.uint8) != 0
+    return bools
 
 
 def unmasked(cells: Any) -> tuple[Cells, Mask | None]:
@@ -174,17 +177,15 @@ def type_of(dtype: np.dtype[Any]) -> np.dtype[Any]:
     >>> [str(type_of(np.dtype(name))) for name in ("uint8", "int64", "float32", "bool")]
     ['uint8', 'int64', 'int32', 'uint8']
     """
-    return (
-        np.dtype(np.int32)
-        if is_converted(dtype)
-        else np.dtype(np.uint8)
-        if dtype.kind == "b"
-        else dtype.newbyteorder("=")
-    )
+    if is_converted(dtype):
+        return np.dtype(np.int32)
+    if dtype.kind == "b":
+        return np.dtype(np.uint8)
+    return dtype.newbyteorder("=")
 
 
 def nodata_of(dtype: np.dtype[Any], value: float | None) -> int | None:
-    """Return the value that is null in the type in which cells of a type are sent, if they came with a value that is null.
+    """Return the value that marks null in the type in which cells are sent, if the cells had such a value.
 
     Examples
     --------
@@ -200,7 +201,7 @@ def nodata_of(dtype: np.dtype[Any], value: float | None) -> int | None:
 
 
 def check_computed(name: str, cells: Cells, dtype: np.dtype[Any], shape: tuple[int, ...]) -> None:
-    """Refuse cells that Dask has computed in another type or shape than it announced, in which they would be other numbers.
+    """Reject cells that Dask has computed in another type or shape than announced, in which they would be other numbers.
 
     Examples
     --------
@@ -210,8 +211,8 @@ def check_computed(name: str, cells: Cells, dtype: np.dtype[Any], shape: tuple[i
     rcell.BadMap: m: its cells are of the type int16, but Dask expected uint16: state it, as in map_blocks(.., dtype='int16')
     """
     if (is_converted(cells.dtype), type_of(cells.dtype)) != (is_converted(dtype), type_of(dtype)):
-        told = f"its cells are of the type {cells.dtype}, but Dask expected {dtype}: state it, as in map_blocks(.., dtype='{cells.dtype}')"
-        raise BadMap(name, told)
+        problem = f"its cells are of the type {cells.dtype}, but Dask expected {dtype}: state it, as in map_blocks(.., dtype='{cells.dtype}')"
+        raise BadMap(name, problem)
     if cells.shape != shape:
         raise BadMap(
             name,
@@ -265,36 +266,43 @@ def checked(
         raise _bad_cell(name, *place, cells[row, col].item(), scale)
     if is_kept:
         return Block(cells, null)
-    kept = np.where(is_null, exact.dtype.type(0), exact)
-    if scale is None and cells.dtype == np.float32 and np.abs(kept).max() > _EXACT_FLOAT32:
+    whole = np.where(is_null, exact.dtype.type(0), exact)
+    if scale is None and cells.dtype == np.float32 and np.abs(whole).max() > _EXACT_FLOAT32:
         warn(
             f"{name}: floats of 32 bits are not exact beyond {_EXACT_FLOAT32}, and the map has larger values"
         )
-    return Block(np.where(is_null, np.int32(NULL), kept.astype(np.int32)), None)
+    return Block(np.where(is_null, np.int32(NULL), whole.astype(np.int32)), None)
 
 
 def null_cells(cells: Cells, null: Mask | None, nodata: float | None) -> Mask:
     """Return what is null, with the cells of nodata and those that are not numbers."""
-    is_null = np.isnan(cells) if cells.dtype.kind == "f" else np.zeros(cells.shape, np.bool_)
-    if null is not None:
-        is_null = is_null | null
-    if nodata is None or nodata != nodata or sys.float_info.max < abs(nodata) < math.inf:
-        return is_null
+    parts = [] if null is None else [null]
     if cells.dtype.kind == "f":
+        parts.append(np.isnan(cells))
+    value = _value_of(cells.dtype, nodata)
+    if value is not None:
+        parts.append(cells == value)
+    if not parts:
+        return np.zeros(cells.shape, np.bool_)
+    # A mask that was given belongs to its owner.
+    first = parts[0].copy() if len(parts) == 1 and null is not None else parts[0]
+    return functools.reduce(np.logical_or, parts[1:], first)
+
+
+def _value_of(dtype: np.dtype[Any], nodata: float | None) -> Any:
+    """Return nodata as a value of a type, or None if no cell of the type can have it."""
+    if nodata is None or nodata != nodata or sys.float_info.max < abs(nodata) < math.inf:
+        return None
+    if dtype.kind == "f":
         with np.errstate(over="ignore"):
-            value = cells.dtype.type(nodata)
-        return (
-            np.logical_or(is_null, cells == value)
-            if np.isinf(value) == math.isinf(nodata)
-            else is_null
-        )
-    limits = np.iinfo(cells.dtype)
+            value = dtype.type(nodata)
+        return value if np.isinf(value) == math.isinf(nodata) else None
+    limits = np.iinfo(dtype)
+    # By whole numbers: floats do not have all of 64 bits.
     is_value = (
         math.isfinite(nodata) and nodata == int(nodata) and limits.min <= int(nodata) <= limits.max
     )
-    return (
-        np.logical_or(is_null, cells == cells.dtype.type(int(nodata))) if is_value else is_null
-    )  # by whole numbers: floats do not have all of 64 bits
+    return dtype.type(int(nodata)) if is_value else None
 
 
 def _good(cells: Cells) -> Mask:
@@ -307,17 +315,20 @@ def _good(cells: Cells) -> Mask:
 
 
 def _bad_cell(name: str, row: int, col: int, value: float, scale: int | None) -> BadMap:
+    """Return the error of a cell that is not a whole number in range, with the advice to round."""
     number = f"{value:.15g}" if isinstance(value, float) else str(value)
     if scale is not None:
-        told = f"{option('scale', scale)} does not fit: the cell at row {row}, column {col} is {number}"
+        problem = f"{option('scale', scale)} does not fit: the cell at row {row}, column {col} is {number}"
         return BadMap(
-            name, f"{told}, and {scale} times that is beyond {MAX_CATEGORY}", row, col, value
+            name, f"{problem}, and {scale} times that is beyond {MAX_CATEGORY}", row, col, value
         )
     beyond = (
-        ", beyond 2147483647 either way" if value == value and abs(value) > MAX_CATEGORY else ""
+        ", outside -2147483647 to 2147483647"
+        if value == value and abs(value) > MAX_CATEGORY
+        else ""
     )
-    told = f"not a map of whole numbers: the cell at row {row}, column {col} is {number}{beyond}"
-    fault = BadMap(name, told, row, col, value)
+    problem = f"not a map of whole numbers: the cell at row {row}, column {col} is {number}{beyond}"
+    fault = BadMap(name, problem, row, col, value)
     if not beyond and value == value:
         fault.advice = _ROUNDED[host().words == "python"].format(name)
     return fault
@@ -340,6 +351,8 @@ class Scaled:
         self.source, self.scale = source, scale
 
     def __getattr__(self, name: str) -> Any:
+        if name == "source" or name.startswith("__"):  # a copy that is being made has no map yet
+            raise AttributeError(name)
         return getattr(self.source, name)
 
     def blocks(self) -> Iterator[Block]:
@@ -367,7 +380,7 @@ class Scaled:
 
 
 def has_windows(source: Any) -> bool:
-    """Return whether a map can be read by parts, which grids of text cannot."""
+    """Return whether a map can be read in parts; text grids cannot."""
     return hasattr(source.source if isinstance(source, Scaled) else source, "window")
 
 
@@ -437,7 +450,7 @@ class ArrayMap:
 
     @property
     def nodata(self) -> int | None:
-        """The value of its blocks that is null."""
+        """The value that marks null in its blocks."""
         return nodata_of(self.array.dtype, self.nodata_value)
 
     @property
@@ -466,14 +479,14 @@ class ArrayMap:
 
 
 def check_array(name: str, array: Any) -> None:
-    """Refuse an array that has no cells of numbers in rows and columns."""
+    """Reject an array that does not have numbers in rows and columns."""
     if array.dtype.kind not in "iufb":
         raise BadMap(name, f"not a map of whole numbers: its cells are of the type {array.dtype}")
     if array.ndim != 2:
         shape = " x ".join(map(str, array.shape)) or "one number"
         raise BadMap(
             name,
-            f"an array of {array.ndim} dimensions ({shape}), and a map has two; of a raster's bands give one, as read(1)",
+            f"an array of {array.ndim} dimensions ({shape}), and a map has two; pass one band of a raster, for example read(1)",
         )
     if array.size == 0:
         raise BadMap(name, f"an array without cells ({array.shape[0]} x {array.shape[1]})")
@@ -481,7 +494,7 @@ def check_array(name: str, array: Any) -> None:
 
 def array_map(
     name: str,
-    given: Any,
+    cells: Any,
     place: Any = None,
     crs: Any = None,
     nodata: float | None = None,
@@ -495,7 +508,7 @@ def array_map(
     ----------
     name : str
         The name of the map, for errors.
-    given : array, masked array, or nested lists of whole numbers
+    cells : array, masked array, or nested lists of whole numbers
     place : Region, or a transform, optional
         Cells have side 1 if it is not given.
     crs, nodata, labels, colors, files
@@ -507,10 +520,10 @@ def array_map(
         It is not an array of two dimensions, or its place is not upright.
     """
     try:
-        array, null = unmasked(given)
+        array, null = unmasked(cells)
     except ValueError as error:
         raise BadMap(name, f"not an array of rows of one length: {error}") from None
-    if array.dtype.kind == "O" and isinstance(given, (list, tuple)):
+    if array.dtype.kind == "O" and isinstance(cells, (list, tuple)):
         raise BadMap(name, "not an array of rows of one length")
     check_array(name, array)
     array, null, region, transform = _placed(name, array, null, place)
@@ -532,9 +545,13 @@ def _placed(
         return array, null, region, region.transform
     a, b, c, d, e, f = six_numbers(name, place)
     if e > 0 and not b and not d:
-        array, null, e, f = (array[::-1], None if null is None else null[::-1], -e, f + e * rows)
+        # The rows go from south to north.
+        array = array[::-1]
+        null = None if null is None else null[::-1]
+        e, f = -e, f + e * rows
     transform = (a, b, c, d, e, f)
-    return (array, null, in_region(name, Region.from_transform, transform, rows, cols), transform)
+    region = in_region(name, Region.from_transform, transform, rows, cols)
+    return array, null, region, transform
 
 
 def in_region(name: str, make: Any, *words: Any) -> Region:
@@ -546,63 +563,63 @@ def in_region(name: str, make: Any, *words: Any) -> Region:
     return region
 
 
-def source_of(name: str, given: Any) -> Source:
-    """Return the map that a caller gives.
+def source_of(name: str, map: Any) -> Source:
+    """Return the map that a caller passes.
 
     Parameters
     ----------
     name : str
-    given : path, list or pattern of paths, array, masked array, (array, region or transform), Raster, DataArray, dataset or band of rasterio
+    map : path, list or pattern of paths, array, masked array, (array, region or transform), Raster, DataArray, dataset or band of rasterio
 
     Raises
     ------
     BadMap
-        Where it can't be a map.
+        It can't be a map.
     """
-    if hasattr(given, "blocks") and hasattr(given, "region"):
-        source: Source = given
+    if hasattr(map, "blocks") and hasattr(map, "region"):
+        source: Source = map
         return source
-    if hasattr(given, "source"):
-        source = given.source(name)
+    if hasattr(map, "source"):
+        source = map.source(name)
         return source
-    if isinstance(given, (str, os.PathLike)):
+    if isinstance(map, (str, os.PathLike)):
         from .mosaics import is_pattern, open_pattern
         from .text_grids import open_path
 
-        path = os.fsdecode(given)
+        path = os.fsdecode(map)
         if path.rstrip("/").endswith(".zarr"):
             from ..readers.xarray import open_zarr
 
             return open_zarr(name, path)
-        return open_pattern(name, path) if is_pattern(path) else open_path(name, given)
-    if _are_paths(given):
+        return open_pattern(name, path) if is_pattern(path) else open_path(name, map)
+    if _are_paths(map):
         from .mosaics import open_files
 
-        return open_files(name, given)
-    module = type(given).__module__.partition(".")[0]
+        return open_files(name, map)
+    module = type(map).__module__.partition(".")[0]
     if module == "rasterio":
         from ..readers.rasterio import open_raster
 
-        return open_raster(name, given)
+        return open_raster(name, map)
     if module == "xarray":
         from ..readers.xarray import source_of_data_array
 
-        return source_of_data_array(name, given)
-    if module == "dask" and hasattr(given, "ndim"):
-        return array_map(name, given.compute())
-    if isinstance(given, tuple) and len(given) == 2 and isinstance(given[0], np.ndarray):
-        return array_map(name, *given)
-    if isinstance(given, (np.ndarray, list)):
-        return array_map(name, given)
-    raise BadMap(name, f"neither a path nor an array nor a raster, but a {type(given).__name__}")
+        return source_of_data_array(name, map)
+    if module == "dask" and hasattr(map, "ndim"):
+        return array_map(name, map.compute())
+    if isinstance(map, tuple) and len(map) == 2 and isinstance(map[0], np.ndarray):
+        return array_map(name, *map)
+    if isinstance(map, (np.ndarray, list)):
+        return array_map(name, map)
+    raise BadMap(name, f"neither a path nor an array nor a raster, but a {type(map).__name__}")
 
 
-def _are_paths(given: Any) -> bool:
-    """Return whether a map is given as the files that have its parts."""
+def _are_paths(map: Any) -> bool:
+    """Return whether a map is given as several files, which contain its parts."""
     return (
-        isinstance(given, (list, tuple))
-        and bool(given)
-        and all(isinstance(one, (str, os.PathLike)) for one in given)
+        isinstance(map, (list, tuple))
+        and bool(map)
+        and all(isinstance(path, (str, os.PathLike)) for path in map)
     )
 
 
@@ -615,8 +632,8 @@ def check_names(names: Iterable[str]) -> None:
         if not (isinstance(name, str) and _NAME.fullmatch(name)):
             better = re.sub(r"[^A-Za-z0-9_.]", "_", str(name))[:64]
             better = better if _NAME.fullmatch(better) else f"m_{better[:60]}"
-            told = f"must have names of 1 to 64 letters, digits, _ and ., a letter or _ first; got {name!r}: write {better}"
-            raise BadArgument("maps", told)
+            rule = f"must have names of 1 to 64 letters, digits, _ and ., a letter or _ first; got {name!r}: write {better}"
+            raise BadArgument("maps", rule)
 
 
 def named_once(maps: Any, named: Mapping[str, Any]) -> dict[str, Any]:
@@ -632,7 +649,7 @@ def named_once(maps: Any, named: Mapping[str, Any]) -> dict[str, Any]:
 
 
 def sources_of(
-    maps: Mapping[str, Any], crs: Any = None, given: Mapping[str, Any] | None = None
+    maps: Mapping[str, Any], crs: Any = None, written: Mapping[str, Any] | None = None
 ) -> tuple[dict[str, Source], Any]:
     """Return the maps of a call, and the coordinate reference system that they have in common.
 
@@ -640,28 +657,28 @@ def sources_of(
     ----------
     maps : mapping of str to any
     crs : any
-        The reference system that is stated for maps without one.
-    given : mapping of str to any, optional
-        The maps as the caller gave them, which an advice repeats.
+        The reference system to assume for maps that have none.
+    written : mapping of str to any, optional
+        The maps as the caller gave them, for use in advice.
 
     Raises
     ------
     OtherCrs
-        A map has another reference system than the others, or none where others have one and `crs` does not state it.
+        A map's reference system differs from the others, or is missing while others have one and `crs` does not state it.
     OtherRegion
         The region of a map differs from the first; the text says which edges differ, by how much, and how to align it.
     """
     if not maps:
         raise BadArgument("maps", 'must be given by name, for example a="a.tif"; got none')
     check_names(maps)
-    sources = {name: source_of(name, given) for name, given in maps.items()}
+    sources = {name: source_of(name, map) for name, map in maps.items()}
     titles = {name: source.name for name, source in sources.items()}
     common = common_crs({name: source.crs for name, source in sources.items()}, crs, titles=titles)
     first_name, first = next(iter(sources.items()))
     for name, source in sources.items():
         if source.region != first.region:
             fault = _other_region(first, source)
-            mine, its = (_written(of, (given or maps)[of]) for of in (name, first_name))
+            mine, its = (_written(key, (written or maps)[key]) for key in (name, first_name))
             is_whole = Shift.between(source.transform, first.transform, first.region.shape).is_whole
             fault.advice = _alignment(name, mine, its, is_whole)
             raise fault
@@ -670,8 +687,8 @@ def sources_of(
 
 def _other_region(first: Source, source: Source) -> OtherRegion:
     """Return the error of a map whose region differs from the first."""
-    told = "; ".join(first.region.differences(source.region))
-    text = f"not of the region of `{first.name}`, and nothing is resampled: {told}"
+    differences = "; ".join(first.region.differences(source.region))
+    text = f"its grid differs from `{first.name}`, and rcell does not resample: {differences}"
     regions = f"  {first.name}: {first.region}\n  {source.name}: {source.region}"
     return OtherRegion(source.name, f"{text}\n{regions}")
 
@@ -685,12 +702,12 @@ def _alignment(name: str, mine: str, its: str, is_whole: bool) -> str:
     return f"{name}=rcell.align({mine}, to={its}{nearest})"
 
 
-def _written(name: str, given: Any) -> str:
+def _written(name: str, map: Any) -> str:
     """Return a map as a caller would write it: its path, or its name."""
     if host().words == "qgis":
-        return f'"{given.name}"'
+        return f'"{map.name}"'
     return (
-        json.dumps(os.fspath(given), ensure_ascii=False)
-        if isinstance(given, (str, os.PathLike))
+        json.dumps(os.fspath(map), ensure_ascii=False)
+        if isinstance(map, (str, os.PathLike))
         else name
     )

@@ -31,14 +31,21 @@ def _shortest(value: Any) -> Any:
 
 
 def _markdown(columns: Sequence[str], rows: Sequence[Sequence[Any]]) -> str:
-    def cell(value: Any) -> str:
-        text = "" if value is None else f"{value:.10g}" if isinstance(value, float) else str(value)
-        return text.replace("\\", "\\\\").replace("|", "\\|").replace("\n", " ")
+    """Return a table in Markdown, with columns of numbers to the right."""
+    sides = []
+    for index in range(len(columns)):
+        has_texts = any(isinstance(row[index], str) for row in rows)
+        sides.append("---" if has_texts else "---:")
+    lines = []
+    for row in (columns, *rows):
+        cells = " | ".join(map(_markdown_cell, row))
+        lines.append(f"| {cells} |")
+    lines.insert(1, f"|{'|'.join(sides)}|")
+    return "\n".join(lines) + "\n"
 
-    sides = [
-        "---" if any(isinstance(row[at], str) for row in rows) else "---:"
-        for at in range(len(columns))
-    ]
-    lines = [" | ".join(map(cell, line)) for line in (columns, *rows)]
-    head, *rest = (f"| {line} |" for line in lines)
-    return "\n".join([head, f"|{'|'.join(sides)}|", *rest]) + "\n"
+
+def _markdown_cell(value: Any) -> str:
+    if value is None:
+        return ""
+    text = f"{value:.10g}" if isinstance(value, float) else str(value)
+    return text.replace("\\", "\\\\").replace("|", "\\|").replace("\n", " ")

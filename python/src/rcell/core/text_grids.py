@@ -1,5 +1,5 @@
 # SPDX-License-Identifier: Apache-2.0 OR GPL-2.0-or-later
-"""Text grids: rcell reads them."""
+"""Text grids, which the program rcell reads."""
 
 from __future__ import annotations
 
@@ -44,7 +44,7 @@ class TextMap:
     path : str
     region : Region
     held : bytes
-        The bytes that were already read of a pipe.
+        The bytes that were already read from a pipe.
     stream : io.FileIO or None
         The rest of the pipe; None for a file, which can be read again.
     """
@@ -80,19 +80,21 @@ class TextMap:
             rcell rejects the grid.
         """
         program = find_program()
-        with contextlib.ExitStack() as kept:
+        with contextlib.ExitStack() as cleanup:
             path = self.path
             if self.stream is not None:
-                stream = kept.enter_context(self.stream)
+                stream = cleanup.enter_context(self.stream)
                 rest = iter(lambda: read_some(stream.fileno(), 1 << 20), b"")
-                path = kept.enter_context(spooled(chain([self.held], rest)))
-            kept.enter_context(program_errors("", [self.name], program))
-            for rows in kept.enter_context(printed_grid(program, path, watch=host().watch)).blocks:
+                path = cleanup.enter_context(spooled(chain([self.held], rest)))
+            cleanup.enter_context(program_errors("", [self.name], program))
+            for rows in cleanup.enter_context(
+                printed_grid(program, path, watch=host().watch)
+            ).blocks:
                 yield Block(rows, None)
 
 
 def is_grid(path: str) -> bool:
-    """Return whether a file begins as a text grid."""
+    """Return whether a file begins like a text grid."""
     with contextlib.suppress(OSError, ValueError), open(path, "rb") as file:
         return is_text_grid(file.read(64))
     return False
@@ -148,7 +150,7 @@ def _raster(name: str, path: str) -> Source:
 
 
 def _head_of(stream: io.FileIO, is_file: bool) -> bytes:
-    """Return the first bytes: of a file a fixed number, of a pipe the complete header."""
+    """Return the first bytes: a fixed number from a file, the complete header from a pipe."""
     head = b""
     while len(head) < HEADER_BYTES:
         piece = stream.read(HEADER_BYTES - len(head))
@@ -175,16 +177,14 @@ def _region_of(name: str, head: bytes) -> Region | None:
     """Return the region of a header, or None if it is invalid, which rcell then reports."""
     fields = _fields(head + b"\n")[0]
     try:
-        north, south, east, west = (
-            _edge_of(fields[key]) for key in ("north", "south", "east", "west")
-        )
+        edges = [_edge_of(fields[key]) for key in ("north", "south", "east", "west")]
         rows, cols = int(fields["rows"]), int(fields["cols"])
     except (KeyError, ValueError, OverflowError):
         return None
     if not fits_one_run((rows, cols)):
         return None
     try:
-        return in_region(name, Region, north, south, east, west, rows, cols)
+        return in_region(name, Region, *edges, rows, cols)
     except BadMap:
         return None
 

@@ -18,7 +18,7 @@ from .joiner import numbering_of
 from .protocol import NULL
 from .rectangles import Rectangle
 
-__all__ = ["Joined", "TileNumbers", "border_text", "join", "renumber"]
+__all__ = ["Joined", "TileNumbers", "border_text", "join", "renumber", "sides_text"]
 
 Integers = NDArray[Any]
 
@@ -91,13 +91,23 @@ def border_text(
     begun = np.maximum.accumulate(numbers.max(axis=1))
     sides = [(slice(0, 1), slice(None)), (slice(-1, None), slice(None))]
     sides += [(slice(None), slice(0, 1)), (slice(None), slice(-1, None))]
+    return sides_text(place, [(cells[side], numbers[side]) for side in sides], begun, diagonal)
+
+
+def sides_text(
+    place: Rectangle,
+    sides: Sequence[tuple[Integers, Integers]],
+    begun: Integers,
+    diagonal: bool,
+) -> bytes:
+    """Return the border of a tile from the cells and numbers of its first and last row and column, and the clumps begun up to each row."""
     lines = [
-        _words(part[side].ravel().tolist(), null)
+        _words(values.ravel().tolist(), null)
         for side in sides
-        for part, null in ((cells, NULL), (numbers, NO_CLUMP))
+        for values, null in zip(side, (NULL, NO_CLUMP))
     ]
-    told = [place.rows, place.cols, int(begun[-1]), 8 if diagonal else 4]
-    lines += [_words(told), _words(np.diff(begun, prepend=0).tolist())]
+    facts = [place.rows, place.cols, int(begun[-1]), 8 if diagonal else 4]
+    lines += [_words(facts), _words(np.diff(begun, prepend=0).tolist())]
     width = max(place.rows, place.cols, LEAST_WIDTH)
     north, south, east, west = place.region.edges
     head = f"north: {north}\nsouth: {south}\neast: {east}\nwest: {west}\nrows: 10\ncols: {width}\n"
@@ -126,28 +136,25 @@ def join(borders: Sequence[bytes], diagonal: bool = False) -> Joined:
     >>> whole.clumps, renumber(np.array([[1, 1]]), whole.tiles[1]).tolist()
     (1, [[1, 1]])
     """
-    runs = numbering_of(borders, diagonal)
-    ends = np.searchsorted(runs[:, 0], np.arange(1, len(borders) + 2))
-    tiles = [
-        TileNumbers(
-            int(runs[end - 1, 2]) if end > begin else 0,
-            runs[begin:end, 1],
-            runs[begin:end, 3],
-        )
-        for begin, end in zip(ends, ends[1:])
-    ]
-    return Joined(int((runs[:, 3] + runs[:, 2] - runs[:, 1]).max(initial=0)), tiles)
+    tile, first, last, number = numbering_of(borders, diagonal).T
+    ends = np.searchsorted(tile, np.arange(1, len(borders) + 2))
+    tiles = []
+    for begin, end in zip(ends, ends[1:]):
+        clumps = int(last[end - 1]) if end > begin else 0
+        tiles.append(TileNumbers(clumps, first[begin:end], number[begin:end]))
+    largest = (number + last - first).max(initial=0)
+    return Joined(int(largest), tiles)
 
 
 def renumber(numbers: Integers, tile: TileNumbers, out: Optional[Integers] = None) -> Integers:
-    """Replace the clump numbers of a tile by the numbers of the full map.
+    """Replace the clump numbers of a tile with the numbers of the full map.
 
     Parameters
     ----------
     numbers : ndarray of integers, any shape
         Numbers that r.clump gives in the tile, 0 for null.
     tile : TileNumbers
-        What `join` found of the tile.
+        What `join` found for the tile.
     out : ndarray of integers, the same shape, optional
         Where to put them: it may be `numbers` itself. Its type has room for the number of clumps of the full map.
 
@@ -169,8 +176,8 @@ def renumber(numbers: Integers, tile: TileNumbers, out: Optional[Integers] = Non
         for start in range(1, tile.clumps + 1, PIECE):
             piece = np.arange(start, min(start + PIECE, tile.clumps + 1))
             table[piece] = tile.looked_up(piece)
-    given, taken = numbers.reshape(-1), out.reshape(-1)
-    for start in range(0, given.size, PIECE):
-        piece = given[start : start + PIECE]
-        taken[start : start + PIECE] = tile.looked_up(piece) if table is None else table[piece]
+    source, target = numbers.reshape(-1), out.reshape(-1)
+    for start in range(0, source.size, PIECE):
+        piece = source[start : start + PIECE]
+        target[start : start + PIECE] = tile.looked_up(piece) if table is None else table[piece]
     return out

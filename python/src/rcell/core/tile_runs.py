@@ -1,8 +1,9 @@
 # SPDX-License-Identifier: Apache-2.0 OR GPL-2.0-or-later
 """A script over the tiles of maps, with the outputs of one run over the full maps.
 
-Tables add up, and maps are put together. An r.clump is worked on first, tile by tile: its clumps are joined, and its map is then one of
-the given maps. That tiles give the same is proved in the crate `cell_parts` of this project; each step names its law.
+Tables add up, and maps are put together. An r.clump is processed first, tile by tile: its clumps
+are joined, and its map is then one of the given maps. That tiles give the same is proved in the
+crate `cell_parts` of this project; each step names its law.
 """
 
 from __future__ import annotations
@@ -10,46 +11,49 @@ from __future__ import annotations
 from collections.abc import Callable, Iterator, Mapping, Sequence
 from contextlib import contextmanager
 from dataclasses import dataclass, replace
+from functools import partial
 from typing import Any
+from uuid import uuid4
 
 import numpy as np
 
-from . import protocol
 from .arrays import NDArray
 from .borders import Watch
 from .crews import Crew
-from .errors import BadMap, OutOfMemory, ReadFailed
+from .errors import BadMap, ReadFailed
 from .host import host
 from .joiner import check_files, find_joiner
-from .kept import cells_for, fits_memory
-from .programs import find_pipe, program_errors
-from .protocol import NULL, GridFrame, Statement
+from .kept import cells_for
+from .pieces import is_file
+from .protocol import NULL, Question, Statement
 from .rectangles import Rectangle, rectangles_of
-from .region import Region
 from .resuming import Shelf, state_of
-from .runs import Output, entries_of
-from .sources import MAX_CATEGORY, ArrayMap, Block, Source
-from .tile_clumps import NO_CLUMP, Joined, border_text, join, renumber
+from .runs import Fold, Output, PatchFold
+from .sources import MAX_CATEGORY, ArrayMap, Source
+from .tile_clumps import NO_CLUMP, Joined, join, renumber
+from .tile_patches import measures_of
 from .tile_scripts import TileScript, is_counted, is_diagonal
 from .tile_tables import TableSum
-from .tiling import Demand, tile_size, work
+from .tile_work import TileDone, TileWork, clumps_of, outputs_of, patches_of, wide
+from .tiling import Demand, cluster, tile_size, work
 
-__all__ = ["demand_of", "run_tiles"]
+__all__ = ["ask_tiles", "demand_of", "outputs_in", "run_tiles", "table_output"]
 
 Integers = NDArray[Any]
-Fold = Callable[[Integers, Integers], None]
+Put = Callable[[Rectangle, list[Integers]], list[Integers]]
 
 
 def demand_of(plan: Sequence[Statement], maps: Mapping[str, Source]) -> Demand:
     """Return the memory that a script needs for each cell of a tile."""
-    script = TileScript.of(plan, _outputs_of(plan), maps)
+    script = TileScript.of(plan, outputs_in(plan), maps)
     grids = sum(output.command == "r.out.ascii" for output in script.outputs)
-    clumps = sum(each.command == "r.clump" for each in plan)
+    clumps = sum(statement.command == "r.clump" for statement in plan)
     return Demand.of(maps, script.maps + clumps, grids + 2 * (clumps > 0), clumps, script.reach)
 
 
-def _outputs_of(plan: Sequence[Statement]) -> list[Statement]:
-    return [each for each in plan if each.command in ("r.stats", "r.out.ascii")]
+def outputs_in(plan: Sequence[Statement]) -> list[Statement]:
+    """Return the statements of a plan that write something."""
+    return [statement for statement in plan if statement.command in ("r.stats", "r.out.ascii")]
 
 
 def run_tiles(
@@ -58,7 +62,7 @@ def run_tiles(
     demand: Demand,
     fold: Fold | None = None,
 ) -> list[Output]:
-    """Return the outputs of a script over maps of one region, by tiles.
+    """Return the outputs of a script over maps of one region, in tiles.
 
     Parameters
     ----------
@@ -67,8 +71,8 @@ def run_tiles(
     maps : mapping of str to Source
         All of them have `window`.
     demand : Demand
-    fold : callable, optional
-        As in `execute`.
+    fold : Fold, optional
+        See `execute`.
 
     Raises
     ------
@@ -77,36 +81,83 @@ def run_tiles(
     Refused, BadMap, Killed, MissingProgram, WrongProgram
         As from one run.
     """
-    size, workers = tile_size(maps, demand)
+    crew_cluster = cluster()
+    size, workers = tile_size(maps, demand, crew_cluster)
     shape = next(iter(maps.values())).region.shape
     places = rectangles_of(shape, size)
-    clumps = [each for each in plan if each.command == "r.clump"]
-    outputs = _outputs_of(plan)
+    clumps = [statement for statement in plan if statement.command == "r.clump"]
+    outputs = outputs_in(plan)
     if clumps:
         find_joiner()  # it is needed at the end, and missed at the beginning
         check_files(len(places))
-    states = {
-        path: state_of(path)
-        for source in maps.values()
-        for path in (source.files if getattr(source, "is_file", False) else ())
-    }
+    states = _states(maps)
     numbered = {clump.made for clump in clumps}
-    rest = [each for each in outputs if not _is_map_of(each, numbered)]
-    steps = len(places) * (2 * len(clumps) + bool(rest))
-    with _first_bad_cell(maps), Crew(workers, steps) as crew:
+    rest = [statement for statement in outputs if not _is_map_of(statement, numbered)]
+    steps = len(places) * (1 if fold is not None else 2 * len(clumps) + bool(rest))
+    with _first_bad_cell(maps), Crew(workers, steps, cluster=crew_cluster) as crew:
         tiles = _Tiles(crew, dict(maps), places, shape)
-        for clump in clumps:
-            tiles.add_clumps(plan, clump)
-        found = iter(tiles.outputs(plan, rest, fold) if rest else [])
+        made_outputs: Iterator[Output] = iter(())
+        if fold is not None:
+            tiles.fold(plan, clumps[0], outputs[0], fold)
+        else:
+            for clump in clumps:
+                tiles.add_clumps(plan, clump, is_last=not rest and clump is clumps[-1])
+            made_outputs = iter(tiles.outputs(plan, rest) if rest else [])
         tiles.finish()
-        for path, state in states.items():
-            if state_of(path) != state:
-                raise ReadFailed(path, "has changed while it was read")
+        _check_states(states)
         if fold is not None:
             return []
         return [
-            tiles.clumps(each) if _is_map_of(each, numbered) else next(found) for each in outputs
+            tiles.clumps(statement) if _is_map_of(statement, numbered) else next(made_outputs)
+            for statement in outputs
         ]
+
+
+def ask_tiles(
+    question: Question,
+    plan: Sequence[Statement],
+    maps: Mapping[str, Source],
+    demand: Demand,
+    fold: PatchFold,
+) -> None:
+    """Give the patches of a map to a fold, tile by tile.
+
+    Parameters
+    ----------
+    question : Question
+    plan : sequence of Statement
+        Of a script that numbers the patches and writes them as a map, and counts tables of them.
+    maps, demand
+        See `run_tiles`, also for the errors.
+    fold : PatchFold
+    """
+    found_cluster = cluster()
+    size, workers = tile_size(maps, demand, found_cluster)
+    shape = next(iter(maps.values())).region.shape
+    places = rectangles_of(shape, size)
+    find_joiner()
+    check_files(len(places))
+    states = _states(maps)
+    with _first_bad_cell(maps), Crew(workers, len(places), cluster=found_cluster) as crew:
+        tiles = _Tiles(crew, dict(maps), places, shape)
+        tiles.measure(plan, question, fold)
+        tiles.finish()
+        _check_states(states)
+
+
+def _states(maps: Mapping[str, Source]) -> dict[str, str]:
+    """Return the states of the files that are read."""
+    states = {}
+    for source in maps.values():
+        if is_file(source):
+            states.update({path: state_of(path) for path in source.files})
+    return states
+
+
+def _check_states(states: Mapping[str, str]) -> None:
+    for path, state in states.items():
+        if state_of(path) != state:
+            raise ReadFailed(path, "has changed while it was read")
 
 
 @contextmanager
@@ -115,15 +166,15 @@ def _first_bad_cell(maps: Mapping[str, Source]) -> Iterator[None]:
     try:
         yield
     except BadMap as error:
-        for source in maps.values() if error.row else ():
-            if source.name == error.source:
-                for _ in source.blocks():
+        for source in maps.values():
+            if error.row and source.name == error.source:
+                for _ in source.blocks():  # which raises the error
                     pass
         raise
 
 
 def _is_map_of(output: Statement, names: set[str]) -> bool:
-    """Return whether an output is one of some maps, as it is."""
+    """Return whether an output is one of some maps, unchanged."""
     return output.command == "r.out.ascii" and output.inputs[0] in names
 
 
@@ -146,8 +197,9 @@ class _Tiles:
         shape: tuple[int, int],
     ) -> None:
         self._crew, self._maps, self._places, self._shape = crew, maps, places, shape
-        self._watches = {name: Watch(name, source) for name, source in maps.items()}
-        self._seen = False
+        self._watches = {name: Watch(name, source, shape) for name, source in maps.items()}
+        self._unread = dict.fromkeys(maps)  # the maps whose cells no run has checked
+        self._call = uuid4().hex  # by which a worker of a cluster knows the call
         self._shelf = Shelf.of(work().resume, maps, shape)
 
     def finish(self) -> None:
@@ -155,105 +207,130 @@ class _Tiles:
         for watch in self._watches.values():
             watch.finish()
 
-    def outputs(
-        self, plan: Sequence[Statement], outputs: Sequence[Statement], fold: Fold | None
-    ) -> list[Output]:
+    def outputs(self, plan: Sequence[Statement], outputs: Sequence[Statement]) -> list[Output]:
         """Return the outputs of statements, once the maps of clumps are known."""
-        script = TileScript.of(
-            [each for each in plan if each.made not in self._maps], outputs, self._maps
-        )
+        script = self._script(plan, outputs)
+        kinds_of_results = outputs_of([is_counted(statement) for statement in outputs])
         sums: list[TableSum | _Grid] = [
-            TableSum(len(each.inputs), is_counted(each))
-            if each.command == "r.stats"
+            TableSum(len(statement.inputs), is_counted(statement))
+            if statement.command == "r.stats"
             else _Grid(self._shape)
-            for each in outputs
+            for statement in outputs
         ]
-
-        def made(place: Rectangle) -> list[Integers]:
-            outer = place.with_halo(script.reach, self._shape)
-            text = script.text(place, outer, self._shape)
-            blocks = self._blocks_without_files(outer)
-            return self._shelf.kept(
-                text, place, blocks, lambda: self._results(text, place, outer, outputs, blocks)
-            )
-
-        for at, results in self._crew.each(made, self._places):
-            if fold is not None:
-                fold(results[0], self._open_clumps(plan, self._places[at]))
-                continue
+        for index, results in self._run(script, script.text, kinds_of_results):
             for total, result in zip(sums, results):
                 if isinstance(total, TableSum):
                     total.add(result)
                 else:
-                    total.put(self._places[at], result)
-        return [_output(each, total) for each, total in zip(outputs, sums)]
+                    total.put(self._places[index], result)
+        return [_output(statement, total) for statement, total in zip(outputs, sums)]
 
-    def _open_clumps(self, plan: Sequence[Statement], place: Rectangle) -> Integers:
-        """Return the clumps that may continue outside a tile: those along its sides."""
-        [clump] = [each.made for each in plan if each.command == "r.clump"]
-        source = self._maps[clump]
-        assert isinstance(source, ArrayMap)
-        own = place.part_of(self._full, source.array)
-        sides: Integers = np.concatenate([own[0], own[-1], own[:, 0], own[:, -1]])
-        return np.unique(sides)
+    def fold(
+        self, plan: Sequence[Statement], clump: Statement, stats: Statement, fold: Fold
+    ) -> None:
+        """Give the table of an r.stats over clumps to a fold, tile by tile: no map of the clumps is ever made."""
+        script = self._script(plan, [clump, stats])
+        diagonal = is_diagonal(clump)
+        text = partial(script.clump_text, clump, stats=stats)
+        borders = [b""] * len(self._places)
+        results = patches_of(diagonal, is_counted(stats))
+        for index, (border, table, sides) in self._run(script, text, results):
+            borders[index] = border.tobytes()
+            fold.add(index, table, sides)
+        tiles = join(borders, diagonal).tiles
+        fold.join(lambda index, numbers: tiles[index].looked_up(numbers))
 
-    def _blocks_without_files(self, outer: Rectangle) -> dict[str, Block]:
-        """Return the cells of maps that are in no file, for results that are kept: files are known by their size and time."""
-        if self._shelf.folder is None:
-            return {}
-        sources: dict[str, Any] = {
-            name: of for name, of in self._maps.items() if not getattr(of, "is_file", False)
-        }
-        return {name: source.window(*outer) for name, source in sources.items()}
+    def measure(self, plan: Sequence[Statement], question: Question, fold: PatchFold) -> None:
+        """Give the measures of patches to a fold, and tables that begin with their numbers, tile by tile."""
+        script = self._script(plan, outputs_in(plan))
+        borders = [b""] * len(self._places)
 
-    def _results(
-        self,
-        text: str,
-        place: Rectangle,
-        outer: Rectangle,
-        outputs: Sequence[Statement],
-        blocks: Mapping[str, Block],
-    ) -> list[Integers]:
-        """Return the tables and maps of a tile, without its halo."""
-        frames = self._frames(text, place, outer, blocks)
-        halo = outer.cells - place.cells
-        return [
-            _cells_of(frame, place, outer)
-            if isinstance(frame, GridFrame)
-            else _counted(entries_of(frame), halo if is_counted(each) else 0)
-            for frame, each in zip(frames, outputs)
-        ]
+        def text(place: Rectangle, _: Rectangle, shape: tuple[int, int]) -> str:
+            return script.text(place, place, shape)
 
-    def add_clumps(self, plan: Sequence[Statement], clump: Statement) -> None:
+        found = self._run(script, text, measures_of, question=question)
+        for index, (border, rows, sides, *tables) in found:
+            borders[index] = border.tobytes()
+            fold.add(index, self._places[index], rows, sides, tables)
+        tiles = join(borders, question.is_diagonal).tiles
+        fold.join(lambda index, numbers: tiles[index].looked_up(numbers))
+
+    def add_clumps(self, plan: Sequence[Statement], clump: Statement, is_last: bool) -> None:
         """Make the map of an r.clump, and add it to the maps that are known.
 
         The numbers of a tile are kept until the clumps are joined, and are then replaced by the numbers of the full map.
         """
-        script = TileScript.of(
-            [each for each in plan if each.made not in self._maps], [clump], self._maps
-        )
+        script = self._script(plan, [clump])
         diagonal = is_diagonal(clump)
         numbers = cells_for(self._shape, np.int32)
 
-        def border(place: Rectangle) -> bytes:
-            outer = place.with_halo(script.reach, self._shape)
-            text = script.clump_text(clump, place, outer, self._shape)
-            own, cells = self._frames(text, place, outer, {})
-            assert isinstance(own, GridFrame) and isinstance(cells, GridFrame)
-            found = _wide(_cells_of(own, place, outer), NO_CLUMP)
-            place.part_of(self._full, numbers)[...] = found
-            return border_text(place, _wide(_cells_of(cells, place, outer), NULL), found, diagonal)
+        def keep_numbers(place: Rectangle, results: list[Integers]) -> list[Integers]:
+            place.part_of(self._full, numbers)[...] = results[1]
+            return results[:1]
 
+        text = partial(script.clump_text, clump)
         borders = [b""] * len(self._places)
-        for at, text in self._crew.each(border, self._places):
-            borders[at] = text
-        whole = join(borders, diagonal)
+        for index, [border] in self._run(script, text, clumps_of(diagonal), is_last, keep_numbers):
+            borders[index] = border.tobytes()
+        joined = join(borders, diagonal)
         self._maps[clump.made] = ArrayMap(
             clump.made,
-            self._numbered(numbers, whole),
+            self._numbered(numbers, joined),
             next(iter(self._maps.values())).region,
             nodata_value=NO_CLUMP,
         )
+
+    def _script(self, plan: Sequence[Statement], outputs: Sequence[Statement]) -> TileScript:
+        needed = [
+            statement
+            for statement in plan
+            if statement.made not in self._maps and statement not in outputs
+        ]
+        return TileScript.of(needed, outputs, self._maps)
+
+    def _run(
+        self,
+        script: TileScript,
+        text: Callable[[Rectangle, Rectangle, tuple[int, int]], str],
+        results: Any,
+        is_last: bool = True,
+        keep: Put | None = None,
+        question: Question | None = None,
+    ) -> Iterator[tuple[int, list[Integers]]]:
+        """Yield the results of all tiles as they come, each with the index of its tile.
+
+        Maps are read if the script needs them, and in the last run also those that no run has read: their cells are checked.
+        Results that are put somewhere at once are too large to be kept for a call that continues.
+        """
+        read = script.reads
+        if is_last:
+            read |= set(self._unread)
+        maps = {name: source for name, source in self._maps.items() if name in read}
+        if not maps:  # a script that reads no map runs over the first
+            name = next(iter(self._maps))
+            maps = {name: self._maps[name]}
+        watched = tuple(name for name in maps if name in self._unread)
+        reach = script.reach if question is None else question.reach
+        common = maps, watched, results, host().words, self._call
+        questions = () if question is None else (question,)
+
+        def prepare(place: Rectangle) -> TileWork:
+            outer = place.with_halo(reach, self._shape)
+            words = text(place, outer, self._shape)
+            work = TileWork(words, place, outer, self._shape, *common, questions=questions)
+            return work if keep is not None else self._shelf.known(work)
+
+        def finish(work: TileWork, done: TileDone) -> list[Integers]:
+            for name, counts in done.counts.items():
+                self._watches[name].merge(counts)
+            if keep is not None:
+                return keep(work.place, done.results)
+            self._shelf.keep(work.path, done)
+            return done.results
+
+        yield from self._crew.run(prepare, finish, self._places)
+        for name in watched:
+            del self._unread[name]
 
     def clumps(self, output: Statement) -> Output:
         """Return the map of clumps that a statement writes, once no other one reads it."""
@@ -270,7 +347,7 @@ class _Tiles:
         return Rectangle(0, 0, *self._shape)
 
     def _numbered(self, numbers: Integers, whole: Joined) -> Integers:
-        """Replace the numbers of tiles by the numbers of the full map, in place if these fit."""
+        """Replace the numbers of tiles with the numbers of the full map, in place if these fit."""
         is_wide = whole.clumps > MAX_CATEGORY
         target = cells_for(self._shape, np.int64) if is_wide else numbers
         tiles = dict(zip(self._places, whole.tiles))
@@ -284,81 +361,15 @@ class _Tiles:
             pass
         return target
 
-    def _frames(
-        self, text: str, place: Rectangle, outer: Rectangle, blocks: Mapping[str, Block]
-    ) -> list[protocol.Frame]:
-        """Run a script over the maps of a tile with its halo, of which some blocks are known already."""
-        sent = [
-            self._sent(name, source, place, outer, blocks.get(name))
-            for name, source in self._maps.items()
-        ]
-        try:
-            with program_errors(text, list(self._maps), path := find_pipe()):
-                return protocol.run(path, sent, protocol.script_bytes(text), watch=host().watch)
-        except OutOfMemory as error:
-            told = f"{error.text} for a tile of {outer.rows} x {outer.cols} cells"
-            raise OutOfMemory(told, "arguments", 0, error.status) from None
-
-    def _sent(
-        self, name: str, source: Any, place: Rectangle, outer: Rectangle, known: Block | None
-    ) -> protocol.Map:
-        block = source.window(*outer) if known is None else known
-        watch = self._watches.get(name)
-        if watch is not None:
-            null = None if block.null is None else place.part_of(outer, block.null)
-            own = replace(block, cells=place.part_of(outer, block.cells), null=null)
-            watch.add(own, place.top, place.left)
-        mask = None if block.null is None else block.null.view(np.uint8).data
-        return protocol.Map(
-            name,
-            Region.of_cells(outer.rows, outer.cols).edges,
-            outer.rows,
-            outer.cols,
-            source.dtype.kind + str(8 * source.dtype.itemsize),
-            [protocol.Block(block.cells.data, mask)],
-            source.nodata,
-            source.is_masked,
-        )
-
-
-def _cells_of(frame: GridFrame, place: Rectangle, outer: Rectangle) -> Integers:
-    """Return the cells of a tile from a map of the tile and its halo.
-
-    They are the full map's, by the law `halo_is_enough`, or `reach_is_enough` if the script uses rows and columns.
-    """
-    cells = np.asarray(frame.cells).reshape(frame.rows, frame.cols)
-    return cells if place == outer else np.ascontiguousarray(place.part_of(outer, cells))
-
-
-def _wide(cells: Integers, null: int) -> Integers:
-    """Return cells as int32 with another number for null."""
-    own = protocol.NULL_BYTE if cells.dtype == np.uint8 else NULL
-    wide: Integers = cells.astype(np.int32)
-    np.copyto(wide, null, where=cells == own)
-    return wide
-
-
-def _counted(table: Integers, halo: int) -> Integers:
-    """Return the table of a tile without its halo, whose cells are null in all maps (law `tables_add_up`)."""
-    if not halo or not len(table) or (table[-1, :-1] != NULL).any():
-        return table
-    table[-1, -1] -= halo
-    return table if table[-1, -1] else table[:-1]
-
 
 @dataclass
 class _Grid:
-    """A map that is put together from tiles.
-
-    It is of int32, or of bytes if int32 needs too much memory and all categories fit into bytes.
-    """
+    """A map that is put together from tiles: of bytes, until a tile has cells that do not fit."""
 
     shape: tuple[int, int]
 
     def __post_init__(self) -> None:
-        self.cells = cells_for(
-            self.shape, np.int32 if fits_memory(self.shape, np.int32) else np.uint8
-        )
+        self.cells = cells_for(self.shape, np.uint8)
         self._done: list[Rectangle] = []
 
     def put(self, place: Rectangle, cells: Integers) -> None:
@@ -367,17 +378,22 @@ class _Grid:
         if cells.dtype == np.int32 and self.cells.dtype == np.uint8:
             narrow, self.cells = self.cells, cells_for(self.shape, np.int32)
             for done in self._done:
-                done.part_of(full, self.cells)[...] = _wide(done.part_of(full, narrow), NULL)
+                done.part_of(full, self.cells)[...] = wide(done.part_of(full, narrow), NULL)
         if self.cells.dtype == np.int32 and cells.dtype == np.uint8:
-            cells = _wide(cells, NULL)
+            cells = wide(cells, NULL)
         place.part_of(full, self.cells)[...] = cells
         self._done.append(place)
 
 
 def _output(statement: Statement, total: TableSum | _Grid) -> Output:
-    line, options = statement.line, statement.options
     if isinstance(total, _Grid):
-        return Output("r.out.ascii", line, statement.inputs, total.cells)
-    values, has_counts = total.table(), "c" in options
-    values = values if has_counts else values[:, : len(statement.inputs)]
-    return Output("r.stats", line, statement.inputs, values, has_counts, "l" in options)
+        return Output("r.out.ascii", statement.line, statement.inputs, total.cells)
+    return table_output(statement, total.table())
+
+
+def table_output(statement: Statement, values: Any) -> Output:
+    """Return the output of an r.stats, of a table that has counts even if the statement has none."""
+    inputs, options = statement.inputs, statement.options
+    has_counts = "c" in options
+    values = values if has_counts else values[:, : len(inputs)]
+    return Output("r.stats", statement.line, inputs, values, has_counts, "l" in options)

@@ -5,8 +5,9 @@ from __future__ import annotations
 
 from collections.abc import Iterable, Iterator, Mapping, Sequence
 from dataclasses import dataclass
-from itertools import product
+from itertools import islice, product
 from string import ascii_lowercase
+from typing import Optional
 
 from .protocol import NULL, Margin, Statement
 from .rectangles import NO_MARGIN, Rectangle
@@ -23,7 +24,7 @@ def _short_names(taken: Iterable[str]) -> Iterator[str]:
 
 
 def _with_calls(statement: Statement, written: Mapping[str, str]) -> str:
-    """Return the text of a statement with other words for its calls."""
+    """Return the text of a statement with each call replaced as `written` specifies."""
     text = statement.text.encode("utf-8", "surrogateescape")
     for call in reversed(statement.calls):
         text = text[: call.start] + written[call.function].encode() + text[call.end :]
@@ -32,20 +33,24 @@ def _with_calls(statement: Statement, written: Mapping[str, str]) -> str:
 
 def _counting(stats: Statement, inputs: Sequence[str]) -> str:
     """Return the line of an r.stats over other maps, without labels, and with counts if these or `halo_cells` are needed."""
-    more = {"c"} if is_counted(stats) else set()
-    flags = "".join(sorted({*stats.options, *more} - {"l"}))
-    after = ",".join("*" if category == NULL else str(category) for category in stats.after)
-    return f"r.stats -{flags} input={','.join(inputs)}{after and f' after={after}'}"
+    flags = set(stats.options) - {"l"}
+    if is_counted(stats):
+        flags.add("c")
+    line = f"r.stats -{''.join(sorted(flags))} input={','.join(inputs)}"
+    if stats.after:
+        categories = ("*" if category == NULL else str(category) for category in stats.after)
+        line += f" after={','.join(categories)}"
+    return line
 
 
 def is_counted(stats: Statement) -> bool:
-    """Return whether tiles count the cells of a table: if it has counts, or null in all maps, which also the cells of a halo are."""
+    """Return whether tiles count the cells of a table: if it has counts, or an entry of nulls, which cells of a halo also have."""
     return "c" in stats.options or not {"n", "N"} & {*stats.options}
 
 
 @dataclass(frozen=True)
 class TileScript:
-    """Statements that give the same for each tile with its halo as for the full map.
+    """Statements that give the same result for each tile with its halo as for the full map.
 
     In a tile, `row()` and `col()` count from its corner, and `nrows()` and `ncols()` are its size. So `nrows()` and `ncols()`
     are replaced by the size of the full map, and `row()` and `col()` by maps that are made first: `row() + above` and
@@ -58,9 +63,9 @@ class TileScript:
     Attributes
     ----------
     statements : tuple of Statement
-        Those that make what the outputs need, in their order.
+        The ones that make what the outputs need, in order.
     outputs : tuple of Statement
-        Each is an r.stats or an r.out.ascii, in their order.
+        The ones that write, each an r.stats or an r.out.ascii, in order.
     spare : tuple of str
         Names that no map of the script has.
     """
@@ -78,44 +83,63 @@ class TileScript:
     ) -> TileScript:
         """Return some outputs of a plan, and the statements that they depend on, over maps of some names."""
         used: list[Statement] = []
-        wanted = {name for output in outputs for name in output.reads}
-        for each in reversed(plan):
-            if each.made in wanted:
-                used.insert(0, each)
-                wanted |= set(each.reads)
+        wanted: set[str] = set()
+        for output in outputs:
+            wanted.update(output.reads)
+        for statement in reversed(plan):
+            if statement.made in wanted:
+                used.insert(0, statement)
+                wanted.update(statement.reads)
         count = 5 + sum(len(output.inputs) for output in outputs)
-        spare = _short_names([*names, *(each.made for each in plan)])
-        return cls(tuple(used), tuple(outputs), tuple(next(spare) for _ in range(count)))
+        taken = [*names, *(statement.made for statement in plan)]
+        spare = tuple(islice(_short_names(taken), count))
+        return cls(tuple(used), tuple(outputs), spare)
 
     @property
     def reach(self) -> Margin:
-        """The halo that a tile needs: by all reads, since beyond a tile even a map that depends on no file is null."""
-        found: dict[str, Margin] = {}
+        """The halo that a tile needs for all reads: beyond a tile even a map that depends on no file is null."""
+        reaches: dict[str, Margin] = {}
         widest = NO_MARGIN
-        for each in (*self.statements, *self.outputs):
-            margins = [
-                [a + b for a, b in zip(found.get(name, NO_MARGIN), margin)]
-                for name, margin in each.reads.items()
-            ]
-            found[each.made] = Margin(*(max(sides) for sides in zip(NO_MARGIN, *margins)))
-            widest = Margin(*(max(sides) for sides in zip(widest, found[each.made])))
+        for statement in (*self.statements, *self.outputs):
+            reach = NO_MARGIN
+            for name, margin in statement.reads.items():
+                inner = reaches.get(name, NO_MARGIN)
+                total = Margin(*(near + far for near, far in zip(inner, margin)))
+                reach = _widest(reach, total)
+            reaches[statement.made] = reach
+            widest = _widest(widest, reach)
         return widest
+
+    @property
+    def reads(self) -> set[str]:
+        """The maps that are read, whether they are given or made."""
+        names: set[str] = set()
+        for statement in (*self.statements, *self.outputs):
+            names.update(statement.reads)
+        return names
 
     @property
     def maps(self) -> int:
         """The number of maps that it makes for a tile."""
-        calls = {call.function for each in self.statements for call in each.calls}
-        return len(self.statements) + len(calls & {"row", "col"})
+        return len(self.statements) + len(self.calls & {"row", "col"})
+
+    @property
+    def calls(self) -> set[str]:
+        """The functions that its statements call, of those that depend on the place of a cell."""
+        return {call.function for statement in self.statements for call in statement.calls}
 
     def text(self, place: Rectangle, outer: Rectangle, shape: tuple[int, int]) -> str:
         """Return the script for a tile, given with its halo, of a full map of some rows and columns."""
-        counted = [name for each in self.outputs for name in each.inputs if _is_table(each)]
-        lines, shown = self._lines(place, outer, shape, counted)
-        for each in self.outputs:
-            if _is_table(each):
-                lines.append(_counting(each, [shown[name] for name in each.inputs]))
+        counted: list[str] = []
+        for output in self.outputs:
+            if _is_table(output):
+                counted += output.inputs
+        lines, masked = self._lines(place, outer, shape, counted)
+        for output in self.outputs:
+            if _is_table(output):
+                lines.append(_counting(output, [masked[name] for name in output.inputs]))
             else:
-                lines.append(f"r.out.ascii input={each.inputs[0]}")
+                lines.append(f"r.out.ascii input={output.inputs[0]}")
         return "\n".join(lines)
 
     def clump_text(
@@ -124,13 +148,25 @@ class TileScript:
         place: Rectangle,
         outer: Rectangle,
         shape: tuple[int, int],
+        stats: Optional[Statement] = None,
     ) -> str:
-        """Return the script that writes the patch numbers of a tile alone, and then the map that they are of."""
-        lines, shown = self._lines(place, outer, shape, clump.inputs)
-        numbers, [name] = self.spare[-1], shown.values()
+        """Return the script that writes only the patch numbers of a tile, and then the map that they number.
+
+        Before them comes the table of an r.stats over these numbers, if one is given.
+        """
+        read = list(clump.inputs)
+        if stats is not None:
+            read += [name for name in stats.inputs if name != clump.made]
+        lines, masked = self._lines(place, outer, shape, read)
+        numbers, classes = self.spare[-1], masked[clump.inputs[0]]
         flag = "-d " if is_diagonal(clump) else ""
-        lines += [f"r.clump {flag}input={name} output={numbers}"]
-        return "\n".join([*lines, *(f"r.out.ascii input={each}" for each in (numbers, name))])
+        lines.append(f"r.clump {flag}input={classes} output={numbers}")
+        if stats is not None:
+            known = {**masked, clump.made: numbers}
+            lines.append(_counting(stats, [known[name] for name in stats.inputs]))
+        lines.append(f"r.out.ascii input={numbers}")
+        lines.append(f"r.out.ascii input={classes}")
+        return "\n".join(lines)
 
     def _lines(
         self,
@@ -141,28 +177,29 @@ class TileScript:
     ) -> tuple[list[str], dict[str, str]]:
         """Return the statements for a tile, and the names of maps that are null in its halo, in place of some."""
         row, col, inside, *others = self.spare
-        calls = {call.function for each in self.statements for call in each.calls}
-        lines = [
-            f"r.mapcalc {name} = {function}() + {before}"
-            for name, function, before in (
-                (row, "row", outer.top),
-                (col, "col", outer.left),
-            )
-            if function in calls
-        ]
+        lines = []
+        if "row" in self.calls:
+            lines.append(f"r.mapcalc {row} = row() + {outer.top}")
+        if "col" in self.calls:
+            lines.append(f"r.mapcalc {col} = col() + {outer.left}")
         written = {
             "row": row,
             "col": col,
             "nrows": str(shape[0]),
             "ncols": str(shape[1]),
         }
-        lines += [_with_calls(each, written) for each in self.statements]
+        lines += [_with_calls(statement, written) for statement in self.statements]
         if place == outer:
             return lines, {name: name for name in names}
         lines.append(f"r.mapcalc {inside} = {_within(place, outer)}")
-        shown = dict(zip(dict.fromkeys(names), others))
-        masked = "r.mapcalc {} = if(isnull({}), null(), {})".format
-        return lines + [masked(new, inside, name) for name, new in shown.items()], shown
+        masked = dict(zip(dict.fromkeys(names), others))
+        for name, new in masked.items():
+            lines.append(f"r.mapcalc {new} = if(isnull({inside}), null(), {name})")
+        return lines, masked
+
+
+def _widest(margin: Margin, other: Margin) -> Margin:
+    return Margin(*(max(sides) for sides in zip(margin, other)))
 
 
 def is_diagonal(clump: Statement) -> bool:

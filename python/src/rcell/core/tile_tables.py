@@ -83,10 +83,10 @@ def _added(rows: Integers, is_counted: bool) -> Integers:
         keys = keys[order]
         differs = keys[1:] != keys[:-1]
     first = np.concatenate([[0], np.flatnonzero(differs) + 1])
-    found: Integers = columns[:, order[first]]
+    sums: Integers = columns[:, order[first]]
     if is_counted:
-        found[-1] = np.add.reduceat(columns[-1][order], first)
-    return found.T
+        sums[-1] = np.add.reduceat(columns[-1][order], first)
+    return sums.T
 
 
 def in_order(table: Integers) -> Integers:
@@ -96,7 +96,7 @@ def in_order(table: Integers) -> Integers:
 
 
 def order_of(classes: Integers) -> NDArray[np.intp]:
-    """Return the order of rows of classes, null last; rows that are equal stay in their order."""
+    """Return indices that sort the rows of `classes`, null last; equal rows keep their order."""
     columns = np.ascontiguousarray(classes.T)
     return _order_of_columns(columns, _keys_of(columns))
 

@@ -1,8 +1,9 @@
 # SPDX-License-Identifier: Apache-2.0 OR GPL-2.0-or-later
-"""What became of cells over many years: each sequence of classes, and maps of when classes changed."""
+"""Cells over many years: each sequence of classes, and maps of when classes changed."""
 
 from __future__ import annotations
 
+import dataclasses
 from collections.abc import Iterable, Iterator, Mapping, Sequence
 from typing import Any, NamedTuple, Optional
 
@@ -13,7 +14,7 @@ from .arguments import MAX_CATEGORY
 from .arrays import NDArray
 from .change import checked_years, maps_in_time
 from .columns import Column, Table
-from .counting import MOST_MAPS, Counts, Maps, counts_of, label_column, legend_for, places_of
+from .counting import MOST_MAPS, Counts, Maps, coded, counts_of, legend_for, places_of
 from .errors import BadArgument
 from .protocol import NULL
 from .scripts import Run
@@ -40,8 +41,9 @@ class Trajectories(NamedTuple):
     changes : pandas.DataFrame
         A row for each number of changes: `changes`, `cells`, `area_ha`, `percent`.
     intervals : pandas.DataFrame
-        A row for each two consecutive years: what changed between them, `percent_year` of it each year, and `uniform_percent_year`,
-        the same over all years (Aldwaik and Pontius 2012, equations 1 and 2).
+        A row for each pair of consecutive years: what changed between them, `percent_year` of it
+        each year, and `uniform_percent_year`, the same over all years (Aldwaik and Pontius 2012,
+        equations 1 and 2).
     maps : dict of str to Raster
         With `include_maps`: `changes`, `first_change` and `last_change`.
 
@@ -79,11 +81,11 @@ def trajectories(
     years : iterable of int
         The year of each map, ascending; a DataArray has its own.
     area, labels
-        As in `change`.
+        See `change`.
     include_maps : bool
         Whether to make maps of the number of changes, and of the years of the first and the last change.
     crs : any, optional
-        The reference system of maps that have none.
+        The reference system to assume for maps that have none.
 
     Returns
     -------
@@ -93,7 +95,7 @@ def trajectories(
     Raises
     ------
     Refused
-        As for `run`.
+        See `run`.
     BadArgument
         Years do not ascend, there is not one for each map, or there are too many maps for the number of classes.
 
@@ -112,27 +114,30 @@ def trajectories(
         raise BadArgument("maps", f"must be a list of two or more maps; got {len(listed)}")
     steps = checked_years(dates, len(listed))
     if steps is None or steps != sorted(steps):
-        met = "none" if steps is None else ", ".join(map(str, steps))
-        raise BadArgument("years", f"must ascend, one for each map; got {met}")
-    given = Maps({f"map_{at}": map for at, map in enumerate(listed, 1)}, crs)
-    found = _Sequences(_counts(given, measure := given.measure(area)), steps, measure)
+        outcome = "none" if steps is None else ", ".join(map(str, steps))
+        raise BadArgument("years", f"must ascend, one for each map; got {outcome}")
+    series = Maps({f"map_{number}": map for number, map in enumerate(listed, 1)}, crs)
+    measure = series.measure(area)
+    counts = _counts(series, measure)
+    sequences = _Sequences(counts, steps, measure)
     tables = (
-        found.table(_labels_of(given, found.counts, labels)),
-        found.changes(),
-        found.intervals(),
+        sequences.table(_labels_of(series, counts, labels)),
+        sequences.changes(),
+        sequences.intervals(),
     )
     if not include_maps:
         return Trajectories(*tables, {})
-    run = Run("\n".join(_lines_of_maps(list(given.sources), steps)), given.sources, {}, given.crs)
+    script = "\n".join(_lines_of_maps(list(series.sources), steps))
+    run = Run(script, series.sources, {}, series.crs)
     return Trajectories(*tables, dict(zip(MAPS, run.maps(MAPS))))
 
 
-def _labels_of(given: Maps, found: Counts, legend: Any) -> list[Mapping[int, str]]:
-    """Return the labels of each map: of a legend, its own, or the labels of the first map that has some."""
-    own = [source.labels for source in given.sources.values()]
+def _labels_of(series: Maps, counts: Counts, legend: Any) -> list[Mapping[int, str]]:
+    """Return the labels of each map: from a legend, its own, or those from the first map that has labels."""
+    own = [source.labels for source in series.sources.values()]
     shared: Mapping[int, str] = next(filter(None, own), {})
     if legend is not None:
-        shared = legend_for(legend, {}, list(zip(given.sources, found.classes.T)))
+        shared = legend_for(legend, {}, list(zip(series.sources, counts.classes.T)))
         own = [{}] * len(own)
     return [labels or shared for labels in own]
 
@@ -149,9 +154,7 @@ class _Sequences:
         """Return a table with a row for each sequence."""
         columns: list[Column] = []
         for year, classes, own in zip(self._years, self.counts.classes.T, labels):
-            columns.append(Column(f"class_{year}", "class", classes))
-            if any(labels):
-                columns.append(label_column(f"label_{year}", classes, own))
+            columns += coded(f"class_{year}", classes, own, f"label_{year}")
         columns += self.counts.columns(self._measure, self.counts.percent())
         ordered = np.sort(self.counts.classes, axis=1)
         kinds = (ordered[:, 1:] != ordered[:, :-1]).sum(axis=1, dtype=np.int64) + 1
@@ -160,34 +163,28 @@ class _Sequences:
         first_change = self._moved.argmax(axis=1)
         last_change = last - self._moved[:, ::-1].argmax(axis=1)
         after = np.array(self._years[1:], np.int64)
-        for title, at in (("first_change", first_change), ("last_change", last_change)):
-            columns.append(Column(title, "class", np.where(self._changes > 0, after[at], NULL)))
+        for title, index in (("first_change", first_change), ("last_change", last_change)):
+            columns.append(Column(title, "class", np.where(self._changes > 0, after[index], NULL)))
         return Table(columns)
 
     def changes(self) -> Table:
         """Return a table with a row for each number of changes."""
         order = np.argsort(self._changes, kind="stable")
-        numbers = self._changes[order]
-        first = places_of(numbers)
-
-        def summed(values: NDArray[Any]) -> NDArray[Any]:
-            return np.add.reduceat(values[order], first) if first.size else values
-
-        area = None if self.counts.area is None else summed(self.counts.area)
-        together = Counts(numbers[first][:, None], summed(self.counts.cells), area)
+        numbers = self._changes[order][:, None]
+        each = dataclasses.replace(self.counts.where(order), classes=numbers)
+        together = each.summed(places_of(numbers))
         columns = together.columns(self._measure, together.percent())
-        return Table([Column("changes", "count", numbers[first]), *columns])
+        return Table([Column("changes", "count", together.classes[:, 0]), *columns])
 
     def intervals(self) -> Table:
         """Return a table with a row for each interval between two years."""
-        years, measured = np.array(self._years, np.int64), self.counts.measured()
+        years, measured = np.array(self._years, np.int64), self.counts.weights()
         changed = (self._moved * measured[:, None]).sum(axis=0)
         cells = (self._moved * self.counts.cells[:, None]).sum(axis=0)
         total = measured.sum()
         percent = changed * 100.0 / total if total else np.full(years.size - 1, np.nan)
-        together = Counts(np.empty((cells.size, 0), np.int64), cells, changed * 1.0)
-        if self.counts.area is None:
-            together = Counts(together.classes, cells, None)
+        area = None if self.counts.area is None else changed
+        together = Counts(np.empty((cells.size, 0), np.int64), cells, area)
         uniform = np.full(cells.size, percent.sum() / (years[-1] - years[0]))
         return Table(
             [
@@ -200,17 +197,17 @@ class _Sequences:
         )
 
 
-def _counts(given: Maps, measure: Measure) -> Counts:
+def _counts(series: Maps, measure: Measure) -> Counts:
     """Return how often each sequence of classes occurs; the classes of many maps are packed into fewer numbers."""
-    names = list(given.sources)
+    names = list(series.sources)
     rows = [] if measure.by_row is None else ["row"]
     if len(names) + len(rows) <= MOST_MAPS:
-        return given.counts([names], measure)[0]
-    tables = given.tables("\n".join(f"r.stats -n input={name}" for name in names))
+        return series.counts([names], measure)[0]
+    tables = series.tables("\n".join(f"r.stats -n input={name}" for name in names))
     classes = np.unique(np.concatenate([table[:, 0] for table in tables]))
     base = max(classes.size, 2)
     size = next(size for size in range(1, 32) if base ** (size + 1) > MAX_CATEGORY)
-    packs = [names[at : at + size] for at in range(0, len(names), size)]
+    packs = [names[start : start + size] for start in range(0, len(names), size)]
     if len(packs) + len(rows) > MOST_MAPS:
         most = size * (MOST_MAPS - len(rows))
         raise BadArgument(
@@ -220,12 +217,12 @@ def _counts(given: Maps, measure: Measure) -> Counts:
     lines += ["r.mapcalc row = row()"] if rows else []
     packed = [f"pack{number}" for number in range(len(packs))]
     lines.append(f"r.stats -c -n input={','.join([*rows, *packed])}")
-    found = counts_of(given.tables("\n".join(lines))[0], measure)
+    packed_counts = counts_of(series.tables("\n".join(lines))[0], measure)
     columns: list[Integers] = []
-    for pack, numbers in zip(packs, found.classes.T):
+    for pack, numbers in zip(packs, packed_counts.classes.T):
         powers = base ** np.arange(len(pack) - 1, -1, -1)
         columns += [classes[numbers // power % base] for power in powers]
-    return Counts(np.column_stack(columns), found.cells, found.area)
+    return Counts(np.column_stack(columns), packed_counts.cells, packed_counts.area)
 
 
 def _packing(packs: Sequence[Sequence[str]], classes: Sequence[int], base: int) -> Iterator[str]:
@@ -242,15 +239,18 @@ def _packing(packs: Sequence[Sequence[str]], classes: Sequence[int], base: int) 
 def _lines_of_maps(names: Sequence[str], years: Sequence[int]) -> Iterator[str]:
     """Yield the lines of a script that makes the maps of changes; each map is built up from parts of an expression."""
     moves = list(zip(names, names[1:], years[1:]))
-    parts = [moves[at : at + _TERMS] for at in range(0, len(moves), _TERMS)]
-    sums = [" + ".join(f"({one} != {two})" for one, two, _ in part) for part in parts]
-    yield from (f"r.mapcalc sum{at} = {text}" for at, text in enumerate(sums))
-    yield f"r.mapcalc changes = {' + '.join(f'sum{at}' for at in range(len(sums)))}"
+    sums: list[str] = []
+    for start in range(0, len(moves), _TERMS):
+        part = moves[start : start + _TERMS]
+        text = " + ".join(f"({before} != {after})" for before, after, _ in part)
+        sums.append(f"sum{len(sums)}")
+        yield f"r.mapcalc {sums[-1]} = {text}"
+    yield f"r.mapcalc changes = {' + '.join(sums)}"
     for name, ordered in (("first_change", moves[::-1]), ("last_change", moves)):
         text = "null()"
-        for at, (one, two, year) in enumerate(ordered, 1):
-            text = f"if({one} != {two}, {year}, {text})"
-            if at % _TERMS == 0:
-                yield f"r.mapcalc {name}_{at} = {text}"
-                text = f"{name}_{at}"
+        for number, (before, after, year) in enumerate(ordered, 1):
+            text = f"if({before} != {after}, {year}, {text})"
+            if number % _TERMS == 0:
+                yield f"r.mapcalc {name}_{number} = {text}"
+                text = f"{name}_{number}"
         yield f"r.mapcalc {name} = if(isnull(changes), null(), {text})"

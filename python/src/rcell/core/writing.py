@@ -1,5 +1,5 @@
 # SPDX-License-Identifier: Apache-2.0 OR GPL-2.0-or-later
-"""Files that are written whole or not at all."""
+"""Files that are written completely or not at all."""
 
 from __future__ import annotations
 
@@ -13,31 +13,31 @@ from .files import Output, write_all
 
 from .errors import RcellError, WriteFailed
 
-__all__ = ["replacing", "told_of", "write_beside"]
+__all__ = ["replacing", "write_errors", "write_beside"]
 
 # A disk with less free space than this counts as full: a block did not fit.
 FULL_BELOW = 1 << 18
 
 
 @contextlib.contextmanager
-def told_of(path: str, *kinds: type[Exception]) -> Iterator[None]:
-    """Raise what goes wrong with files, and the other kinds of exceptions that are given, as a WriteFailed of a path.
+def write_errors(path: str, *kinds: type[Exception]) -> Iterator[None]:
+    """Raise errors with files, and the given kinds of exceptions, as WriteFailed with a path.
 
-    Libraries of rasters report a full disk on their own standard error alone, if at all, and fail later for another reason: so
-    the free space is checked.
+    Raster libraries report a full disk only on standard error, if at all, and fail later for
+    another reason: so the free space is checked.
 
     Examples
     --------
-    >>> with told_of("a.txt"):
+    >>> with write_errors("a.txt"):
     ...     open("/nowhere/a.txt")
     Traceback (most recent call last):
       ...
     rcell.WriteFailed: a.txt cannot be written: No such file or directory
     """
-    told: tuple[type[Exception], ...] = (OSError, *kinds)
+    caught: tuple[type[Exception], ...] = (OSError, *kinds)
     try:
         yield
-    except told as error:
+    except caught as error:
         if isinstance(error, RcellError):
             raise
         reason = getattr(error, "strerror", None) or str(error)
@@ -49,12 +49,13 @@ def told_of(path: str, *kinds: type[Exception]) -> Iterator[None]:
 
 @contextlib.contextmanager
 def replacing(path: str) -> Iterator[str]:
-    """Yield a new path, whose file takes the place of another at the end of the block, unless something went wrong.
+    """Yield a new path, whose file replaces another at the end of the block, unless something went wrong.
 
     Raises
     ------
     WriteFailed
-        The folder is missing, or the file cannot be replaced. Nothing is left then, and an old file is as it was.
+        The folder is missing, or the file cannot be replaced. Nothing is left then, and an old file
+        is unchanged.
 
     Examples
     --------
@@ -66,16 +67,16 @@ def replacing(path: str) -> Iterator[str]:
     ['a.txt']
     """
     with contextlib.ExitStack() as opened:
-        with told_of(path):
+        with write_errors(path):
             output = opened.enter_context(Output(path))
             beside = output.path()
         yield beside
-        with told_of(path):
+        with write_errors(path):
             output.keep()
 
 
 def write_beside(path: str, data: bytes | memoryview) -> None:
-    """Write bytes to a file, whole or not at all.
+    """Write bytes to a file, completely or not at all.
 
     Raises
     ------
@@ -89,5 +90,5 @@ def write_beside(path: str, data: bytes | memoryview) -> None:
     ...     print(os.listdir(folder))
     ['a.txt']
     """
-    with told_of(path), Output(path) as output:
+    with write_errors(path), Output(path) as output:
         write_all(output.stream(), data)

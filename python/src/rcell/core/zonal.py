@@ -38,32 +38,33 @@ def zonal(
 
     Parameters
     ----------
-    values : path, array, .. as a map of `run`
+    values : path, array, or any map that `run` accepts
     zones : map, or path of polygons, GeoDataFrame or GeoSeries
-        As in `composition`.
+        See `composition`.
     quantiles : iterable of float
         From 0 to 1; each is a column: 0.5 is `q50`, 0.025 is `q2_5`. They are interpolated linearly, as numpy does by default.
     scale : int, optional
         For a map of decimals: its values are rounded to 1 / `scale`, with a warning that says so. `scale=100` keeps two decimals.
     zone_field, layer : str, optional
-        As in `composition`.
+        See `composition`.
     each : bool
-        Whether polygons that overlap are taken one after another, as in `composition`.
+        Whether to process overlapping polygons one after another, as in `composition`.
     zone_labels : path, dict, Series or DataFrame, optional
         The legend of the zones, as in `composition`.
     crs : any, optional
-        The reference system of maps that have none.
+        The reference system to assume for maps that have none.
 
     Returns
     -------
     pandas.DataFrame
         Columns `zone`, `zone_label`, `cells`, `sum`, `mean`, `minimum`, `maximum`, `variance` (of the population), and the quantiles.
-        Zones without a value have no row. All are computed with whole numbers, and divided by `scale` at the end.
+        Zones without a value have no row. All are computed with integers, and divided by `scale` at
+        the end.
 
     Raises
     ------
     Refused
-        As for `run`; a value is too large for `scale`.
+        See `run`; a value is too large for `scale`.
     BadArgument
         A quantile is not from 0 to 1.
 
@@ -77,9 +78,9 @@ def zonal(
     1     2      1  420  420.0      420      420      0.00  420.0
     """
     if isinstance(quantiles, str) or not isinstance(quantiles, Iterable):
-        told = f"must be a list of numbers from 0 to 1, for example [0.5]; got {quantiles!r}"
-        raise BadArgument("quantiles", told)
-    asked = [(_title(quantile), float(quantile)) for quantile in quantiles]
+        rule = f"must be a list of numbers from 0 to 1, for example [0.5]; got {quantiles!r}"
+        raise BadArgument("quantiles", rule)
+    titled_quantiles = [(_title(quantile), float(quantile)) for quantile in quantiles]
     source: Source = source_of("values", values)
     if scale is not None:
         source = Scaled(source, whole_number_of("scale", scale, 1, MAX_CATEGORY))
@@ -97,7 +98,7 @@ def zonal(
     return Table(
         columns
         + _moments(entries[:, 1], entries[:, 2], first, scale)
-        + _quantiles(entries[:, 1], entries[:, 2], first, asked, scale)
+        + _quantiles(entries[:, 1], entries[:, 2], first, titled_quantiles, scale)
     )
 
 
@@ -147,25 +148,25 @@ def _quantiles(
     values: Integers,
     cells: Integers,
     first: NDArray[np.intp],
-    asked: list[tuple[str, float]],
+    titled_quantiles: list[tuple[str, float]],
     scale: int | None,
 ) -> list[Column]:
     """Return quantiles, interpolated between neighbouring cells of a zone like numpy's method `linear`."""
     if not first.size:
-        return [Column(title, "measure", np.empty(0)) for title, _ in asked]
+        return [Column(title, "measure", np.empty(0)) for title, _ in titled_quantiles]
     until = np.cumsum(cells)
     before = np.concatenate([[0], until])[first]
     count = np.add.reduceat(cells, first)
     columns = []
-    for title, quantile in asked:
+    for title, quantile in titled_quantiles:
         place = (count - 1) * quantile
         lower = np.floor(place).astype(np.int64)
         part = place - lower
         low, high = (
-            values[np.searchsorted(until, before + at, "right")]
-            for at in (lower, np.minimum(lower + 1, count - 1))
+            values[np.searchsorted(until, before + offset, "right")]
+            for offset in (lower, np.minimum(lower + 1, count - 1))
         )
         step = (high - low).astype(np.float64)
-        found = np.where(part < 0.5, low + step * part, high - step * (1 - part))
-        columns.append(Column(title, "measure", found / (1 if scale is None else scale)))
+        interpolated = np.where(part < 0.5, low + step * part, high - step * (1 - part))
+        columns.append(Column(title, "measure", interpolated / (1 if scale is None else scale)))
     return columns

@@ -1,5 +1,5 @@
 # SPDX-License-Identifier: Apache-2.0 OR GPL-2.0-or-later
-"""Zones that are polygons: which zone each feature is, and to which feature each cell belongs."""
+"""Polygons as zones: the zone of each feature, and the feature to which each cell belongs."""
 
 from __future__ import annotations
 
@@ -12,6 +12,7 @@ from typing import Any, Optional, Protocol
 
 import numpy as np
 
+from .arguments import first_of, known_names
 from .arrays import NDArray
 from .crews import Crew
 from .crs import common_crs
@@ -44,7 +45,7 @@ class Feature:
     id : any
         Its own id in the layer: the fid, or the index of a GeoDataFrame.
     value : any
-        The field's value as Python has it (int, float, str, bool, date, ..); None if it is missing, NaN, or no field is named.
+        The field's value as a Python object (int, float, str, bool, date, ..); None if it is missing, NaN, or no field is named.
     kind : str
         The type of its geometry in OGC's words, for example `MultiPolygon`; empty if it has none.
     geometry : any
@@ -73,7 +74,7 @@ class Layer(Protocol):
         """The names of its fields."""
 
     def features(self, field: Optional[str]) -> Iterable[Feature]:
-        """Yield the features in their order, with their values of a field; curves are lines already."""
+        """Yield the features in order, with the values of a field; curves are lines already."""
 
     def burn(
         self, shapes: Sequence[tuple[Any, int]], transform: Transform, shape: tuple[int, int]
@@ -106,7 +107,7 @@ class Zones:
 def zones_of(
     layer: Layer, field: Optional[str], like: Source, crs: Any = None, each: bool = False
 ) -> Zones:
-    """Return polygons as zones on the grid of a map: a cell belongs to the last polygon that contains its centre.
+    """Return polygons as zones on a map's grid: a cell belongs to the last polygon that contains its centre.
 
     The zone of a feature is its value of a field, or its own id. A feature without geometry, or without a value, has no zone. Whole
     numbers are zones as they are; other values become 1, 2, .. in the order in which they appear, and have labels.
@@ -117,19 +118,19 @@ def zones_of(
     field : str, optional
     like : Source
     crs : any
-        The reference system of maps that have none.
+        The reference system to assume for maps that have none.
     each : bool
-        Whether polygons that overlap are taken one after another, so that none loses a cell.
+        Whether to process overlapping polygons one after another, so that none loses a cell.
 
     Raises
     ------
     OtherCrs
-        The polygons have another reference system than the map.
+        The polygons' reference system differs from the map's.
     BadMap
         There is no such field, a feature is not a polygon, or no polygon contains the centre of a cell.
     """
     if field is not None and field not in layer.fields:
-        raise BadMap(layer.name, f"no field {field}: there are {', '.join(layer.fields) or 'none'}")
+        raise BadMap(layer.name, f"no field {field}: {known_names('field', layer.fields)}")
     titles = {"map": like.name, "zones": layer.name}
     common_crs({"map": like.crs, "zones": layer.crs}, crs, "ogr2ogr", titles)
     features = _with_a_zone(layer, field)
@@ -147,7 +148,7 @@ def zones_of(
 
 def _with_a_zone(layer: Layer, field: Optional[str]) -> list[Feature]:
     """Return the features that have a geometry and a zone, with their zone as the value."""
-    kept = []
+    features = []
     for feature in layer.features(field):
         if not feature.kind or feature.geometry is None:
             continue
@@ -155,10 +156,10 @@ def _with_a_zone(layer: Layer, field: Optional[str]) -> list[Feature]:
             raise BadMap(layer.name, f"not polygons: feature {feature.id} is a {feature.kind}")
         value = feature.id if field is None else feature.value
         if not is_missing(value) and not (isinstance(value, str) and not value):
-            kept.append(replace(feature, value=value))
-    if not kept:
+            features.append(replace(feature, value=value))
+    if not features:
         raise BadMap(layer.name, "no polygon contains the centre of a cell: none has a zone")
-    return kept
+    return features
 
 
 def _numbered(values: Sequence[Any]) -> tuple[list[int], dict[int, str]]:
@@ -198,7 +199,7 @@ def _text(value: Any) -> str:
 
 
 def _name(feature: Feature, zone: int, labels: Mapping[int, str]) -> str:
-    """Return a feature as messages name it: its id, and its zone if that is another one."""
+    """Return the name of a feature in messages: its id, and its zone if that differs."""
     label = labels.get(zone, str(zone))
     return f"feature {feature.id}" + ("" if label == str(feature.id) else f" ({label})")
 
@@ -230,7 +231,7 @@ class _Grid:
     Attributes
     ----------
     categories : array of int
-        Of each feature the category of its zone.
+        The category of the zone of each feature.
     names : list of str
     """
 
@@ -250,22 +251,23 @@ class _Grid:
         like, name = self.like, self.layer.name
         categories = np.concatenate([[0], self.categories])
         dtype = np.min_scalar_type(int(categories.max()))
-        made = cells_for(like.region.shape, dtype if dtype.itemsize <= 2 else np.int32)
+        cells = cells_for(like.region.shape, dtype if dtype.itemsize <= 2 else np.int32)
         full = Rectangle(0, 0, *like.region.shape)
         losses = _Losses()
 
         def burn(place: Rectangle) -> NDArray[np.bool_]:
-            last, seen = self._burnt(part, place)
-            first, others = self._burnt(part[::-1], place)
-            place.part_of(full, made)[...] = categories[last]
+            last, are_last = self._burnt(part, place)
+            first, are_first = self._burnt(part[::-1], place)
+            place.part_of(full, cells)[...] = categories[last]
+            # A cell whose first and last polygon differ in their zone is lost to the first.
             losses.add(place, first, categories[first] != categories[last])
-            return seen | others
+            return are_first | are_last
 
         self._over_blocks(burn)
         if losses.cells:
-            self._find_hidden([at for at in part if not self._has_centre[at + 1]])
+            self._find_hidden([index for index in part if not self._has_centre[index + 1]])
             self._warn_of_losers(losses)
-        return ArrayMap(name, made, like.region, None, 0, {}, like.crs, like.transform)
+        return ArrayMap(name, cells, like.region, None, 0, {}, like.crs, like.transform)
 
     def _over_blocks(self, burn: Callable[[Rectangle], NDArray[np.bool_]]) -> None:
         """Burn features in all blocks of the map, and note which of them contain the centre of a cell."""
@@ -274,8 +276,8 @@ class _Grid:
             self._has_centre |= burn(places[0])
             return
         with Crew(work().workers or processors(), len(places), is_shown=False) as crew:
-            for _, seen in crew.each(burn, places):
-                self._has_centre |= seen
+            for _, occurs in crew.each(burn, places):
+                self._has_centre |= occurs
 
     def _burnt(
         self, part: Sequence[int], place: Rectangle
@@ -285,49 +287,44 @@ class _Grid:
         transform = (width, 0.0, west + width * place.left, 0.0, height, north + height * place.top)
         right, low = (transform[2] + width * place.cols, transform[5] + height * place.rows)
         near = _meets(np.array([transform[2], low, right, transform[5]]), self._boxes)
-        shapes = [(self.features[at].geometry, at + 1) for at in part if near[at]]
-        size = place.rows, place.cols
-        found = self.layer.burn(shapes, transform, size) if shapes else np.zeros(size, np.int32)
-        return (found, np.bincount(found.reshape(-1), minlength=self._has_centre.size) > 0)
+        shapes = [(self.features[index].geometry, index + 1) for index in part if near[index]]
+        shape = (place.rows, place.cols)
+        last = self.layer.burn(shapes, transform, shape) if shapes else np.zeros(shape, np.int32)
+        cells = np.bincount(last.reshape(-1), minlength=self._has_centre.size)
+        return last, cells > 0
 
     def _find_hidden(self, rest: list[int]) -> None:
         """Find the features that contain a centre, and that lie between two others."""
         while rest:
             self._over_blocks(lambda place: self._burnt(rest, place)[1])
-            left = [at for at in rest if not self._has_centre[at + 1]]
+            left = [index for index in rest if not self._has_centre[index + 1]]
             if len(left) == len(rest):
                 return
             rest = left
 
     def _warn_of_losers(self, losses: _Losses) -> None:
-        losers = [self.names[at - 1] for at in sorted(losses.features)]
+        losers = [self.names[number - 1] for number in sorted(losses.features)]
         row, col = losses.first
         warn(
             f"{self.layer.name}: {losses.cells:,} cells are in more than one polygon, the first at row {row + 1}, column {col + 1}: "
-            f"the later polygon has them, and {_listed(losers)} lost them; "
+            f"the later polygon has them, and {first_of(losers, _SHOWN)} lost them; "
             f"{option('each', True)} takes one polygon after another"
         )
 
     def check_centres(self) -> None:
         """Warn of the features that contain no centre of a cell; raise BadMap if none does."""
-        without = [self.names[at] for at in np.flatnonzero(~self._has_centre[1:]).tolist()]
+        without = [self.names[index] for index in np.flatnonzero(~self._has_centre[1:]).tolist()]
         if len(without) == len(self.features):
             raise BadMap(self.layer.name, "no polygon contains the centre of a cell")
         if without:
-            told = f"{len(without)} of {len(self.features)} polygons contain no centre of a cell"
-            warn(f"{self.layer.name}: {told}: {_listed(without)}")
-
-
-def _listed(names: Sequence[str]) -> str:
-    """Return the first names, and how many more there are."""
-    more = f" and {len(names) - _SHOWN:,} more" if len(names) > _SHOWN else ""
-    return ", ".join(names[:_SHOWN]) + more
+            message = f"{len(without)} of {len(self.features)} polygons contain no centre of a cell"
+            warn(f"{self.layer.name}: {message}: {first_of(without, _SHOWN)}")
 
 
 def _apart(
     bounds: Sequence[tuple[float, float, float, float]], zones: Sequence[int]
 ) -> list[list[int]]:
-    """Return features in parts in which no two zones may overlap, by the boxes around them.
+    """Split features into parts in which no two zones can overlap, judging by the boxes around them.
 
     Examples
     --------
@@ -335,20 +332,22 @@ def _apart(
     [[0, 2], [1]]
     """
     members: dict[int, list[int]] = {}
-    for at, zone in enumerate(zones):
-        members.setdefault(zone, []).append(at)
+    for index, zone in enumerate(zones):
+        members.setdefault(zone, []).append(index)
     parts: list[list[int]] = []
-    taken: list[NDArray[np.float64]] = []
+    boxes_of_parts: list[NDArray[np.float64]] = []
     for places in members.values():
-        own = np.array([bounds[at] for at in places])
+        own = np.array([bounds[index] for index in places])
         box = np.concatenate([own[:, :2].min(axis=0), own[:, 2:].max(axis=0)])
-        free = (at for at, boxes in enumerate(taken) if not _meets(box, boxes).any())
-        part = next(free, len(parts))
-        if part == len(parts):
+        for part, boxes in enumerate(boxes_of_parts):
+            if not _meets(box, boxes).any():
+                break
+        else:
+            part = len(parts)
             parts.append([])
-            taken.append(np.empty((0, 4)))
+            boxes_of_parts.append(np.empty((0, 4)))
         parts[part] += places
-        taken[part] = np.concatenate([taken[part], box[None]])
+        boxes_of_parts[part] = np.concatenate([boxes_of_parts[part], box[None]])
     return parts
 
 
@@ -356,5 +355,5 @@ def _meets(box: NDArray[np.float64], others: NDArray[np.float64]) -> NDArray[np.
     """Return which of some boxes a box touches."""
     is_below = (others[:, :2] <= box[2:]).all(axis=1)
     is_above = (others[:, 2:] >= box[:2]).all(axis=1)
-    found: NDArray[np.bool_] = is_below & is_above
-    return found
+    touches: NDArray[np.bool_] = is_below & is_above
+    return touches

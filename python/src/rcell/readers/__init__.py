@@ -40,15 +40,15 @@ def open_raster(name: str, path: str, band: int | None = None) -> Source:
     return source
 
 
-def open_features(name: str, given: Any, layer: Optional[str] = None) -> Optional[Layer]:
+def open_features(name: str, source: Any, layer: Optional[str] = None) -> Optional[Layer]:
     """Return polygons or points as a layer; None for anything else.
 
     Parameters
     ----------
     name : str
         Its name in messages.
-    given : path, GeoDataFrame, GeoSeries, GeoJSON as a dict, or Layer
-        Paths may name a layer, as `FILE|layername=NAME`.
+    source : path, GeoDataFrame, GeoSeries, GeoJSON as a dict, or Layer
+        Paths may name a layer: `FILE|layername=NAME`.
     layer : str, optional
         The layer of a file.
 
@@ -60,11 +60,11 @@ def open_features(name: str, given: Any, layer: Optional[str] = None) -> Optiona
         The file has several layers and none is named, or none of this name.
     MissingLibrary
     """
-    if hasattr(given, "burn"):
-        found: Layer = given
-        return found
-    if isinstance(given, (str, os.PathLike)):
-        path, _, named = os.fspath(given).partition(_LAYER)
+    if hasattr(source, "burn"):
+        features: Layer = source
+        return features
+    if isinstance(source, (str, os.PathLike)):
+        path, _, named = os.fspath(source).partition(_LAYER)
         if not _VECTOR.search(path):
             return None
         if named and layer and named != layer:
@@ -73,14 +73,14 @@ def open_features(name: str, given: Any, layer: Optional[str] = None) -> Optiona
             )
         if not path.startswith("/vsi") and not os.path.exists(path):
             raise ReadFailed(name, f"cannot open: {path}: No such file or directory")
-        found = _reader("fiona", "ogr", "vector", "to read a layer").open_layer(
+        features = _reader("fiona", "ogr", "vector", "to read a layer").open_layer(
             name, path, layer or named or None
         )
-        return found
-    if isinstance(given, dict) or hasattr(given, "geom_type"):
+        return features
+    if isinstance(source, dict) or hasattr(source, "geom_type"):
         from .polygons import layer_of
 
-        return layer_of(name, given)
+        return layer_of(name, source)
     return None
 
 
@@ -101,7 +101,7 @@ def crs_of(text: str) -> Crs:
 def _reader(library: str, other: str, extra: str, purpose: str) -> Any:
     """Return the reader over a library, or without it the reader over GDAL's own Python.
 
-    The plugin for QGIS carries the second ones only.
+    The QGIS plugin contains only the latter.
     """
     reason = ""
     for name, needed in ((library, library), (other, "osgeo")):

@@ -7,6 +7,7 @@ from typing import Optional
 
 import fiona
 
+from ..core.arguments import known_names
 from ..core.errors import ReadFailed, Refused
 from ..core.files import opened
 from ..core.host import option
@@ -29,11 +30,11 @@ def open_layer(name: str, path: str, layer: Optional[str] = None) -> Polygons:
     try:
         layers = fiona.listlayers(path)
         if layer is None and len(layers) > 1:
-            one = option("layer", layers[0])
-            told = f"has the layers {', '.join(layers)}: name one, as {one} or {path}|layername={layers[0]}"
-            raise Refused(told, name)
+            choice = option("layer", layers[0])
+            problem = f"has the layers {', '.join(layers)}: name one, as {choice} or {path}|layername={layers[0]}"
+            raise Refused(problem, name)
         if layer is not None and layer not in layers:
-            raise Refused(f"no layer {layer}: there are {', '.join(layers)}", name)
+            raise Refused(f"no layer {layer}: {known_names('layer', layers)}", name)
         with fiona.open(path, layer=layer) as source:
             records = [
                 (int(feature["id"]), dict(feature["properties"] or {}), feature["geometry"])

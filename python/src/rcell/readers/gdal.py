@@ -18,6 +18,7 @@ from ..core.files import opened
 from ..core.host import option
 from ..core.labels import legend_of_band
 from ..core.legends import Legend
+from ..core.pieces import shared_path
 from ..core.region import Region, Transform, check_upright
 from ..core.sources import (
     BLOCK_CELLS,
@@ -78,7 +79,7 @@ def open_raster(
     uses_nodata : bool
         Whether the nodata value of the file is null.
     uses_style : bool
-        Whether a style of QGIS next to the raster may give the labels.
+        Whether a QGIS style next to the raster may give the labels.
 
     Raises
     ------
@@ -90,10 +91,10 @@ def open_raster(
     dataset = open_dataset(name, path)
     try:
         with quiet():
-            found = _map_of(name, path, dataset, band, null_ranges, uses_nodata)
+            raster = _map_of(name, path, dataset, band, null_ranges, uses_nodata)
     except RuntimeError as error:  # of GDAL, if its exceptions are in use
         raise ReadFailed(name, f"cannot open: {path}: {str(error).strip()}") from None
-    return found if uses_style else replace(found, style_path="")
+    return raster if uses_style else replace(raster, style_path="")
 
 
 def _map_of(
@@ -104,6 +105,7 @@ def _map_of(
     null_ranges: Ranges,
     uses_nodata: bool,
 ) -> RasterMap:
+    """Return a band of an open dataset as a map."""
     layer = dataset.GetRasterBand(_only_band(name, dataset) if band is None else band)
     if layer is None:
         count = dataset.RasterCount
@@ -113,7 +115,7 @@ def _map_of(
     rows, cols = dataset.RasterYSize, dataset.RasterXSize
     system = dataset.GetSpatialRef()
     dtype = _dtype_of(layer)
-    alpha = next((at for at in _alphas(dataset) if at != layer.GetBand()), None)
+    alpha = next((number for number in _alphas(dataset) if number != layer.GetBand()), None)
     masks = (0, gdal.GMF_PER_DATASET, gdal.GMF_PER_DATASET | gdal.GMF_NODATA)
     return RasterMap(
         name=name,
@@ -180,6 +182,11 @@ class RasterMap:
     is_file: ClassVar[bool] = True
     legend: Legend = field(default_factory=lambda: Legend({}, {}))
 
+    def sent(self, _: Any) -> RasterMap | None:
+        """Return the map if another process can open it by its path."""
+        is_here = self.path.startswith("/vsimem/")
+        return None if is_here else replace(self, path=shared_path(self.path))
+
     def with_labels(self, labels: Mapping[int, str]) -> RasterMap:
         """Return the map with other labels."""
         return replace(self, legend=Legend(dict(labels), self.legend.colors))
@@ -191,7 +198,7 @@ class RasterMap:
 
     @property
     def nodata(self) -> int | None:
-        """The value of its blocks that is null."""
+        """The value that marks null in its blocks."""
         return nodata_of(self.file_type, self.file_nodata)
 
     @property
@@ -263,9 +270,11 @@ class RasterMap:
         except RuntimeError as error:
             read, text = [None], str(error)
         if any(cells is None for cells in read):
-            told = f"rows {row + 1} to {row + rows} cannot be read: {text or self.path}"
-            raise ReadFailed(self.name, told)
-        cells, *masks = [part[::-1] for part in read] if self.is_upside_down else read
+            problem = f"rows {row + 1} to {row + rows} cannot be read: {text or self.path}"
+            raise ReadFailed(self.name, problem)
+        if self.is_upside_down:
+            read = [part[::-1] for part in read]
+        cells, *masks = read
         nulls = [mask == 0 for mask in masks]
         nulls += [_within(cells, low, high) for low, high in self.null_ranges]
         return cells, np.logical_or.reduce(nulls) if nulls else None
@@ -307,8 +316,10 @@ def _check_values(name: str, band: Any) -> None:
     """Raise BadMap if the values of a band are scaled, or complex."""
     scale, offset = band.GetScale(), band.GetOffset()
     if scale not in (None, 1.0) or offset not in (None, 0.0):
-        told = f"each cell times {1.0 if scale is None else scale:g}, plus {offset or 0.0:g}"
-        raise BadMap(name, f"its values are scaled: {told}; write them out as whole numbers first")
+        scaling = f"each cell times {1.0 if scale is None else scale:g}, plus {offset or 0.0:g}"
+        raise BadMap(
+            name, f"its values are scaled: {scaling}; write them out as whole numbers first"
+        )
     if gdal.DataTypeIsComplex(band.DataType):
         kind = gdal.GetDataTypeName(band.DataType)
         raise BadMap(name, f"not a map of whole numbers: its cells are of the type {kind}")
@@ -327,12 +338,12 @@ def _upright(name: str, dataset: Any) -> tuple[Transform, bool]:
     Without a transform, cells have side 1 and the bottom left corner is at 0, 0.
     """
     rows = dataset.RasterYSize
-    given = dataset.GetGeoTransform(can_return_null=True)
-    if given is None:
+    geotransform = dataset.GetGeoTransform(can_return_null=True)
+    if geotransform is None:
         if dataset.GetGCPCount():
             raise BadMap(name, "has ground control points and no transform: warp it first")
         return (1.0, 0.0, 0.0, 0.0, -1.0, float(rows)), False
-    west, width, b, north, d, height = given
+    west, width, b, north, d, height = geotransform
     is_upside_down = height > 0 and not b and not d
     if is_upside_down:
         north, height = north + height * rows, -height

@@ -7,7 +7,7 @@ import threading
 from collections.abc import Callable
 from typing import Any
 
-__all__ = ["of_this_thread"]
+__all__ = ["begin_call", "of_this_thread"]
 
 # A map of many files must not keep all of them open.
 MOST_OPEN = 64
@@ -34,3 +34,9 @@ def of_this_thread(path: str, open_path: Callable[[], Any]) -> Any:
             del handles[next(iter(handles))]
     handles[path] = dataset
     return dataset
+
+
+def begin_call(call: str) -> None:
+    """Close what this thread has opened for other calls: threads of a cluster last, and files may be replaced between two calls."""
+    if _here.__dict__.get("call") != call:
+        _here.__dict__.update(call=call, handles={})

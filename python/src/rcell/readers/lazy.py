@@ -1,72 +1,292 @@
 # SPDX-License-Identifier: Apache-2.0 OR GPL-2.0-or-later
-"""Maps that Dask computes later: an expression over DataArrays, chunk by chunk."""
+"""Results that Dask computes later: the tables and maps of calls as a graph of the work on chunks."""
 
 from __future__ import annotations
 
-from collections.abc import Mapping, Sequence
+from collections.abc import Callable, Mapping, Sequence
+from contextlib import suppress
+from dataclasses import replace
+from functools import partial
 from itertools import accumulate
 from typing import Any
+from uuid import uuid4
 
 import numpy as np
 
+from .. import frames
 from ..core.arrays import NDArray
+from ..core.clusters import run_on_worker, sent_parts
+from ..core.errors import BadArgument, BadMap
 from ..core.libraries import need
+from ..core.pieces import Chunks
 from ..core.protocol import NULL, Statement
 from ..core.rectangles import Rectangle
-from ..core.region import Region
-from ..core.runs import execute_once
-from ..core.sources import ArrayMap, check_computed, unmasked
-from ..core.tile_scripts import TileScript
+from ..core.runs import Fold, Output, planned
+from ..core.sources import MAX_CATEGORY, ArrayMap, Source
+from ..core.tile_clumps import NO_CLUMP, Joined, join, renumber
+from ..core.tile_runs import demand_of, outputs_in, table_output
+from ..core.tile_scripts import TileScript, is_counted, is_diagonal
+from ..core.tile_tables import TableSum
+from ..core.tile_work import TileDone, TileWork, clumps_of, outputs_of, wide
+from ..core.tiling import cluster, tile_size, working
+from .xarray import DataArrayMap, data_array, is_lazy
 
-__all__ = ["lazy_cells"]
+__all__ = ["lazy_map", "lazy_table"]
+
+Integers = NDArray[Any]
+_NOTHING: Integers = np.empty(0, np.int64)
 
 
-def lazy_cells(plan: Sequence[Statement], maps: Mapping[str, Any], chunks: Any) -> Any:
-    """Return an array of Dask with the cells of the map that a plan writes last: int32, with -2147483648 for null.
+def lazy_map(make: Callable[[], Any]) -> Any:
+    """Return the map that a call makes as a DataArray that Dask computes, in the chunks of the first map that Dask holds.
 
     Parameters
     ----------
-    plan : sequence of Statement
-        Without r.clump, whose numbers need the full map.
-    maps : mapping of str to DataArrayMap
-    chunks : tuple of two tuples of int
-        The rows and columns of the blocks of the result.
+    make : callable
+        Returns a map of the core.
+
+    Raises
+    ------
+    BadArgument
+        The map depends on a table.
     """
-    dask = need("dask", "xarray", "for arrays of Dask")
-    blocks = need("dask.array", "xarray", "for arrays of Dask")
-    script = TileScript.of(plan, [plan[-1]], maps)
+    first: list[Source] = []
+
+    def engine(
+        script: str, maps: Mapping[str, Source], wanted: Sequence[str], fold: Fold | None
+    ) -> list[Output]:
+        first.append(next(iter(maps.values())))
+        outputs = _graph_of(script, maps, wanted)
+        if any(output.command == "r.stats" for output in outputs):
+            raise BadArgument("compute", "must be True: this map depends on a table of all cells")
+        return outputs
+
+    with working(engine=engine):
+        result = make()
+    like = first[0].array if isinstance(first[0], DataArrayMap) else None
+    return data_array(
+        result.array, result.transform, result.crs, result.labels, result.name, like=like
+    )
+
+
+def lazy_table(name: str, words: Sequence[Any], named: Mapping[str, Any]) -> Any:
+    """Return what a call of the package makes of its tables as a Delayed.
+
+    The call runs twice: now, until it asks for its tables, and when these are computed.
+    """
+    requested: list[Output] = []
+
+    def engine(
+        script: str, maps: Mapping[str, Source], wanted: Sequence[str], fold: Fold | None
+    ) -> list[Output]:
+        requested.extend(_graph_of(script, maps, wanted))
+        raise _TablesRequested
+
+    with suppress(_TablesRequested), working(engine=engine):
+        getattr(frames, name)(*words, **named)
+    if not requested or any(output.command != "r.stats" for output in requested):
+        raise BadArgument("compute", "must be True: this call needs a map of all cells")
+    hollow_words = [_hollow(word) for word in words]
+    hollow_named = {key: _hollow(word) for key, word in named.items()}
+    outputs = [replace(output, values=_NOTHING) for output in requested]
+    dask = need("dask", "xarray", "for results that Dask computes")
+    hidden = _Hidden((name, hollow_words, hollow_named, outputs))
+    return dask.delayed(_answered)(hidden, [output.values for output in requested])
+
+
+class _TablesRequested(Exception):
+    """Ends a call that has asked for its tables."""
+
+
+class _Hidden:
+    """A wrapper in which Dask does not look for arrays to compute."""
+
+    def __init__(self, content: Any) -> None:
+        self.content = content
+
+
+def _hollow(argument: Any) -> Any:
+    """Return an argument without its cells if Dask holds them: only its place, type and labels are needed again."""
+    if isinstance(argument, (list, tuple)):
+        return type(argument)(map(_hollow, argument))
+    if type(argument).__module__.partition(".")[0] != "xarray":
+        return argument
+    if hasattr(argument, "data_vars"):
+        return argument.map(_hollow, keep_attrs=True)
+    if not is_lazy(argument):
+        return argument
+    zeros = need("dask.array", "xarray", "for arrays of Dask").zeros
+    hollow = argument.copy(data=zeros(argument.shape, argument.dtype, chunks=argument.chunks))
+    hollow.encoding = argument.encoding
+    return hollow
+
+
+def _answered(hidden: _Hidden, tables: Sequence[Integers]) -> Any:
+    """Return what a call makes of its tables."""
+    name, words, named, outputs = hidden.content
+    scripts: list[str] = []
+
+    def engine(
+        script: str, maps: Mapping[str, Source], wanted: Sequence[str], fold: Fold | None
+    ) -> list[Output]:
+        if scripts:
+            raise BadArgument("compute", "must be True: this call asks for several tables in turn")
+        scripts.append(script)
+        if fold is None:
+            return [replace(output, values=values) for output, values in zip(outputs, tables)]
+        fold.add(0, tables[0], np.empty(0, np.int64))
+        return []
+
+    with working(engine=engine):
+        return getattr(frames, name)(*words, **named)
+
+
+def _graph_of(script: str, maps: Mapping[str, Source], wanted: Sequence[str]) -> list[Output]:
+    """Return the outputs of a script as Dask computes them: maps as its arrays, tables as Delayed."""
+    lines = "\n".join([script, *(f"r.out.ascii input={name}" for name in wanted)])
+    plan = planned(lines, maps)
+    if any("1" in statement.options for statement in plan):
+        raise BadArgument("compute", "must be True: r.stats -1 lists cells, which takes one run")
+    for source in maps.values():
+        if not hasattr(source, "window"):
+            raise BadMap(source.name, "is read as a whole: convert it, or leave out compute=False")
+    graph = _Graph(dict(maps), _chunks_of(plan, maps))
+    for clump in (statement for statement in plan if statement.command == "r.clump"):
+        graph.add_clumps(plan, clump)
+    return graph.outputs(plan)
+
+
+def _chunks_of(plan: Sequence[Statement], maps: Mapping[str, Any]) -> Any:
+    """Return the rows and columns of the blocks of results: the chunks of the first map that Dask holds, else tiles."""
+    for source in maps.values():
+        array: Any = getattr(source, "array", None)
+        if is_lazy(array) and not isinstance(source, ArrayMap):
+            return array.chunks
     shape = next(iter(maps.values())).region.shape
-    known = {name: (map.array.dtype, map.nodata_value) for name, map in maps.items()}
-    work = dask.delayed(_computed, pure=True)
-    tops, lefts = (list(accumulate(lengths, initial=0)) for lengths in chunks)
-
-    def block(row: int, col: int) -> Any:
-        place = Rectangle(tops[row], lefts[col], chunks[0][row], chunks[1][col])
-        outer = place.with_halo(script.reach, shape)
-        text = script.text(place, outer, shape)
-        part = np.s_[outer.top : outer.top + outer.rows, outer.left : outer.left + outer.cols]
-        cells = {name: map.array.data[part] for name, map in maps.items()}
-        made = work(text, place, outer, known, cells)
-        return blocks.from_delayed(made, (place.rows, place.cols), np.int32)
-
-    rows, cols = (range(len(lengths)) for lengths in chunks)
-    return blocks.block([[block(row, col) for col in cols] for row in rows])
+    size, _ = tile_size(maps, demand_of(plan, maps), cluster())
+    chunks = []
+    for total, step in zip(shape, size):
+        starts = range(0, total, step)
+        chunks.append(tuple(min(step, total - start) for start in starts))
+    return tuple(chunks)
 
 
-def _computed(
-    text: str,
-    place: Rectangle,
-    outer: Rectangle,
-    known: Mapping[str, tuple[np.dtype[Any], Any]],
-    computed: Mapping[str, Any],
-) -> NDArray[np.int32]:
-    """Return the cells of a block from the cells of the maps in it and around it."""
-    region = Region.of_cells(outer.rows, outer.cols)
-    maps = {}
-    for name, (dtype, nodata) in known.items():
-        cells, null = unmasked(computed[name])
-        check_computed(name, cells, dtype, (outer.rows, outer.cols))
-        maps[name] = ArrayMap(name, cells, region, null, nodata)
-    found = execute_once(text, maps)[-1].values
-    assert found.dtype == np.int32 and NULL == np.iinfo(np.int32).min
-    return np.ascontiguousarray(place.part_of(outer, found))
+class _Known:
+    """A map that the graph makes, as one that Dask holds."""
+
+    def __init__(self, name: str, array: Any, nodata: int) -> None:
+        self._name, self._array, self._nodata = name, array, nodata
+
+    def sent(self, outer: Rectangle) -> Chunks:
+        """Return the chunks with the cells of a window."""
+        top, left, rows, cols = outer
+        cells = self._array[top : top + rows, left : left + cols]
+        return Chunks(self._name, self._array.dtype, self._nodata, False, cells)
+
+
+class _Graph:
+    """The work on the chunks of a map.
+
+    Parameters
+    ----------
+    maps : dict of str to Source
+    chunks : tuple of two tuples of int
+    """
+
+    def __init__(self, maps: dict[str, Any], chunks: tuple[tuple[int, ...], tuple[int, ...]]):
+        self._maps, self._chunks, self._call = maps, chunks, uuid4().hex
+        self._shape = sum(chunks[0]), sum(chunks[1])
+        tops, lefts = (list(accumulate(lengths, initial=0)) for lengths in chunks)
+        self._places = [
+            Rectangle(top, left, rows, cols)
+            for top, rows in zip(tops, chunks[0])
+            for left, cols in zip(lefts, chunks[1])
+        ]
+        self._delayed = need("dask", "xarray", "for results that Dask computes").delayed
+        self._dask = need("dask.array", "xarray", "for arrays of Dask")
+
+    def outputs(self, plan: Sequence[Statement]) -> list[Output]:
+        """Return the outputs of a plan, once its clumps are known."""
+        statements = outputs_in(plan)
+        script = self._script(plan, statements)
+        results = outputs_of([is_counted(statement) for statement in statements])
+        tiles = self._run(script, script.text, results)
+        outputs = []
+        for index, statement in enumerate(statements):
+            if statement.command == "r.stats":
+                table = self._delayed(_added)(statement, index, tiles)
+                outputs.append(table_output(statement, table))
+            else:
+                cells = [self._delayed(_cells_of)(index, tile) for tile in tiles]
+                values = self._array_of(cells)
+                outputs.append(Output("r.out.ascii", statement.line, statement.inputs, values))
+        return outputs
+
+    def add_clumps(self, plan: Sequence[Statement], clump: Statement) -> None:
+        """Add the map of an r.clump to the known maps."""
+        script, diagonal = self._script(plan, [clump]), is_diagonal(clump)
+        tiles = self._run(script, partial(script.clump_text, clump), clumps_of(diagonal))
+        whole = self._delayed(_joined)(tiles, diagonal)
+        cells = [self._delayed(_renumbered)(index, tile, whole) for index, tile in enumerate(tiles)]
+        self._maps[clump.made] = _Known(clump.made, self._array_of(cells), NO_CLUMP)
+
+    def _script(self, plan: Sequence[Statement], outputs: Sequence[Statement]) -> TileScript:
+        needed = [
+            statement
+            for statement in plan
+            if statement.made not in self._maps and statement not in outputs
+        ]
+        return TileScript.of(needed, outputs, self._maps)
+
+    def _run(
+        self, script: TileScript, text: Callable[[Rectangle, Rectangle, Any], str], results: Any
+    ) -> list[Any]:
+        """Return the work on all chunks."""
+        maps = {name: source for name, source in self._maps.items() if name in script.reads}
+        maps = maps or dict([next(iter(self._maps.items()))])
+        run = self._delayed(run_on_worker)
+        done = []
+        for place in self._places:
+            outer = place.with_halo(script.reach, self._shape)
+            words = text(place, outer, self._shape)
+            work = TileWork(words, place, outer, self._shape, maps, (), results, call=self._call)
+            done.append(run(*sent_parts(work)))
+        return done
+
+    def _array_of(self, cells: Sequence[Any]) -> Any:
+        """Return blocks of int32 as one array."""
+        arrays = [
+            self._dask.from_delayed(block, (place.rows, place.cols), np.int32)
+            for block, place in zip(cells, self._places)
+        ]
+        across = len(self._chunks[1])
+        return self._dask.block(
+            [arrays[start : start + across] for start in range(0, len(arrays), across)]
+        )
+
+
+def _added(statement: Statement, index: int, tiles: Sequence[TileDone]) -> Integers:
+    """Return the table of the full map from the tables of chunks."""
+    total = TableSum(len(statement.inputs), is_counted(statement))
+    for tile in tiles:
+        total.add(tile.results[index])
+    return total.table()
+
+
+def _cells_of(index: int, tile: TileDone) -> Integers:
+    """Return a map of a chunk as int32."""
+    cells: Integers = tile.results[index]
+    return cells if cells.dtype == np.int32 else wide(cells, NULL)
+
+
+def _joined(tiles: Sequence[TileDone], diagonal: bool) -> Joined:
+    whole = join([tile.results[0].tobytes() for tile in tiles], diagonal)
+    if whole.clumps > MAX_CATEGORY:
+        problem = f"{whole.clumps:,} patches, and lazy maps number up to {MAX_CATEGORY:,}"
+        raise BadMap("map", f"{problem}: leave out compute=False")
+    return whole
+
+
+def _renumbered(index: int, tile: TileDone, whole: Joined) -> Integers:
+    """Return the clumps of a chunk with the numbers of the full map."""
+    return renumber(tile.results[1], whole.tiles[index], np.empty(tile.results[1].shape, np.int32))

@@ -11,6 +11,7 @@ from typing import Any, Optional
 import numpy as np
 from osgeo import gdal, ogr
 
+from ..core.arguments import known_names
 from ..core.arrays import NDArray
 from ..core.errors import BadMap, ReadFailed, Refused
 from ..core.files import opened
@@ -45,13 +46,11 @@ def open_layer(name: str, path: str, layer: Optional[str] = None) -> OgrLayer:
     opened(*source.GetFileList() or [path])
     names = [source.GetLayer(place).GetName() for place in range(source.GetLayerCount())]
     if layer is None and len(names) > 1:
-        one = option("layer", names[0])
-        told = (
-            f"has the layers {', '.join(names)}: name one, as {one} or {path}|layername={names[0]}"
-        )
-        raise Refused(told, name)
+        choice = option("layer", names[0])
+        problem = f"has the layers {', '.join(names)}: name one, as {choice} or {path}|layername={names[0]}"
+        raise Refused(problem, name)
     if not names or layer is not None and layer not in names:
-        raise Refused(f"no layer {layer}: there are {', '.join(names) or 'none'}", name)
+        raise Refused(f"no layer {layer}: {known_names('layer', names)}", name)
     return OgrLayer(name, source, layer or names[0])
 
 
@@ -77,7 +76,7 @@ class OgrLayer:
         return [definition.GetFieldDefn(place).GetName() for place in places]
 
     def features(self, field: Optional[str]) -> Iterator[Feature]:
-        """Yield the features in their order, with their values of a field."""
+        """Yield the features in order, with the values of a field."""
         layer = self.source.GetLayerByName(self.layer)
         layer.ResetReading()
         for feature in layer:
@@ -99,7 +98,7 @@ class OgrLayer:
 
 
 def _value_of(feature: Any, place: int) -> Any:
-    """Return the value of a field as Python has it, None if it is missing."""
+    """Return the value of a field as a Python object, None if it is missing."""
     if not feature.IsFieldSetAndNotNull(place):
         return None
     definition = feature.GetFieldDefnRef(place)

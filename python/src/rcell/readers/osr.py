@@ -44,15 +44,15 @@ class OsrCrs(Crs):
         """Return whether osr considers it equal to another one, whatever the order of their axes."""
         assert isinstance(other, OsrCrs)
         with quiet():
-            one, two = (osr.SpatialReference() for _ in range(2))
-            one.SetFromUserInput(eastward(self.system.ExportToPROJJSON()))
-            two.SetFromUserInput(eastward(other.system.ExportToPROJJSON()))
-            return bool(one.IsSame(two, _EXCEPT_AXES))
+            first, second = (osr.SpatialReference() for _ in range(2))
+            first.SetFromUserInput(eastward(self.system.ExportToPROJJSON()))
+            second.SetFromUserInput(eastward(other.system.ExportToPROJJSON()))
+            return bool(first.IsSame(second, _EXCEPT_AXES))
 
     def points(
         self, to: Crs, x: NDArray[Any], y: NDArray[Any]
     ) -> tuple[NDArray[Any], NDArray[Any]]:
-        """Return points in another system; what lies outside of it is not finite."""
+        """Return points in another system; points outside it are not finite."""
         assert isinstance(to, OsrCrs)
         with quiet():
             change = osr.CoordinateTransformation(self.system, to.system)
@@ -78,20 +78,24 @@ def crs_of(text: str) -> OsrCrs:
         raise ValueError(f"not a reference system: {text}")
     system.SetAxisMappingStrategy(osr.OAMS_TRADITIONAL_GIS_ORDER)
     kind = _kind_of(system)
-    is_geographic = kind == "geographic"
-    inverse = system.GetInvFlattening() if is_geographic else 0.0
-    unit = system.GetAngularUnits() if is_geographic else math.nan
+    unit, ellipsoid = math.nan, (math.nan, math.nan)
+    if kind == "projected":
+        unit = system.GetLinearUnits()
+    elif kind == "geographic":
+        unit = system.GetAngularUnits()
+        inverse = system.GetInvFlattening()
+        flattening = 1 / inverse if inverse else 0.0
+        ellipsoid = (system.GetSemiMajor(), flattening)
     title = system.GetName() or ""
+    if title in ("unknown", "unnamed"):
+        title = ""
     return OsrCrs(
         wkt=str(system.ExportToWkt(["FORMAT=WKT2_2019"])),
         codes=_codes_of(system),
-        title="" if title in ("unknown", "unnamed") else title,
+        title=title,
         kind=kind,
-        unit=system.GetLinearUnits() if kind == "projected" else unit,
-        ellipsoid=(
-            system.GetSemiMajor() if is_geographic else math.nan,
-            1 / inverse if inverse else 0.0 if is_geographic else math.nan,
-        ),
+        unit=unit,
+        ellipsoid=ellipsoid,
         system=system,
     )
 

@@ -42,7 +42,7 @@ class Polygons:
     records: Sequence[tuple[Any, Mapping[str, Any], Any]]
 
     def features(self, field: Optional[str]) -> Iterator[Feature]:
-        """Yield the features in their order, with their values of a field."""
+        """Yield the features in order, with the values of a field."""
         for number, properties, geometry in self.records:
             value = None if field is None else properties[field]
             value = None if is_missing(value) else value
@@ -68,7 +68,7 @@ class Polygons:
 
 
 def _places(coordinates: Any) -> Iterator[Sequence[float]]:
-    """Yield the corners of a geometry of GeoJSON."""
+    """Yield the corners of a GeoJSON geometry."""
     if isinstance(coordinates[0], numbers.Real):
         yield coordinates[:2]
         return
@@ -84,23 +84,26 @@ def _kind(geometry: Any) -> str:
     return "" if is_empty else str(geometry["type"])
 
 
-def layer_of(name: str, given: Any) -> Optional[Polygons]:
+def layer_of(name: str, source: Any) -> Optional[Polygons]:
     """Return a GeoDataFrame, a GeoSeries or GeoJSON in memory as a layer; None for anything else."""
-    if hasattr(given, "geom_type") and hasattr(given, "crs"):
-        shapes = given.geometry
+    if hasattr(source, "geom_type") and hasattr(source, "crs"):
+        shapes = source.geometry
         properties: Sequence[Mapping[str, Any]] = [{}] * len(shapes)
         fields: tuple[str, ...] = ()
-        if hasattr(given, "columns"):
-            table = given.drop(columns=shapes.name)
+        if hasattr(source, "columns"):
+            table = source.drop(columns=shapes.name)
             properties = table.to_dict("records") or properties
             fields = tuple(map(str, table.columns))
-        return Polygons(name, given.crs, fields, list(zip(given.index, properties, shapes)))
-    if isinstance(given, Mapping) and given.get("type") == "FeatureCollection":
+        return Polygons(name, source.crs, fields, list(zip(source.index, properties, shapes)))
+    if isinstance(source, Mapping) and source.get("type") == "FeatureCollection":
         records = [
             (feature.get("id", place), feature.get("properties") or {}, feature.get("geometry"))
-            for place, feature in enumerate(given["features"])
+            for place, feature in enumerate(source["features"])
         ]
-        fields = tuple(dict.fromkeys(word for _, properties, _ in records for word in properties))
+        titles: dict[str, None] = {}
+        for _, own, _ in records:
+            titles.update(dict.fromkeys(own))
+        fields = tuple(titles)
         whole = [(place, {**dict.fromkeys(fields), **own}, shape) for place, own, shape in records]
         return Polygons(name, GEOJSON_CRS, fields, whole)
     return None

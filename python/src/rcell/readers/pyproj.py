@@ -24,13 +24,13 @@ class PyprojCrs(Crs):
     def is_equal(self, other: Crs) -> bool:
         """Return whether pyproj considers it equal to another one, whatever the order of their axes."""
         assert isinstance(other, PyprojCrs)
-        one, two = (pyproj.CRS(eastward(it.system.to_json())) for it in (self, other))
-        return bool(one.equals(two, ignore_axis_order=True))
+        first, second = (pyproj.CRS(eastward(crs.system.to_json())) for crs in (self, other))
+        return bool(first.equals(second, ignore_axis_order=True))
 
     def points(
         self, to: Crs, x: NDArray[Any], y: NDArray[Any]
     ) -> tuple[NDArray[Any], NDArray[Any]]:
-        """Return points in another system; what lies outside of it is not finite."""
+        """Return points in another system; points outside it are not finite."""
         assert isinstance(to, PyprojCrs)
         change = pyproj.Transformer.from_crs(self.system, to.system, always_xy=True)
         moved: tuple[NDArray[Any], NDArray[Any]] = change.transform(x, y)
@@ -55,15 +55,23 @@ def crs_of(text: str) -> PyprojCrs:
     except pyproj.exceptions.CRSError as error:
         raise ValueError(str(error)) from None
     kind = _kind_of(system)
-    factor = system.axis_info[0].unit_conversion_factor if system.axis_info else math.radians(1)
-    ellipsoid = system.get_geod() if kind == "geographic" else None
+    unit = math.radians(1)
+    if system.axis_info:
+        unit = float(system.axis_info[0].unit_conversion_factor)
+    ellipsoid = (math.nan, math.nan)
+    geod = system.get_geod() if kind == "geographic" else None
+    if geod is not None:
+        ellipsoid = (geod.a, geod.f)
+    title = str(system.name)
+    if title in ("unknown", "unnamed"):
+        title = ""
     return PyprojCrs(
         wkt=str(system.to_wkt()),
         codes=_codes_of(system),
-        title="" if system.name in ("unknown", "unnamed") else str(system.name),
+        title=title,
         kind=kind,
-        unit=float(factor),
-        ellipsoid=(math.nan, math.nan) if ellipsoid is None else (ellipsoid.a, ellipsoid.f),
+        unit=unit,
+        ellipsoid=ellipsoid,
         system=system,
     )
 

@@ -1,5 +1,5 @@
 # SPDX-License-Identifier: Apache-2.0 OR GPL-2.0-or-later
-"""Rasters that rasterio opens, as maps: they are read by windows, never as a whole."""
+"""Rasters opened with rasterio, as maps: they are read window by window, never as a whole."""
 
 from __future__ import annotations
 
@@ -20,6 +20,7 @@ from ..core.errors import BadMap, RcellError, ReadFailed
 from ..core.labels import legend_of_band
 from ..core.legends import Legend
 from ..core.libraries import need
+from ..core.pieces import shared_path
 from ..core.sources import (
     BLOCK_CELLS,
     Block,
@@ -40,7 +41,7 @@ __all__ = [
     "only_band",
     "open_dataset",
     "open_raster",
-    "told_of_reading",
+    "read_errors",
     "upright",
 ]
 
@@ -51,14 +52,14 @@ MOST_BLOCK_CELLS = 1 << 23
 _one_thread = threading.Lock()
 
 
-def open_raster(name: str, given: Any, band: int | None = None) -> RasterMap:
+def open_raster(name: str, source: Any, band: int | None = None) -> RasterMap:
     """Return a raster as a map.
 
     Parameters
     ----------
     name : str
         The name of the map, for errors.
-    given : path, rasterio.DatasetReader or rasterio.Band
+    source : path, rasterio.DatasetReader or rasterio.Band
     band : int, optional
         Without it, the raster must have only one.
 
@@ -70,17 +71,19 @@ def open_raster(name: str, given: Any, band: int | None = None) -> RasterMap:
         The raster has several bands, scaled values, a rotated transform, or control points instead of a transform.
     """
     rasterio = need("rasterio", "gis", _PURPOSE)
-    with told_of_reading(name, "cannot open"):
-        if isinstance(given, rasterio.Band):
-            return RasterMap.of_dataset(name, given.ds, int(given.bidx))
+    with read_errors(name, "cannot open"):
+        if isinstance(source, rasterio.Band):
+            return RasterMap.of_dataset(name, source.ds, int(source.bidx))
         dataset = (
-            open_dataset(name, os.fspath(given)) if isinstance(given, (str, os.PathLike)) else given
+            open_dataset(name, os.fspath(source))
+            if isinstance(source, (str, os.PathLike))
+            else source
         )
         return RasterMap.of_dataset(name, dataset, band)
 
 
 @contextlib.contextmanager
-def told_of_reading(name: str, told: str) -> Iterator[None]:
+def read_errors(name: str, problem: str) -> Iterator[None]:
     """Raise errors of rasterio and the system about a broken raster as ReadFailed."""
     rasterio = need("rasterio", "gis", _PURPOSE)
     gdal_error = need(
@@ -90,12 +93,12 @@ def told_of_reading(name: str, told: str) -> Iterator[None]:
         yield
     except UnicodeEncodeError:
         raise ReadFailed(
-            name, f"{told}: rasterio takes no path that is not UTF-8: rename the file"
+            name, f"{problem}: rasterio only accepts UTF-8 paths: rename the file"
         ) from None
     except (rasterio.errors.RasterioError, gdal_error, OSError, ValueError, TypeError) as error:
         if isinstance(error, RcellError):
             raise
-        raise ReadFailed(name, f"{told}: {error}") from None
+        raise ReadFailed(name, f"{problem}: {error}") from None
 
 
 def open_dataset(name: str, path: str) -> Any:
@@ -109,7 +112,7 @@ def open_dataset(name: str, path: str) -> Any:
     rasterio = need("rasterio", "gis", _PURPOSE)
     with warnings.catch_warnings():
         warnings.simplefilter("ignore", rasterio.errors.NotGeoreferencedWarning)
-        with told_of_reading(name, "cannot open"):
+        with read_errors(name, "cannot open"):
             return rasterio.open(path)
 
 
@@ -144,14 +147,15 @@ class Layer:
         if np.dtype(dtype).kind in "iu" and np.dtype(dtype).itemsize == 8:
             dtype, nodata = _of_64_bits(dataset, band)
         flags = dataset.mask_flag_enums[band - 1]
-        alpha = next((at for at in alphas(dataset, enums) if at != band), None)
-        has_mask = (
-            not flags or enums.MaskFlags.per_dataset in flags
-        ) and enums.MaskFlags.alpha not in flags
+        others = [number for number in alphas(dataset, enums) if number != band]
+        alpha = others[0] if others else None
+        has_mask = not flags or enums.MaskFlags.per_dataset in flags
+        if enums.MaskFlags.alpha in flags:
+            has_mask = False
         return cls(band, dtype, nodata, has_mask, alpha)
 
     def read(
-        self, name: str, dataset: Any, place: tuple[int, int, int, int], told: str
+        self, name: str, dataset: Any, place: tuple[int, int, int, int], title: str
     ) -> tuple[Cells, Mask | None]:
         """Return the cells of a window, and which of them a mask or transparency makes null.
 
@@ -162,17 +166,17 @@ class Layer:
         """
         top, left, rows, cols = place
         window = need("rasterio.windows", "gis", _PURPOSE).Window(left, top, cols, rows)
-        with told_of_reading(name, f"{told} cannot be read"):
+        with read_errors(name, f"{title} cannot be read"):
             cells: Cells = dataset.read(self.band, window=window)
-            masks: list[Mask] = (
-                [dataset.read_masks(self.band, window=window) == 0] if self.has_mask else []
-            )
-            masks += [] if self.alpha is None else [dataset.read(self.alpha, window=window) == 0]
-        # rasterio before 1.4 swaps the names of the two 64-bit types, not the bits.
-        return (
-            cells.view(self.dtype) if cells.dtype.itemsize == 8 else cells,
-            np.logical_or.reduce(masks) if masks else None,
-        )
+            masks: list[Mask] = []
+            if self.has_mask:
+                masks.append(dataset.read_masks(self.band, window=window) == 0)
+            if self.alpha is not None:
+                masks.append(dataset.read(self.alpha, window=window) == 0)
+        if cells.dtype.itemsize == 8:
+            # rasterio before 1.4 swaps the names of the two 64-bit types, not the bits.
+            cells = cells.view(self.dtype)
+        return cells, np.logical_or.reduce(masks) if masks else None
 
 
 def _described(dataset: Any) -> ElementTree.Element:
@@ -209,7 +213,7 @@ class RasterMap:
     ----------
     name : str
     dataset : rasterio.DatasetReader
-        The caller's own, or one that stays open as long as this map exists: opening costs milliseconds.
+        The caller's own, or one that stays open as long as this map exists: opening costs milliseconds. None in another process.
     layer : Layer
     region : Region
     transform : tuple of six float
@@ -217,6 +221,13 @@ class RasterMap:
     crs : rasterio.crs.CRS or None
     is_upside_down : bool
         Whether its rows go from south to north.
+    block_shape : tuple of two ints
+    files : tuple of str
+        As GDAL lists them.
+    labels_path : str
+        Its path, or another name that GDAL opens.
+    thread : int
+        The thread that opened the dataset.
     """
 
     name: str
@@ -227,6 +238,7 @@ class RasterMap:
     crs: Any
     is_upside_down: bool
     block_shape: tuple[int, int]
+    files: tuple[str, ...]
     labels_path: str
     thread: int
     is_file: ClassVar[bool] = True
@@ -251,14 +263,24 @@ class RasterMap:
             crs=dataset.crs or None,
             is_upside_down=is_upside_down,
             block_shape=dataset.block_shapes[band - 1],
+            files=tuple(dataset.files),
             labels_path=dataset.name,
             thread=threading.get_ident(),
         )
 
+    def sent(self, _: Any) -> RasterMap | None:
+        """Return the map if another process can open it by its path."""
+        return self if self._has_path else None
+
     @property
-    def files(self) -> tuple[str, ...]:
-        """Its files, as GDAL lists them."""
-        return tuple(self.dataset.files)
+    def _has_path(self) -> bool:
+        """Return whether it can be opened again: a warped raster has no path, and a file in memory exists only in this process."""
+        is_reader = self.dataset is None or type(self.dataset).__name__ == "DatasetReader"
+        return is_reader and not self.labels_path.startswith("/vsimem/")
+
+    def __getstate__(self) -> dict[str, Any]:
+        path = shared_path(self.labels_path)
+        return {**vars(self), "dataset": None, "thread": 0, "labels_path": path}
 
     @property
     def dtype(self) -> np.dtype[Any]:
@@ -267,7 +289,7 @@ class RasterMap:
 
     @property
     def nodata(self) -> int | None:
-        """The value of its blocks that is null."""
+        """The value that marks null in its blocks."""
         return nodata_of(np.dtype(self.layer.dtype), self.layer.nodata)
 
     @property
@@ -311,16 +333,16 @@ class RasterMap:
             A cell is not a whole number in range.
         """
         top = self.region.rows - row - rows if self.is_upside_down else row
-        place, told = (top, col, rows, cols), f"rows {row + 1} to {row + rows}"
+        place, title = (top, col, rows, cols), f"rows {row + 1} to {row + rows}"
         if threading.get_ident() == self.thread:
-            cells, null = self.layer.read(self.name, self.dataset, place, told)
-        elif type(self.dataset).__name__ == "DatasetReader":
-            name = self.dataset.name
-            own = of_this_thread(name, lambda: open_dataset(self.name, name))
-            cells, null = self.layer.read(self.name, own, place, told)
+            cells, null = self.layer.read(self.name, self.dataset, place, title)
+        elif self._has_path:
+            path = self.labels_path
+            own = of_this_thread(path, lambda: open_dataset(self.name, path))
+            cells, null = self.layer.read(self.name, own, place, title)
         else:  # a warped raster, for example, which has no name to open it again
             with _one_thread:
-                cells, null = self.layer.read(self.name, self.dataset, place, told)
+                cells, null = self.layer.read(self.name, self.dataset, place, title)
         if self.is_upside_down:
             cells, null = cells[::-1], None if null is None else null[::-1]
         return checked(self.name, cells, null, self.layer.nodata, row, col)
@@ -340,8 +362,8 @@ def only_band(name: str, dataset: Any, enums: Any) -> int:
     bands = sorted({*dataset.indexes} - {*alphas(dataset, enums)})
     if len(bands) != 1:
         is_python = host().words == "python"
-        one = "rasterio.band(dataset, 1)" if is_python else option("band", 1)
-        raise BadMap(name, f"has {len(bands)} bands: choose one, for example {one}")
+        choice = "rasterio.band(dataset, 1)" if is_python else option("band", 1)
+        raise BadMap(name, f"has {len(bands)} bands: choose one, for example {choice}")
     return int(bands[0])
 
 

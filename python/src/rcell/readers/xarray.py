@@ -4,7 +4,7 @@
 from __future__ import annotations
 
 import numbers
-from dataclasses import dataclass, field
+from dataclasses import dataclass, field, replace
 from typing import Any, Iterator, Mapping, NamedTuple
 
 import numpy as np
@@ -15,17 +15,16 @@ from ..core.crs import wkt_of
 from ..core.errors import BadMap, ReadFailed
 from ..core.labels import flags_of
 from ..core.libraries import need
+from ..core.pieces import Chunks
+from ..core.rectangles import Rectangle
 from ..core.sources import (
     BLOCK_CELLS,
     Block,
     check_array,
-    check_computed,
-    checked,
     in_region,
     is_converted,
     nodata_of,
     type_of,
-    unmasked,
 )
 from ..core.region import Region, Transform, six_numbers
 
@@ -79,7 +78,7 @@ _TOLERANCE = 1e-4
 
 @dataclass(frozen=True)
 class DataArrayMap:
-    """A DataArray of two dimensions as a map: blocks of it are computed one at a time, where Dask holds it."""
+    """A DataArray of two dimensions as a map: if Dask holds it, its blocks are computed one at a time."""
 
     name: str
     array: Any
@@ -103,7 +102,7 @@ class DataArrayMap:
 
     @property
     def nodata(self) -> int | None:
-        """The value of its blocks that is null."""
+        """The value that marks null in its blocks."""
         return nodata_of(self.array.dtype, self.nodata_value)
 
     @property
@@ -123,17 +122,23 @@ class DataArrayMap:
 
     @property
     def block_shape(self) -> tuple[int, int]:
-        """Rows and columns that Dask keeps together."""
+        """Rows and columns of a chunk of Dask."""
         chunks = self.array.chunks
         return (max(chunks[0]), max(chunks[1])) if chunks else (1, 1)
 
     def window(self, row: int, col: int, rows: int, cols: int) -> Block:
         """Return some of the cells, counted from the north-west corner; Dask computes the chunks that have them."""
-        part = self.array[row : row + rows, col : col + cols].data
-        cells, null = unmasked(part.compute() if is_lazy(self.array) else part)
-        check_computed(self.name, cells, self.array.dtype, part.shape)
-        null = np.zeros(cells.shape, np.bool_) if self.is_masked and null is None else null
-        return checked(self.name, cells, null, self.nodata_value, row, col)
+        part = self._part(row, col, rows, cols)
+        cells = part.cells.compute() if is_lazy(self.array) else part.cells
+        return replace(part, cells=cells).window(row, col, rows, cols)
+
+    def sent(self, outer: Rectangle) -> Chunks | None:
+        """Return the chunks with the cells of a window, if Dask holds the cells."""
+        return self._part(*outer) if is_lazy(self.array) else None
+
+    def _part(self, row: int, col: int, rows: int, cols: int) -> Chunks:
+        cells = self.array[row : row + rows, col : col + cols].data
+        return Chunks(self.name, self.array.dtype, self.nodata_value, self.is_masked, cells)
 
 
 class Flat(NamedTuple):
@@ -147,7 +152,7 @@ class Flat(NamedTuple):
 
 
 def flat_of(name: str, array: Any) -> Flat:
-    """Return what a DataArray says of a map; no cell is read.
+    """Return what a DataArray says about a map; no cell is read.
 
     Parameters
     ----------
@@ -186,7 +191,7 @@ def flat_of(name: str, array: Any) -> Flat:
 
 
 def source_of_data_array(name: str, array: Any) -> DataArrayMap:
-    """Return a DataArray as a map; `flat_of` says what it may be.
+    """Return a DataArray as a map; `flat_of` lists the arrays that are accepted.
 
     Raises
     ------
@@ -206,13 +211,15 @@ def open_zarr(name: str, path: str) -> DataArrayMap:
     xarray = need("xarray", "xarray", "to read Zarr")
     need("zarr", "xarray", "to read Zarr")
     try:
-        found = variables_of(xarray.open_zarr(path, mask_and_scale=False))
+        maps = variables_of(xarray.open_zarr(path, mask_and_scale=False))
     except (OSError, ValueError, KeyError) as error:
         raise ReadFailed(name, f"cannot open: {path}: {error}") from None
-    if len(found) != 1:
-        told = f"a store of {len(found)} maps ({', '.join(found)}): give one"
-        raise BadMap(name, f"{told}, as xarray.open_zarr(path, mask_and_scale=False)[name]")
-    return source_of_data_array(name, *found.values())
+    if len(maps) != 1:
+        problem = f"the store has {len(maps)} maps ({', '.join(maps)}): pass one of them"
+        raise BadMap(
+            name, f"{problem}, for example xarray.open_zarr(path, mask_and_scale=False)[name]"
+        )
+    return source_of_data_array(name, *maps.values())
 
 
 def variables_of(dataset: Any) -> dict[str, Any]:
@@ -222,16 +229,16 @@ def variables_of(dataset: Any) -> dict[str, Any]:
             "maps", "the DataArray has no usable name: pass it by keyword, for example lc=array"
         )
     described = {name: dataset[name] for name in dataset.data_vars}
-    places = {
-        of.get("grid_mapping")
-        for array in described.values()
-        for of in (array.attrs, array.encoding)
-    }
-    return {
-        str(name): array.assign_coords({at: dataset[at] for at in places & set(described)})
-        for name, array in described.items()
-        if name not in places and array.ndim > 1
-    }
+    grid_mappings = set()
+    for array in described.values():
+        grid_mappings.add(array.attrs.get("grid_mapping"))
+        grid_mappings.add(array.encoding.get("grid_mapping"))
+    coords = {name: dataset[name] for name in grid_mappings & set(described)}
+    maps = {}
+    for name, array in described.items():
+        if name not in grid_mappings and array.ndim > 1:
+            maps[str(name)] = array.assign_coords(coords)
+    return maps
 
 
 def layers_of(array: Any) -> list[Any]:
@@ -239,11 +246,11 @@ def layers_of(array: Any) -> list[Any]:
     if getattr(array, "ndim", 0) != 3:
         raise BadMap(
             "raster",
-            f"bands are of a DataArray of three dimensions, not of {getattr(array, 'ndim', 'several variables')}",
+            f"bands must be of a DataArray of three dimensions; got {getattr(array, 'ndim', 'several variables')}",
         )
     axes = [_axis_of(array, dim) for dim in array.dims]
     across = array.dims[axes.index(None) if {"X", "Y"} <= set(axes) else 0]
-    return [array.isel({across: at}) for at in range(array.sizes[across])]
+    return [array.isel({across: index}) for index in range(array.sizes[across])]
 
 
 def series_of(array: Any) -> tuple[list[Any], list[int]]:
@@ -252,7 +259,7 @@ def series_of(array: Any) -> tuple[list[Any], list[int]]:
     years = times
     if np.issubdtype(times.dtype, np.datetime64):
         years = times.astype("datetime64[Y]").astype(np.int64) + 1970
-    return [array.isel(time=at) for at in range(array.sizes["time"])], years.tolist()
+    return [array.isel(time=index) for index in range(array.sizes["time"])], years.tolist()
 
 
 def is_lazy(array: Any) -> bool:
@@ -262,34 +269,40 @@ def is_lazy(array: Any) -> bool:
 
 def _flat(name: str, array: Any) -> Any:
     """Return an array with its rows first, by the names of its dimensions, else by their places."""
-    axes = {dim: _axis_of(array, dim) for dim in array.dims}
-    named = [next((dim for dim, axis in axes.items() if axis == wanted), None) for wanted in "YX"]
-    if len(set(axes.values()) - {None}) < len([axis for axis in axes.values() if axis]):
-        raise BadMap(
-            name, f"a DataArray with two dimensions of one axis: {', '.join(map(str, array.dims))}"
-        )
-    kept = named if None not in named else _by_place(array, named)
-    others = [dim for dim in array.dims if dim not in kept]
-    if len(kept) != 2 or any(array.sizes[dim] != 1 for dim in others):
+    axes = [_axis_of(array, dim) for dim in array.dims]
+    if axes.count("X") > 1 or axes.count("Y") > 1:
+        listed = ", ".join(map(str, array.dims))
+        raise BadMap(name, f"a DataArray with two dimensions along one axis: {listed}")
+    dim_of = dict(zip(axes, array.dims))
+    dims = [dim_of.get("Y"), dim_of.get("X")]
+    if None in dims:
+        dims = _by_place(array, dims)
+    others = [dim for dim in array.dims if dim not in dims]
+    long = [dim for dim in others if array.sizes[dim] != 1]
+    if len(dims) != 2 or long:
         sizes = ", ".join(f"{dim} {array.sizes[dim]}" for dim in array.dims)
-        left = next((dim for dim in others if array.sizes[dim] != 1), "band")
-        told = f"a DataArray of {array.ndim} dimensions ({sizes}), and a map has two"
-        raise BadMap(name, f"{told}: select one, for example .isel({left}=0)")
-    return array.isel({dim: 0 for dim in others}).transpose(*kept)
+        problem = f"a DataArray of {array.ndim} dimensions ({sizes}), and a map has two"
+        example = long[0] if long else "band"
+        raise BadMap(name, f"{problem}: select one, for example .isel({example}=0)")
+    return array.isel({dim: 0 for dim in others}).transpose(*dims)
 
 
 def _axis_of(array: Any, dim: Any) -> str | None:
     """Return X or Y, if a dimension is known to be that: by CF's attributes of its coordinate, or by a usual name."""
     attributes = array.coords[dim].attrs if dim in array.coords else {}
-    told = {*(attributes.get(key) for key in ("axis", "standard_name", "units")), str(dim).lower()}
-    return next((axis for axis, names in _AXES.items() if told & names), None)
+    hints = {*(attributes.get(key) for key in ("axis", "standard_name", "units")), str(dim).lower()}
+    return next((axis for axis, names in _AXES.items() if hints & names), None)
 
 
 def _by_place(array: Any, named: list[Any]) -> list[Any]:
     """Return the two dimensions that have more than one element, else the last two; a known one decides which comes first."""
-    long = [dim for dim in array.dims if array.sizes[dim] > 1 or dim in named]
-    kept = long if len(long) == 2 else list(array.dims[-2:])
-    return kept[::-1] if kept and (named[0] == kept[-1] or named[1] == kept[0]) else kept
+    dims = [dim for dim in array.dims if array.sizes[dim] > 1 or dim in named]
+    if len(dims) != 2:
+        dims = list(array.dims[-2:])
+    rows, cols = named
+    if dims and (rows == dims[-1] or cols == dims[0]):
+        dims.reverse()
+    return dims
 
 
 def _check_scale(name: str, array: Any) -> None:
@@ -307,15 +320,15 @@ def _transform_of(name: str, array: Any) -> Transform | None:
     y, x = array.dims
     if y not in array.coords or x not in array.coords:
         return None
-    told = _told_transform(name, array)
-    north, height = _spacing(name, array[y], None if told is None else (told[5], told[4]))
-    west, width = _spacing(name, array[x], None if told is None else (told[2], told[0]))
+    stated = _stated_transform(name, array)
+    north, height = _spacing(name, array[y], None if stated is None else (stated[5], stated[4]))
+    west, width = _spacing(name, array[x], None if stated is None else (stated[2], stated[0]))
     if width < 0:
         raise BadMap(name, f"its columns go from east to west: sort them, as .sortby({x!r})")
     return (width, 0.0, west, 0.0, height, north)
 
 
-def _told_transform(name: str, array: Any) -> Transform | None:
+def _stated_transform(name: str, array: Any) -> Transform | None:
     """Return the transform that rioxarray stored, in GDAL's order; it is outdated if the array was cut later."""
     reference = array.coords.get("spatial_ref")
     text = None if reference is None else reference.attrs.get("GeoTransform")
@@ -325,7 +338,7 @@ def _told_transform(name: str, array: Any) -> Transform | None:
     return None if b or d else (a, b, c, d, e, f)
 
 
-def _spacing(name: str, coordinate: Any, told: tuple[float, float] | None) -> tuple[float, float]:
+def _spacing(name: str, coordinate: Any, stated: tuple[float, float] | None) -> tuple[float, float]:
     """Return the outer edge and the step of the centres along a dimension."""
     try:
         centres = np.asarray(coordinate.values, dtype=np.float64)
@@ -334,8 +347,8 @@ def _spacing(name: str, coordinate: Any, told: tuple[float, float] | None) -> tu
     if not np.isfinite(centres).all():
         raise BadMap(name, f"its coordinate {coordinate.name} has a number that is not finite")
     count = centres.size
-    if told is not None:
-        edge, step = told
+    if stated is not None:
+        edge, step = stated
         if np.abs(edge + step * (np.arange(count) + 0.5) - centres).max() <= abs(step) * _TOLERANCE:
             return edge, step
     if count == 1:
@@ -360,28 +373,24 @@ def _crs_of(array: Any) -> Any:
 
 
 def _nodata_of(name: str, array: Any) -> float | None:
-    """Return the number that is null; NaN is in any case, and the only one where xarray has scaled the cells."""
-    stored = (
-        array.encoding
-        if (array.encoding.get("scale_factor", 1), array.encoding.get("add_offset", 0)) == (1, 0)
-        else {}
-    )
-    told = [
-        np.asarray(of[key]).reshape(-1)
-        for of in (array.attrs, stored)
-        for key in ("_FillValue", "missing_value", "nodata")
-        if of.get(key) is not None
-    ]
-    values = [value.item() for values in told for value in values]
+    """Return the number that marks null. NaN always does, and is the only one if xarray has scaled the cells."""
+    scale = array.encoding.get("scale_factor", 1)
+    offset = array.encoding.get("add_offset", 0)
+    stored = array.encoding if (scale, offset) == (1, 0) else {}
+    values: list[Any] = []
+    for attributes in (array.attrs, stored):
+        for key in ("_FillValue", "missing_value", "nodata"):
+            if attributes.get(key) is not None:
+                values += np.asarray(attributes[key]).reshape(-1).tolist()
     if not all(isinstance(value, numbers.Real) for value in values):
         raise BadMap(name, f"a nodata value that is not a number: {', '.join(map(repr, values))}")
-    found = {value for value in values if value == value}
-    if len(found) > 1:
+    distinct = {value for value in values if value == value}
+    if len(distinct) > 1:
         raise BadMap(
             name,
-            f"several nodata values: {', '.join(map(str, sorted(found)))}; keep one of _FillValue, missing_value and nodata",
+            f"several nodata values: {', '.join(map(str, sorted(distinct)))}; keep one of _FillValue, missing_value and nodata",
         )
-    return next(iter(found), None)
+    return next(iter(distinct), None)
 
 
 def _flags_of(array: Any) -> dict[int, str]:
@@ -418,7 +427,7 @@ def data_array(
     labels : mapping of int to str
     name : str
     null : int
-        The cell that is null, which `_FillValue` says.
+        The value of null cells, stored as `_FillValue`.
     like : xarray.DataArray, optional
         A map of the same rows and columns, whose dimensions and coordinates the result gets.
     """

@@ -1,0 +1,24 @@
+# SPDX-License-Identifier: Apache-2.0 OR GPL-2.0-or-later
+"""Colours for classes without a colour of their own."""
+
+from __future__ import annotations
+
+import colorsys
+
+__all__ = ["colour_at"]
+
+_GOLDEN = 0.618033988749895
+
+
+def colour_at(place: int) -> tuple[int, int, int]:
+    """Return the colour of a place in a legend: always the same one, and different from its neighbours'.
+
+    Examples
+    --------
+    >>> colour_at(0)
+    (131, 235, 129)
+    """
+    red, green, blue = colorsys.hsv_to_rgb(
+        (0.33 + place * _GOLDEN) % 1.0, 0.45 + 0.15 * (place % 3), 0.92 - 0.16 * (place // 3 % 3)
+    )
+    return round(red * 255), round(green * 255), round(blue * 255)

@@ -1,0 +1,129 @@
+# SPDX-License-Identifier: Apache-2.0 OR GPL-2.0-or-later
+"""Hidden folders for files that are not complete; a folder whose process was killed goes when the same file is written again."""
+
+from __future__ import annotations
+
+import contextlib
+import fcntl
+import os
+import re
+import shutil
+
+__all__ = ["PrivateFolder"]
+
+_LONGEST_STEM = 200
+_ENDING = re.compile("-[0-9a-f]{8}")
+
+
+class PrivateFolder:
+    """A hidden folder for this user only, named after a file.
+
+    A process that is killed cannot remove its folder. So the process has a lock in it, and folders for the same file that no
+    process has a lock in are removed first.
+
+    Parameters
+    ----------
+    folder : str
+        The folder in which it is created.
+    name : str
+        The name of the file.
+
+    Attributes
+    ----------
+    path : str
+
+    Examples
+    --------
+    >>> import tempfile
+    >>> with tempfile.TemporaryDirectory() as folder:
+    ...     room = PrivateFolder(folder, "a.txt")
+    ...     print(os.listdir(folder)[0][:7])
+    ...     room.remove()
+    ...     print(os.listdir(folder))
+    .a.txt-
+    []
+    """
+
+    def __init__(self, folder: str, name: str) -> None:
+        stem = "." + os.fsdecode(os.fsencode(name)[:_LONGEST_STEM])
+        _remove_abandoned(folder, stem)
+        lock = None
+        while lock is None:
+            self.path = os.path.join(folder, f"{stem}-{os.urandom(4).hex()}")
+            with contextlib.suppress(FileExistsError):
+                os.mkdir(self.path, 0o700)
+                lock = _locked(self.path)
+        self._lock: int | None = lock
+
+    def rename(self, path: str) -> None:
+        """Give the folder a name that is not there, or is an empty folder; it is not removed then."""
+        os.unlink(_lock_of(self.path))
+        os.rename(self.path, path)
+        self._unlock()
+
+    def remove(self) -> None:
+        """Remove the folder and all that is in it, unless it was renamed."""
+        if self._lock is not None:
+            try:
+                _remove(self.path)
+            finally:
+                self._unlock()
+
+    def _unlock(self) -> None:
+        assert self._lock is not None
+        os.close(self._lock)
+        self._lock = None
+
+
+def _lock_of(path: str) -> str:
+    """Return the path of a folder's lock: a file that has the name of the folder, which the file that is written cannot have."""
+    return os.path.join(path, os.path.basename(path))
+
+
+def _locked(path: str) -> int | None:
+    """Lock a new folder and return the descriptor of its lock, or None if another process has just removed the folder."""
+    try:
+        lock = os.open(_lock_of(path), os.O_WRONLY | os.O_CREAT | os.O_EXCL, 0o600)
+    except OSError:
+        os.rmdir(path)
+        raise
+    with contextlib.suppress(OSError):  # some file systems have no locks
+        fcntl.flock(lock, fcntl.LOCK_EX)
+    if os.path.exists(_lock_of(path)):
+        return lock
+    os.close(lock)
+    return None
+
+
+def _remove_abandoned(folder: str, stem: str) -> None:
+    """Remove the folders that killed processes of this user have left for a file."""
+    with contextlib.suppress(OSError):
+        for name in os.listdir(folder):
+            if name.startswith(stem) and _ENDING.fullmatch(name, len(stem)):
+                with contextlib.suppress(OSError):
+                    _remove_unlocked(os.path.join(folder, name))
+
+
+def _remove_unlocked(path: str) -> None:
+    """Remove a folder, unless a process has its lock, or it is not of this user; raises OSError in the first case."""
+    with contextlib.ExitStack() as opened:
+        room = os.open(path, os.O_RDONLY | os.O_DIRECTORY | os.O_NOFOLLOW)
+        opened.callback(os.close, room)
+        if os.fstat(room).st_uid != os.geteuid():
+            return
+        words = os.O_WRONLY | os.O_NOFOLLOW | os.O_NONBLOCK
+        lock = os.open(os.path.basename(path), words, dir_fd=room)
+        opened.callback(os.close, lock)
+        fcntl.flock(lock, fcntl.LOCK_EX | fcntl.LOCK_NB)
+        _remove(path)
+
+
+def _remove(path: str) -> None:
+    """Remove a folder and all that is in it, its lock as the last file: without a lock, the folder would stay."""
+    lock = os.path.basename(path)
+    for entry in sorted(os.scandir(path), key=lambda entry: entry.name == lock):
+        if entry.is_dir(follow_symlinks=False):
+            shutil.rmtree(entry.path)
+        else:
+            os.unlink(entry.path)
+    os.rmdir(path)

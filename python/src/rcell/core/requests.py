@@ -1,0 +1,198 @@
+# SPDX-License-Identifier: Apache-2.0 OR GPL-2.0-or-later
+"""The bytes of a request to rcell-pipe: maps, a script, and questions about maps."""
+
+from __future__ import annotations
+
+import struct
+from collections.abc import Iterable, Iterator, Mapping, Sequence
+from dataclasses import dataclass, field
+from typing import NamedTuple, Optional, Union
+
+__all__ = ["Block", "Buffer", "Map", "Margin", "Question", "plan_request", "request"]
+
+CELL_BYTES = {"u8": 1, "i8": 1, "u16": 2, "i16": 2, "u32": 4, "i32": 4, "i64": 8}
+"""The types of cells that go in, in the order of their codes, which begin at 1."""
+
+_CODES = {name: code for code, name in enumerate(CELL_BYTES, 1)}
+_PATCHES = 1  # a kind of question
+# Rows and their masks are put together in pieces that stay in the cache of a processor.
+PIECE_BYTES = 1 << 18
+
+Buffer = Union[bytes, bytearray, memoryview]
+
+
+class Block(NamedTuple):
+    """Some complete rows of a map: C-contiguous bytes in the byte order of x86.
+
+    Attributes
+    ----------
+    cells : buffer
+    mask : buffer, optional
+        A byte for each cell, 1 if it is null; needed if the map is masked.
+    """
+
+    cells: Buffer
+    mask: Optional[Buffer] = None
+
+
+@dataclass(frozen=True)
+class Map:
+    """A map that goes in.
+
+    Attributes
+    ----------
+    name : str
+    edges : tuple of str
+        North, south, east and west, as decimal texts.
+    rows, cols : int
+    type : {"u8", "i8", "u16", "i16", "u32", "i32", "i64"}
+    blocks : iterable of Block
+        All rows from north to south. They are asked for one after another, while the program reads.
+    nodata : int, optional
+        A value of the type that is null.
+    is_masked : bool
+        Whether each block has a mask.
+    labels : mapping of int to str
+    """
+
+    name: str
+    edges: tuple[str, str, str, str]
+    rows: int
+    cols: int
+    type: str
+    blocks: Iterable[Block]
+    nodata: Optional[int] = None
+    is_masked: bool = False
+    labels: Mapping[int, str] = field(default_factory=dict)
+
+    def pieces(self) -> Iterator[Buffer]:
+        """Yield the bytes of the map.
+
+        Raises
+        ------
+        ValueError
+            The blocks have another number of rows.
+        """
+        yield self._head()
+        row_bytes, rows = self.cols * CELL_BYTES[self.type], 0
+        for block in self.blocks:
+            cells = memoryview(block.cells).cast("B")
+            rows += len(cells) // row_bytes
+            if self.is_masked:
+                yield from _interleaved(
+                    cells, memoryview(block.mask or b"").cast("B"), row_bytes, self.cols
+                )
+            else:
+                yield cells
+            if len(cells) % row_bytes:
+                break
+        if rows != self.rows:
+            raise ValueError(f"{rows} rows of the map {self.name}, which has {self.rows}")
+
+    def _head(self) -> bytes:
+        flags = (self.nodata is not None) + 2 * self.is_masked
+        texts = b"".join(_short(text) for text in (self.name, *self.edges))
+        numbers = struct.pack(
+            "<IIBBqI",
+            self.rows,
+            self.cols,
+            _CODES[self.type],
+            flags,
+            self.nodata or 0,
+            len(self.labels),
+        )
+        labels = b""
+        for category, text in self.labels.items():
+            label = text.encode("utf-8", "surrogateescape")
+            labels += struct.pack("<iH", category, len(label)) + label
+        return texts + numbers + labels
+
+
+def _short(text: str) -> bytes:
+    return bytes([len(text)]) + text.encode("ascii")
+
+
+def _interleaved(cells: memoryview, mask: memoryview, row_bytes: int, cols: int) -> Iterator[bytes]:
+    """Yield rows, each followed by its mask."""
+    rows = len(cells) // row_bytes
+    if len(mask) != rows * cols:
+        raise ValueError(f"a mask of {len(mask)} bytes for {rows} rows of {cols} cells")
+    step = max(1, PIECE_BYTES // (row_bytes + cols))
+    for first in range(0, rows, step):
+        places = range(first, min(first + step, rows))
+        parts = (
+            (cells[row * row_bytes : (row + 1) * row_bytes], mask[row * cols : (row + 1) * cols])
+            for row in places
+        )
+        yield b"".join(part for pair in parts for part in pair)
+
+
+class Margin(NamedTuple):
+    """Rows above and below, and columns to the left and to the right of a cell."""
+
+    up: int = 0
+    down: int = 0
+    left: int = 0
+    right: int = 0
+
+
+class Question(NamedTuple):
+    """A question about a map of a script: the measures of its patches.
+
+    Attributes
+    ----------
+    map : str
+        An input map, or a map that the script makes.
+    connectivity : {4, 8}
+    depth : int
+        A cell is in the core of its patch if all cells within this many steps, across edges, are in it.
+    zones : str
+        A map of zones, or empty: each patch comes with the zone of most of its cells.
+    """
+
+    map: str
+    connectivity: int
+    depth: int
+    zones: str = ""
+
+    @property
+    def is_diagonal(self) -> bool:
+        """Whether cells that share a corner are connected."""
+        return self.connectivity == 8
+
+    @property
+    def reach(self) -> Margin:
+        """How far the cells are from a cell that decide whether it is in the core."""
+        return Margin(*[self.depth] * 4)
+
+    def bytes(self) -> bytes:
+        """Return the bytes of the question."""
+        numbers = struct.pack("<BI", self.connectivity, self.depth)
+        return bytes([_PATCHES]) + _short(self.map) + numbers + _short(self.zones)
+
+    def text(self) -> str:
+        """Return the question as records have it, after a script."""
+        numbers = f"connectivity {self.connectivity}, core depth {self.depth}"
+        zones = f", zones {self.zones}" if self.zones else ""
+        return f"# question: patches of {self.map}, {numbers}{zones}"
+
+
+def request(
+    maps: Sequence[Map],
+    script: bytes,
+    questions: Sequence[Question] = (),
+    magic: bytes = b"RCELLQ1\n",
+) -> Iterator[Buffer]:
+    """Yield the bytes of a request."""
+    yield magic + struct.pack("<I", len(maps))
+    for each in maps:
+        yield from each.pieces()
+    yield struct.pack("<I", len(script)) + script
+    yield struct.pack("<I", len(questions)) + b"".join(each.bytes() for each in questions)
+
+
+def plan_request(names: Sequence[str], script: bytes) -> Iterator[Buffer]:
+    """Yield the bytes of a request for a plan."""
+    yield b"RCELLP1\n" + struct.pack("<I", len(names)) + b"".join(map(_short, names)) + struct.pack(
+        "<I", len(script)
+    ) + script

@@ -1,0 +1,234 @@
+# SPDX-License-Identifier: Apache-2.0 OR GPL-2.0-or-later
+"""The measures of patches by tiles: the program measures each tile, and what a tile alone lacks along its border is added."""
+
+from __future__ import annotations
+
+from collections.abc import Callable, Sequence
+from dataclasses import dataclass
+from typing import Any, Optional
+
+import numpy as np
+
+from .arrays import NDArray
+from .counting import places_of
+from .protocol import (
+    NULL,
+    PATCH_BYTES,
+    ZONE_BYTES,
+    Frame,
+    GridFrame,
+    PatchesFrame,
+    Question,
+    TableFrame,
+)
+from .rectangles import Rectangle
+from .runs import entries_of
+from .sources import Block, null_cells
+from .tile_clumps import NO_CLUMP, sides_text
+from .tile_tables import order_of
+from .tile_work import TileWork, wide
+
+__all__ = ["PATCH", "ZONED_PATCH", "PatchSum", "measures_of"]
+
+PATCH = np.dtype(
+    [("class", "<i4")]
+    + [
+        (name, "<i8")
+        for name in ("cells", "ends", "flanks", "core", "top", "bottom", "left", "right")
+    ]
+)
+"""What the program counts of a patch; `ends` are north and south sides of cells on its border, `flanks` west and east sides."""
+ZONED_PATCH = np.dtype([*PATCH.descr, ("zones", "<i4")])
+"""The same with the zone of most cells of the patch."""
+assert (PATCH.itemsize, ZONED_PATCH.itemsize) == (PATCH_BYTES, PATCH_BYTES + ZONE_BYTES)
+
+_JOINED_BY: dict[str, Any] = {
+    "class": np.minimum,
+    "top": np.minimum,
+    "left": np.minimum,
+    "bottom": np.maximum,
+    "right": np.maximum,
+}
+
+Integers = NDArray[Any]
+Bools = NDArray[np.bool_]
+
+
+# A tile
+
+
+def measures_of(work: TileWork, frames: Sequence[Frame]) -> list[Integers]:
+    """Return of a tile its border, as a text, the measures of its patches, those that may continue outside, and tables."""
+    [question] = work.questions
+    grid, *tables, patches = frames
+    assert isinstance(grid, GridFrame) and isinstance(patches, PatchesFrame)
+    rows = np.frombuffer(patches.rows, PATCH).copy()
+    source = work.maps[question.map]
+    numbers = np.asarray(grid.cells).reshape(grid.rows, grid.cols)
+    block = source.window(*work.outer)
+    tile = _Tile(work.place, work.outer, work.shape, block, source.nodata, numbers)
+    sides = [(tile.classes(side), tile.numbers(side)) for side, _, _ in tile.sides()]
+    begun = np.cumsum(np.bincount(rows["top"], minlength=work.place.rows))
+    text = sides_text(work.place, sides, begun, question.is_diagonal)
+    tile.leave_out_inner_sides(rows)
+    tile.add_core_cells(rows, question)
+    open_ones = np.unique(np.concatenate([numbers.ravel() for _, numbers in sides]))
+    told = [np.frombuffer(text, np.uint8), rows, open_ones[open_ones != NO_CLUMP]]
+    return told + [entries_of(table) for table in tables if isinstance(table, TableFrame)]
+
+
+@dataclass(frozen=True)
+class _Tile:
+    """The cells of a tile and its halo, and the numbers of its patches."""
+
+    place: Rectangle
+    outer: Rectangle
+    shape: tuple[int, int]
+    block: Block
+    nodata: Optional[int]
+    cells: Integers
+
+    def classes(self, place: Rectangle) -> Integers:
+        """Return the classes of a part of the tile and its halo."""
+        null = self.block.null
+        cells = place.part_of(self.outer, self.block.cells)
+        mask = None if null is None else place.part_of(self.outer, null)
+        is_null = null_cells(cells, mask, self.nodata)
+        return np.where(is_null, NULL, cells.astype(np.int64))
+
+    def numbers(self, place: Rectangle) -> Integers:
+        """Return the numbers of the patches in a part of the tile."""
+        return wide(place.part_of(self.place, self.cells), NO_CLUMP)
+
+    def sides(self) -> list[tuple[Rectangle, Rectangle, str]]:
+        """Return the first and last row and column, each with the cells beyond it, and the name of the sides between them."""
+        top, left, rows, cols = self.place
+        low, right = top + rows - 1, left + cols - 1
+        return [
+            (Rectangle(top, left, 1, cols), Rectangle(top - 1, left, 1, cols), "ends"),
+            (Rectangle(low, left, 1, cols), Rectangle(low + 1, left, 1, cols), "ends"),
+            (Rectangle(top, left, rows, 1), Rectangle(top, left - 1, rows, 1), "flanks"),
+            (Rectangle(top, right, rows, 1), Rectangle(top, right + 1, rows, 1), "flanks"),
+        ]
+
+    def leave_out_inner_sides(self, rows: Integers) -> None:
+        """Leave out the sides to cells of the same class in other tiles: these are in the same patch."""
+        for side, beyond, name in self.sides():
+            if beyond.is_within(self.outer):
+                classes = self.classes(side)
+                is_inner = (classes == self.classes(beyond)) & (classes != NULL)
+                _add(rows[name], self.numbers(side)[is_inner], -1)
+
+    def add_core_cells(self, rows: Integers, question: Question) -> None:
+        """Add the core cells near the border of the tile, where the tile alone has none."""
+        for band in _bands(self.place, question.depth):
+            around = band.with_halo(question.reach, self.shape)
+            is_core = band.part_of(around, _core(self.classes(around), question.depth))
+            _add(rows["core"], self.numbers(band)[is_core], 1)
+
+
+def _bands(place: Rectangle, depth: int) -> list[Rectangle]:
+    """Return the cells of a tile that are fewer steps than this from the cells around it, each once."""
+    top, left, rows, cols = place
+    high, broad = min(depth, rows), min(depth, cols)
+    low, far = max(rows - depth, high), max(cols - depth, broad)
+    return [
+        Rectangle(top, left, high, cols),
+        Rectangle(top + low, left, rows - low, cols),
+        Rectangle(top + high, left, low - high, broad),
+        Rectangle(top + high, left + far, low - high, cols - far),
+    ]
+
+
+def _core(classes: Integers, depth: int) -> Bools:
+    """Return which cells have only cells of their class within some steps, across edges.
+
+    Examples
+    --------
+    >>> _core(np.ones((3, 4), int), 1).astype(int).tolist()
+    [[0, 0, 0, 0], [0, 1, 1, 0], [0, 0, 0, 0]]
+    """
+    core: Bools = classes != NULL
+    down, right = classes[1:] == classes[:-1], classes[:, 1:] == classes[:, :-1]
+    is_same = down[:-1, 1:-1] & down[1:, 1:-1] & right[1:-1, :-1] & right[1:-1, 1:]
+    for _ in range(depth):
+        around = core[:-2, 1:-1] & core[2:, 1:-1] & core[1:-1, :-2] & core[1:-1, 2:]
+        inner = core[1:-1, 1:-1] & around & is_same
+        core = np.zeros_like(core)
+        core[1:-1, 1:-1] = inner
+    return core
+
+
+def _add(counts: Integers, numbers: Integers, step: int) -> None:
+    """Add a step to the count of each number, as often as it is there; numbers begin at 1."""
+    found, times = np.unique(numbers, return_counts=True)
+    counts[found - 1] += step * times
+
+
+# All tiles
+
+
+class PatchSum:
+    """Patch measures collected from all tiles.
+
+    Patches that are not wanted are left out at once, unless they may continue in other tiles.
+
+    Parameters
+    ----------
+    classes : list of int, optional
+        Only patches of these classes.
+    fewest : int
+        Only patches with at least this many cells.
+    """
+
+    def __init__(self, classes: Optional[list[int]], fewest: int) -> None:
+        self._listed, self._fewest = classes, fewest
+        self._tiles: dict[int, tuple[Integers, Integers, list[Integers]]] = {}
+        self.numbers: Integers = np.empty(0, np.int64)
+        self.counts: dict[str, Integers] = {}
+        self.tables: list[Integers] = []
+
+    def add(
+        self, tile: int, place: Rectangle, rows: Integers, waiting: Integers, tables: list[Integers]
+    ) -> None:
+        """Take the patches of a tile, those that may continue outside, and tables that begin with their numbers."""
+        is_open = np.zeros(len(rows), np.bool_)
+        is_open[waiting - 1] = True
+        kept = is_open | (rows["cells"] >= self._fewest)
+        if self._listed is not None:
+            kept &= np.isin(rows["class"], self._listed)
+        rows = rows[kept]
+        for name, first in zip(("top", "bottom", "left", "right"), np.repeat(place[:2], 2)):
+            rows[name] += first
+        tables = [table[kept[table[:, 0] - 1]] for table in tables]
+        self._tiles[tile] = np.flatnonzero(kept) + 1, rows, tables
+
+    def join(self, numbers_of: Callable[[int, Integers], Integers]) -> None:
+        """Join the patches, by the numbers that the patches of each tile have in the full map."""
+        found = [(tile, *self._tiles.pop(tile)) for tile in sorted(self._tiles)]
+        numbers = np.concatenate([numbers_of(tile, own) for tile, own, _, _ in found])
+        order = np.argsort(numbers, kind="stable")
+        numbers = numbers[order]
+        first = places_of(numbers)
+        for name in found[0][2].dtype.names or ():
+            counts = np.concatenate([rows[name] for _, _, rows, _ in found])[order]
+            join = _JOINED_BY.get(name, np.add)
+            counts = join.reduceat(counts, first) if first.size else counts
+            self.counts[name] = counts.astype(np.int64)
+        kept = self.counts["cells"] >= self._fewest
+        self.numbers = numbers[first][kept]
+        self.counts = {name: counts[kept] for name, counts in self.counts.items()}
+        for parts in zip(*(tables for _, _, _, tables in found)):
+            for (tile, _, _, _), part in zip(found, parts):
+                part[:, 0] = numbers_of(tile, part[:, 0])
+            self.tables.append(_summed(np.concatenate(parts)))
+
+
+def _summed(table: Integers) -> Integers:
+    """Return a table of cells with each combination once."""
+    table = table[order_of(table[:, :-1])]
+    first = places_of(table[:, :-1])
+    found = table[first]
+    if first.size:
+        found[:, -1] = np.add.reduceat(table[:, -1], first)
+    return found

@@ -1,0 +1,237 @@
+# SPDX-License-Identifier: Apache-2.0 OR GPL-2.0-or-later
+"""The work on one tile: a script over the tile and its halo, in a thread of this process or on another machine."""
+
+from __future__ import annotations
+
+from collections.abc import Callable, Mapping, Sequence
+from dataclasses import dataclass, field, replace
+from functools import partial
+from typing import Any, Optional
+
+import numpy as np
+
+from . import protocol
+from .arrays import NDArray
+from .borders import Watch
+from .errors import OutOfMemory
+from .host import host, serving
+from .pieces import Piece
+from .programs import find_pipe, program_errors
+from .protocol import NULL, GridFrame
+from .rectangles import Rectangle
+from .region import Region
+from .runs import entries_of
+from .sources import Block
+from .tile_clumps import NO_CLUMP, border_text
+
+__all__ = [
+    "TileDone",
+    "TileWork",
+    "clumps_of",
+    "outputs_of",
+    "patches_of",
+    "run_work",
+    "wide",
+]
+
+Integers = NDArray[Any]
+
+
+@dataclass(frozen=True)
+class TileWork:
+    """A script over a tile and its halo.
+
+    Attributes
+    ----------
+    text : str
+    place, outer : Rectangle
+        The tile, and the tile with its halo.
+    shape : tuple of two ints
+        Of the full map.
+    maps : mapping of str to any
+        Maps that have at least the cells of the tile and its halo.
+    watched : tuple of str
+        The maps whose border is watched for nodata values.
+    results : callable
+        What is kept of the frames of the script.
+    words : str
+        How the caller writes options.
+    call : str
+        Another one for each call.
+    path : str
+        Where the results are kept, if they are.
+    known : TileDone, optional
+        The results, if they were kept.
+    questions : tuple of Question
+        If there are some, the program gets the tile without its halo.
+    """
+
+    text: str
+    place: Rectangle
+    outer: Rectangle
+    shape: tuple[int, int]
+    maps: Mapping[str, Any]
+    watched: tuple[str, ...]
+    results: Callable[[TileWork, Sequence[protocol.Frame]], list[Integers]]
+    words: str = "python"
+    call: str = ""
+    path: str = ""
+    known: Optional[TileDone] = None
+    questions: tuple[protocol.Question, ...] = ()
+
+
+@dataclass(frozen=True)
+class TileDone:
+    """What became of a tile: its results, the counts of nodata values along the border, and warnings."""
+
+    results: list[Integers]
+    counts: Mapping[str, NDArray[np.int64]] = field(default_factory=dict)
+    warnings: Sequence[str] = ()
+
+
+def run_work(work: TileWork) -> TileDone:
+    """Run the script of a tile, unless its results are known.
+
+    Raises
+    ------
+    Refused, BadMap, OutOfMemory, Killed, MissingProgram, WrongProgram
+    """
+    if work.known is not None:
+        return work.known
+    warnings: dict[str, None] = {}
+
+    def collect(text: str) -> None:
+        warnings[text] = None
+
+    with serving(replace(host(), words=work.words, warn=collect, progress=None, started=None)):
+        watches = {name: Watch(name, work.maps[name], work.shape) for name in work.watched}
+        pieces = {name: _read(source, work.outer) for name, source in work.maps.items()}
+        work = replace(work, maps=pieces)
+        results = work.results(work, _frames(work, watches))
+    counts = {name: watch.counts for name, watch in watches.items() if watch.counts.any()}
+    return TileDone(results, counts, tuple(warnings))
+
+
+def _frames(work: TileWork, watches: Mapping[str, Watch]) -> list[protocol.Frame]:
+    """Run the program over the tile with its halo, and return what it writes."""
+    sent = [_sent(work, name, source, watches) for name, source in work.maps.items()]
+    try:
+        with program_errors(work.text, list(work.maps), path := find_pipe()):
+            words = protocol.script_bytes(work.text)
+            return protocol.run(path, sent, words, work.questions, watch=host().watch)
+    except OutOfMemory as error:
+        problem = f"{error.text} for a tile of {work.outer.rows} x {work.outer.cols} cells"
+        raise OutOfMemory(problem, "arguments", 0, error.status) from None
+
+
+def _read(source: Any, outer: Rectangle) -> Piece:
+    """Return the cells of a tile with its halo."""
+    return source if isinstance(source, Piece) else Piece.of(source, outer)
+
+
+def _sent(work: TileWork, name: str, source: Piece, watches: Mapping[str, Watch]) -> protocol.Map:
+    """Return a map of the tile with its halo, and watch the border of the full map in the tile."""
+    place, outer, block = work.place, work.outer, source.block
+    null = None if block.null is None else place.part_of(outer, block.null)
+    own = replace(block, cells=place.part_of(outer, block.cells), null=null)
+    if name in watches:
+        watches[name].add(own, place.top, place.left)
+    if work.questions:
+        outer, block = place, _contiguous(own)
+    mask = None if block.null is None else block.null.view(np.uint8).data
+    return protocol.Map(
+        name,
+        Region.of_cells(outer.rows, outer.cols).edges,
+        outer.rows,
+        outer.cols,
+        source.dtype.kind + str(8 * source.dtype.itemsize),
+        [protocol.Block(block.cells.data, mask)],
+        source.nodata,
+        source.is_masked,
+    )
+
+
+def _contiguous(block: Block) -> Block:
+    """Return a block whose rows follow each other in memory."""
+    null = None if block.null is None else np.ascontiguousarray(block.null)
+    return replace(block, cells=np.ascontiguousarray(block.cells), null=null)
+
+
+# What is kept of frames
+
+
+def outputs_of(counted: Sequence[bool]) -> partial[list[Integers]]:
+    """Return what keeps the tables and maps of a tile without its halo; says of each table whether its cells are counted."""
+    return partial(_outputs, tuple(counted))
+
+
+def _outputs(
+    counted: Sequence[bool], work: TileWork, frames: Sequence[protocol.Frame]
+) -> list[Integers]:
+    """Return the cells of the maps and the tables of a tile."""
+    results = []
+    for frame, is_counted in zip(frames, counted):
+        if isinstance(frame, GridFrame):
+            results.append(_cells_of(frame, work))
+        else:
+            results.append(_table_of(frame, work, is_counted))
+    return results
+
+
+def clumps_of(diagonal: bool) -> partial[list[Integers]]:
+    """Return what keeps the border of a tile, as a text, and the numbers of its clumps."""
+    return partial(_clumps, diagonal)
+
+
+def _clumps(diagonal: bool, work: TileWork, frames: Sequence[protocol.Frame]) -> list[Integers]:
+    """Return the bytes of a tile's border, and its clumps, from the maps of its clumps and of its classes."""
+    numbers, cells = frames
+    assert isinstance(numbers, GridFrame) and isinstance(cells, GridFrame)
+    clumps = wide(_cells_of(numbers, work), NO_CLUMP)
+    text = border_text(work.place, wide(_cells_of(cells, work), NULL), clumps, diagonal)
+    return [np.frombuffer(text, np.uint8), clumps]
+
+
+def patches_of(diagonal: bool, is_counted: bool) -> partial[list[Integers]]:
+    """Return what keeps the border of a tile, as a text, a table of its clumps, and which of them may continue outside."""
+    return partial(_patches, diagonal, is_counted)
+
+
+def _patches(
+    diagonal: bool, is_counted: bool, work: TileWork, frames: Sequence[protocol.Frame]
+) -> list[Integers]:
+    table, *grids = frames
+    text, clumps = _clumps(diagonal, work, grids)
+    sides = np.concatenate([clumps[0], clumps[-1], clumps[:, 0], clumps[:, -1]])
+    open_clumps = np.unique(sides[sides != NO_CLUMP])
+    return [text, _table_of(table, work, is_counted), open_clumps]
+
+
+def _cells_of(frame: GridFrame, work: TileWork) -> Integers:
+    """Return the cells of a tile from a map of the tile and its halo.
+
+    They are the full map's, by the law `halo_is_enough`, or `reach_is_enough` if the script uses rows and columns.
+    """
+    cells = np.asarray(frame.cells).reshape(frame.rows, frame.cols)
+    if work.place == work.outer:
+        return cells
+    return np.ascontiguousarray(work.place.part_of(work.outer, cells))
+
+
+def wide(cells: Integers, null: int) -> Integers:
+    """Return cells as int32 with another number for null."""
+    own = protocol.NULL_BYTE if cells.dtype == np.uint8 else NULL
+    wide_cells: Integers = cells.astype(np.int32)
+    np.copyto(wide_cells, null, where=cells == own)
+    return wide_cells
+
+
+def _table_of(frame: protocol.Frame, work: TileWork, is_counted: bool) -> Integers:
+    """Return the table of a tile without its halo, whose cells are null in all maps (law `tables_add_up`)."""
+    assert isinstance(frame, protocol.TableFrame)
+    table: Integers = entries_of(frame)
+    halo = work.outer.cells - work.place.cells if is_counted else 0
+    if not halo or not len(table) or (table[-1, :-1] != NULL).any():
+        return table
+    table[-1, -1] -= halo
+    return table if table[-1, -1] else table[:-1]
