@@ -2,7 +2,7 @@
 folder <- commandArgs(TRUE)[[1]]
 failed <- 0L
 passed <- 0L
-for (name in paste0("test_", c("tables", "answers", "zones", "legends", "systems", "classes", "refusals", "files", "edges", "writing", "reference", "metrics", "merging", "records"), ".R")) {
+for (name in paste0("test_", c("tables", "answers", "zones", "legends", "systems", "classes", "refusals", "files", "edges", "writing", "reference", "metrics", "merging", "peers", "records"), ".R")) {
   results <- tryCatch(tinytest::run_test_file(file.path(folder, name), verbose = 0L), error = function(e) {
     cat("r: ", name, ": ", conditionMessage(e), "\n", sep = "")
     NULL

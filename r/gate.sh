@@ -6,7 +6,7 @@ room=$(mktemp -d) || exit 1
 trap 'rm -rf "$room"' EXIT
 . tools/counting.sh
 
-missing=$(Rscript --vanilla -e 'for (p in c("terra", "data.table", "processx", "tinytest")) if (!nzchar(system.file(package = p))) cat(p, "")' 2> /dev/null || echo R)
+missing=$(Rscript --vanilla -e 'for (p in c("terra", "data.table", "digest", "processx", "tinytest", "survey")) if (!nzchar(system.file(package = p))) cat(p, "")' 2> /dev/null || echo R)
 if [ -z "$missing" ]; then
     mkdir "$room/library"
     check 'the package is installed' R CMD INSTALL --no-docs --no-byte-compile --no-test-load --library="$room/library" r/rcell
@@ -15,6 +15,6 @@ if [ -z "$missing" ]; then
     add 'tests of the package' Rscript --no-save --no-restore --no-site-file r/gate.R r/rcell/inst/tinytest
 else
     # shellcheck disable=SC2046
-    skip -n 297 r "$missing is not installed" $(grep -v '^#' r/packages.txt)
+    skip -n 782 r "$missing is not installed" $(grep -v '^#' r/packages.txt)
 fi
 closing

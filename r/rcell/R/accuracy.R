@@ -1,20 +1,24 @@
 # SPDX-License-Identifier: Apache-2.0 OR GPL-2.0-or-later
-# The accuracy of a map, and the areas of its classes as a reference sample corrects them.
+# The accuracy of a map, and the areas of its classes corrected with a reference sample.
 
 # The fields of points that have the class if none is named.
 CLASS_FIELDS <- c("class", "reference")
+# A test of whether a sample is random: the normal deviate of one in a thousand, and the fewest
+# cells expected of a class.
+DEVIATE <- 3.09
+FEWEST_EXPECTED <- 5
 
 rcell_accuracy <- function(x, reference, areas = NULL, area, field = NULL, layer = NULL,
                            labels = NULL, crs = NULL) {
   choice <- area_choice(area, missing(area))
   check_text(field, "field")
   check_text(layer, "layer")
-  sample <- sample_of(x, reference, field, layer, crs)
+  sample <- sample_of(x, reference, field, layer, crs, is.null(areas))
   if (!sum(sample$cells)) {
     text <- "the sample is empty: no cell has a class in the map and in the reference"
     refuse(text, "reference")
   }
-  strata <- strata_of(areas, choice, x, sample$sources, crs)
+  strata <- strata_of(areas, choice, sample$sources)
   classes <- sort(unique(c(sample$map, sample$reference, strata$class[strata$size > 0])))
   counts <- matrix(0, length(classes), length(classes))
   place <- (match(sample$reference, classes) - 1) * length(classes) + match(sample$map, classes)
@@ -66,7 +70,7 @@ estimate_of <- function(counts, weights) {
   )
 }
 
-# R's own makes an identity of a matrix of one cell.
+# R's diag() makes an identity matrix of a matrix with one cell.
 diag_of <- function(matrix) matrix[cbind(seq_len(nrow(matrix)), seq_len(nrow(matrix)))]
 
 # The cells and the accuracies of each class, with their standard errors.
@@ -118,7 +122,8 @@ check_strata <- function(classes, mapped, rows) {
 }
 
 # How often classes of the map and of the reference occur together, and the maps, if there are any.
-sample_of <- function(x, reference, field, layer, crs) {
+# A warning if points that are said to be a random sample are not.
+sample_of <- function(x, reference, field, layer, crs, is_random) {
   is_file <- is_path(reference) && grepl("[.](csv|tsv)$", reference, ignore.case = TRUE)
   choose <- function(known) class_field(field, known)
   points <- NULL
@@ -127,9 +132,12 @@ sample_of <- function(x, reference, field, layer, crs) {
     name <- if (is.null(layer)) "field" else "layer"
     refuse(sprintf("%s= is for points, and reference= is not", name), status = 2L)
   }
-  if (is_file || is.data.frame(reference)) return(sample_of_table(reference))
+  if (is_file || is.data.frame(reference)) {
+    sources <- if (!is.null(x)) sources_of(list(map = x), crs)
+    return(c(sample_of_table(reference), list(sources = sources)))
+  }
   if (is.null(x)) refuse("x= must be given, unless reference= is a table; got NULL", status = 2L)
-  if (!is.null(points)) return(sample_of_points(x, points, crs))
+  if (!is.null(points)) return(sample_of_points(x, points, crs, is_random))
   sources <- sources_of(list(map = x, reference = reference), crs)
   frame <- run_own("r.stats -cn input=map,reference", sources)[[1]]
   list(
@@ -143,9 +151,7 @@ sample_of_table <- function(reference) {
   if (is.null(texts$cells)) texts$cells <- rep("1", length(texts$map))
   is_kept <- nzchar(texts$map) & nzchar(texts$reference)
   texts <- lapply(texts, `[`, is_kept)
-  numbers <- lapply(texts, function(text) {
-    suppressWarnings(as.numeric(ifelse(grepl(WHOLE, text), text, NA)))
-  })
+  numbers <- lapply(texts, whole_numbers)
   is_whole <- lapply(numbers, function(number) !is.na(number) & abs(number) <= CATEGORY_LIMIT)
   places <- table$places[is_kept]
   bad <- which(!(is_whole$map & is_whole$reference & is_whole$cells))
@@ -179,7 +185,7 @@ class_field <- function(field, known) {
 }
 
 # A map numbers the cells that have points, and the program says which class each of them has.
-sample_of_points <- function(x, points, crs) {
+sample_of_points <- function(x, points, crs, is_random) {
   source <- with_stated(source_of("map", x), stated_crs(crs))
   check_crs_of_features(POINTS, points, source)
   placed <- placed_points(points, source)
@@ -191,15 +197,39 @@ sample_of_points <- function(x, points, crs) {
     crs = points$crs
   )
   sources <- fitted_sources(list(source, numbers), crs)
-  frame <- run_own("r.stats -n input=reference,map", sources)[[1]]
+  frames <- run_own(c("r.stats -n input=reference,map", "r.stats -cn input=map"), sources)
+  frame <- frames[[1]]
   map <- frame$codes[[2]][match(match(placed$cell, distinct), frame$codes[[1]])]
   is_null <- !is.na(placed$cell) & is.na(map)
   warn_of_left_out(points$count, length(placed$cell), sum(is.na(placed$cell)), sum(is_null))
   is_kept <- !is.na(map)
+  if (is_random) warn_of_strata(map[is_kept], frames[[2]])
   list(
     map = map[is_kept], reference = placed$class[is_kept], cells = rep(1, sum(is_kept)),
     sources = sources
   )
+}
+
+# A warning if a sample has the map's classes in shares that a random sample hardly ever has, by a
+# test of chi squared. The rarest classes count as one, and the limit is Wilson and Hilferty's.
+warn_of_strata <- function(map, counts) {
+  cells <- as.numeric(counts$cells)
+  order <- order(cells)
+  drawn <- tabulate(match(map, counts$codes[[1]]), length(cells))[order]
+  expected <- cells[order] * (length(map) / max(sum(cells), 1))
+  pooled <- max(sum(expected < FEWEST_EXPECTED), sum(cumsum(expected) < FEWEST_EXPECTED) + 1)
+  freedom <- length(cells) - pooled
+  if (freedom < 1) return(invisible())
+  group <- pmax(seq_along(cells), pooled)
+  sums <- lapply(list(drawn, expected), rowsum, group)
+  spread <- 2 / (9 * freedom)
+  limit <- freedom * (1 - spread + DEVIATE * sqrt(spread))^3
+  if (sum((sums[[1]] - sums[[2]])^2 / sums[[2]]) <= limit) return(invisible())
+  text <- paste(
+    "reference: the map's classes have other shares in the sample than in the map:",
+    "if it was drawn class by class, give areas = \"map\""
+  )
+  warning(text, call. = FALSE)
 }
 
 # The class of each point, and the cell in which it is; a cell has its northern and western edge.
@@ -212,9 +242,7 @@ placed_points <- function(points, source) {
     bad_map("reference", sprintf("not points: feature %.0f has several", feature))
   }
   texts <- points$values$texts
-  numbers <- points$values$numbers
-  is_text <- is.na(numbers) & grepl(WHOLE, texts)
-  numbers[is_text] <- as.numeric(texts[is_text])
+  numbers <- ifelse(is.na(points$values$numbers), whole_numbers(texts), points$values$numbers)
   bad <- which(is.na(numbers) | numbers != trunc(numbers) | abs(numbers) > CATEGORY_LIMIT)
   if (length(bad)) {
     text <- "the class of feature %.0f is %s, which is not a whole number"
@@ -237,13 +265,12 @@ warn_of_left_out <- function(count, placed, outside, on_null) {
 }
 
 # The area of each class of the map, from which the sample was drawn, and the unit of the result.
-strata_of <- function(areas, choice, x, sources, crs) {
+strata_of <- function(areas, choice, sources) {
   if (is.null(areas)) return(NULL)
   if (identical(areas, "map")) {
-    if (is.null(x)) {
+    if (is.null(sources)) {
       refuse("areas= must be areas by class if there is no map; got \"map\"", status = 2L)
     }
-    if (is.null(sources)) sources <- sources_of(list(map = x), crs)
     unit <- unit_of(choice, sources$map)
     table <- count_cells(sources, list("map"), unit)[[1]]
     size <- if (is.null(unit)) table$cells else table$area
@@ -256,10 +283,10 @@ strata_of <- function(areas, choice, x, sources, crs) {
     places <- rep("", length(areas))
     given <- list(value = names(areas), area = as.character(areas), places = places)
   } else {
-    text <- "areas= must be \"map\", or areas by class, for example c(\"1\" = 18000); got %s"
-    refuse(sprintf(text, shown(areas)), status = 2L)
+    rule <- "areas= must be \"map\", or areas by class, for example c(\"1\" = 18000)"
+    check_argument(FALSE, areas, rule)
   }
-  value <- ifelse(grepl(WHOLE, trimmed(given$value)), trimmed(given$value), NA)
+  value <- whole_numbers(trimmed(given$value))
   size <- suppressWarnings(as.numeric(given$area))
   bad <- which(is.na(value) | !is.finite(size) | size < 0)
   if (length(bad)) {
@@ -268,5 +295,5 @@ strata_of <- function(areas, choice, x, sources, crs) {
     met <- c(given$places[[place]], given$area[[place]], given$value[[place]])
     refuse(do.call(sprintf, as.list(c(text, met))), status = 2L)
   }
-  list(class = as.integer(as.numeric(value)), size = size, unit = choice$unit)
+  list(class = as.integer(value), size = size, unit = choice$unit)
 }

@@ -3,19 +3,12 @@
 
 rcell_aggregate <- function(x, factor, min_percent = 0, filename = "", overwrite = FALSE,
                             crs = NULL) {
-  if (!is_whole(factor) || factor < 1 || factor > CATEGORY_LIMIT) {
-    text <- "factor= must be a whole number, at least 1; got %s"
-    refuse(sprintf(text, shown(factor)), status = 2L)
-  }
+  is_size <- is_whole(factor) && factor >= 1 && factor <= CATEGORY_LIMIT
+  check_argument(is_size, factor, "factor= must be a whole number, at least 1")
   is_percent <- is.numeric(min_percent) && length(min_percent) == 1L &&
     (min_percent >= 0 & min_percent <= 100) %in% TRUE
-  if (!is_percent) {
-    text <- "min_percent= must be a number from 0 to 100; got %s"
-    refuse(sprintf(text, shown(min_percent)), status = 2L)
-  }
-  check_filename(filename, overwrite)
-  sources <- sources_of(list(map = x), crs)
-  check_inputs(filename, inputs_of(sources))
+  check_argument(is_percent, min_percent, "min_percent= must be a number from 0 to 100")
+  sources <- map_to_write(x, crs, filename, overwrite)
   blocks <- blocks_of(sources$map, factor)
   place <- "r.mapcalc block = (row() - 1) / %.0f * %.0f + (col() - 1) / %.0f"
   script <- c(sprintf(place, factor, ncol(blocks), factor), "r.stats -cn input=block,map")

@@ -2,15 +2,16 @@
 # A map on the grid of another one: moved by whole cells, or by its nearest cells if that is asked
 # for.
 
-# A shift is one of whole cells within so much of a cell; a centre on a border is in the southern or
-# eastern cell within so much.
+# Tolerances in parts of a cell: of a shift by whole cells, and of a centre on a border, which is in
+# the southern or eastern cell.
 SHIFT_TOLERANCE <- 1e-3
 BORDER_TOLERANCE <- 1e-6
 TRY_NEAREST <- "resample=\"nearest\" takes the nearest cell"
 
 rcell_align <- function(x, to, resample = NULL, filename = "", overwrite = FALSE, crs = NULL) {
   if (!is.null(resample) && !identical(resample, "nearest")) {
-    text <- sprintf("resample= is \"nearest\", not '%s'", paste(format(resample), collapse = " "))
+    given <- paste(format(resample), collapse = " ")
+    text <- sprintf("resample= must be \"nearest\"; got '%s'", given)
     refuse(text, status = 2L)
   }
   check_filename(filename, overwrite)
@@ -44,7 +45,7 @@ target_source <- function(name, to) {
   list(name = name, raster = to, region = region_of(name, to), crs = crs(to))
 }
 
-# That a map needs nothing but to be moved by whole cells.
+# Check that a map only has to be moved by whole cells.
 check_alignment <- function(map, target, is_same) {
   if (!is_same) check_crs(list(target, map), "")
   sizes <- list(res(map$raster), res(target$raster))

@@ -59,8 +59,7 @@ rcell_grid <- function(.script, .name, ..., filename = "", overwrite = FALSE, cr
   request <- request_of(.script, list(...), maps)
   known <- c(names(request$maps), request$made)
   if (!(.name %in% known)) {
-    text <- sprintf("no map %s: there are %s", .name, paste(known, collapse = ", "))
-    refuse(text, status = 2L)
+    refuse(sprintf("no map %s: %s", .name, known_names("map", known)), status = 2L)
   }
   sources <- sources_of(request$maps, crs)
   check_inputs(filename, inputs_of(sources))
@@ -117,8 +116,8 @@ output_of <- function(output, answer) {
 }
 
 # The raster of a frame with the geometry of a source, a name and labels, perhaps with new values
-# for the numbers 1, 2, .. of its cells. All else is set in place: terra copies the cells of a
-# raster that is assigned to.
+# for the numbers 1, 2, .. of its cells. Everything else is set in place: terra copies the cells of
+# a raster that is assigned to.
 raster_of <- function(frame, source, labels, name = frame$maps, new = NULL) {
   raster <- frame$raster
   if (!is.null(new)) values(raster) <- new[values(raster, mat = FALSE)]

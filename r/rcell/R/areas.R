@@ -10,11 +10,7 @@ BEYOND_THE_POLE <- 0.5 + 1e-6
 # What a call says of areas; `is_left_out` if it says nothing.
 area_choice <- function(area, is_left_out) {
   if (is_left_out) return(list(unit = DEFAULT_UNIT, is_asked_for = FALSE))
-  is_unit <- is.character(area) && length(area) == 1L && area %in% names(UNITS)
-  if (!is.null(area) && !is_unit) {
-    units <- paste(names(UNITS), collapse = ", ")
-    refuse(sprintf("area= must be one of %s; got %s", units, shown(area)), status = 2L)
-  }
+  if (!is.null(area)) check_one_of(area, "area", names(UNITS))
   list(unit = area, is_asked_for = TRUE)
 }
 
@@ -47,7 +43,15 @@ area_title <- function(area) paste0("area_", area)
 
 is_in_degrees <- function(source) kind_of_crs(source$crs) == "degrees"
 
-# How many metres the unit of a projected map has; NA if that is not known.
+# Rejects a map whose cells do not all have one size in metres, which an argument needs.
+check_metres <- function(source, argument, advice = "") {
+  unit_of(list(unit = "m2", is_asked_for = TRUE), source, argument)
+  if (!is_in_degrees(source)) return(invisible())
+  text <- "%s must be for a map in metres or feet, and this one is in degrees%s"
+  refuse(sprintf(text, argument, advice), status = 2L)
+}
+
+# The length of a projected map's unit in metres; NA if it is not known.
 metres_of_unit <- function(source) {
   if (kind_of_crs(source$crs) != "projected") return(NA_real_)
   metres <- suppressWarnings(linearUnits(template_of(source)))
@@ -124,7 +128,7 @@ count_cells <- function(sources, combinations, area = NULL, before = character()
 
 # A table of counts as its columns of codes, the cells and, if a unit is given, the areas. If the
 # last map is the row, the rows of each combination are added up, weighed by the size of their
-# cells.
+# cells: their areas are `weights`.
 measured <- function(frame, area, source, by_row) {
   table <- frame[c("codes", "cells")]
   if (by_row) return(summed_over_rows(table, area, cell_sizes(source)))
@@ -140,8 +144,19 @@ summed_over_rows <- function(table, area, sizes) {
   cells <- as.numeric(table$cells)
   sums <- rowsum(cbind(cells, cells * sizes[row]), group, reorder = FALSE)
   is_first <- !duplicated(group)
+  areas <- unname(sums[, 2]) / UNITS[[area]]
   list(
     codes = lapply(codes, function(code) code[is_first]), cells = as.integer(sums[, 1]),
-    area = unname(sums[, 2]) / UNITS[[area]]
+    area = areas, weights = areas
   )
+}
+
+# What shares are computed from: the areas in degrees, else the cells, whose sums are exact.
+weights_of <- function(table) {
+  as.numeric(if (is.null(table$weights)) table$cells else table$weights)
+}
+
+# The areas of sums of what `weights_of` returns.
+areas_of_sums <- function(sums, table, source, area) {
+  if (is.null(table$weights)) areas_of(sums, source, area) else sums
 }

@@ -119,7 +119,7 @@ whole_cells <- function(source, cells, first_row) {
   value <- cells[[place]]
   place <- sprintf("the cell at row %d, column %d is %.15g", row, column, value)
   if (is.null(source$scale)) {
-    beyond <- ", beyond 2147483647 either way"
+    beyond <- ", outside -2147483647 to 2147483647"
     reason <- if (abs(value) > CATEGORY_LIMIT) beyond else source$remedy
     text <- paste0("not a map of whole numbers: ", place, reason)
   } else {

@@ -4,10 +4,8 @@
 rcell_change <- function(before, after = NULL, years = NULL, area, labels = NULL, crs = NULL) {
   choice <- area_choice(area, missing(area))
   maps <- if (is.null(after)) before else list(before, after)
-  if (!is.list(maps) || length(maps) < 2L) {
-    text <- "two maps or more are needed: rcell_change(before, after), or a list of maps; got %s"
-    refuse(sprintf(text, shown(before)), status = 2L)
-  }
+  rule <- "two maps or more are needed: rcell_change(before, after), or a list of maps"
+  check_argument(is.list(maps) && length(maps) > 1L, before, rule)
   check_years(years, length(maps))
   is_pair <- length(maps) == 2L
   names(maps) <- if (is_pair) c("before", "after") else sprintf("map_%d", seq_along(maps))
@@ -31,16 +29,15 @@ rcell_change <- function(before, after = NULL, years = NULL, area, labels = NULL
 check_years <- function(years, count) {
   if (is.null(years)) {
     if (count > 2L) {
-      refuse("years= are needed for more than two maps: one whole number a map", status = 2L)
+      text <- "years= must be given for more than two maps: one whole number for each map"
+      refuse(text, status = 2L)
     }
     return(invisible())
   }
   is_right <- is.numeric(years) && length(years) == count && all(is.finite(years)) &&
     all(years == trunc(years) & abs(years) <= CATEGORY_LIMIT) && !anyDuplicated(years)
-  if (!is_right) {
-    text <- "years= must be %d whole numbers, one for each map, and none twice; got %s"
-    refuse(sprintf(text, count, shown(years)), status = 2L)
-  }
+  rule <- "years= must be %d whole numbers, one for each map, and none twice"
+  check_argument(is_right, years, rule, count)
 }
 
 # The labels of each map: the legend, or its own, or the labels of the first map that has some.

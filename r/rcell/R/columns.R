@@ -20,7 +20,7 @@ labels_for <- function(labels, codes) {
   labels$labels[match(codes, labels$codes)]
 }
 
-# The titles of the classes of both sides of a matrix: labels, or numbers. A label that another
+# Class titles for both sides of a matrix: labels, or else numbers. A label that another
 # class has, or that is taken, is followed by its class.
 class_titles <- function(labels, codes, taken = character()) {
   labels <- Map(labels_for, labels, codes)
@@ -48,7 +48,7 @@ summed <- function(values, group, count) {
 sized <- function(table, area, group = rep(1L, length(table$cells))) {
   columns <- list(cells = table$cells)
   if (!is.null(area)) columns[[area_title(area)]] <- table$area
-  share <- as.numeric(if (is.null(table$area)) table$cells else table$area)
+  share <- weights_of(table)
   share[Reduce(`|`, lapply(table$codes, is.na))] <- NA
   columns$percent <- 100 * share / ave(share, group, FUN = function(x) sum(x, na.rm = TRUE))
   columns

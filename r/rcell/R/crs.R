@@ -1,7 +1,7 @@
 # SPDX-License-Identifier: Apache-2.0 OR GPL-2.0-or-later
 # Coordinate reference systems: the maps of one call have one.
 
-# So far may two systems be apart at a place, in their units, and still be one.
+# How far apart two systems may be at a place, in their units, and still be the same.
 SAME_PLACE <- 1e-6
 PLACES <- as.matrix(expand.grid(x = seq(-175, 175, by = 5), y = seq(-85, 85, by = 5)))
 
@@ -23,7 +23,7 @@ with_stated <- function(source, stated) {
   source
 }
 
-# All maps have one system: the first one's that has any, and the stated one if one is stated.
+# Return the system that all maps must have: the first one found, or the stated one.
 check_crs <- function(sources, stated) {
   known <- Filter(function(source) nzchar(source$crs), sources)
   if (!length(known)) return(invisible())
@@ -84,9 +84,9 @@ title_in <- function(wkt) {
   if (length(title) == 2L) title[[2]] else ""
 }
 
-# Return whether two systems are one, whatever the order of their axes: their datum and ellipsoid
-# are one, and PROJ gives places all over the earth the same coordinates. (terra also calls systems
-# equal that differ in their datum alone, and unequal whose methods have two names.)
+# Return whether two systems are the same, whatever the order of their axes: they have one datum and
+# ellipsoid, and PROJ gives places all over the earth the same coordinates. (terra also calls
+# systems equal if only their datum differs, and unequal if one method has two names.)
 same_crs <- function(one, other) {
   if (identical(one, other)) return(TRUE)
   kinds <- vapply(c(one, other), kind_of_crs, "")

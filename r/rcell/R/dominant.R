@@ -4,7 +4,7 @@
 rcell_dominant <- function(x, zones, area, labels = NULL, zone_labels = NULL, zone_field = NULL,
                            layer = NULL, each = FALSE, crs = NULL) {
   choice <- area_choice(area, missing(area))
-  if (is.null(zones)) refuse("zones= must be a map or polygons; got NULL", status = 2L)
+  check_argument(!is.null(zones), zones, "zones= must be a map or polygons")
   sources <- zoned_sources(x, zones, zone_field, layer, crs, each = each)
   area <- unit_of(choice, sources$map)
   labels <- labels_from(labels, sources$map$labels)
@@ -17,7 +17,10 @@ rcell_dominant <- function(x, zones, area, labels = NULL, zone_labels = NULL, zo
   group <- match(table$codes[[1]], zone)
   cells <- summed(table$cells, group, length(zone))
   columns <- c(coded("zone", zone, zone_labels), list(cells = as.integer(cells)))
-  if (!is.null(area)) columns[[area_title(area)]] <- summed(table$area, group, length(zone))
+  if (!is.null(area)) {
+    sums <- summed(weights_of(table), group, length(zone))
+    columns[[area_title(area)]] <- areas_of_sums(sums, table, sources$map, area)
+  }
   columns$classes <- tabulate(group, length(zone))
   for (title in c("majority", "minority")) {
     rank <- if (title == "majority") -table$cells else table$cells

@@ -11,14 +11,14 @@ signal <- function(class, message, ...) {
   stop(structure(fields, class = c(class, "rcell_error", "error", "condition")))
 }
 
-# The words of an error begin a line of their own, so that a mark is below its column.
+# The text of an error begins on a new line, so that a mark is below its column.
 print.rcell_error <- function(x, ...) {
   cat(sprintf("<%s>\n%s\n", class(x)[[1]], conditionMessage(x)))
   invisible(x)
 }
 
 # A map, a script or a request was rejected, and nothing was returned. `content` is the line of the
-# script itself, `bad` the word of it that the text is about, with its column, and `advice` what to
+# script itself, `bad` its word that the text is about, with its column, and `advice` what to
 # write instead.
 refuse <- function(text, source = "arguments", line = 0L, status = 1L, content = NULL, class = NULL,
                    bad = NULL, advice = "") {
@@ -35,6 +35,13 @@ refuse <- function(text, source = "arguments", line = 0L, status = 1L, content =
     c(class, "rcell_refused"), message, source = source, line = line, column = column, text = text,
     status = status, content = content
   )
+}
+
+# The names that could be meant, for a message about an unknown one.
+known_names <- function(noun, names) {
+  if (!length(names)) return(sprintf("there are no %ss", noun))
+  if (length(names) == 1L) return(sprintf("the only %s is %s", noun, names))
+  sprintf("the %ss are %s", noun, paste(names, collapse = ", "))
 }
 
 # The column that a message of the program names, in bytes from 1.
@@ -94,25 +101,27 @@ shortened <- function(items, most = 5L) {
 
 is_whole <- function(x) is.numeric(x) && length(x) == 1L && is.finite(x) && x == trunc(x)
 
+# An argument must obey a rule, in which sprintf puts the other words.
+check_argument <- function(is_right, value, rule, ...) {
+  if (is_right) return(invisible())
+  refuse(sprintf(paste0(rule, "; got %s"), ..., shown(value)), status = 2L)
+}
+
 check_flag <- function(flag, name) {
-  if (isTRUE(flag) || isFALSE(flag)) return(invisible())
-  refuse(sprintf("%s= must be TRUE or FALSE; got %s", name, shown(flag)), status = 2L)
+  check_argument(isTRUE(flag) || isFALSE(flag), flag, "%s= must be TRUE or FALSE", name)
 }
 
 check_one_of <- function(choice, name, known) {
-  if (is.character(choice) && length(choice) == 1L && choice %in% known) return(invisible())
-  text <- "%s= must be one of %s; got %s"
-  refuse(sprintf(text, name, paste(known, collapse = ", "), shown(choice)), status = 2L)
+  is_known <- is.character(choice) && length(choice) == 1L && choice %in% known
+  check_argument(is_known, choice, "%s= must be one of %s", name, paste(known, collapse = ", "))
 }
 
 check_text <- function(text, name) {
-  if (is.null(text) || (is.character(text) && length(text) == 1L && isTRUE(nzchar(text)))) {
-    return(invisible())
-  }
-  refuse(sprintf("%s= must be one text; got %s", name, shown(text)), status = 2L)
+  is_text <- is.character(text) && length(text) == 1L && isTRUE(nzchar(text))
+  check_argument(is.null(text) || is_text, text, "%s= must be one text", name)
 }
 
-# A file could not be written whole; nothing is left of it.
+# A file could not be written completely; nothing is left of it.
 write_failed <- function(path, text) {
   signal("rcell_write_failed", sprintf("%s cannot be written: %s", path, text), path = path)
 }

@@ -42,7 +42,7 @@ features_of <- function(role, given, layer, choose, is_field_needed) {
   path <- parts[[1]]
   if (length(parts) > 1L) {
     if (!is.null(layer) && !identical(layer, parts[[2]])) {
-      text <- "layer= is %s, and %s= names the layer %s: give one"
+      text <- "layer= is %s, and %s= names the layer %s: name only one"
       refuse(sprintf(text, layer, role$name, parts[[2]]), status = 2L)
     }
     layer <- parts[[2]]
@@ -77,15 +77,15 @@ layers_of <- function(path) {
 
 # Return the layer asked for, or the only one.
 chosen_layer <- function(role, path, layers, layer) {
-  listed <- paste(layers, collapse = ", ")
   if (!is.null(layer)) {
     if (layer %in% layers) return(layer)
-    refuse(sprintf("no layer %s: there are %s", layer, listed), role$name, status = 2L)
+    text <- sprintf("no layer %s: %s", layer, known_names("layer", layers))
+    refuse(text, role$name, status = 2L)
   }
   if (length(layers) == 1L) return(layers)
   text <- sprintf(
     "has the layers %s: choose one, for example layer = \"%s\" or \"%s%s%s\"",
-    listed, layers[[1]], path, LAYER_MARK, layers[[1]]
+    paste(layers, collapse = ", "), layers[[1]], path, LAYER_MARK, layers[[1]]
   )
   refuse(text, role$name, status = 2L)
 }
@@ -166,8 +166,8 @@ check_crs_of_features <- function(role, features, source) {
 }
 
 no_field <- function(role, field, known) {
-  listed <- if (length(known)) paste(known, collapse = ", ") else "none"
-  bad_map(role$name, sprintf("no field %s: there are %s", field, listed), status = 2L)
+  text <- sprintf("no field %s: %s", field, known_names("field", known))
+  bad_map(role$name, text, status = 2L)
 }
 
 check_kinds <- function(role, ids, kinds) {
@@ -230,7 +230,7 @@ check_zeros <- function(role, vector, field, column) {
   bad_map(role$name, sprintf(text, field, missing, path))
 }
 
-# In how many features of a file a field is missing; NA if the file does not say so.
+# The number of features of a file that lack a field's value; NA if the file does not say.
 count_missing <- function(source, field) {
   if (length(source) != 1L || !nzchar(source)) return(NA_integer_)
   parts <- strsplit(source, "::", fixed = TRUE)[[1]]

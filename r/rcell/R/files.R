@@ -7,9 +7,8 @@ PIECE_BYTES <- 4194304L
 SIDECARS <- c(".msk", ".aux.xml", ".ovr")
 
 check_filename <- function(filename, overwrite) {
-  if (!is.character(filename) || length(filename) != 1L || is.na(filename)) {
-    refuse(sprintf("filename= must be one path; got %s", shown(filename)), status = 2L)
-  }
+  is_one <- is.character(filename) && length(filename) == 1L && !is.na(filename)
+  check_argument(is_one, filename, "filename= must be one path")
   check_flag(overwrite, "overwrite")
   if (!nzchar(filename)) return(invisible())
   filename <- native_path(filename)
@@ -23,6 +22,14 @@ check_filename <- function(filename, overwrite) {
   if (file.exists(target) && file.access(target, 2L) != 0L) {
     write_failed(filename, "Permission denied")
   }
+}
+
+# The map of a call that may write a file.
+map_to_write <- function(x, crs, filename, overwrite) {
+  check_filename(filename, overwrite)
+  sources <- sources_of(list(map = x), crs)
+  check_inputs(filename, inputs_of(sources))
+  sources
 }
 
 # Return the files that the sources of a call are read from.
@@ -74,7 +81,7 @@ check_size <- function(path, size) {
 # Return a path for the system as bytes, since in the C locale R cannot write letters beyond ASCII.
 native_path <- function(path) {
   if (!validEnc(path)) {
-    text <- "%s: terra takes no path that is not UTF-8: rename the file"
+    text <- "%s: terra only accepts UTF-8 paths: rename the file"
     refuse(sprintf(text, iconv(path, "UTF-8", "UTF-8", "byte")), status = 2L)
   }
   if (is_ascii_locale() && Encoding(path) == "UTF-8") Encoding(path) <- "unknown"
@@ -102,7 +109,7 @@ is_stream <- function(path) {
   nzchar(test) && run(test, c("-f", path), error_on_status = FALSE)$status != 0L
 }
 
-# In the C locale, terra changes letters of a path beyond ASCII, so the call runs in another locale.
+# In the C locale, terra changes non-ASCII letters of a path, so the call runs in another locale.
 with_path <- function(path, call) {
   is_ascii <- !any(charToRaw(path) > as.raw(127L))
   if (!is_ascii && validUTF8(path) && !isTRUE(l10n_info()[["UTF-8"]])) {
@@ -136,7 +143,7 @@ written <- function(raster, filename, type = "INT4S") {
   }
   replace_files(room$path, target, filename)
   stored <- with_path(filename, rast(filename))
-  # terra takes a map without a system for one in degrees if its edges are within 180 by 90.
+  # terra treats a map without a system as one in degrees if its edges are within 180 by 90.
   if (!nzchar(crs(raster))) crs(stored) <- ""
   stored
 }
@@ -146,7 +153,7 @@ written <- function(raster, filename, type = "INT4S") {
 private_folder <- function(beside, filename) {
   path <- tempfile(".rcell-", tmpdir = beside)
   if (!dir.create(path, showWarnings = FALSE, mode = "0700")) {
-    write_failed(filename, "its folder takes no file")
+    write_failed(filename, "no file can be made in its folder")
   }
   script <- "trap '' HUP INT TERM; cat > /dev/null; rm -rf -- \"$1\""
   guard <- process$new("/bin/sh", c("-c", script, "sh", path), stdin = "|", cleanup = FALSE)

@@ -1,5 +1,5 @@
 # SPDX-License-Identifier: Apache-2.0 OR GPL-2.0-or-later
-# JSON, as records are kept in.
+# JSON, the format of records.
 
 JSON_TOKEN <- paste0(
   "\\G[ \t\r\n]*(\"(?:[^\"\\\\]|\\\\[\"\\\\/bfnrt]|\\\\u[0-9a-fA-F]{4})*\"|",
@@ -9,6 +9,9 @@ TOKENS_OF_R <- c(
   "{" = "list(", "[" = "list(", "}" = ")", "]" = ")", ":" = "=", "," = ",", "null" = "NULL",
   "true" = "TRUE", "false" = "FALSE"
 )
+
+# The backslash is the first, since the others contain it.
+ESCAPES <- c("\\" = "\\\\", "\"" = "\\\"", "\t" = "\\t", "\r" = "\\r", "\n" = "\\n")
 
 # A list as JSON: names are keys, in alphabetical order; one value is not an array.
 json_of <- function(value, indent = "") {
@@ -28,8 +31,9 @@ json_of <- function(value, indent = "") {
 }
 
 json_text <- function(text) {
-  text <- gsub("\"", "\\\"", gsub("\\", "\\\\", text, fixed = TRUE), fixed = TRUE)
-  text <- gsub("\n", "\\n", gsub("\r", "\\r", gsub("\t", "\\t", text, fixed = TRUE)))
+  for (place in seq_along(ESCAPES)) {
+    text <- gsub(names(ESCAPES)[[place]], ESCAPES[[place]], text, fixed = TRUE)
+  }
   paste0("\"", text, "\"")
 }
 

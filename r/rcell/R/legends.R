@@ -4,6 +4,11 @@
 COLOUR <- "^#[0-9a-fA-F]{6}$"
 WHOLE <- "^[+-]?[0-9]+([.]0*)?$"
 
+# Texts as whole numbers, NA for others.
+whole_numbers <- function(texts) {
+  suppressWarnings(as.numeric(ifelse(grepl(WHOLE, texts), texts, NA)))
+}
+
 # The labels of a map: the labels of the legend, else its own.
 labels_from <- function(legend, own, name = "labels") {
   if (is.null(legend)) own else legend_of(legend, name)
@@ -54,15 +59,15 @@ check_colours <- function(colours, places, name) {
 # Each value is a whole number and occurs once. Places begin the text of an error.
 checked_legend <- function(values, labels, name, places) {
   values <- trimmed(values)
-  codes <- suppressWarnings(as.numeric(ifelse(grepl(WHOLE, values), values, NA)))
+  codes <- whole_numbers(values)
   bad <- which(is.na(codes) | abs(codes) > CATEGORY_LIMIT)
   if (length(bad)) {
-    text <- "%s%s is not a whole number within 2147483647 either way"
+    text <- "%s%s is not a whole number from -2147483647 to 2147483647"
     refuse(sprintf(text, places[[bad[[1]]]], quoted_if_empty(values[[bad[[1]]]])), name)
   }
   again <- which(duplicated(codes))
   if (length(again)) {
-    text <- sprintf("%sthe value %s is there twice", places[[again[[1]]]], values[[again[[1]]]])
+    text <- sprintf("%svalue %s occurs twice", places[[again[[1]]]], values[[again[[1]]]])
     refuse(text, name)
   }
   labels <- trimmed(labels)

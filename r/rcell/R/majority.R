@@ -10,12 +10,10 @@ CLASSES_OF_AN_EXPRESSION <- 100L
 rcell_majority <- function(x, size = 3, fill = FALSE, filename = "", overwrite = FALSE,
                            crs = NULL) {
   if (!is_whole(size) || !(size %in% SIZES)) {
-    refuse(sprintf("size= is odd, 3 to 15, not %s", shown(size)), status = 2L)
+    refuse(sprintf("size= must be odd, from 3 to 15; got %s", shown(size)), status = 2L)
   }
   check_flag(fill, "fill")
-  check_filename(filename, overwrite)
-  sources <- sources_of(list(map = x), crs)
-  check_inputs(filename, inputs_of(sources))
+  sources <- map_to_write(x, crs, filename, overwrite)
   if (size <= SIZE_OF_AN_EXPRESSION) {
     script <- window_lines(size)
   } else {
@@ -34,9 +32,9 @@ window_lines <- function(size) {
   sprintf("r.mapcalc commonest = nmode(%s)", cells)
 }
 
-# The same for windows that are too large for it: the cells of each class are counted along rows and
-# then along columns, and of the counts the largest is taken, the first class of several. Classes
-# are known by their places, from the last.
+# The commonest class of windows too large for one expression: the cells of each class are counted
+# along rows and then along columns, and of the counts the largest is taken, the first class of
+# several. Classes are known by their places, from the last.
 class_lines <- function(size, classes) {
   if (!length(classes)) return("r.mapcalc commonest = map")
   steps <- seq_len(size) - (size + 1) / 2

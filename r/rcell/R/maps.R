@@ -14,9 +14,7 @@ ADDRESS <- "^/vsi|^[A-Za-z][A-Za-z0-9+.-]+:"
 
 # Return the maps of a call by name: the ones in `...` and in `maps`.
 named_maps <- function(dots, maps) {
-  if (!is.list(maps)) {
-    refuse(sprintf("maps= must be a list of maps by name; got %s", shown(maps)), status = 2L)
-  }
+  check_argument(is.list(maps), maps, "maps= must be a list of maps by name")
   named <- c(maps, dots)
   if (!length(named) || is.null(names(named)) || any(!nzchar(names(named)))) {
     refuse(
@@ -31,7 +29,7 @@ named_maps <- function(dots, maps) {
   named
 }
 
-# A path of no file under a name that is nearly a parameter's is a misspelt parameter.
+# A path to no file, under a name close to a parameter's, is a misspelt parameter.
 check_spelling <- function(name, map) {
   near <- PARAMETERS[adist(name, PARAMETERS) <= 2L]
   if (!length(near) || !is_path(map) || is_address(map) || file.exists(native_path(map))) {
@@ -41,7 +39,8 @@ check_spelling <- function(name, map) {
   refuse(sprintf(text, name, map, near[[1]]), status = 2L)
 }
 
-# Return maps by name as sources; `crs` states the reference system of maps that have none.
+# Return maps by name as sources; `crs` states the reference system to assume for maps that have
+# none.
 sources_of <- function(maps, crs = NULL) fitted_sources(Map(source_of, names(maps), maps), crs)
 
 # Return sources by name, after checking that they have the same reference system and region.

@@ -1,6 +1,6 @@
 # SPDX-License-Identifier: Apache-2.0 OR GPL-2.0-or-later
-# Landscape metrics: of patches, of classes, and of the landscape, in total or by zone. The
-# definitions of FRAGSTATS 4 hold, without a border, and with edges between classes alone.
+# Landscape metrics: of patches, of classes, and of the landscape, in total or by zone. Definitions
+# are as in FRAGSTATS 4, without a border; edges are only between classes.
 
 LEVELS <- c("class", "landscape", "patch")
 SQUARE_KM <- 1e6
@@ -39,10 +39,10 @@ rcell_metrics <- function(x, level = "class", connectivity = 4, area, zones = NU
 }
 
 # The counts of landscapes, which are the zones or the map. A member is a class in a landscape.
-# Of patches, in the order of zones and first cells: `member`, `cells`, `size` (the area, or the
-# cells if there are no areas), `ends` and `flanks` on their border. Of members: `class`,
+# Of patches, in the order of zones and first cells: `member`, `cells`, `weight` (the area in
+# degrees, else the cells), `ends` and `flanks` on their border. Of members: `class`,
 # `landscape`, `like` (sides between their own cells). Of `pairs` of members: their sides and the
-# `length` of their border.
+# `length` of their border. `area_of` returns the areas of weights.
 landscapes_of <- function(sources, connectivity, area) {
   has_zones <- "zones" %in% names(sources)
   name <- if (has_zones) "member" else "map"
@@ -66,13 +66,9 @@ landscapes_of <- function(sources, connectivity, area) {
     if (by_row) c("r.mapcalc row = row()", sprintf("r.stats -cn input=patch,%s,row", name))
   ), sources)
   found <- members_of(frames[[1]], known)
-  if (by_row) {
-    found$size <- measured(frames[[4]], area, sources$map, TRUE)$area
-  } else {
-    found$size <- if (is.null(area)) found$cells else areas_of(found$cells, sources$map, area)
-  }
+  found$weight <- if (by_row) measured(frames[[4]], area, sources$map, TRUE)$area else found$cells
   order <- order(found$landscape[found$member])
-  of_patches <- c("member", "cells", "size", "ends", "flanks")
+  of_patches <- c("member", "cells", "weight", "ends", "flanks")
   found[of_patches] <- lapply(found[of_patches], `[`, order)
   found$sides <- res(template_of(sources$map)) * metres_of_unit(sources$map)
   pairs <- pairs_of(frames[2:3])
@@ -81,7 +77,10 @@ landscapes_of <- function(sources, connectivity, area) {
     found$landscape[pairs$class] == found$landscape[pairs$neighbour]
   pairs <- lapply(pairs, `[`, is_edge)
   pairs$length <- pairs$ends * found$sides[[1]] + pairs$flanks * found$sides[[2]]
-  c(found, list(pairs = pairs))
+  area_of <- function(weights) {
+    if (by_row || is.null(area)) weights else areas_of(weights, sources$map, area)
+  }
+  c(found, list(pairs = pairs, area_of = area_of))
 }
 
 check_members <- function(known) {
@@ -125,33 +124,35 @@ shapes_of <- function(found) {
 patch_measures <- function(found, area) {
   areas <- found$cells * found$sides[[1]] * found$sides[[2]]
   areas[abs(areas - 1) <= NEARLY_ONE] <- NaN
-  c(cells_and_area(found$cells, found$size, area), list(
+  c(cells_and_area(found, found$cells, found$weight, area), list(
     perimeter_m = perimeters_in(found), shape_index = shapes_of(found),
     fractal_dimension = 2 * log(0.25 * perimeters_in(found)) / log(areas)
   ))
 }
 
-cells_and_area <- function(cells, size, area) {
+cells_and_area <- function(found, cells, weight, area) {
   columns <- list(cells = as.integer(cells))
-  if (!is.null(area)) columns[[area_title(area)]] <- size
+  if (!is.null(area)) columns[[area_title(area)]] <- found$area_of(weight)
   columns
 }
 
-# The measures that classes and landscapes have in common; `group` has the number of each patch's.
+# The measures that classes and landscapes share; `group` numbers the group of each patch.
 size_measures <- function(found, group, whole, edge, area) {
   count <- length(whole)
   edge <- edge + 0 * found$sides[[1]] # missing if lengths are, also without an edge
-  size <- summed(found$size, group, count)
-  squares <- summed(found$size^2, group, count)
+  weight <- summed(found$weight, group, count)
+  squares <- summed(found$weight^2, group, count)
   patches <- tabulate(group, count)
-  largest <- as.vector(tapply(found$size, factor(group, seq_len(count)), max))
+  largest <- as.vector(tapply(found$weight, factor(group, seq_len(count)), max))
+  full <- found$area_of(whole)
   columns <- list(
     patches = patches,
-    patches_km2 = if (!is.null(area)) patches / (whole * UNITS[[area]] / SQUARE_KM),
+    patches_km2 = if (!is.null(area)) patches / (full * (UNITS[[area]] / SQUARE_KM)),
     largest_patch_percent = 100 * largest / whole,
-    mean_patch = size / patches, area_weighted_mean_patch = squares / size,
-    effective_mesh = squares / whole, edge_m = edge,
-    edge_density_m = if (!is.null(area)) edge / whole,
+    mean_patch = found$area_of(weight) / patches,
+    area_weighted_mean_patch = found$area_of(squares / weight),
+    effective_mesh = found$area_of(squares / whole), edge_m = edge,
+    edge_density_m = if (!is.null(area)) edge / full,
     mean_shape_index = summed(shapes_of(found), group, count) / patches
   )
   is_size <- names(columns) %in% UNITS_FOLLOW
@@ -166,8 +167,8 @@ class_measures <- function(found, area) {
     summed(values, found$landscape, length(found$zones))[found$landscape]
   }
   cells <- summed(found$cells, found$member, count)
-  size <- summed(found$size, found$member, count)
-  whole <- in_landscape(size)
+  weight <- summed(found$weight, found$member, count)
+  whole <- in_landscape(weight)
   # A border belongs to both of its sides.
   side <- c(found$pairs$class, found$pairs$neighbour)
   lengths <- rep(found$pairs$length, 2L)
@@ -176,7 +177,8 @@ class_measures <- function(found, area) {
   mixed <- 100 * entropy(lengths, side, count) / log(others)
   mixed[others < 2 | !(edge > 0)] <- NaN
   measures <- size_measures(found, found$member, whole, edge, area)
-  c(cells_and_area(cells, size, area), list(percent = 100 * size / whole), measures, list(
+  sizes <- cells_and_area(found, cells, weight, area)
+  c(sizes, list(percent = 100 * weight / whole), measures, list(
     aggregation_index = aggregation(found),
     cohesion = cohesion(found, found$member, in_landscape(cells)), interspersion_index = mixed
   ))
@@ -186,22 +188,22 @@ whole_measures <- function(found, area) {
   count <- length(found$zones)
   group <- found$landscape[found$member]
   in_landscape <- function(values) summed(values, found$landscape, count)
-  size <- summed(found$size, found$member, length(found$class))
+  weight <- summed(found$weight, found$member, length(found$class))
   cells <- summed(found$cells, group, count)
-  whole <- in_landscape(size)
-  shares <- size / whole[found$landscape]
+  whole <- in_landscape(weight)
+  shares <- weight / whole[found$landscape]
   classes <- tabulate(found$landscape, count)
   border <- found$landscape[found$pairs$class]
   edge <- summed(found$pairs$length, border, count)
   mixed <- 100 * entropy(found$pairs$length, border, count) / log(classes * (classes - 1) / 2)
   mixed[classes < 3 | !(edge > 0)] <- NaN
-  diversity <- entropy(size, found$landscape, count)
+  diversity <- entropy(weight, found$landscape, count)
   evenness <- diversity / log(classes)
   evenness[classes < 2] <- NaN
   indices <- aggregation(found)
   indices[is.nan(indices)] <- 0
   measures <- size_measures(found, group, whole, edge, area)
-  c(cells_and_area(cells, whole, area), list(classes = classes), measures, list(
+  c(cells_and_area(found, cells, whole, area), list(classes = classes), measures, list(
     aggregation_index = in_landscape(indices * shares), cohesion = cohesion(found, group, cells),
     interspersion_index = mixed, contagion = contagion(found, shares, classes),
     shannon_diversity = diversity, shannon_evenness = evenness,

@@ -9,24 +9,18 @@ rcell_patches <- function(x, connectivity = 4, area, zones = NULL, classes = NUL
                           zone_field = NULL, layer = NULL, each = FALSE, crs = NULL) {
   choice <- area_choice(area, missing(area))
   check_selection(connectivity, classes, min_cells)
-  if (!is_whole(core_depth) || !(core_depth %in% DEPTHS)) {
-    text <- "core_depth= must be a whole number from 1 to %d; got %s"
-    refuse(sprintf(text, max(DEPTHS), shown(core_depth)), status = 2L)
-  }
+  is_depth <- is_whole(core_depth) && core_depth %in% DEPTHS
+  rule <- "core_depth= must be a whole number from 1 to %d"
+  check_argument(is_depth, core_depth, rule, max(DEPTHS))
   sources <- zoned_sources(x, zones, zone_field, layer, crs, each = each)
   area <- unit_of(choice, sources$map)
   labels <- labels_from(labels, sources$map$labels)
   zone_labels <- labels_from(zone_labels, sources$zones$labels, "zone_labels")
   if (is_in_degrees(sources$map)) warn_of_lengths()
-  parts <- c("map", "core", "side", "rows", "cols", if (!is.null(zones)) "zones")
-  combinations <- lapply(parts, function(part) c("patch", part))
-  by_row <- parts %in% c("map", "core")
-  lines <- patch_lines(connectivity, core_depth)
-  tables <- count_cells(
-    sources, combinations, area, before = lines, by_row = by_row, without_zones = 5L
-  )
-  names(tables) <- parts
-  patches <- patch_table(tables, sources$map, area, labels, zone_labels)
+  is_one_run <- !is_in_degrees(sources$map) && is.null(sources$zones$parts)
+  measures_of <- if (is_one_run) counted_patches else tabulated_patches
+  found <- measures_of(sources, connectivity, core_depth, area, !is.null(zones))
+  patches <- patch_columns(found, sources$map, area, labels, zone_labels)
   check_legend(labels, patches$class, "map")
   patches <- patches[is_selected(patches, classes, min_cells), , drop = FALSE]
   rownames(patches) <- NULL
@@ -35,17 +29,14 @@ rcell_patches <- function(x, connectivity = 4, area, zones = NULL, classes = NUL
 
 check_selection <- function(connectivity, classes, min_cells) {
   if (!is_whole(connectivity) || !(connectivity %in% CONNECTIVITIES)) {
-    refuse(sprintf("connectivity= is 4 or 8, and not %s", shown(connectivity)), status = 2L)
+    refuse(sprintf("connectivity= must be 4 or 8; got %s", shown(connectivity)), status = 2L)
   }
-  if (!is.null(min_cells) && (!is_whole(min_cells) || min_cells < 0)) {
-    refuse(sprintf("min_cells= must be a number of cells; got %s", shown(min_cells)), status = 2L)
-  }
+  is_count <- is.null(min_cells) || (is_whole(min_cells) && min_cells >= 0)
+  check_argument(is_count, min_cells, "min_cells= must be a number of cells")
   is_classes <- is.numeric(classes) && all(is.finite(classes)) &&
     all(classes == trunc(classes) & abs(classes) <= CATEGORY_LIMIT)
-  if (!is.null(classes) && !is_classes) {
-    text <- "classes= must be whole numbers within 2147483647 either way; got %s"
-    refuse(sprintf(text, shown(classes)), status = 2L)
-  }
+  rule <- "classes= must be whole numbers from -2147483647 to 2147483647"
+  check_argument(is.null(classes) || is_classes, classes, rule)
 }
 
 is_selected <- function(patches, classes, min_cells) {
@@ -53,6 +44,52 @@ is_selected <- function(patches, classes, min_cells) {
 }
 
 warn_of_lengths <- function() warning("lengths are not computed in degrees", call. = FALSE)
+
+# The measures of patches, as the program counts them in one run.
+counted_patches <- function(sources, connectivity, core_depth, area, has_zones) {
+  zones <- if (has_zones) "zones" else ""
+  question <- list(map = "map", connectivity = connectivity, depth = core_depth, zones = zones)
+  found <- run_pipe(program_path(), sources, character(), questions = list(question))[[1L]]
+  found$patch <- seq_along(found$cells)
+  if (!is.null(area)) {
+    found$area <- areas_of(found$cells, sources$map, area)
+    found$core_area <- areas_of(found$core, sources$map, area)
+  }
+  found
+}
+
+# The same measures from tables, for overlapping polygons, and in degrees, where areas differ by
+# row.
+tabulated_patches <- function(sources, connectivity, core_depth, area, has_zones) {
+  parts <- c("map", "core", "side", "rows", "cols", if (has_zones) "zones")
+  combinations <- lapply(parts, function(part) c("patch", part))
+  tables <- count_cells(
+    sources, combinations, area, before = patch_lines(connectivity, core_depth),
+    by_row = parts %in% c("map", "core"), without_zones = 5L
+  )
+  names(tables) <- parts
+  patch <- tables$map$codes[[1]]
+  sums <- function(table, values) {
+    total <- numeric(length(patch))
+    by_patch <- rowsum(as.numeric(values), table$codes[[1]], reorder = FALSE)
+    total[match(as.integer(rownames(by_patch)), patch)] <- by_patch
+    total
+  }
+  extreme <- function(table, is_last) {
+    table$codes[[2]][!duplicated(table$codes[[1]], fromLast = is_last)] - 1
+  }
+  side <- tables$side
+  list(
+    patch = patch, class = tables$map$codes[[2]], cells = tables$map$cells, area = tables$map$area,
+    ends = sums(side, side$cells * (side$codes[[2]] %% 3L)),
+    flanks = sums(side, side$cells * (side$codes[[2]] %/% 3L)),
+    core = sums(tables$core, tables$core$cells),
+    core_area = if (!is.null(area)) sums(tables$core, tables$core$area),
+    top = extreme(tables$rows, FALSE), bottom = extreme(tables$rows, TRUE),
+    left = extreme(tables$cols, FALSE), right = extreme(tables$cols, TRUE),
+    zone = if (has_zones) most_frequent(tables$zones, patch)
+  )
+}
 
 # The patches of a map; for each cell how many of its sides above and below, and three times how
 # many at its left and right, end its patch; whether it is core; its row and its column.
@@ -79,52 +116,31 @@ clump_line <- function(connectivity, name = "map") {
   sprintf("r.clump%s input=%s output=patch", if (connectivity == 8) " -d" else "", name)
 }
 
-# The tables of the program as one, a row for each patch in the order of their numbers.
-patch_table <- function(tables, source, area, labels, zone_labels) {
-  patch <- tables$map$codes[[1]]
-  sums <- function(table, values) {
-    total <- numeric(length(patch))
-    by_patch <- rowsum(as.numeric(values), table$codes[[1]], reorder = FALSE)
-    total[match(as.integer(rownames(by_patch)), patch)] <- by_patch
-    total
-  }
-  columns <- c(
-    list(patch = patch), coded("class", tables$map$codes[[2]], labels, "label"),
-    list(cells = tables$map$cells)
-  )
-  if (!is.null(area)) columns[[area_title(area)]] <- tables$map$area
-  columns$perimeter_m <- perimeters(tables$side, sums, source)
-  if (is.null(area)) {
-    columns$core_cells <- as.integer(sums(tables$core, tables$core$cells))
-  } else {
-    columns[[paste0("core_", area)]] <- sums(tables$core, tables$core$area)
-  }
-  columns <- c(columns, bounding_boxes(tables$rows, tables$cols, template_of(source)))
-  if (!is.null(tables$zones)) {
-    columns <- c(columns, coded("zone", most_frequent(tables$zones, patch), zone_labels))
-  }
-  frame_of(columns)
-}
-
-# The lengths of the sides of patches in metres; NA if the system does not say how long a unit is.
-perimeters <- function(table, sums, source) {
-  size <- res(template_of(source))
-  ends <- sums(table, table$cells * (table$codes[[2]] %% 3L))
-  flanks <- sums(table, table$cells * (table$codes[[2]] %/% 3L))
-  (ends * size[[1]] + flanks * size[[2]]) * metres_of_unit(source)
-}
-
-bounding_boxes <- function(rows, cols, template) {
+# A row for each patch in the order of their numbers. Perimeters are in metres, NA if the system
+# does not say how long a unit is.
+patch_columns <- function(found, source, area, labels, zone_labels) {
+  template <- template_of(source)
   size <- res(template)
-  extreme <- function(table, is_last) {
-    table$codes[[2]][!duplicated(table$codes[[1]], fromLast = is_last)]
-  }
-  list(
-    west = xmin(template) + (extreme(cols, FALSE) - 1) * size[[1]],
-    south = ymax(template) - extreme(rows, TRUE) * size[[2]],
-    east = xmin(template) + extreme(cols, TRUE) * size[[1]],
-    north = ymax(template) - (extreme(rows, FALSE) - 1) * size[[2]]
+  columns <- c(
+    list(patch = found$patch), coded("class", found$class, labels, "label"),
+    list(cells = as.integer(found$cells))
   )
+  if (!is.null(area)) columns[[area_title(area)]] <- found$area
+  lengths <- found$ends * size[[1]] + found$flanks * size[[2]]
+  columns$perimeter_m <- lengths * metres_of_unit(source)
+  if (is.null(area)) {
+    columns$core_cells <- as.integer(found$core)
+  } else {
+    columns[[paste0("core_", area)]] <- found$core_area
+  }
+  columns <- c(columns, list(
+    west = xmin(template) + found$left * size[[1]],
+    south = ymax(template) - (found$bottom + 1) * size[[2]],
+    east = xmin(template) + (found$right + 1) * size[[1]],
+    north = ymax(template) - found$top * size[[2]]
+  ))
+  if (!is.null(found$zone)) columns <- c(columns, coded("zone", found$zone, zone_labels))
+  frame_of(columns)
 }
 
 # The zone of most cells of each patch, the smaller one of several.
@@ -136,9 +152,7 @@ most_frequent <- function(table, patch) {
 rcell_clump <- function(x, connectivity = 4, classes = NULL, min_cells = NULL, filename = "",
                         overwrite = FALSE, crs = NULL) {
   check_selection(connectivity, classes, min_cells)
-  check_filename(filename, overwrite)
-  sources <- sources_of(list(map = x), crs)
-  check_inputs(filename, inputs_of(sources))
+  sources <- map_to_write(x, crs, filename, overwrite)
   script <- c(clump_line(connectivity), "r.stats -cn input=patch,map", "r.out.ascii input=patch")
   frames <- run_own(script, sources)
   patches <- list(class = frames[[1]]$codes[[2]], cells = frames[[1]]$cells)

@@ -7,14 +7,18 @@ RESPONSE_MAGIC <- charToRaw("RCELLA1\n")
 TYPE_U8 <- 1L
 TYPE_I32 <- 6L
 HAS_NODATA <- 1L
+PATCHES <- 1L
 COMMANDS <- c("r.mapcalc", "r.reclass", "r.clump", "r.stats", "r.out.ascii")
 FLAGS <- c("c", "l", "1", "n", "N")
 BITS_OF_FLAGS <- c(1L, 2L, 4L, 8L, 16L)
-# What a plan says of each map that a statement reads, and that it needs, and of a call of row() and
-# its like.
+# The size of a plan's entries: for a map that is read, a map that is needed, and a call such as
+# row().
 BYTES_OF_MARGINS <- c(32L, 33L)
 BYTES_OF_CALL <- 17L
-# Columns, rows, north, type, null, file, first byte, bytes a cell and bytes a row.
+PATCH_MEASURES <- c("cells", "ends", "flanks", "core", "top", "bottom", "left", "right")
+# A class, and measures of two words each.
+WORDS_OF_PATCH <- 1L + 2L * length(PATCH_MEASURES)
+# Columns, rows, north, type, null, file, first byte, bytes per cell and bytes per row.
 RAW_RASTER <- "<VRTDataset rasterXSize=\"%.0f\" rasterYSize=\"%.0f\">
 <GeoTransform>0, 1, 0, %.0f, 0, -1</GeoTransform>
 <VRTRasterBand dataType=\"%s\" band=\"1\" subClass=\"VRTRawRasterBand\">
@@ -29,8 +33,8 @@ short_text <- function(text) {
   c(as.raw(length(bytes)), bytes)
 }
 
-# Cells go as integers of 32 bits, in which NA has the bits of -2147483648. It is the nodata value,
-# an integer of 64 bits. Labels stay here: they may be any text.
+# Cells are sent as 32-bit integers, in which NA has the bits of -2147483648. It is the nodata
+# value, a 64-bit integer. Labels stay here: they may be any text.
 map_head <- function(name, region) {
   c(
     short_text(name), unlist(lapply(region$edges, short_text)),
@@ -40,13 +44,22 @@ map_head <- function(name, region) {
 
 # A request is a function that writes its bytes by calls of another one. A source has `cells`, or a
 # raster that is read in blocks of rows.
-run_request <- function(sources, script) function(write) {
+run_request <- function(sources, script, questions = list()) function(write) {
   write(c(REQUEST_MAGIC, bytes_of(length(sources))))
   for (source in sources) {
     write(map_head(source$name, source$region))
     each_block(source, write)
   }
-  write(script_bytes(script))
+  bytes <- unlist(lapply(questions, question_bytes))
+  write(c(script_bytes(script), bytes_of(length(questions)), bytes))
+}
+
+# A question about the patches of a map.
+question_bytes <- function(question) {
+  c(
+    as.raw(PATCHES), short_text(question$map), as.raw(question$connectivity),
+    bytes_of(question$depth), short_text(question$zones)
+  )
 }
 
 plan_request <- function(names, script) function(write) {
@@ -144,6 +157,23 @@ grid_frame <- function(reader) {
   list(line = line, maps = name, raster = reader$raster(size[[1]], size[[2]], is_small))
 }
 
+# The measures of patches: class, then counts and rows and columns from 0, of 64 bits; and the
+# zones, if the question has zones.
+patches_frame <- function(reader) {
+  reader$numbers()
+  has_zones <- reader$bytes(6L)[[6L]] == 1L
+  count <- reader$numbers()
+  words <- reader$integers(count * (WORDS_OF_PATCH + has_zones))
+  dim(words) <- c(WORDS_OF_PATCH + has_zones, count)
+  halves <- function(place) ifelse(is.na(words[place, ]), -2^31, words[place, ])
+  places <- seq_along(PATCH_MEASURES)
+  measures <- lapply(2 * places, function(low) {
+    halves(low + 1) * 2^32 + halves(low) %% 2^32
+  })
+  names(measures) <- PATCH_MEASURES
+  c(list(class = words[1L, ]), measures, if (has_zones) list(zone = words[WORDS_OF_PATCH + 1L, ]))
+}
+
 # A statement: whether it writes a frame, the map that it makes, its flags, its maps, the
 # combination after which a table begins, and the labels that its rules give.
 plan_frame <- function(reader) {
@@ -187,7 +217,8 @@ end_frame <- function(reader) {
 }
 
 FRAMES <- list(
-  TABL = table_frame, CELL = table_frame, GRID = grid_frame, PLAN = plan_frame, DONE = end_frame
+  TABL = table_frame, CELL = table_frame, GRID = grid_frame, PTCH = patches_frame,
+  PLAN = plan_frame, DONE = end_frame
 )
 
 # Return the frames of a response, the last of which is DONE. `wrong` is called if it is invalid or

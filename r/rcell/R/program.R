@@ -18,10 +18,8 @@ rcell_program <- function() {
 # Return the path of the program, which was tried once.
 program_path <- function() {
   path <- find_program()
-  if (!is.character(path) || length(path) != 1L || is.na(path)) {
-    text <- "options(rcell.program) must be the path of a program; got %s"
-    refuse(sprintf(text, shown(path)), status = 2L)
-  }
+  is_one <- is.character(path) && length(path) == 1L && !is.na(path)
+  check_argument(is_one, path, "options(rcell.program) must be the path of a program")
   if (!nzchar(path)) {
     missing_program(paste(
       "the program rcell-pipe was not found: neither by the option rcell.program,",
@@ -85,7 +83,7 @@ bundled_program <- function(name) {
   if (nzchar(path)) normalizePath(path) else ""
 }
 
-# Runs the program once on three cells, with all that this package makes use of.
+# Run the program once on three cells, with everything that this package uses.
 probe <- function(path) {
   wrong <- function(e) {
     text <- "%s is not a program rcell-pipe of a version that this package knows"
@@ -119,8 +117,8 @@ new_folder <- function() {
   folder
 }
 
-# The words before a command that end it with R, also if R itself is killed; none if the system has
-# no such command.
+# The words before a command that make it end with R, even if R is killed; none if the system has no
+# such command.
 guard_words <- function() {
   if (is.null(known_programs[[" guard"]])) {
     words <- c(Sys.which("setpriv")[["setpriv"]], "--pdeathsig", "KILL")
@@ -189,9 +187,19 @@ end_of <- function(frames) frames[[length(frames)]]
 
 # Run a script over maps, and return its frames without the last. An error of the script is one of
 # the caller's lines.
-run_pipe <- function(path, sources, script, lines = script) {
-  if (is.function(recorder$add)) recorder$add(sources, script)
-  frames_of(ask_pipe(path, run_request(sources, script)), path, names_of(sources), lines)
+run_pipe <- function(path, sources, script, lines = script, questions = list()) {
+  if (is.function(recorder$add)) recorder$add(sources, c(script, question_texts(questions)))
+  request <- run_request(sources, script, questions)
+  frames_of(ask_pipe(path, request), path, names_of(sources), lines)
+}
+
+# The questions of a request, as records have them.
+question_texts <- function(questions) {
+  vapply(questions, function(question) {
+    zones <- if (nzchar(question$zones)) paste0(", zones ", question$zones) else ""
+    text <- "# question: patches of %s, connectivity %d, core depth %d%s"
+    sprintf(text, question$map, question$connectivity, question$depth, zones)
+  }, "")
 }
 
 # The frames of a response without the last, which may be an error.

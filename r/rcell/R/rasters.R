@@ -5,14 +5,14 @@
 # numbers.
 INEXACT_FLOAT <- 2^53
 COMPLEX_TYPES <- c("CInt16", "CInt32", "CFloat32", "CFloat64")
-ROTATED <- "a rotated transform: warp the map to rows from west to east first (terra: rectify)"
+ROTATED <- "a rotated transform: warp the map to a north-up grid first (terra: rectify)"
 
 raster_source <- function(name, raster, is_opened_here = FALSE) {
-  # Methods of S4 put errors of their arguments into errors of their own.
+  # S4 methods wrap errors of their arguments in errors of their own.
   force(raster)
   chosen <- opaque_layer(name, raster)
   raster <- chosen$raster
-  # terra takes a map without a system for one in degrees if its edges are within 180 by 90.
+  # terra treats a map without a system as one in degrees if its edges are within 180 by 90.
   if (is_opened_here && isFALSE(chosen$facts$has_crs)) crs(raster) <- ""
   if (!hasValues(raster)) bad_map(name, "a raster without values")
   scale <- scoff(raster)
@@ -38,14 +38,14 @@ opaque_layer <- function(name, raster) {
   is_alpha <- if (is.null(facts)) rep(FALSE, nlyr(raster)) else bands$bands %in% facts$alpha
   layers <- if (nlyr(raster) > 1L && any(is_alpha)) which(!is_alpha) else seq_len(nlyr(raster))
   if (length(layers) != 1L) {
-    bad_map(name, sprintf("has %d layers: give one, for example x[[1]]", length(layers)))
+    bad_map(name, sprintf("has %d layers: choose one, for example x[[1]]", length(layers)))
   }
   if (nlyr(raster) > 1L) raster <- raster[[layers]]
   opaque <- list(raster = raster, files = paths, facts = facts)
   if (is.null(facts)) return(opaque)
   opaque$band <- bands$bands[[layers]]
   if (!length(facts$alpha) || opaque$band %in% facts$alpha) return(opaque)
-  # A TIFF has one nodata value for all bands, and terra takes an alpha of this value for NA.
+  # A TIFF has one nodata value for all bands, and terra treats an alpha of this value as NA.
   null <- null_text(facts$bands[[facts$alpha[[1]]]])
   alpha <- alpha_layer(raster, paths, facts$alpha[[1]])
   c(opaque, list(alpha = alpha, alpha_null = suppressWarnings(as.numeric(null))))
@@ -125,7 +125,7 @@ check_file <- function(name, raster, facts, band) {
   if (any(grepl("PIXELTYPE=SIGNEDBYTE", lines, fixed = TRUE)) && "INT1U" %in% datatype(raster)) {
     text <- paste(
       "its bytes are signed, and terra reads them as 0 to 255:",
-      "write it with 16 bits a cell by another program first"
+      "write it with 16 bits per cell with another program first"
     )
     bad_map(name, text)
   }
@@ -150,7 +150,7 @@ check_wide_null <- function(name, lines) {
   if (length(value) == 1L && !is.na(value) && abs(value) >= INEXACT_FLOAT) {
     reason <- paste(
       "its cells have 64 bits and its nodata value is %s,",
-      "which terra cannot distinguish from its neighbours: write it with 32 bits a cell first"
+      "which terra cannot distinguish from its neighbours: write it with 32 bits per cell first"
     )
     bad_map(name, sprintf(reason, text))
   }

@@ -6,9 +6,7 @@ VALUES <- "^([+-]?[0-9]+)(?:[.]0*)?(?:\\s*-\\s*([+-]?[0-9]+)(?:[.]0*)?)?$"
 RULES_BYTES <- 1000000L
 
 rcell_reclass <- function(x, rules, other = NULL, filename = "", overwrite = FALSE, crs = NULL) {
-  if (!is.null(other) && !(is.character(other) && length(other) == 1L && other %in% OTHERS)) {
-    refuse(sprintf("other= is \"keep\" or \"null\", and not %s", shown(other)), status = 2L)
-  }
+  if (!is.null(other)) check_one_of(other, "other", OTHERS)
   check_filename(filename, overwrite)
   files <- legend_files(rules)
   rules <- rules_of(rules)
@@ -80,8 +78,7 @@ check_rule <- function(is_right, table, texts, reason) {
   refuse(text, "rules")
 }
 
-# Lines of r.reclass: rules for values that follow each other are one line if their new class is
-# one.
+# Lines of r.reclass: consecutive values with the same new class share a line.
 rule_lines <- function(rules) {
   count <- length(rules$low)
   if (!count) return(character())

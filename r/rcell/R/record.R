@@ -1,5 +1,5 @@
 # SPDX-License-Identifier: Apache-2.0 OR GPL-2.0-or-later
-# Tables with a record of what they were made of, which anyone can verify later.
+# Tables with a record of what they were made from, which anyone can verify later.
 
 RECORD_FORM <- 1
 # Arguments that are words; other texts are paths if there is such a file.
@@ -14,9 +14,8 @@ recorder <- new.env(parent = emptyenv())
 
 rcell_record <- function(.path, .call, ..., .table = NULL) {
   check_text(.table, ".table")
-  if (!is_path(.path) || !grepl("[.]csv$", .path, ignore.case = TRUE)) {
-    refuse(sprintf("the path must end in .csv; got %s", shown(.path)), status = 2L)
-  }
+  is_csv <- is_path(.path) && grepl("[.]csv$", .path, ignore.case = TRUE)
+  check_argument(is_csv, .path, "the path must end in .csv")
   check_filename(.path, TRUE)
   folder <- normalizePath(dirname(native_path(.path)))
   arguments <- list(...)
@@ -39,27 +38,21 @@ rcell_record <- function(.path, .call, ..., .table = NULL) {
     )
   )
   write_record(.path, made$text, record)
-  made$result
+  invisible(made$result)
 }
 
 rcell_verify <- function(path) {
-  beside <- paste0(path, ".json")
-  wrong <- function() {
-    text <- "%s is not a record of this version of the package for R"
-    refuse(sprintf(text, beside), "record")
-  }
-  record <- list_of_json(utf8_text(native_path(beside), "record"), wrong)
-  if (!is_record(record)) wrong()
-  call <- record$call
   kept <- utf8_text(native_path(path), "record")
+  record <- record_of(path)
+  call <- record$call
   folder <- normalizePath(dirname(native_path(path)))
+  is_changed <- sum_of(native_path(path)) != record$table$sha256
   told <- c(
-    character(),
-    if (sum_of(native_path(path)) != record$table$sha256) "the table is not as it was written",
+    character(), if (is_changed) "the table has changed since it was written",
     other_files(list(call$words, call$named), folder)
   )
   if (sum_of(program_path()) != record$program) {
-    text <- "the program differs: it was of rcell %s, and this is %s"
+    text <- "the program differs: it was rcell %s, and this is %s"
     told <- c(told, sprintf(text, record$versions$rcell, packageVersion("rcell")))
   }
   arguments <- lapply(c(call$words, call$named), placed_argument, folder)
@@ -69,6 +62,26 @@ rcell_verify <- function(path) {
     return(c(told, paste("the call fails:", reason)))
   }
   c(told, other_runs(made$runs, record$runs), other_lines(kept, made$text))
+}
+
+# The record of a table, which the package for R has made.
+record_of <- function(path) {
+  beside <- paste0(path, ".json")
+  if (!file.exists(native_path(beside))) {
+    text <- "%s has no record, which is %s: write it with rcell_record"
+    refuse(sprintf(text, path, beside), "record", status = 4L)
+  }
+  wrong <- function() {
+    text <- "%s is not a record of this version of the package for R"
+    refuse(sprintf(text, beside), "record")
+  }
+  record <- list_of_json(utf8_text(native_path(beside), "record"), wrong)
+  if (is.list(record) && is.list(record$versions) && !is.null(record$versions$python)) {
+    text <- "%s was not recorded in R: verify it in Python or QGIS, or with rcell-gis verify %s"
+    refuse(sprintf(text, path, path), "record")
+  }
+  if (!is_record(record)) wrong()
+  record
 }
 
 # Whether all parts of a record are there; its call is one of this package.
@@ -90,9 +103,9 @@ name_of_call <- function(call) {
   } else if (is_path(call)) {
     names <- intersect(call, names)
   }
-  if (length(names)) return(names)
-  text <- "the call must be one of this package, for example rcell_composition; got %s"
-  refuse(sprintf(text, shown(call)), status = 2L)
+  rule <- "the call must be one of this package, for example rcell_composition"
+  check_argument(length(names) > 0L, call, rule)
+  names
 }
 
 # Run a call: its result, the text of its table, the runs of the program, and the files it read.
@@ -122,9 +135,8 @@ table_in <- function(result, part) {
     return(as.data.frame(result[-(1:2)]))
   }
   if (is.null(part)) return(tables[[1]])
-  if (part %in% names(tables)) return(tables[[part]])
-  text <- ".table= must be one of %s; got %s"
-  refuse(sprintf(text, paste(names(tables), collapse = ", "), shown(part)), status = 2L)
+  check_one_of(part, ".table", names(tables))
+  tables[[part]]
 }
 
 # A table as text: numbers in the shortest form that reads back the same, missing values empty.
@@ -160,15 +172,12 @@ write_record <- function(path, text, record) {
 
 # The SHA-256 of a file.
 sum_of <- function(path) {
-  tool <- Sys.which("sha256sum")[[1]]
-  if (!nzchar(tool)) refuse("records need the command sha256sum, which is not there", status = 2L)
-  ran <- run(tool, c("-b", "--", normalizePath(path)), error_on_status = FALSE)
-  if (ran$status != 0L) read_failed("record", sprintf("cannot open: %s", path))
-  sub("^\\\\?([0-9a-f]{64}).*", "\\1", ran$stdout)
+  failed <- function(e) read_failed("record", sprintf("cannot open: %s", path))
+  tryCatch(digest(path, "sha256", file = TRUE), error = failed)
 }
 
-# The sum of a map's region and cells, as integers of 32 bits, whatever its file has: Python has the
-# same sum.
+# The checksum of a map's region and cells, as 32-bit integers, whatever its file has: Python's is
+# the same.
 sum_of_cells <- function(source) {
   folder <- new_folder()
   on.exit(unlink(folder, recursive = TRUE))
@@ -225,7 +234,8 @@ placed_argument <- function(told, folder) {
   items <- if (is.null(told$items)) told else lapply(told$items, `[[`, 2L)
   values <- lapply(items, placed_argument, folder)
   if (!is.null(told$items)) names(values) <- vapply(told$items, `[[`, "", 1L)
-  is_plain <- vapply(values, function(value) is.atomic(value) && length(value) == 1L, NA)
+  # Paths are lists in a record, and several of them are a list of maps.
+  is_plain <- !vapply(items, is.list, NA)
   kinds <- unique(vapply(values, typeof, ""))
   if (all(is_plain) && length(kinds) == 1L) unlist(values) else values
 }
@@ -260,16 +270,19 @@ other_runs <- function(now, then) {
   )
 }
 
-# The first line in which a table differs from what its call returns now.
+# The first line in which a table differs from what its call returns now, and how many others do.
 other_lines <- function(kept, now) {
   if (identical(kept, now)) return(NULL)
   lines <- lapply(c(kept, now), function(text) strsplit(text, "\n", fixed = TRUE)[[1]])
   count <- min(lengths(lines))
-  first <- match(TRUE, lines[[1]][seq_len(count)] != lines[[2]][seq_len(count)])
-  if (is.na(first)) {
+  different <- which(lines[[1]][seq_len(count)] != lines[[2]][seq_len(count)])
+  if (!length(different)) {
     text <- "the table has %d lines, and its call returns %d"
     return(sprintf(text, length(lines[[1]]), length(lines[[2]])))
   }
-  text <- "the table differs in line %d: `%s`, and its call returns `%s`"
-  sprintf(text, first, lines[[1]][[first]], lines[[2]][[first]])
+  first <- different[[1]]
+  rest <- length(different) - 1L
+  more <- if (rest) sprintf(" and in %d more %s", rest, if (rest == 1L) "line" else "lines") else ""
+  text <- "the table differs in line %d%s: `%s`, and its call returns `%s`"
+  sprintf(text, first, more, lines[[1]][[first]], lines[[2]][[first]])
 }

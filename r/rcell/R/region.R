@@ -83,7 +83,8 @@ check_regions <- function(sources) {
   for (source in sources[-1]) {
     if (identical(source$region, first$region)) next
     by <- paste(differences(first$region, source$region), collapse = "; ")
-    text <- "not of the region of `%s`, and nothing is resampled: %s\n  %s: %s\n  %s: %s\n  try: %s"
+    text <- "its grid differs from `%s`, and rcell does not resample: %s"
+    text <- paste0(text, "\n  %s: %s\n  %s: %s\n  try: %s")
     text <- sprintf(
       text, first$name, by, first$name, region_text(first$region), source$name,
       region_text(source$region), align_call(first, source)

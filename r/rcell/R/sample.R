@@ -1,5 +1,5 @@
 # SPDX-License-Identifier: Apache-2.0 OR GPL-2.0-or-later
-# Random cells of each class, for a reference sample: the same for ever, and in every package.
+# Random cells of each class, for a reference sample: always the same, in every package.
 
 ALLOCATIONS <- c("equal", "proportional")
 # Its product with the number of cells of a map is exact as a double.
@@ -11,9 +11,7 @@ NUMBERS_OF_A_HASH <- 2^48
 
 rcell_sample <- function(x, n, seed, allocation = "equal", labels = NULL, crs = NULL) {
   is_seed <- is_whole(seed) || (is.character(seed) && length(seed) == 1L && !is.na(seed))
-  if (!is_seed) {
-    refuse(sprintf("seed= must be a whole number or a text; got %s", shown(seed)), status = 2L)
-  }
+  check_argument(is_seed, seed, "seed= must be a whole number or a text")
   check_numbers(n, allocation)
   sources <- sources_of(list(map = x), crs)
   labels <- labels_from(labels, sources$map$labels)
@@ -50,17 +48,13 @@ check_numbers <- function(n, allocation) {
   is_right <- is.numeric(n) && length(n) && all(is.finite(n)) && all(n == trunc(n)) &&
     all(n >= fewest & n <= POINTS_LIMIT) && (length(n) == 1L || !is.null(names(n)))
   is_right <- is_right && (is.null(names(n)) || all(grepl(WHOLE, names(n))))
-  if (!is_right) {
-    text <- paste(
-      "n= must be a whole number up to %.0f, or one for each class, for example",
-      "c(\"11\" = 50, \"31\" = 100); got %s"
-    )
-    refuse(sprintf(text, POINTS_LIMIT, shown(n)), status = 2L)
-  }
-  if (!is.null(names(n)) && allocation != ALLOCATIONS[[1]]) {
-    text <- "allocation= is for a number of cells in all, and n= has one for each class; got %s"
-    refuse(sprintf(text, shown(allocation)), status = 2L)
-  }
+  rule <- paste(
+    "n= must be a whole number up to %.0f, or one for each class, for example",
+    "c(\"11\" = 50, \"31\" = 100)"
+  )
+  check_argument(is_right, n, rule, POINTS_LIMIT)
+  rule <- "allocation= is for a number of cells in all, and n= has one for each class"
+  check_argument(is.null(names(n)) || allocation == ALLOCATIONS[[1]], allocation, rule)
 }
 
 # How many cells are wanted of each class: the rest of a division goes to the largest fractions.
@@ -131,4 +125,10 @@ drawn <- function(key, size, count) {
     assign(sprintf("%.0f", number), number, found)
   }
   sort(unlist(as.list(found), use.names = FALSE))
+}
+
+# The first 48 bits of the SHA-256 of each text as a number, from two halves of 24 bits.
+numbers_of <- function(texts) {
+  hashes <- getVDigest("sha256")(enc2utf8(texts), serialize = FALSE)
+  strtoi(substr(hashes, 1L, 6L), 16L) * 2^24 + strtoi(substr(hashes, 7L, 12L), 16L)
 }

@@ -6,7 +6,7 @@ NAME <- "[A-Za-z_][A-Za-z0-9_.]{0,63}"
 
 is_name <- function(words) grepl(paste0("^", NAME, "$"), words, useBytes = TRUE)
 
-# Texts as UTF-8. In the C locale R takes no letter beyond ASCII for one, and would spell out the
+# Texts as UTF-8. In the C locale R does not recognise non-ASCII letters, and would print their
 # bytes.
 utf8_of <- function(text) {
   if (is_ascii_locale()) Encoding(text)[Encoding(text) == "unknown" & validUTF8(text)] <- "UTF-8"

@@ -1,5 +1,5 @@
 # SPDX-License-Identifier: Apache-2.0 OR GPL-2.0-or-later
-# A smallest mapping unit: small patches are merged into their neighbours.
+# A minimum mapping unit: small patches are merged into their neighbours.
 
 SIDES <- c(right = "0,1", below = "1,0")
 CORNERS <- c(falling = "1,1", rising = "1,-1")
@@ -11,9 +11,7 @@ rcell_sieve <- function(x, min_cells = NULL, min_ha = NULL, connectivity = 4, dr
                         filename = "", overwrite = FALSE, crs = NULL) {
   check_selection(connectivity, NULL, NULL)
   check_flag(drop, "drop")
-  check_filename(filename, overwrite)
-  sources <- sources_of(list(map = x), crs)
-  check_inputs(filename, inputs_of(sources))
+  sources <- map_to_write(x, crs, filename, overwrite)
   fewest <- fewest_cells(min_cells, min_ha, sources$map)
   steps <- c(SIDES, if (connectivity == 8) CORNERS)
   lines <- touching_lines("map", connectivity, "patch,map", if (!drop) steps)
@@ -43,19 +41,13 @@ fewest_cells <- function(min_cells, min_ha, source) {
     refuse(sprintf("one of min_cells= and min_ha= must be given; got %s", met), status = 2L)
   }
   if (is.null(min_ha)) {
-    if (is_whole(min_cells) && min_cells >= 1) return(min_cells)
-    text <- "min_cells= must be a whole number, at least 1; got %s"
-    refuse(sprintf(text, shown(min_cells)), status = 2L)
+    is_size <- is_whole(min_cells) && min_cells >= 1
+    check_argument(is_size, min_cells, "min_cells= must be a whole number, at least 1")
+    return(min_cells)
   }
-  if (!is.numeric(min_ha) || length(min_ha) != 1L || !is.finite(min_ha) || min_ha <= 0) {
-    refuse(sprintf("min_ha= must be a number above 0; got %s", shown(min_ha)), status = 2L)
-  }
-  unit_of(list(unit = "ha", is_asked_for = TRUE), source, "min_ha=")
-  if (is_in_degrees(source)) {
-    refuse(paste(
-      "min_ha= is not for maps in degrees, whose cells differ in area: use min_cells="
-    ), status = 2L)
-  }
+  is_size <- is.numeric(min_ha) && length(min_ha) == 1L && is.finite(min_ha) && min_ha > 0
+  check_argument(is_size, min_ha, "min_ha= must be a number above 0")
+  check_metres(source, "min_ha=", ": give min_cells=")
   max(1, ceiling(round(min_ha * UNITS[["ha"]] / cell_sizes(source), DIGITS_OF_CELLS)))
 }
 
@@ -69,7 +61,7 @@ touching_lines <- function(name, connectivity, tables, steps) {
   )
 }
 
-# The class of each patch in the end. While a patch below the size shares a side with another class,
+# The final class of each patch. While a patch below the size shares a side with another class,
 # the smallest one (of several, the first) gets the class of the neighbour with which it shares most
 # sides (of several, the first), and becomes one patch with all of this class that it touches. A
 # patch has the smallest number of its parts, which is in the order of their first cells.

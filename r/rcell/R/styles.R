@@ -69,7 +69,7 @@ attributes_of <- function(tag, place, wrong) {
   found <- regmatches(tag, gregexpr(XML_ATTRIBUTE, tag, perl = TRUE))[[1]]
   keys <- sub(XML_ATTRIBUTE, "\\1", found, perl = TRUE)
   texts <- sub(XML_ATTRIBUTE, "\\2\\3", found, perl = TRUE)
-  if (anyDuplicated(keys)) wrong(place, sprintf("%s is there twice", keys[duplicated(keys)][[1]]))
+  if (anyDuplicated(keys)) wrong(place, sprintf("%s occurs twice", keys[duplicated(keys)][[1]]))
   texts <- vapply(texts, resolved, "", place, wrong, USE.NAMES = FALSE)
   names(texts) <- keys
   texts

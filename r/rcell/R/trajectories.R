@@ -8,13 +8,11 @@ rcell_trajectories <- function(maps, years = NULL, area, labels = NULL, include_
                                crs = NULL) {
   choice <- area_choice(area, missing(area))
   check_flag(include_maps, "include_maps")
-  if (!is.list(maps) || length(maps) < 2L) {
-    refuse(sprintf("maps= must be a list of two or more maps; got %s", shown(maps)), status = 2L)
-  }
+  is_list <- is.list(maps) && length(maps) > 1L
+  check_argument(is_list, maps, "maps= must be a list of two or more maps")
   check_years(years, length(maps))
-  if (is.null(years) || is.unsorted(years)) {
-    refuse(sprintf("years= must ascend, one for each map; got %s", shown(years)), status = 2L)
-  }
+  is_ascending <- !is.null(years) && !is.unsorted(years)
+  check_argument(is_ascending, years, "years= must ascend, one for each map")
   names(maps) <- sprintf("map_%d", seq_along(maps))
   sources <- sources_of(maps, crs)
   area <- unit_of(choice, sources[[1]])
@@ -26,8 +24,8 @@ rcell_trajectories <- function(maps, years = NULL, area, labels = NULL, include_
   is_moved <- codes[, -1, drop = FALSE] != codes[, -length(maps), drop = FALSE]
   found <- list(
     table = sequences_table(table, codes, is_moved, years, legends, area),
-    changes = changes_table(table, rowSums(is_moved), area),
-    intervals = intervals_table(table, is_moved, years, area)
+    changes = changes_table(table, rowSums(is_moved), sources[[1]], area),
+    intervals = intervals_table(table, is_moved, years, sources[[1]], area)
   )
   if (include_maps) found$maps <- maps_of_changes(sources, years)
   found
@@ -57,25 +55,26 @@ sequences_table <- function(table, codes, is_moved, years, legends, area) {
 }
 
 # A row for each number of changes.
-changes_table <- function(table, changes, area) {
+changes_table <- function(table, changes, source, area) {
   known <- sort(unique(changes))
   sums <- function(values) summed(values, match(changes, known), length(known))
   together <- list(codes = list(known), cells = as.integer(sums(table$cells)))
-  if (!is.null(table$area)) together$area <- sums(table$area)
+  if (!is.null(table$weights)) together$weights <- sums(table$weights)
+  if (!is.null(area)) together$area <- areas_of_sums(sums(weights_of(table)), table, source, area)
   frame_of(c(list(changes = as.integer(known)), sized(together, area)))
 }
 
-# A row for each two consecutive years, with the changes of each year, and with the mean of all
+# A row for each pair of consecutive years, with the changes of each year, and with the mean of all
 # years (Aldwaik and Pontius 2012, equations 1 and 2).
-intervals_table <- function(table, is_moved, years, area) {
-  measured <- as.numeric(if (is.null(table$area)) table$cells else table$area)
-  changed <- colSums(is_moved * measured)
-  percent <- 100 * changed / sum(measured)
+intervals_table <- function(table, is_moved, years, source, area) {
+  weights <- weights_of(table)
+  changed <- colSums(is_moved * weights)
+  percent <- 100 * changed / sum(weights)
   columns <- list(
     year_from = as.integer(years[-length(years)]), year_to = as.integer(years[-1]),
     cells = as.integer(colSums(is_moved * table$cells))
   )
-  if (!is.null(area)) columns[[area_title(area)]] <- changed
+  if (!is.null(area)) columns[[area_title(area)]] <- areas_of_sums(changed, table, source, area)
   uniform <- sum(percent) / (years[[length(years)]] - years[[1]])
   frame_of(c(columns, list(
     percent = percent, percent_year = percent / diff(years),
@@ -95,10 +94,8 @@ count_sequences <- function(sources, area) {
   base <- max(length(classes), 2)
   size <- sum(cumprod(rep(base, 32)) <= CATEGORY_LIMIT)
   packs <- unname(split(names, (seq_along(names) - 1L) %/% size))
-  if (length(packs) > limit) {
-    text <- "maps= must be at most %d with %d classes; got %d"
-    refuse(sprintf(text, size * limit, length(classes), length(names)), status = 2L)
-  }
+  rule <- "maps= must be at most %d with %d classes"
+  check_argument(length(packs) <= limit, length(names), rule, size * limit, length(classes))
   ranks <- unlist(lapply(names, function(name) rank_lines(name, classes, 1)))
   packed <- sprintf("pack_%d", seq_along(packs))
   sums <- vapply(packs, function(pack) {

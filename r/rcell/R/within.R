@@ -1,5 +1,5 @@
 # SPDX-License-Identifier: Apache-2.0 OR GPL-2.0-or-later
-# What is within a distance of some classes: buffers, by map algebra.
+# Cells within a distance of some classes: buffers, made with map algebra.
 
 # The largest offset of an expression.
 STEPS_LIMIT <- 255
@@ -15,31 +15,25 @@ HALVES <- 2^27 + 1
 rcell_within <- function(x, classes, distances, filename = "", overwrite = FALSE, crs = NULL) {
   check_selection(4, classes, NULL)
   if (!length(classes)) refuse("classes= must be whole numbers; got none", status = 2L)
-  check_distances(distances)
-  check_filename(filename, overwrite)
-  sources <- sources_of(list(map = x), crs)
-  check_inputs(filename, inputs_of(sources))
-  unit_of(list(unit = "m2", is_asked_for = TRUE), sources$map, "distances=")
-  if (is_in_degrees(sources$map)) {
-    refuse("distances= need a map in metres or feet, and the map is in degrees", status = 2L)
-  }
+  is_right <- is.numeric(distances) && length(distances) && all(is.finite(distances)) &&
+    all(diff(c(0, distances)) > 0)
+  rule <- "distances= must be numbers that ascend from above 0, for example c(100, 500)"
+  check_argument(is_right, distances, rule)
+  sources <- map_to_write(x, crs, filename, overwrite)
+  check_metres(sources$map, "distances=")
   sizes <- exact_sizes(template_of(sources$map)) * metres_of_unit(sources$map)
   rings <- lapply(distances, reaches, sizes)
   lines <- within_lines(sort(unique(classes)), rings)
   frame <- run_own(c(lines, "r.out.ascii input=within"), sources)[[1]]
-  labels <- list(
-    codes = seq_along(c(0, distances)) - 1L,
-    labels = c("inside", sprintf("up to %.10g m", distances))
-  )
+  labels <- list(codes = seq_along(c(0, distances)) - 1L, labels = ring_labels(distances))
   written(raster_of(frame, sources$map, labels, "within"), filename)
 }
 
-check_distances <- function(distances) {
-  is_right <- is.numeric(distances) && length(distances) && all(is.finite(distances)) &&
-    all(diff(c(0, distances)) > 0)
-  if (is_right) return(invisible())
-  text <- "distances= must be numbers that ascend from above 0, for example c(100, 500); got %s"
-  refuse(sprintf(text, shown(distances)), status = 2L)
+# A ring begins where the one before ends.
+ring_labels <- function(distances) {
+  ends <- sprintf("%.10g", distances)
+  begins <- c("up", ends[-length(ends)])
+  c("inside", sprintf("%s to %s m", begins, ends))
 }
 
 # The sizes of cells as the file has them: terra computes them from the edges of the map, which
@@ -50,7 +44,7 @@ exact_sizes <- function(template) {
   mapply(simplest_near, res(template), blur)
 }
 
-# The simplest number so near to a size: a fraction of few parts, else a short decimal, else a
+# The simplest number this close to a size: a fraction of few parts, else a short decimal, else a
 # fraction of seconds of arc.
 simplest_near <- function(size, blur) {
   parts <- c(seq_len(MOST_PARTS), SECONDS_OF_ARC)

@@ -6,14 +6,12 @@ MEASURES <- c("cells", "sum", "mean", "minimum", "maximum", "variance")
 rcell_zonal <- function(values, zones, quantiles = 0.5, scale = NULL, zone_labels = NULL,
                         zone_field = NULL, layer = NULL, each = FALSE, crs = NULL) {
   is_share <- is.numeric(quantiles) && all(quantiles >= 0 & quantiles <= 1) %in% TRUE
-  if (length(quantiles) && !is_share) {
-    refuse(sprintf("quantiles= must be from 0 to 1; got %s", shown(quantiles)), status = 2L)
-  }
-  if (is.null(zones)) refuse("zones= must be a map or polygons; got NULL", status = 2L)
-  if (!is.null(scale) && (!is_whole(scale) || scale < 1 || scale > CATEGORY_LIMIT)) {
-    text <- "scale= must be a whole number from 1 to %.0f; got %s"
-    refuse(sprintf(text, CATEGORY_LIMIT, shown(scale)), status = 2L)
-  }
+  is_right <- !length(quantiles) || is_share
+  check_argument(is_right, quantiles, "quantiles= must be from 0 to 1")
+  check_argument(!is.null(zones), zones, "zones= must be a map or polygons")
+  is_right <- is.null(scale) || (is_whole(scale) && scale >= 1 && scale <= CATEGORY_LIMIT)
+  rule <- "scale= must be a whole number from 1 to %.0f"
+  check_argument(is_right, scale, rule, CATEGORY_LIMIT)
   sources <- zoned_sources(values, zones, zone_field, layer, crs, "values", each)
   sources$values$scale <- scale
   sources$values$remedy <- "; scale = 100 rounds to 1/100"

@@ -15,11 +15,11 @@ A map is given by its name. It is one of:
 \itemize{
 \item a \code{SpatRaster} of one layer, in memory or of a file;
 \item a path, URL or \code{/vsi..} path of anything that terra opens;
-\item a path of a grid of the program's own form, which the program rcell reads;
+\item a path of an rcell grid, which the program rcell reads;
 \item a matrix of numbers: cells of side 1, the bottom left corner at 0, 0, no reference system, and so no areas unless \code{crs=} states one.
 }
 Cells are whole numbers from -2147483647 to 2147483647; \code{NA} and \code{NaN} are null. Floats are accepted if they are whole
-numbers; a transparent cell (an alpha band of 0) is null. Files that terra reads otherwise than they are cause an error: rotated rasters,
+numbers; a transparent cell (an alpha band of 0) is null. Files that terra misreads cause an error: rotated rasters,
 complex cells, a mask next to the cells, signed bytes, and 64-bit cells with a nodata value beyond 2^53. All maps of
 a call have one coordinate reference system, and the region of the first: the same four edges to 8 decimals, and the same rows and
 columns. Nothing is reprojected or resampled. A map without a reference system next to maps that have one is an error unless

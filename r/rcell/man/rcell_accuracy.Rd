@@ -23,7 +23,8 @@ sample counts as a simple random one.}
 Accuracies, areas and their standard errors follow Olofsson et al. (2014), equations 1 to 11. All points count, also several in one
 cell; a cell contains its northern and its western edge. A warning counts the points that are outside the map, on null cells or without a
 class. A class with an area and without a cell in the sample is an error. Without \code{areas}, standard errors hold for a random sample;
-of a complete reference they mean nothing.
+of a complete reference they mean nothing. A warning says that points are not a random sample, if the map's
+classes have other shares in the sample than in the map.
 }
 \value{
 A list:
@@ -34,7 +35,7 @@ A list:
 \item{kappa}{Cohen's kappa of the estimated shares}
 \item{quantity, allocation}{the disagreement in the quantities of classes and in their places; with \code{overall} they add up to 1}
 \item{cells}{the size of the sample}
-Accuracies are shares from 0 to 1. What is not defined is \code{NaN}.
+Accuracies are shares from 0 to 1. Undefined values are \code{NaN}.
 }
 \references{
 Olofsson, P., Foody, G. M., Herold, M., Stehman, S. V., Woodcock, C. E. and Wulder, M. A. (2014) Good practices for estimating area and

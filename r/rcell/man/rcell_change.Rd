@@ -6,7 +6,7 @@
 rcell_change(before, after = NULL, years = NULL, area, labels = NULL, crs = NULL)
 }
 \arguments{
-\item{before, after}{two maps, or in \code{before} a list of maps in the order of time; see \code{\link{rcell-package}}.}
+\item{before, after}{two maps, or in \code{before} a list of maps in chronological order; see \code{\link{rcell-package}}.}
 \item{years}{the years of the maps, whole numbers; needed for more than two maps.}
 \item{area}{as in \code{\link{rcell_composition}}; with \code{NULL}, matrix and summary have cells.}
 \item{labels}{one legend for all maps, as in \code{\link{rcell_composition}}. Maps without labels get the labels of the first map that has some.}

@@ -14,7 +14,7 @@ rcell_majority(x, size = 3, fill = FALSE, filename = "", overwrite = FALSE,
 \item{crs}{as in \code{\link{rcell_run}}.}
 }
 \details{
-Cells without data do not count, nor do cells outside the map. Of several most frequent classes the smallest is taken.
+Cells without data do not count, nor do cells outside the map. If several classes are equally frequent, the smallest is taken.
 }
 \value{A \code{SpatRaster} with the labels of \code{x}.}
 \examples{

@@ -10,15 +10,14 @@ rcell_metrics(x, level = "class", connectivity = 4, area, zones = NULL, labels =
 \arguments{
 \item{x}{a map: a \code{SpatRaster}, a path or a matrix; see \code{\link{rcell-package}}.}
 \item{level}{\code{"class"}, \code{"landscape"} or \code{"patch"}.}
-\item{connectivity}{as in \code{\link{rcell_patches}}.}
-\item{zones}{as in \code{\link{rcell_composition}}. Each zone is a landscape of its own: patches end at its border, and sides across it are no
-edges.}
+\item{connectivity}{4 connects cells that share an edge, 8 also cells that share a corner.}
+\item{zones}{as in \code{\link{rcell_composition}}. Each zone is a landscape of its own: patches end at its border, and sides across it are not edges.}
 \item{area, labels, zone_labels, zone_field, layer, each}{as in \code{\link{rcell_composition}}.}
 \item{crs}{as in \code{\link{rcell_run}}.}
 }
 \details{
 The definitions of FRAGSTATS 4 hold, without a border. The landscape is all cells of the map or zone that have data. In degrees, areas are
-exact and everything that needs a length is missing, with a warning. What is not defined is \code{NaN}.
+exact and everything that needs a length is missing, with a warning. Undefined values are \code{NaN}.
 }
 \value{
 A data frame with \code{zone}, \code{zone_label}, \code{patch}, \code{class} and \code{label}, as far as the level and the maps have them. For patches:

@@ -11,15 +11,15 @@ rcell_verify(path)
 \item{.path, path}{the path of the CSV. The record is next to it: its name ends in \code{.csv.json}.}
 \item{.call}{a function of this package that returns tables, or its name.}
 \item{...}{its arguments: paths, numbers, texts, and lists and vectors of these. Paths are recorded relative to the CSV.}
-\item{.table}{the table to write of a call that returns several, for example \code{"summary"} of \code{\link{rcell_change}}; by default the first.}
+\item{.table}{the table to write if the call returns several, for example \code{"summary"} of \code{\link{rcell_change}}; by default the first.}
 }
 \details{
 The record has the call, each script that was run, the SHA-256 of the cells of each map as they were sent, of the program and of the CSV, and
-the versions. Type, nodata value, compression and folder of a raster do not change the sum of its cells. The command \command{sha256sum} is
-needed.
+the versions. Type, nodata value, compression and folder of a raster do not change the checksum of its cells. A table that was recorded in Python, QGIS or the shell is verified there. \command{rcell-gis report} of the Python package makes a page of
+tables from all packages.
 }
 \value{
-\code{rcell_record} returns the result of the call. \code{rcell_verify} runs the call again and returns what differs, as texts: the CSV, the cells
+\code{rcell_record} returns the result of the call, invisibly. \code{rcell_verify} runs the call again and returns what differs, as texts: the CSV, the cells
 of a map, a legend, a script, the program, or the result. It returns no text if nothing differs.
 }
 \examples{

@@ -16,7 +16,7 @@ the first classes, or to the largest fractions.}
 }
 \details{
 The draw depends only on the cells, \code{n}, \code{allocation} and \code{seed}: numbers come from SHA-256. It is the same in all packages of rcell and
-in all versions, and it does not touch the random numbers of R. A class with too few cells has all of them, with a warning.
+in all versions, and it does not touch the random numbers of R. If a class has too few cells, all of them are drawn, with a warning.
 }
 \value{
 A data frame: \code{point}, \code{class}, \code{label}, \code{row} and \code{col} (from 1 at the top left), and \code{x} and \code{y} of the centre of the cell.

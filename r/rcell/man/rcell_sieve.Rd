@@ -18,7 +18,7 @@ rcell_sieve(x, min_cells = NULL, min_ha = NULL, connectivity = 4, drop = FALSE,
 \details{
 While a patch below the size shares a side with another class, the smallest such patch (of several, the one whose first cell comes first)
 gets the class of the neighbour with which it shares most sides (of several, the one whose first cell comes first). It then becomes one
-patch with all patches of this class that it touches. Patches that border null alone stay.
+patch with all patches of this class that it touches. Patches that border only null stay.
 }
 \value{
 A \code{SpatRaster} with the labels of \code{x}. Its attribute \code{"sieved"} is a data frame, counted in the result: \code{patches_before},

@@ -19,7 +19,7 @@ A list of data frames:
 \item{table}{a row for each sequence: \code{class_YEAR}, \code{label_YEAR} of each year, \code{cells}, \code{area_ha}, \code{percent}, the number of
 \code{changes} and of different \code{classes}, and in \code{first_change} and \code{last_change} the years in which the new class is first seen}
 \item{changes}{a row for each number of changes: \code{changes}, \code{cells}, \code{area_ha}, \code{percent}}
-\item{intervals}{a row for each two consecutive years: \code{year_from}, \code{year_to}, what changed between them as \code{cells},
+\item{intervals}{a row for each pair of consecutive years: \code{year_from}, \code{year_to}, what changed between them as \code{cells},
 \code{area_ha} and \code{percent}, \code{percent_year} of it each year, and \code{uniform_percent_year}, the same over all years}
 \item{maps}{with \code{include_maps}, a list of the maps \code{changes}, \code{first_change} and \code{last_change}}
 }

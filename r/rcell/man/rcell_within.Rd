@@ -13,8 +13,9 @@ rcell_within(x, classes, distances, filename = "", overwrite = FALSE, crs = NULL
 \item{crs}{as in \code{\link{rcell_run}}.}
 }
 \value{
-A \code{SpatRaster}: 0 for the cells of the classes, 1 for cells up to the first distance, 2 up to the second; beyond the last, null. Null
-cells of the map count like others. Its labels have the distances. The distance is compared exactly, as \code{r.buffer} of GRASS does.
+A \code{SpatRaster}: 0 for the cells of the classes, 1 for cells up to the first distance, 2 for those beyond it and up to the second; beyond
+the last, null. Null cells of the map are treated like any others. Its labels have the distances. As \code{zones} of
+\code{\link{rcell_composition}} it gives the classes of each ring. The distance is compared exactly, as \code{r.buffer} of GRASS does.
 }
 \examples{
 lc <- terra::rast(matrix(c(7, 1, 1, 1), 1), extent = terra::ext(0, 40, 0, 10), crs = "EPSG:25832")

@@ -16,7 +16,7 @@ decimals are an error.}
 }
 \value{
 A data frame with a row for each zone that has a value: \code{zone}, \code{zone_label}, \code{cells}, \code{sum}, \code{mean}, \code{minimum},
-\code{maximum}, \code{variance} (of the population), and a column for each quantile, as \code{q50} and \code{q2_5}.
+\code{maximum}, \code{variance} (of the population), and a column for each quantile, for example \code{q50} and \code{q2_5}.
 }
 \examples{
 height <- matrix(c(10, 12, 30, 11, 31, 35), 2, byrow = TRUE)

@@ -47,7 +47,7 @@ expect_identical(names(found$matrix), c("year_from", "year_to", "from", "1", "2"
 same(found$matrix[found$matrix$year_from == 2000, -(1:3)], t(counts) * 0.09)
 expect_identical(names(found$table), c("year_from", "year_to", "from", "to", "cells", "area_ha", "percent"))
 expect_identical(rcell_change(land, land)$summary$gain_ha, c(0, 0, 0, 0))
-expect_true(grepl("years= are needed", refusal(rcell_change(list(land, later, land)))$text))
+expect_true(grepl("years= must be given", refusal(rcell_change(list(land, later, land)))$text))
 
 # Zonal statistics: terra's, R's quantiles.
 found <- rcell_zonal(land, zones, quantiles = c(0, 0.025, 0.5, 0.9))
@@ -97,7 +97,7 @@ expect_identical(rcell_zonal(land, file, zone_field = "name")$zone_label, c("Wes
 expect_identical(rcell_zonal(land, file)$zone, 1:2)
 expect_warning(rcell_composition(land, zones = rbind(shapes[1], shift(shapes[2], -60))), "cells are in more than one polygon")
 expect_identical(refusal(rcell_composition(land, zones = shapes[3]))$text, "no polygon contains the centre of a cell")
-expect_identical(refusal(rcell_composition(land, zones = shapes, zone_field = "x"))$text, "no field x: there are number, name")
+expect_identical(refusal(rcell_composition(land, zones = shapes, zone_field = "x"))$text, "no field x: the fields are number, name")
 expect_inherits(refusal(rcell_composition(land, zones = project(shapes, "EPSG:4326"))), "rcell_other_crs")
 
 # Legends: CSV, a style of QGIS, a vector, a data frame; each error has the value met.
@@ -114,8 +114,8 @@ given <- c("1" = "wood, wet", "2" = "Wiese \u00fc", "4" = "say \"x\"")
 expect_identical(suppressWarnings(rcell_composition(land, labels = given))$label, wanted)
 expect_identical(suppressWarnings(rcell_composition(land, labels = data.frame(value = c(1, 2, 4), label = unname(given))))$label, wanted)
 text_of <- function(...) sub("^.*legend.csv(, |: | )", "", refusal(rcell_composition(land, labels = legend(...)))$text)
-expect_identical(text_of("value,label", "1,a", "1.5,b"), "line 3: 1.5 is not a whole number within 2147483647 either way")
-expect_identical(text_of("value,label", "7,a", "8,b", "7,c"), "line 4: the value 7 is there twice")
+expect_identical(text_of("value,label", "1,a", "1.5,b"), "line 3: 1.5 is not a whole number from -2147483647 to 2147483647")
+expect_identical(text_of("value,label", "7,a", "8,b", "7,c"), "line 4: value 7 occurs twice")
 expect_identical(text_of("class,name", "7,a"), "line 1: no header with value and label, divided by commas or tabs: class,name")
 expect_identical(text_of(character()), "is empty")
 expect_identical(rcell_change(land, later, labels = c("1" = "a", "2" = "b", "3" = "c", "4" = "d"))$summary$label, c("a", "b", "c", "d"))
@@ -137,7 +137,7 @@ expect_equal(rows(near), rows(resample(land, rast(shift(land, 10, 10)), method =
 other <- project(rast(land), "EPSG:3035")
 expect_true(mean(rows(rcell_align(land, to = init(other, 1), resample = "nearest")) == rows(project(land, other, method = "near")), na.rm = TRUE) > 0.99)
 expect_inherits(refusal(rcell_align(land, to = init(other, 1))), "rcell_other_crs")
-expect_identical(refusal(rcell_align(land, to = land, resample = "cubic"))$text, "resample= is \"nearest\", not 'cubic'")
+expect_identical(refusal(rcell_align(land, to = land, resample = "cubic"))$text, "resample= must be \"nearest\"; got 'cubic'")
 message <- conditionMessage(refusal(rcell_cross(a = land, b = moved)))
 expect_identical(sub("^.*\n", "", message), "  try: b <- rcell_align(b, to = a)")
 message <- conditionMessage(refusal(rcell_cross(a = land, b = shift(land, 15, 0))))

@@ -23,7 +23,7 @@ expect_identical(fault(c("x" = 1)), "element 1: x is not a class or a range of c
 expect_identical(fault(c("1" = 1.5)), "element 1: 1.5 is not a class: a whole number, or empty for null")
 expect_identical(fault(data.frame(value = 1)), "a data frame must have the columns value and new; got value")
 expect_true(startsWith(fault(7), "must be a CSV file or a data frame"))
-expect_identical(fault(rules, other = "drop"), "other= is \"keep\" or \"null\", and not \"drop\"")
+expect_identical(fault(rules, other = "drop"), "other= must be one of keep, null; got \"drop\"")
 writeLines(c("value,new", "1,2", "x,3"), file)
 expect_identical(fault(file), paste0(file, ", line 3: x is not a class or a range of classes such as 31-39"))
 

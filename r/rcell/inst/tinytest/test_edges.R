@@ -41,7 +41,7 @@ part <- rast(transparent)[[1]]
 window(part) <- ext(500020, 500040, 5399960, 5400000)
 expect_identical(counts(part), data.frame(x = c(3L, NA), cells = 1L))
 three <- write_vrt("three.vrt", c(grey, band("cells.raw", 2), band("alpha.raw", 3, inner = "<ColorInterp>Alpha</ColorInterp>")))
-expect_identical(refusal(counts(three))$text, "has 2 layers: give one, for example x[[1]]")
+expect_identical(refusal(counts(three))$text, "has 2 layers: choose one, for example x[[1]]")
 expect_identical(counts(rast(three)[[2]]), expected)
 
 # Complex cells, whose imaginary part terra drops.
@@ -123,7 +123,7 @@ quoted <- refusal(rcell_grid("r.mapcalc \"x = lc * 2\"", "x", lc = plain))
 expect_identical(quoted[c("source", "line", "column", "text")],
   list(source = "script", line = 1L, column = 11L, text = "bad byte at column 11"))
 expect_identical(conditionMessage(quoted), "script, line 1: bad byte at column 11\n  r.mapcalc \"x = lc * 2\"\n            ^")
-expect_identical(refusal(rcell_grid("r.mapcalc y = lc", "x", lc = plain))$text, "no map x: there are lc, y")
+expect_identical(refusal(rcell_grid("r.mapcalc y = lc", "x", lc = plain))$text, "no map x: the maps are lc, y")
 expect_identical(conditionMessage(refusal(rcell_run("r.stats -cn lc", lc = plain))), "script, line 1: bad option\n  r.stats -cn lc")
 
 # With Python, the word that is no option is named, and what to write instead.
@@ -135,7 +135,7 @@ options(rcell.python = if (has_code) python else "")
 for (case in if (has_code) list(c("r.stats -cn lc", "lc", 13, "r.stats -cn input=lc"), c("r.stats in=lc", "in=lc", 9, "r.stats input=lc"),
   c("r.stats -c input=lc output=t.txt", "output=t.txt", 21, "r.stats -c input=lc"), c("r.stats -cq input=lc", "-cq", 9, "r.stats -c input=lc"),
   c("r.stats input=lc input=lc", "input=lc", 18, "r.stats input=lc"), c("\tr.clump -n input=lc output=k", "-n", 10, "r.clump input=lc output=k"),
-  c("r.stats input=lc separator=ab", "separator=ab", 18, "`separator=` with pipe, comma, space, tab or one sign"))) {
+  c("r.stats input=lc separator=ab", "separator=ab", 18, "`separator=` with pipe, comma, space, tab or one character"))) {
   found <- refusal(rcell_run(case[[1]], lc = plain))
   expect_identical(found$text, "bad option", info = case[[1]])
   expect_identical(found$column, as.integer(case[[3]]), info = case[[1]])

@@ -116,7 +116,7 @@ for (name in intersect(c("noise", "patchy", "oblong"), names(maps))) for (size i
   expect_equal(as_rows(rcell_majority(maps[[name]], size)), wanted, info = paste(name, size))
 }
 expect_equal(as_rows(rcell_majority(matrix(c(-5, NA, -5, 7, 1e9, 7), 2), 11, fill = TRUE)), matrix(-5, 2, 3))
-expect_identical(refusal(rcell_majority(maps$cell, 4))$text, "size= is odd, 3 to 15, not 4")
+expect_identical(refusal(rcell_majority(maps$cell, 4))$text, "size= must be odd, from 3 to 15; got 4")
 
 # Labels, and degrees, in which there is no length.
 labelled <- maps$patchy
@@ -133,5 +133,5 @@ expect_warning(found <- rcell_patches(degrees), "lengths are not computed in deg
 expect_identical(found$perimeter_m, c(NA_real_, NA_real_))
 expect_equal(sum(found$area_ha) * 1e4, surface(6378137, 298.257223563), tolerance = 1e-12)
 expect_equal(rcell_patches(maps$noise, area = "m2")$area_m2, rcell_patches(maps$noise)$area_ha * 1e4)
-expect_identical(refusal(rcell_patches(maps$cell, connectivity = 6))$text, "connectivity= is 4 or 8, and not 6")
+expect_identical(refusal(rcell_patches(maps$cell, connectivity = 6))$text, "connectivity= must be 4 or 8; got 6")
 expect_identical(leftovers(), character())

@@ -48,7 +48,7 @@ bad <- function(value) {
 }
 expect_identical(conditionMessage(bad(2.5)), "x: not a map of whole numbers: the cell at row 2, column 3 is 2.5")
 expect_identical(bad(3e9)[c("name", "row", "column", "value")], list(name = "x", row = 2L, column = 3L, value = 3e9))
-expect_identical(bad(3e9)$text, "not a map of whole numbers: the cell at row 2, column 3 is 3000000000, beyond 2147483647 either way")
+expect_identical(bad(3e9)$text, "not a map of whole numbers: the cell at row 2, column 3 is 3000000000, outside -2147483647 to 2147483647")
 for (value in c(-2147483648, 4294967295, 1e300, Inf, 0.1)) expect_inherits(bad(value), "rcell_bad_map", info = value)
 scaled <- first
 writeRaster(scaled, file("scaled.tif"), datatype = "INT2S", scale = 0.1)
@@ -94,7 +94,7 @@ expect_identical(rcell_table("r.stats -c input=a,b", a = twice[[1]], b = twice[[
 expect_inherits(refusal(counts(twice)), "rcell_bad_map")
 
 # Layers, no values, a file that is none, a part of a file that is missing.
-expect_identical(refusal(counts(c(first, first)))$text, "has 2 layers: give one, for example x[[1]]")
+expect_identical(refusal(counts(c(first, first)))$text, "has 2 layers: choose one, for example x[[1]]")
 expect_identical(refusal(counts(rast(first)))$text, "a raster without values")
 expect_inherits(refusal(counts(file("nowhere.tif"))), "rcell_read_failed")
 expect_identical(refusal(counts(file("nowhere.tif")))$status, 4L)
@@ -126,7 +126,7 @@ expect_true(grepl("^an edge of more", refusal(counts(rast(matrix(1), extent = ex
 expect_true(grepl("^east is not above west", refusal(counts(rast(matrix(1), extent = ext(0, 1e-9, 0, 1), crs = "EPSG:32632")))$text))
 expect_inherits(refusal(counts(rast(nrows = 1, ncols = 65536, vals = 1))), "rcell_bad_map")
 
-# A grid of the program's own form goes to it as it is.
+# An rcell grid goes to rcell as it is.
 writeLines(c("north: 3", "south: 0", "east: 2.000000001", "west: 0", "rows: 1", "cols: 2", "1 *"), file("bad.txt"))
 expect_identical(refusal(counts(file("bad.txt")))[c("source", "line", "text")], list(source = "x", line = 3L, text = "bad number"))
 writeLines(c("north: 3", "south: 0", "east: 2", "west: 0", "rows: 1", "cols: 2", "1 *"), file("good.txt"))

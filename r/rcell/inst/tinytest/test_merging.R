@@ -50,7 +50,7 @@ expect_identical(fault(map, 0), "min_cells= must be a whole number, at least 1; 
 expect_identical(fault(map, min_ha = "a"), "min_ha= must be a number above 0; got \"a\"")
 expect_true(startsWith(fault(matrix(1:4, 2), min_ha = 1), "min_ha= needs a coordinate reference system"))
 degrees <- rast(matrix(1:4, 2), extent = ext(0, 2, 0, 2), crs = "EPSG:4326")
-expect_true(startsWith(fault(degrees, min_ha = 1), "min_ha= is not for maps in degrees"))
+expect_true(startsWith(fault(degrees, min_ha = 1), "min_ha= must be for a map in metres or feet"))
 
 # Buffers, between the centres of cells, also of oblong ones, and far.
 for (cell in list(c(30, 30), c(20, 50))) {
@@ -64,7 +64,7 @@ for (cell in list(c(30, 30), c(20, 50))) {
   found <- rcell_within(map, c(5, 2), distances)
   expect_equal(values(found, mat = FALSE), wanted)
 }
-expect_identical(levels(found)[[1]]$within, c("inside", "up to 30 m", "up to 75 m", "up to 100.5 m"))
+expect_identical(levels(found)[[1]]$within, c("inside", "up to 30 m", "30 to 75 m", "75 to 100.5 m"))
 far <- rast(matrix(c(7, rep(1, 299)), 1), extent = ext(0, 3000, 0, 10), crs = "EPSG:32632")
 expect_identical(sum(values(rcell_within(far, 7, 2550)) %in% 1), 255L)
 # Exactly: three and four tenths are less than five tenths apart as decimals, and more as the numbers that a computer has.
@@ -74,7 +74,7 @@ fault <- function(...) refusal(rcell_within(...))$text
 expect_identical(fault(far, 7, 2560), "distances= must be at most 255 cells; got 2560 m, which is 256.0 cells")
 expect_identical(fault(far, 7, c(50, 20)), "distances= must be numbers that ascend from above 0, for example c(100, 500); got 50, 20")
 expect_identical(fault(far, NULL, 20), "classes= must be whole numbers; got none")
-expect_identical(fault(degrees, 1, 20), "distances= need a map in metres or feet, and the map is in degrees")
+expect_identical(fault(degrees, 1, 20), "distances= must be for a map in metres or feet, and this one is in degrees")
 expect_true(startsWith(fault(matrix(1:4, 2), 1, 20), "distances= needs a coordinate reference system"))
 
 # Blocks of cells: the most frequent class, the cells with data, and the shares of classes.

@@ -22,6 +22,12 @@ entropy <- function(parts) {
   -sum(shares * log(shares))
 }
 
+# Areas and percentages equal a composition, to the last digit.
+for (map in maps[c("noise", "patchy", "oblong")]) {
+  columns <- c("cells", "area_ha", "percent")
+  expect_identical(rcell_metrics(map)[columns], rcell_composition(map)[columns])
+}
+
 # The most sides that so many cells of a class can share.
 most_like <- function(n) {
   side <- floor(sqrt(n))

@@ -46,6 +46,17 @@ expect_warning(again <- rcell_accuracy(land, file("points.gpkg"), "map"), "3 of 
 expect_equal(again$matrix, found$matrix)
 expect_equal(again$classes$mapped_ha, c(2, 1) / 1e4)
 
+# Points that are no random sample.
+long <- rast(matrix(c(rep(1, 9), 2), 1), extent = ext(0, 10, 0, 1), crs = "EPSG:32632")
+drawn <- function(common, rare) {
+  class <- rep(1:2, c(common, rare))
+  vect(cbind(c(0.5, 9.5)[class], 0.5), crs = "EPSG:32632", atts = data.frame(class = class))
+}
+expect_warning(rcell_accuracy(long, drawn(80, 80)), "if it was drawn class by class, give areas = \"map\"")
+expect_silent(rcell_accuracy(long, drawn(80, 80), "map"))
+expect_silent(rcell_accuracy(long, drawn(144, 16)))
+expect_silent(rcell_accuracy(long, drawn(3, 3)))
+
 # What is wrong, with the value met.
 fault <- function(...) refusal(suppressWarnings(rcell_accuracy(...)))$text
 expect_true(startsWith(fault(NULL, sample, sizes[-1]), "areas= must have an area for each class of the sample; got none for 1"))
@@ -59,7 +70,7 @@ expect_identical(fault(NULL, data.frame(map = 1.5, reference = 1)), "row 1: 1.5 
 expect_identical(fault(NULL, data.frame(map = 1, reference = 1, cells = -2)), "row 1: -2 cells are fewer than none")
 expect_identical(fault(NULL, data.frame(x = 1)), "a data frame must have the columns map and reference; got x")
 expect_identical(fault(land, points, field = "name"), "the class of feature 1 is a, which is not a whole number")
-expect_identical(fault(land, points, field = "x"), "no field x: there are class, name")
+expect_identical(fault(land, points, field = "x"), "no field x: the fields are class, name")
 expect_identical(fault(land, land, field = "x"), "field= is for points, and reference= is not")
 points$reference <- 1
 expect_identical(fault(land, points), "has the fields class and reference: name one, for example field = \"reference\"")

@@ -38,13 +38,13 @@ expect_identical(refusal(rcell_run("r.reclass input=lc output=k\n1 = 1\nr.stats 
 expect_identical(refusal(rcell_run("r.stats input=lc"))$status, 2L)
 expect_identical(refusal(rcell_run("r.stats input=lc", lc))$status, 2L)
 expect_identical(refusal(rcell_run("r.stats input=lc", lc = lc, maps = list(lc = lc)))$text, "the map lc is given twice")
-expect_identical(refusal(rcell_grid("", "lend", lc = lc))$text, "no map lend: there are lc")
+expect_identical(refusal(rcell_grid("", "lend", lc = lc))$text, "no map lend: the only map is lc")
 expect_identical(refusal(rcell_run("r.stats input=lc", maps = list("land-use" = lc)))$source, "arguments")
 expect_identical(refusal(rcell_run(NA, lc = lc))$text, "the script is not text")
 expect_true(grepl("^neither a path nor a SpatRaster", refusal(rcell_run("", lc = 1:3))$text))
 expect_true(grepl("^a matrix of integer64", refusal(rcell_run("", lc = structure(matrix(0, 1, 2), class = "integer64")))$text))
-expect_identical(refusal(rcell_patches(lc, 6))$text, "connectivity= is 4 or 8, and not 6")
-expect_identical(refusal(rcell_patches(lc, classes = 3e9))$text, "classes= must be whole numbers within 2147483647 either way; got 3e+09")
+expect_identical(refusal(rcell_patches(lc, 6))$text, "connectivity= must be 4 or 8; got 6")
+expect_identical(refusal(rcell_patches(lc, classes = 3e9))$text, "classes= must be whole numbers from -2147483647 to 2147483647; got 3e+09")
 expect_identical(refusal(rcell_patches(lc, min_cells = NA))$text, "min_cells= must be a number of cells; got NA")
 expect_identical(refusal(rcell_majority(lc, filename = NA))$text, "filename= must be one path; got NA")
 
@@ -52,7 +52,7 @@ expect_identical(refusal(rcell_majority(lc, filename = NA))$text, "filename= mus
 odd <- rawToChar(as.raw(c(0xff, utf8ToInt(".tif"))))
 for (found in list(refusal(rcell_table("r.stats input=m", m = odd)), refusal(rcell_grid("", "lc", lc = lc, filename = odd)),
   refusal(rcell_composition(lc, labels = odd)), refusal(rcell_composition(lc, zones = odd)))) {
-  expect_identical(found$text, "<ff>.tif: terra takes no path that is not UTF-8: rename the file")
+  expect_identical(found$text, "<ff>.tif: terra only accepts UTF-8 paths: rename the file")
 }
 
 # A script that is too long, also with the line that asks for a map.

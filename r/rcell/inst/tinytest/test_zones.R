@@ -31,7 +31,7 @@ shapes <- polygons(c(box(0, 4), box(0, 8)), number = c(5, NA))
 expect_identical(cells_of(zones = path, zone_field = "number"), c("5" = 16L))
 expect_identical(cells_of(zones = path, zone_field = "name"), c(west = 16L))
 expect_identical(cells_of(zones = shapes, zone_field = "number"), c("5" = 16L))
-expect_identical(refusal(rcell_composition(land, zones = path, zone_field = "x"))$text, "no field x: there are number, name")
+expect_identical(refusal(rcell_composition(land, zones = path, zone_field = "x"))$text, "no field x: the fields are number, name")
 
 # Decimals and long numbers are labels, each with all its digits.
 shapes <- polygons(c(box(0, 4), box(4, 8)), share = c(0.1 + 0.2, 0.3), code = c(5, 3e9), half = c(1, 2.5))
@@ -56,7 +56,7 @@ text <- sprintf("has the layers first, second: choose one, for example layer = \
 expect_identical(refusal(rcell_composition(land, zones = two))$text, text)
 expect_identical(cells_of(zones = two, layer = "second"), c("1" = 16L))
 expect_identical(cells_of(zones = paste0(two, "|layername=second")), c("1" = 16L))
-expect_identical(refusal(rcell_composition(land, zones = two, layer = "x"))$text, "no layer x: there are first, second")
+expect_identical(refusal(rcell_composition(land, zones = two, layer = "x"))$text, "no layer x: the layers are first, second")
 
 # Polygons below others: the later one has the cells, and the warning names each feature that loses some.
 stack <- polygons(c(box(0, 4), box(0, 4), box(2, 8), box(0.1, 0.2)), name = c("a", "b", "c", "d"))
