@@ -21,7 +21,7 @@ if command -v mypy > /dev/null; then
 else
     skip qgis/types 'mypy is not installed' mypy
 fi
-for tests in test_host.py test_files.py test_session.py whole_answers.py whole_process.py whole_window.py whole_document.py; do
+for tests in test_host.py test_files.py test_session.py test_large.py whole_answers.py whole_process.py whole_window.py whole_document.py; do
     add "$tests" "$python" qgis/tests/gate.py "$tests"
 done
 closing

@@ -14,8 +14,8 @@ else
     skip -n 19 qgis 'GDAL for Python or numpy is not installed' python3-gdal python3-numpy
 fi
 if "$python" -c 'import qgis.core, numpy, osgeo.gdal' 2> /dev/null; then
-    add 'a session' "$python" qgis/tests/gate.py test_session.py
+    add 'a session' "$python" qgis/tests/gate.py test_session.py test_large.py
 else
-    skip -n 32 qgis/session 'QGIS is not installed' python3-qgis
+    skip -n 37 qgis/session 'QGIS is not installed' python3-qgis
 fi
 closing

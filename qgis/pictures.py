@@ -53,7 +53,7 @@ def draw_dialog(country: QgsRasterLayer, hemisphere: QgsRasterLayer) -> None:
         iface.mainWindow(),
     )
     dialog.setParameters({"INPUT": [country.id(), hemisphere.id()], "AREA": "km2"})
-    dialog.resize(920, 400)
+    dialog.resize(920, 430)
     dialog.show()
     wait(1)
     dialog.grab().save(f"{ROOM}/dialog.png")

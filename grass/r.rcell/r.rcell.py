@@ -87,7 +87,7 @@ Output = namedtuple("Output", "name map")
 
 
 class Stopped(Exception):
-    """The run cannot continue; the text says why. Lines of a script are below as they are."""
+    """The run cannot continue; the text says why. Lines of a script follow unchanged."""
 
     def __init__(self, text, beneath=""):
         super().__init__(text)
@@ -98,96 +98,90 @@ class Stopped(Exception):
 
 
 def with_labels(script, statements):
-    """The script with the flag -l after each r.stats that lacks it."""
+    """Return the script with the flag -l added to each r.stats that lacks it."""
     lines = script.split("\n")
-    for it in statements:
-        if it.command == "r.stats" and "l" not in it.options:
-            lines[it.line - 1] += " -l"
+    for statement in statements:
+        if statement.command == "r.stats" and "l" not in statement.options:
+            lines[statement.line - 1] += " -l"
     return "\n".join(lines)
 
 
 def without_tables(script, statements):
-    """The script without the statements that write; each is a line."""
+    """Return the script without the statements that write, each of which is one line."""
     lines = script.split("\n")
-    for it in statements:
-        if not it.made:
-            lines[it.line - 1] = ""
+    for statement in statements:
+        if not statement.made:
+            lines[statement.line - 1] = ""
     return "\n".join(lines)
 
 
 def labelled_maps(statements):
-    """The maps of the tables with labels."""
-    return {name for it in statements if "l" in it.options for name in it.inputs}
+    """Return the names of the maps whose tables are printed with labels."""
+    names = set()
+    for statement in statements:
+        if "l" in statement.options:
+            names.update(statement.inputs)
+    return names
 
 
 def made_by(statements):
-    """The command for each map that a script makes."""
-    return {it.made: it.command for it in statements if it.made}
+    """Return the command that makes each map of a script."""
+    return {statement.made: statement.command for statement in statements if statement.made}
 
 
 def stopped(end, script, names):
-    """What rcell says of a script or a map, with the line of the user's script beneath."""
+    """Return rcell's message about a script or a map, followed by the line of the user's script."""
     from rcell.core.protocol import Fault
 
     fault = Fault(**end.parts(program(), script, names))
-    said, word, line = (
-        "rcell: %s:%d: %s" % (fault.source, fault.line, fault.text),
-        "",
-        fault.content,
-    )
-    if line is None:
-        return Stopped(said)
-    place = fault.column
-    if place and fault.text == "bad option":
-        word = ": " + line.encode("utf-8", "surrogateescape")[place - 1 :].split()[0].decode(
-            errors="replace"
-        )
-    beneath = "    %s\n" % shown(line)
-    if place:
-        beneath += (
-            "    "
-            + " "
-            * len(
-                shown(line.encode("utf-8", "surrogateescape")[: place - 1].decode(errors="replace"))
-            )
-            + "^\n"
-        )
-    return Stopped(said + word, beneath + ("    try: %s\n" % fault.advice if fault.advice else ""))
+    message = "rcell: %s:%d: %s" % (fault.source, fault.line, fault.text)
+    if fault.content is None:
+        return Stopped(message)
+    line = fault.content.encode("utf-8", "surrogateescape")
+    beneath = "    %s\n" % printable(line)
+    if fault.column:
+        head, tail = line[: fault.column - 1], line[fault.column - 1 :]
+        beneath += "    %s^\n" % (" " * len(printable(head)))
+        if fault.text == "bad option":
+            message += ": " + tail.split()[0].decode(errors="replace")
+    if fault.advice:
+        beneath += "    try: %s\n" % fault.advice
+    return Stopped(message, beneath)
 
 
-def shown(text):
-    """A text as a terminal takes it."""
-    return text.encode("utf-8", "surrogateescape").decode(errors="replace").replace("\t", " ")
+def printable(line):
+    """The text of a line in UTF-8, without bytes that a terminal would interpret."""
+    return line.decode(errors="replace").replace("\t", " ")
 
 
 # Maps that go in
 
 
 def edge_texts(region):
-    """North, south, east and west as decimals."""
+    """Return north, south, east and west as decimals."""
     texts = (("%.8f" % region[edge]).rstrip("0").rstrip(".") for edge in "nsew")
     return tuple("0" if text == "-0" else text for text in texts)
 
 
-def source_of(it, labels, region, progress):
-    """A raster map as rcell-pipe gets it; its rows come by r.out.bin while they are read."""
+def source_of(raster, labels, region, progress):
+    """A raster map as rcell-pipe gets it; its rows come from r.out.bin while they are read."""
     from rcell.core.protocol import Map
 
     rows, cols = region["rows"], region["cols"]
     return Map(
-        it.name,
+        raster.name,
         edge_texts(region),
         rows,
         cols,
         "i32",
-        blocks_of(it.map, rows, cols, progress),
+        blocks_of(raster.map, rows, cols, progress),
         NULL,
         labels=labels,
     )
 
 
 def blocks_of(raster, rows, cols, progress):
-    """The rows of a raster map."""
+    """Yield the rows of a raster map."""
     from rcell.core.protocol import Block
 
     module = gs.pipe_command(
@@ -205,7 +199,7 @@ def blocks_of(raster, rows, cols, progress):
 
 
 def end_of(module, raster):
-    """Checks that a module has ended well."""
+    """Check that a module has succeeded."""
     module.stdout.close()
     if module.wait():
         raise Stopped(_("Raster map <{}> could not be read").format(raster))
@@ -215,18 +209,18 @@ def end_of(module, raster):
 
 
 def label_lines(frame):
-    """The lines of r.category for a table of categories with labels."""
-    found = [
+    """Return the lines of r.category for a table of categories with labels."""
+    labelled = [
         (category, label) for category, label in zip(frame.cells.tolist(), frame.labels) if label
     ]
-    for category, label in found:
+    for category, label in labelled:
         if b"\t" in label:
             raise Stopped(
-                _("The label of category {} has a tab, which r.category does not take").format(
+                _("The label of category {} has a tab, which r.category does not accept").format(
                     category
                 )
             )
-    return [b"%d\t%s\n" % pair for pair in found]
+    return [b"%d\t%s\n" % pair for pair in labelled]
 
 
 class Imports:
@@ -241,7 +235,7 @@ class Imports:
         atexit.register(self.remove)
 
     def remove(self):
-        """Removes what did not get its last name."""
+        """Remove maps that did not get their final name."""
         shutil.rmtree(self.room, ignore_errors=True)
         if self.names:
             quiet = dict(quiet=True, stderr=subprocess.DEVNULL, errors="ignore")
@@ -251,7 +245,7 @@ class Imports:
         return {key: "%.15g" % self.region[key[0]] for key in ("north", "south", "east", "west")}
 
     def add(self, output, frame, progress):
-        """Imports a map by r.in.bin, which takes no pipe: it asks for the size of its file."""
+        """Import a map with r.in.bin, which cannot read from a pipe because it asks for the size of its file."""
         name = "rcell_%d_%d" % (os.getpid(), len(self.names))
         self.names[name] = output
         path = os.path.join(self.room, "cells")
@@ -283,12 +277,14 @@ class Imports:
             raise Stopped(_("The labels of <{}> could not be written").format(self.names[name].map))
 
     def finish(self, areas):
-        """Gives all maps their names at once; areas get random colours, as r.clump gives them."""
+        """Give all maps their names at once; patches get random colours, as from r.clump."""
         for name, output in self.names.items():
             if output.name in areas:
                 gs.run_command("r.colors", map=name, color="random", quiet=True)
         if self.names:
-            pairs = [it for name, output in self.names.items() for it in (name, output.map)]
+            pairs = [
+                map_name for name, output in self.names.items() for map_name in (name, output.map)
+            ]
             gs.run_command("g.rename", raster=pairs, overwrite=gs.overwrite(), quiet=True)
         maps, self.names = [output.map for output in self.names.values()], {}
         for raster in maps:
@@ -296,7 +292,7 @@ class Imports:
 
 
 class Progress:
-    """A line of progress over all rows that are read and written; each of its steps costs a run of g.message."""
+    """A progress line over all rows that are read and written; each step costs a run of g.message."""
 
     def __init__(self, rows):
         self.done, self.rows, self.shown, self.is_shown = 0, rows, time.monotonic(), False
@@ -316,7 +312,7 @@ class Progress:
 
 
 def program():
-    """The program on the path; a folder of the path that is not absolute does not count."""
+    """Return the program on the path; relative folders on the path are ignored."""
     folders = [folder for folder in os.get_exec_path() if os.path.isabs(folder)]
     return shutil.which("rcell-pipe", path=os.pathsep.join(folders)) if folders else None
 
@@ -337,16 +333,16 @@ def find_front(path):
 
 
 def judged(script, names):
-    """The statements of a script, if rcell accepts it."""
+    """Return the statements of a script, if rcell accepts it."""
     from rcell.core import protocol
 
-    with told(script, names):
+    with stopping_on_faults(script, names):
         return protocol.plan(program(), names, script.encode("utf-8", "surrogateescape"))
 
 
 @contextmanager
-def told(script, names):
-    """What goes wrong in a run of rcell-pipe, as a sentence."""
+def stopping_on_faults(script, names):
+    """Return the error of a run of rcell-pipe, as a sentence."""
     from rcell.core.protocol import Killed, NoAnswer, Rejected
 
     try:
@@ -358,43 +354,38 @@ def told(script, names):
 
 
 def tables_of(script, statements, sources):
-    """Runs a script for what it writes, piece by piece; `sources()` are its maps."""
+    """Run a script and yield what it writes, piece by piece; `sources()` returns its maps."""
     from rcell.core import protocol
 
-    if all(it.made for it in statements):
+    if all(statement.made for statement in statements):
         return
     maps = sources()
-    with told(script, [it.name for it in maps]):
+    with stopping_on_faults(script, [source.name for source in maps]):
         yield from protocol.text(program(), maps, script.encode("utf-8", "surrogateescape"))
 
 
 def maps_of(script, statements, sources, outputs, labels):
-    """Runs a script for the cells of the outputs, and the labels of some, by their names."""
+    """Run a script and return the cells of the outputs, and the labels of some by name."""
     from rcell.core import protocol
 
     if not outputs:
         return [], {}
-    made, maps = made_by(statements), sources()
-    labelled = [
-        it.name for it in outputs if made.get(it.name) == "r.reclass" or labels.get(it.name)
-    ]
-    lines = [
-        *("r.out.ascii input=%s" % it.name for it in outputs),
-        *("r.stats -l -n input=%s" % name for name in labelled),
-    ]
-    with told(script, [it.name for it in maps]):
-        frames = protocol.run(
-            program(),
-            maps,
-            "\n".join([without_tables(script, statements), *lines]).encode(
-                "utf-8", "surrogateescape"
-            ),
-        )
+    commands, maps = made_by(statements), sources()
+    labelled = []
+    for output in outputs:
+        if commands.get(output.name) == "r.reclass" or labels.get(output.name):
+            labelled.append(output.name)
+    lines = [without_tables(script, statements)]
+    lines += ["r.out.ascii input=%s" % output.name for output in outputs]
+    lines += ["r.stats -l -n input=%s" % name for name in labelled]
+    words = "\n".join(lines).encode("utf-8", "surrogateescape")
+    with stopping_on_faults(script, [source.name for source in maps]):
+        frames = protocol.run(program(), maps, words)
     return frames[: len(outputs)], dict(zip(labelled, frames[len(outputs) :]))
 
 
 def labels_of(raster):
-    """The labels of a raster map by their categories."""
+    """Return the labels of a raster map by category."""
     module = gs.pipe_command("r.category", map=raster, separator="tab", quiet=True)
     pairs = [line.rstrip(b"\n").partition(b"\t")[::2] for line in module.stdout]
     end_of(module, raster)
@@ -409,12 +400,12 @@ def labels_of(raster):
 
 
 def pairs_of(text, kind):
-    """The items of an option, each NAME or NAME=MAP."""
-    found = []
+    """Return the items of an option, each NAME or NAME=MAP."""
+    pairs = []
     for item in text.split(",") if text else []:
         name, sign, raster = item.partition("=")
-        raster = raster if sign else name
-        name = name if sign else name.partition("@")[0]
+        if not sign:
+            name, raster = item.partition("@")[0], item
         if not NAME.fullmatch(name):
             raise Stopped(
                 _(
@@ -422,43 +413,47 @@ def pairs_of(text, kind):
                     "and no digit or . first"
                 ).format(item, raster or "MAP")
             )
-        if name in [it.name for it in found] and kind is Input:
+        if name in [pair.name for pair in pairs] and kind is Input:
             raise Stopped(_("The name <{}> stands for two maps").format(name))
-        found.append(kind(name, raster))
-    return found
+        pairs.append(kind(name, raster))
+    return pairs
 
 
 def look_up_inputs(inputs):
     """Each is a raster map of whole numbers."""
-    for it in inputs:
-        if not it.map or not gs.find_file(it.map, element="cell")["file"]:
-            raise Stopped(_("Raster map <{}> not found").format(it.map))
-        if gs.raster_info(it.map)["datatype"] != "CELL":
+    for raster in inputs:
+        if not raster.map or not gs.find_file(raster.map, element="cell")["file"]:
+            raise Stopped(_("Raster map <{}> not found").format(raster.map))
+        if gs.raster_info(raster.map)["datatype"] != "CELL":
             raise Stopped(
                 _(
                     "Raster map <{0}> has decimals, and rcell takes whole numbers: round it, as by "
                     'r.mapcalc "cells = round({0})"'
-                ).format(it.map)
+                ).format(raster.map)
             )
 
 
-def look_up_outputs(outputs, made, inputs):
-    """Each is made by the script, and has a name that is free. Returns them with their names in this mapset."""
-    known = [*made, *(it.name for it in inputs)]
-    here, found = gs.gisenv()["MAPSET"], []
-    for it in outputs:
-        raster, _at, mapset = it.map.partition("@")
-        if it.name not in known:
-            others = ", ".join(made) or _("none")
-            raise Stopped(_("The script makes no map <{}>; it makes {}").format(it.name, others))
-        if mapset not in ("", here) or not raster or not gs.legal_name(raster):
-            raise Stopped(_("<{}> is not a name for a raster map of this mapset").format(it.map))
-        if raster in [other.map for other in found]:
+def look_up_outputs(outputs, commands, inputs):
+    """Checks that the script makes each, and that its name is free. Returns them with their names in this mapset."""
+    known = [*commands, *(source.name for source in inputs)]
+    current, checked = gs.gisenv()["MAPSET"], []
+    for output in outputs:
+        raster, _at, mapset = output.map.partition("@")
+        if output.name not in known:
+            others = ", ".join(commands) or _("none")
+            raise Stopped(
+                _("The script makes no map <{}>; it makes {}").format(output.name, others)
+            )
+        if mapset not in ("", current) or not raster or not gs.legal_name(raster):
+            raise Stopped(
+                _("<{}> is not a name for a raster map of this mapset").format(output.map)
+            )
+        if raster in [other.map for other in checked]:
             raise Stopped(_("Raster map <{}> would be written twice").format(raster))
-        if gs.find_file(raster, element="cell", mapset=here)["file"] and not gs.overwrite():
+        if gs.find_file(raster, element="cell", mapset=current)["file"] and not gs.overwrite():
             raise Stopped(_("Raster map <{}> exists; --overwrite replaces it").format(raster))
-        found.append(Output(it.name, raster))
-    return found
+        checked.append(Output(output.name, raster))
+    return checked
 
 
 def look_up_region():
@@ -490,7 +485,7 @@ def read_script(path):
 
 @contextmanager
 def table_file(path, script):
-    """The file for the tables, which gets its name when the block ends well; standard output or a device gets its bytes then."""
+    """Yield the file for the tables, which gets its name once the block succeeds; only then do standard output or a device get its bytes."""
     from rcell.core.errors import Refused
     from rcell.core.files import Output, check_output
 
@@ -514,7 +509,7 @@ def table_file(path, script):
 
 
 def open_standard_streams():
-    """Opens /dev/null on each closed descriptor from 0 to 2, so that no pipe takes its number; to write to one that was closed fails."""
+    """Open /dev/null on each closed descriptor from 0 to 2, so that no pipe gets its number; writing to a closed output still fails."""
     descriptor = os.open(os.devnull, os.O_RDWR)
     while descriptor <= 2:
         if descriptor == 1:
@@ -528,7 +523,7 @@ def open_standard_streams():
 
 
 def imported(script, statements, sources, outputs, labels, region, progress):
-    """Runs a script for its maps, and imports them with their labels under names of their own."""
+    """Run a script for its maps, and import them with their labels under temporary names."""
     cells, texts = maps_of(script, statements, sources, outputs, labels)
     imports = Imports(region)
     for output, frame in zip(outputs, cells):
@@ -540,7 +535,7 @@ def imported(script, statements, sources, outputs, labels, region, progress):
 
 
 def done(options, flags):
-    """All of a run: what is wrong is found before rcell begins, and what is made gets its name at the end."""
+    """Run the module: find errors before rcell begins, and give results their names at the end."""
     if not program():
         raise Stopped(
             _(
@@ -548,25 +543,27 @@ def done(options, flags):
             )
         )
     find_front(program())
-    inputs, asked = pairs_of(options["maps"], Input), pairs_of(options["output"], Output)
+    inputs, requested = pairs_of(options["maps"], Input), pairs_of(options["output"], Output)
     look_up_inputs(inputs)
-    script, names = read_script(options["script"]), [it.name for it in inputs]
+    script, names = read_script(options["script"]), [raster.name for raster in inputs]
     statements = judged(script, names)
     if flags["l"]:
         script = with_labels(script, statements)
         statements = judged(script, names)
-    made = made_by(statements)
-    outputs = look_up_outputs(asked, made, inputs)
+    commands = made_by(statements)
+    outputs = look_up_outputs(requested, commands, inputs)
     region = look_up_region()
-    if not outputs and all(it.made for it in statements):
+    if not outputs and all(statement.made for statement in statements):
         gs.warning(_("The script writes no table, and no map is asked for by output="))
-    wanted = labelled_maps(statements) | {it.name for it in outputs}
-    labels = {it.name: labels_of(it.map) for it in inputs if it.name in wanted}
-    runs = bool(outputs) + any(not it.made for it in statements)
+    wanted = labelled_maps(statements) | {output.name for output in outputs}
+    labels = {raster.name: labels_of(raster.map) for raster in inputs if raster.name in wanted}
+    runs = bool(outputs) + any(not statement.made for statement in statements)
     progress = Progress(region["rows"] * (runs * len(inputs) + len(outputs)))
 
     def sources():
-        return [source_of(it, labels.get(it.name, {}), region, progress) for it in inputs]
+        return [
+            source_of(raster, labels.get(raster.name, {}), region, progress) for raster in inputs
+        ]
 
     with table_file(options["table"], options["script"]) as table:
         with open(table.path(), "wb") as file:
@@ -575,7 +572,7 @@ def done(options, flags):
         progress.end()
         if table.is_special:  # which may fail, and then no map gets its name
             table.keep()
-        imports.finish({name for name, command in made.items() if command == "r.clump"})
+        imports.finish({name for name, command in commands.items() if command == "r.clump"})
 
 
 def main():

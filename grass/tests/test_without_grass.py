@@ -33,9 +33,9 @@ def add_on():
     sys.modules.update({"grass": grass, "grass.script": script, "grass.exceptions": exceptions})
     builtins._ = lambda text: text
     spec = importlib.util.spec_from_file_location("r_rcell", f"{ROOT}/grass/r.rcell/r.rcell.py")
-    made = importlib.util.module_from_spec(spec)
-    spec.loader.exec_module(made)
-    return made
+    module = importlib.util.module_from_spec(spec)
+    spec.loader.exec_module(module)
+    return module
 
 
 rcell = add_on()
@@ -85,7 +85,10 @@ class Session(unittest.TestCase):
         statements = self.statements(script)
 
         def sources():
-            return [rcell.source_of(it, labels or {}, REGION, rcell.Progress(1)) for it in inputs]
+            return [
+                rcell.source_of(raster, labels or {}, REGION, rcell.Progress(1))
+                for raster in inputs
+            ]
 
         text = b"".join(rcell.tables_of(script, statements, sources)).decode()
         return text, *rcell.maps_of(script, statements, sources, wanted, {"a": labels or {}})
@@ -106,7 +109,7 @@ class Scripts(Session):
         labelled = rcell.with_labels(script, self.statements(script))
         self.assertEqual(labelled, wanted)
         self.assertEqual(
-            ["l" in it.options for it in self.statements(labelled)],
+            ["l" in statement.options for statement in self.statements(labelled)],
             [True, True, True, False, True, True],
         )
 
@@ -142,8 +145,8 @@ class Scripts(Session):
             ("r.stats -c input=a output=t.txt", "output=t.txt"),
             ("r.stats input=a separator=ab", "separator=ab"),
         ):
-            told, beneath = self.refused(line)
-            self.assertEqual(told, "rcell: script:1: bad option: " + word)
+            message, beneath = self.refused(line)
+            self.assertEqual(message, "rcell: script:1: bad option: " + word)
             self.assertEqual(
                 beneath.split("    try: ")[0],
                 "    %s\n    %s^\n" % (line.replace("\t", " "), " " * line.rindex(word)),
@@ -185,9 +188,9 @@ class Late(unittest.TestCase):
 
     def setUp(self):
         for number in (0, 1):
-            kept = os.dup(number)
-            self.addCleanup(os.close, kept)
-            self.addCleanup(os.dup2, kept, number)
+            copy = os.dup(number)
+            self.addCleanup(os.close, copy)
+            self.addCleanup(os.dup2, copy, number)
 
     def later(self, do):
         thread = threading.Timer(0.2, do)
@@ -226,8 +229,8 @@ class Late(unittest.TestCase):
 
 class Names(unittest.TestCase):
     def test_pairs(self):
-        found = rcell.pairs_of("lc,ws=basins@P,zones@PERMANENT", rcell.Input)
-        self.assertEqual(found, [("lc", "lc"), ("ws", "basins@P"), ("zones", "zones@PERMANENT")])
+        pairs = rcell.pairs_of("lc,ws=basins@P,zones@PERMANENT", rcell.Input)
+        self.assertEqual(pairs, [("lc", "lc"), ("ws", "basins@P"), ("zones", "zones@PERMANENT")])
         self.assertEqual(rcell.pairs_of("", rcell.Output), [])
 
     def test_names_that_rcell_does_not_take(self):

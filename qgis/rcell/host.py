@@ -3,6 +3,7 @@
 
 from __future__ import annotations
 
+import configparser
 import os
 import shlex
 import stat
@@ -18,6 +19,7 @@ from .engine.core.programs import find_program as find_rcell
 from .engine.core.sources import Source
 
 _FOLDER = os.path.join(os.path.dirname(os.path.abspath(__file__)), "bin")
+_METADATA = os.path.join(os.path.dirname(os.path.abspath(__file__)), "metadata.txt")
 _SETTINGS = "Settings > Options > Processing > Providers > rcell"
 # The programs, each with its variable, and the function that tries it once.
 _PROGRAMS = {
@@ -66,6 +68,13 @@ def host_of(setting: str, feedback: Any) -> Host:
         progress=progress,
         started=started,
     )
+
+
+def version() -> str:
+    """Return the version of the plugin."""
+    metadata = configparser.ConfigParser(interpolation=None)
+    metadata.read(_METADATA, encoding="utf-8")
+    return metadata["general"]["version"]
 
 
 def watch_of(feedback: Any) -> Callable[[], None]:
@@ -124,7 +133,7 @@ def _beside(path: str, name: str) -> str:
 
 
 def _set_executable(path: str) -> None:
-    """Give back the right to execute, which Install from ZIP takes away."""
+    """Restore the execute permission, which Install from ZIP removes."""
     mode = os.stat(path).st_mode
     if not mode & stat.S_IXUSR:
         try:

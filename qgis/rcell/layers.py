@@ -86,11 +86,13 @@ def reference_of(layer: Any) -> Any:
     """Return a layer as a reference: a raster, points, or a table as a DataFrame has its columns and rows."""
     if isinstance(layer, QgsRasterLayer):
         return raster_of(layer, layer.name())
-    found = _features_of(layer)
+    features = _features_of(layer)
     if layer.geometryType() != QgsWkbTypes.NullGeometry:
-        return found
-    rows = [dict(zip(found.fields, map(plain, attributes))) for _, attributes, _ in found.rows]
-    return SimpleNamespace(columns=found.fields, to_dict=lambda _: rows, files=found.files)
+        return features
+    rows = [tuple(map(plain, attributes)) for _, attributes, _ in features.rows]
+    return SimpleNamespace(
+        columns=features.fields, itertuples=lambda **_: rows, files=features.files
+    )
 
 
 def _features_of(layer: QgsVectorLayer) -> FeatureLayer:
@@ -130,7 +132,7 @@ class FeatureLayer:
         return (self.path,)
 
     def features(self, field: Optional[str]) -> Iterator[Feature]:
-        """Yield the features in their order, with their values of a field."""
+        """Yield the features in order, with the values of a field."""
         place = -1 if field is None else self.fields.index(field)
         for number, attributes, wkb in self.rows:
             value = None if field is None else plain(attributes[place])
@@ -148,7 +150,7 @@ class FeatureLayer:
 
 
 def plain(value: Any) -> Any:
-    """Return an attribute as Python has it, None if it is missing."""
+    """Return an attribute as a Python object, None if it is missing."""
     if value is None or value == NO_VALUE or value != value:
         return None
     for method in ("toPyDateTime", "toPyDate", "toPyTime"):
@@ -165,12 +167,12 @@ def wkt_of(crs: QgsCoordinateReferenceSystem) -> str:
 
 def labels_of(layer: QgsRasterLayer, band: int) -> dict[int, str]:
     """Return the labels of a layer's style, without those that only repeat the number."""
-    found = {}
+    labels = {}
     for value, label in _classes_of(layer.renderer(), band):
         text = _COUNT.sub("", label)
         if float(value).is_integer() and text and not _is_number(text, value):
-            found[int(value)] = text
-    return found
+            labels[int(value)] = text
+    return labels
 
 
 def _is_number(text: str, value: float) -> bool:
@@ -181,6 +183,7 @@ def _is_number(text: str, value: float) -> bool:
 
 
 def _classes_of(renderer: Any, band: int) -> list[tuple[float, str]]:
+    """Return the values and labels of a style with one entry for each class."""
     if isinstance(renderer, QgsPalettedRasterRenderer) and renderer.band() == band:
         return [(entry.value, entry.label) for entry in renderer.classes()]
     if (
@@ -209,7 +212,8 @@ def colours_of(layer: QgsRasterLayer, band: int) -> dict[int, Any]:
 def _uses_nodata(layer: QgsRasterLayer, band: int) -> bool:
     """Return whether the nodata value of the file is null: unless the user switched it off.
 
-    QGIS does not know a value that its data type cannot hold, such as -128 in signed bytes; it is null all the same.
+    QGIS ignores a nodata value that its data type cannot hold, such as -128 in signed bytes; it is
+    null here.
     """
     provider = layer.dataProvider()
     return bool(provider.useSourceNoDataValue(band)) or not provider.sourceHasNoDataValue(band)
@@ -217,20 +221,20 @@ def _uses_nodata(layer: QgsRasterLayer, band: int) -> bool:
 
 def null_ranges_of(layer: QgsRasterLayer, band: int) -> list[tuple[float, float]]:
     """Return the ranges that the layer's properties declare as nodata, in addition to the file's value."""
-    return [_bounds(found) for found in layer.dataProvider().userNoDataValues(band)]
+    return [_bounds(span) for span in layer.dataProvider().userNoDataValues(band)]
 
 
-def _bounds(found: QgsRasterRange) -> tuple[float, float]:
-    least, greatest = found.min(), found.max()
+def _bounds(span: QgsRasterRange) -> tuple[float, float]:
+    least, greatest = span.min(), span.max()
     # Categories are whole numbers, so an exclusive end moves by 1.
-    if found.bounds() in (QgsRasterRange.IncludeMax, QgsRasterRange.Exclusive):
+    if span.bounds() in (QgsRasterRange.IncludeMax, QgsRasterRange.Exclusive):
         least = float(int(least // 1) + 1)
-    if found.bounds() in (QgsRasterRange.IncludeMin, QgsRasterRange.Exclusive):
+    if span.bounds() in (QgsRasterRange.IncludeMin, QgsRasterRange.Exclusive):
         greatest = float(-int(-greatest // 1) - 1)
     return (_LEAST if least != least else least), (_GREATEST if greatest != greatest else greatest)
 
 
-def names_of(layers: Sequence[QgsRasterLayer], given: str) -> list[str]:
+def names_of(layers: Sequence[QgsRasterLayer], text: str) -> list[str]:
     """Return the names of layers in a script: the given ones, or the layers' own with `_` for characters that are not allowed.
 
     Raises
@@ -238,24 +242,25 @@ def names_of(layers: Sequence[QgsRasterLayer], given: str) -> list[str]:
     Refused
         There are too few or too many names, or one is invalid or given twice.
     """
-    if not given.strip():
-        return _made_names([layer.name() for layer in layers])
-    names = [name.strip() for name in given.split(",")]
+    if not text.strip():
+        return made_names([layer.name() for layer in layers])
+    names = [name.strip() for name in text.split(",")]
     if len(names) != len(layers):
         raise Refused(f"{len(names)} names for {len(layers)} rasters", status=2)
-    for at, name in enumerate(names):
+    for number, name in enumerate(names):
         if not _NAME.fullmatch(name):
-            better = _made_names([name])[0]
+            better = made_names([name])[0]
             raise Refused(
                 f"'{name}' is not a name for a map: 1 to 64 letters, digits, _ and ., a letter or _ first; write {better}",
                 status=2,
             )
-        if name in names[:at]:
+        if name in names[:number]:
             raise Refused(f"the name `{name}` is given twice", status=2)
     return names
 
 
-def _made_names(titles: Sequence[str]) -> list[str]:
+def made_names(titles: Sequence[str]) -> list[str]:
+    """Return names for a script that are made of titles, with `_` for characters that are not allowed."""
     names: list[str] = []
     for title in titles:
         plain = re.sub(r"[^A-Za-z0-9_.]", "_", title)[:60] or "_"

@@ -3,7 +3,6 @@
 
 from __future__ import annotations
 
-import colorsys
 import contextlib
 import math
 import os
@@ -31,6 +30,7 @@ from .engine.core.area import measure_of
 from .engine.core.columns import Table
 from .engine.core.crs import UNITS_OF_AREA
 from .engine.core.errors import Refused, WriteFailed
+from .engine.core.palette import colour_at
 from .engine.core.protocol import NULL
 from .engine.core.sources import ArrayMap, Source, null_cells
 from .tables import Check, distinct, partly, write_raster
@@ -38,7 +38,6 @@ from .tables import Check, distinct, partly, write_raster
 # A map of more classes gets no legend.
 MOST_CLASSES = 1000
 _VERSION_OF_META_TYPES = 33800
-_GOLDEN = 0.618033988749895
 
 
 # Rasters
@@ -98,7 +97,9 @@ def put_legend(
     options = QgsRasterLayer.LayerOptions(loadDefaultStyle=False)
     layer = QgsRasterLayer(path, "legend", "gdal", options)
     entries = [
-        QgsPalettedRasterRenderer.Class(value, colours.get(value) or _colour(place), label)
+        QgsPalettedRasterRenderer.Class(
+            value, colours.get(value) or QColor(*colour_at(place)), label
+        )
         for place, (value, label) in enumerate(classes)
     ]
     layer.setRenderer(QgsPalettedRasterRenderer(layer.dataProvider(), 1, entries))
@@ -126,14 +127,6 @@ class _Style(QgsProcessingLayerPostProcessorInterface):
 
 # QGIS keeps no reference to them, and the algorithm that made them no longer exists when they are called.
 _styles: list[_Style] = []
-
-
-def _colour(place: int) -> QColor:
-    """Return the colour of a place in the legend: always the same one, and different from its neighbours'."""
-    red, green, blue = colorsys.hsv_to_rgb(
-        (0.33 + place * _GOLDEN) % 1.0, 0.45 + 0.15 * (place % 3), 0.92 - 0.16 * (place // 3 % 3)
-    )
-    return QColor(round(red * 255), round(green * 255), round(blue * 255))
 
 
 def counts_of(map: ArrayMap) -> dict[int, int]:

@@ -4,7 +4,6 @@
 from __future__ import annotations
 
 import contextlib
-import csv
 import os
 import signal
 import sqlite3
@@ -20,6 +19,7 @@ from .engine.core.errors import RcellError, WriteFailed
 from .engine.core.files import Output, check_output
 from .engine.core.labels import write_labels
 from .engine.core.sources import BLOCK_CELLS, Source
+from .engine.core.table_texts import table_text
 from .engine.readers.osr import quiet
 
 # Level 1 with differences of neighbours takes an eighth of the time of level 6 without, for files of the same size.
@@ -121,10 +121,10 @@ def _checked(rows: Iterable[Any], check: Check) -> Iterator[Any]:
 
 def _write_csv(part: str, types: str, columns: list[Column], check: Check) -> None:
     """Write a CSV, and a .csvt file with the types of its columns, without which QGIS reads numbers as text."""
+    rows = _checked(zip(*(column.listed() for column in columns)), check)
+    text = table_text("csv", [column.name for column in columns], list(rows))
     with open(part, "w", encoding="utf-8", newline="") as file:
-        writer = csv.writer(file, lineterminator="\n")
-        writer.writerow(column.name for column in columns)
-        writer.writerows(_checked(zip(*(column.listed() for column in columns)), check))
+        file.write(text)
     with open(types, "w", encoding="utf-8") as file:
         file.write(",".join(f'"{_TYPES[column.kind][0]}"' for column in columns) + "\n")
 
@@ -253,6 +253,7 @@ def _write_tiff(
     check: Check,
     names: Sequence[str],
 ) -> bool:
+    """Write a GeoTIFF with a band for each layer of cells, and return whether that succeeded."""
     layers = cells if cells.ndim == 3 else cells[None]
     count, rows, cols = layers.shape
     kind = gdal.GDT_Float64 if cells.dtype.kind == "f" else gdal.GDT_Int32

@@ -25,5 +25,5 @@ def noop(text: str) -> str:
 def translator() -> QTranslator | None:
     """Return the translations into the language of QGIS, or None."""
     path = os.path.join(_FOLDER, f"rcell_{QgsApplication.locale()[:2]}.qm")
-    found = QTranslator()
-    return found if os.path.isfile(path) and found.load(path) else None
+    translation = QTranslator()
+    return translation if os.path.isfile(path) and translation.load(path) else None

@@ -84,7 +84,7 @@ class TableTest(InSession):
             [[1, "wood, wet", 7, 5, 0.2], [1, "wood, wet", 8, 2, 0.08]],
         )
         self.assertEqual(len(rows), 6)
-        self.assertIn("\n  r.stats -c -n input=map_1,map_2", self.log.told[0])
+        self.assertIn("\n  r.stats -c -n input=cover,zones", self.log.told[0])
 
     def test_two_layers_of_one_name(self) -> None:
         first, second = QgsRasterLayer(self.zones, "p02"), QgsRasterLayer(self.cover, "P02")
@@ -154,7 +154,7 @@ class RefusalsTest(InSession):
             self.path("shifted.tif"), COVER, transform=(500010, 20, 0, 5400000, 0, -20)
         )
         message = self.refused(
-            "Unable to execute algorithm\nshifted: not of the region of `cover`, and nothing is resampled: east is 500110",
+            "Unable to execute algorithm\nshifted: its grid differs from `cover`, and rcell does not resample: east is 500110",
             "cross",
             INPUT=[self.cover, shifted],
             OUTPUT=self.path("t.gpkg"),
@@ -235,7 +235,7 @@ class RefusalsTest(InSession):
             "no format has this ending", "majority", INPUT=self.cover, OUTPUT=self.path("m.xyz9")
         )
         self.refused(
-            "arguments: classes are whole numbers with commas between them, as 31,32, and not `1;2`",
+            "arguments: classes must be whole numbers with commas between them, for example 31,32; got `1;2`",
             "patches",
             INPUT=self.cover,
             CLASSES="1;2",
@@ -432,6 +432,18 @@ class MapsTest(InSession):
         self.assertEqual(layer.renderer().type(), "paletted")
         return [(int(entry.value), entry.label) for entry in layer.renderer().classes()]
 
+    def test_a_choice_is_a_text_or_a_number(self) -> None:
+        words = {"INPUT": self.cover, "OUTPUT": "TEMPORARY_OUTPUT"}
+        tables = [
+            session.rows(self.run_("metrics", CONNECTIVITY=connectivity, **words)["OUTPUT"])
+            for connectivity in ("8", 8, "4", 4)
+        ]
+        self.assertEqual((tables[0], tables[2]), (tables[1], tables[3]))
+        self.assertNotEqual(tables[0], tables[2])
+        self.refused(
+            "CONNECTIVITY must be one of '4', '8'; got 6", "metrics", CONNECTIVITY=6, **words
+        )
+
     def test_patches(self) -> None:
         found = self.run_(
             "patches",
@@ -562,7 +574,7 @@ class MapsTest(InSession):
         )[1]
         self.assertEqual([row[0] for row in numbers], [10, 20])
         self.refused(
-            "no field x: there are name, number",
+            "no field x: the fields are name, number",
             "composition",
             INPUT=self.cover,
             ZONES=session.districts(),
@@ -608,6 +620,31 @@ class MapsTest(InSession):
         )[1]
         self.assertEqual([row[:2] for row in rows], [[7, "North"], [8, None]])
         self.assertIn("warning: labels: no label for 8 of zones", self.log.told)
+
+    def test_records_are_verified_and_reported(self) -> None:
+        path, words = self.path("t.csv"), {"INPUT": self.cover, "RECORD": True}
+        self.run_("composition", **words, ZONES=self.zones, OUTPUT=path)
+        self.assertEqual(self.run_("verify", INPUT=path)["DIFFERENCES"], 0)
+        with open(path, encoding="utf-8") as file:
+            self.assertIn('7,1,"wood, wet",5,0.2,', file.read())
+        page = self.run_("report", INPUT=[path], TITLE="a & b", OUTPUT=self.path("r.html"))
+        with open(page["OUTPUT"], encoding="utf-8") as file:
+            self.assertIn("<h1>a &amp; b</h1>", file.read())
+        made.write(self.path("zones.tif"), ZONES + 1, gdal.GDT_Int16, nodata=1)
+        found = self.run_("verify", INPUT=path)
+        self.assertEqual(found["DIFFERENCES"], 2)
+        self.assertIn("the cells of zones (zones.tif) differ", found["LINES"])
+        self.assertIn(f"warning: {path}: the cells of zones (zones.tif) differ", self.log.told)
+
+    def test_what_cannot_be_recorded_is_rejected(self) -> None:
+        with self.assertRaisesRegex(QgsProcessingException, "RECORD needs an OUTPUT"):
+            self.run_("sample", INPUT=self.cover, RECORD=True, OUTPUT=self.path("t.gpkg"))
+        layer = self.labelled([(1, "other than in the file")])
+        with self.assertRaisesRegex(QgsProcessingException, "RECORD is for files"):
+            self.run_("composition", INPUT=layer, RECORD=True, OUTPUT=self.path("t.csv"))
+        with self.assertRaisesRegex(QgsProcessingException, "t.csv: No such file"):
+            self.run_("verify", INPUT=self.path("t.csv"))
+        self.assertEqual(os.listdir(self.room).count("t.csv"), 0)
 
     def test_change_and_its_parts(self) -> None:
         found = self.run_(
@@ -674,6 +711,9 @@ class MapsTest(InSession):
                 )
             )
         )
+        for child in model.childAlgorithms():
+            # The designer shows a box in red if it lacks a parameter that is not optional.
+            self.assertEqual(model.validateChildAlgorithm(child), (True, []))
         # QGIS leaves statistics next to a raster that it opens.
         shutil.copytree(
             os.path.join(os.path.dirname(results.__file__), "../../examples/rasters"),

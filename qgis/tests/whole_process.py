@@ -214,7 +214,7 @@ class ProcessTest(unittest.TestCase):
             transform=(500010, 20, 0, 5400000, 0, -20),
         )
         self.refused(
-            "shifted: not of the region of `Fl\u00e4che 1`, and nothing is resampled: east is 501610, not 501600 (10 more)",
+            "shifted: its grid differs from `Fl\u00e4che 1`, and rcell does not resample: east is 501610, not 501600 (10 more)",
             "rcell:cross",
             f"INPUT={self.cover}",
             f"INPUT={shifted}",

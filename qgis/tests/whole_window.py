@@ -115,7 +115,7 @@ class WindowTest(unittest.TestCase):
 
     def test_the_dialog_refuses(self) -> None:
         self.assertIn(
-            "shifted: not of the region of `cover`, and nothing is resampled: east is 500070, not 500060 (10 more)",
+            "shifted: its grid differs from `cover`, and rcell does not resample: east is 500070, not 500060 (10 more)",
             self.told["refused"],
         )
 

@@ -99,8 +99,8 @@ class TestRcell(TestCase):
         edges = [gs.parse_command("r.info", flags="g", map=name) for name in (ours, theirs)]
         self.assertEqual(
             *[
-                {key: it[key] for key in ("north", "south", "east", "west", "rows", "cols")}
-                for it in edges
+                {key: info[key] for key in ("north", "south", "east", "west", "rows", "cols")}
+                for info in edges
             ]
         )
 
@@ -244,13 +244,14 @@ class TestRcell(TestCase):
             self.assertMultiLineEqual(
                 ours, gs.read_command("r.stats", flags="c", input="cover", quiet=True)
             )
-            here = gs.parse_command("g.region", flags="g")
-            made = gs.parse_command("r.info", flags="g", map="t_part")
+            current = gs.parse_command("g.region", flags="g")
+            info = gs.parse_command("r.info", flags="g", map="t_part")
         finally:
             self.runModule("g.region", region="t_whole")
             self.runModule("g.remove", flags="f", type="region", name="t_whole")
         self.assertEqual(
-            [made[key] for key in ("north", "south", "east", "west")], [here[key] for key in "nsew"]
+            [info[key] for key in ("north", "south", "east", "west")],
+            [current[key] for key in "nsew"],
         )
 
     def test_inputs_and_outputs_are_looked_up_first(self):
@@ -270,8 +271,8 @@ class TestRcell(TestCase):
                 "is not a name for a raster map of this mapset",
             ),
         ]
-        for options, told in wrong:
-            self.assertIn(told, re.sub(r"\s+", " ", self.refused(script, **options)))
+        for options, message in wrong:
+            self.assertIn(message, re.sub(r"\s+", " ", self.refused(script, **options)))
 
     def test_overwrite(self):
         self.runModule("r.mapcalc", overwrite=True, expression="taken = 1")
@@ -300,20 +301,22 @@ class TestRcell(TestCase):
             "# wood\nr.reclass input=zones output=x\n1 = 1 town\nend\n\tr.mapcalc y = x + coverr\n"
         )
         for flags in ("", "l"):
-            told = self.refused(
+            message = self.refused(
                 script + "r.stats -c input=zones,x\n",
                 maps="zones,cover",
                 output="x=t_x,y=t_y",
                 flags=flags,
             )
-            self.assertIn("rcell: script:5: unknown map at column 20", told)
-            self.assertIn("     r.mapcalc y = x + coverr\n                       ^\n", told)
-        told = self.refused("r.stats -c input=zones --quiet\n", maps="zones", flags="l")
+            self.assertIn("rcell: script:5: unknown map at column 20", message)
+            self.assertIn("     r.mapcalc y = x + coverr\n                       ^\n", message)
+        message = self.refused("r.stats -c input=zones --quiet\n", maps="zones", flags="l")
         self.assertIn(
-            "rcell: script:1: bad option: --quiet\n    r.stats -c input=zones --quiet\n", told
+            "rcell: script:1: bad option: --quiet\n    r.stats -c input=zones --quiet\n", message
         )
-        told = self.refused("r.reclass input=zones output=t_x\n1 = 1\n", maps="zones", output="t_x")
-        self.assertIn("rcell: script:1: missing end", told)
+        message = self.refused(
+            "r.reclass input=zones output=t_x\n1 = 1\n", maps="zones", output="t_x"
+        )
+        self.assertIn("rcell: script:1: missing end", message)
 
     def test_labels_with_tabs_are_refused(self):
         self.assertIn(

@@ -8,6 +8,7 @@ from .align import AlignAlgorithm
 from .majority import AggregateAlgorithm, MajorityAlgorithm, WithinAlgorithm
 from .patches import ClumpAlgorithm, MetricsAlgorithm, PatchesAlgorithm, SieveAlgorithm
 from .reclass import ReclassAlgorithm
+from .records import ReportAlgorithm, VerifyAlgorithm
 from .script import ScriptAlgorithm
 from .tables import (
     AdjacencyAlgorithm,
@@ -39,4 +40,6 @@ ALGORITHMS = (
     AlignAlgorithm,
     ReclassAlgorithm,
     ScriptAlgorithm,
+    VerifyAlgorithm,
+    ReportAlgorithm,
 )

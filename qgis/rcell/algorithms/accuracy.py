@@ -1,5 +1,5 @@
 # SPDX-License-Identifier: Apache-2.0 OR GPL-2.0-or-later
-"""rcell:accuracy, a map compared with a reference, and rcell:sample, the cells to look at for it."""
+"""rcell:accuracy, a map compared with a reference, and rcell:sample, the cells to check."""
 
 from __future__ import annotations
 
@@ -22,7 +22,7 @@ class AccuracyAlgorithm(RcellAlgorithm):
     NAME = "accuracy"
     TITLE = noop("Accuracy")
     SHORT = noop(
-        "Lists the accuracy of each class with standard errors, and areas that a reference sample corrects; with the matrix."
+        "Lists the accuracy of each class with standard errors, and areas corrected with a reference sample; with the matrix."
     )
     TAGS = "accuracy, confusion matrix, error matrix, kappa, validation, area estimation, sample, AcATaMa, r.kappa"
     HELP = (
@@ -32,7 +32,7 @@ class AccuracyAlgorithm(RcellAlgorithm):
         ),
         noop(
             "<p>If the sample was drawn class by class, the accuracies need the areas of the classes: counted in the map, or "
-            "of a CSV with value,area. The equations are in Olofsson et al. 2014.</p>"
+            "from a CSV with value,area. The equations are in Olofsson et al. 2014.</p>"
         ),
         noop(
             "<p>Without areas, standard errors are right for a random sample, and mean nothing for a complete reference.</p>"
@@ -58,26 +58,28 @@ class AccuracyAlgorithm(RcellAlgorithm):
     def read(self) -> None:
         """Read the raster and the reference."""
         self.rasters = [self.raster()]
-        layer = self.parameterAsLayer(self.given, "REFERENCE", self.context)
+        layer = self.parameterAsLayer(self.parameter_values, "REFERENCE", self.context)
         if layer is None or not layer.isValid():
-            raise_unreadable(self.given["REFERENCE"], "reference")
+            raise_unreadable(self.parameter_values["REFERENCE"], "reference")
         self.reference = reference_of(layer)
 
     def answer(self) -> dict[str, Any]:
         """Return the table and, if they are requested, the matrix and the summary."""
         sizes = self.word("AREAS")
-        found = accuracy(
+        result = self.called(
+            accuracy,
             self.rasters[0],
             self.reference,
-            self.path("AREAS_FILE") or (None if sizes == SIZES[0] else sizes),
-            self.area(),
+            part="classes",
+            areas=self.path("AREAS_FILE") or (None if sizes == SIZES[0] else sizes),
+            area=self.area(),
             field=self.text("FIELD") or None,
             labels=self.labels(),
             crs=self.crs(),
         )
-        results = {"OUTPUT": self.put_table("OUTPUT", found.classes)}
-        for name, part in (("MATRIX", found.matrix), ("SUMMARY", summary_of(found))):
-            if self.given.get(name):
+        results = {"OUTPUT": self.put_table("OUTPUT", result.classes)}
+        for name, part in (("MATRIX", result.matrix), ("SUMMARY", summary_of(result))):
+            if self.parameter_values.get(name):
                 results[name] = self.put_table(name, part)
         return results
 
@@ -116,12 +118,13 @@ class SampleAlgorithm(RcellAlgorithm):
 
     def answer(self) -> dict[str, Any]:
         """Return the table."""
-        found = sample(
+        table = self.called(
+            sample,
             self.rasters[0],
             self.text("N"),
             self.text("SEED"),
-            self.word("ALLOCATION"),
+            allocation=self.word("ALLOCATION"),
             labels=self.labels(),
             crs=self.crs(),
         )
-        return {"OUTPUT": self.put_table("OUTPUT", found)}
+        return {"OUTPUT": self.put_table("OUTPUT", table)}

@@ -59,19 +59,19 @@ class AlignAlgorithm(RcellAlgorithm):
 
     def read(self) -> None:
         """Read the raster, and the raster with the grid."""
-        to = self.parameterAsRasterLayer(self.given, "TO", self.context)
+        to = self.parameterAsRasterLayer(self.parameter_values, "TO", self.context)
         if to is None or not to.isValid():
-            raise_unreadable(self.given.get("TO"))
+            raise_unreadable(self.parameter_values.get("TO"))
         self.rasters = [self.raster(), raster_of(to, to.name(), 1)]
 
     def answer(self) -> dict[str, Any]:
         """Return the map and the numbers of cells that were used, repeated and lost."""
         resample = self.word("RESAMPLE")
         way = None if resample == RESAMPLINGS[0] else resample
-        made, aligned = align(self.rasters[0], self.rasters[1], way, crs=self.crs())
+        raster, aligned = align(self.rasters[0], self.rasters[1], way, crs=self.crs())
         facts = aligned._asdict()
         self.feedback.pushInfo(
             ", ".join(f"{name}: {value:.15g}" for name, value in facts.items() if value is not None)
         )
-        path = self.put_map(made, named_classes(made), like=self.rasters[1])
+        path = self.put_map(raster, named_classes(raster), like=self.rasters[1])
         return {"OUTPUT": path, **{name.upper(): value for name, value in facts.items()}}

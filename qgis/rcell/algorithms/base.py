@@ -4,7 +4,7 @@
 from __future__ import annotations
 
 import os
-from collections.abc import Mapping, Sequence
+from collections.abc import Callable, Mapping, Sequence
 from typing import Any, Optional
 
 import qgis.utils
@@ -41,9 +41,10 @@ from ..engine.core.errors import RcellError, ReadFailed, Refused
 from ..engine.core.files import writing
 from ..engine.core.host import Host, serving, warn
 from ..engine.core.protocol import NULL
+from ..engine.core.record import BandOf, RecordedCall, csv_of, make, table_of
 from ..engine.core.sources import ArrayMap, Source, sources_of
 from ..engine.readers.gdal import RasterMap, open_dataset
-from ..host import find_program, host_of, watch_of
+from ..host import find_program, host_of, version, watch_of
 from ..layers import FeatureLayer, colours_of, raster_of, wkt_of, zones_of
 from ..results import MOST_CLASSES, fields_of, put_features, put_legend, put_raster
 from ..tables import Check, check_target, is_file_of_table, no_check, write_table
@@ -72,13 +73,14 @@ class RcellAlgorithm(QgsProcessingAlgorithm):
 
     def __init__(self) -> None:
         super().__init__()
-        self.given: Parameters = {}
+        self.parameter_values: Parameters = {}
         self.context = QgsProcessingContext()
         self.feedback = QgsProcessingFeedback()
         self.rasters: list[Source] = []
         self.zones: Source | FeatureLayer | None = None
         self.colours: dict[int, Any] = {}
         self.check: Check = no_check
+        self.recorded: Optional[RecordedCall] = None
 
     # Methods that QGIS calls
 
@@ -131,23 +133,25 @@ class RcellAlgorithm(QgsProcessingAlgorithm):
         self, parameters: Parameters, context: QgsProcessingContext
     ) -> tuple[bool, str]:
         """Check parameters and rasters before the run, so that the dialog stays open after an error."""
-        self.given, self.context = parameters, context
+        self.parameter_values, self.context = parameters, context
         try:
+            words = self.chosen_words()
             if parameters.get("INPUT") is not None:
                 with serving(Host(words="qgis")):
                     self.check_words()
+                    self.record_path()
                     self.read()
                     _glance(self.glanced())
         except RcellError as error:
             return False, str(error)
-        answer: tuple[bool, str] = super().checkParameterValues(parameters, context)
+        answer: tuple[bool, str] = super().checkParameterValues({**parameters, **words}, context)
         return answer
 
     def prepareAlgorithm(
         self, parameters: Parameters, context: QgsProcessingContext, feedback: QgsProcessingFeedback
     ) -> bool:
         """Read the layers in the main thread, the only one that may use them."""
-        self.given, self.context, self.feedback = parameters, context, feedback
+        self.parameter_values, self.context, self.feedback = parameters, context, feedback
         try:
             with serving(host_of(program_setting(), feedback)):
                 self.read()
@@ -162,7 +166,7 @@ class RcellAlgorithm(QgsProcessingAlgorithm):
         self, parameters: Parameters, context: QgsProcessingContext, feedback: QgsProcessingFeedback
     ) -> dict[str, Any]:
         """Run the program, in a thread of its own; errors have the program's message."""
-        self.given, self.context, self.feedback = parameters, context, feedback
+        self.parameter_values, self.context, self.feedback = parameters, context, feedback
         self.check = watch_of(feedback)
         try:
             with serving(host_of(program_setting(), feedback)), writing(*self.targets()):
@@ -171,6 +175,27 @@ class RcellAlgorithm(QgsProcessingAlgorithm):
             return results
         except RcellError as error:
             raise QgsProcessingException(message_of(error, feedback)) from None
+
+    def chosen_words(self) -> dict[str, str]:
+        """Return the choices that are given, as texts: QGIS itself rejects the number 8 where `8` can be chosen.
+
+        Raises
+        ------
+        Refused
+            There is no such choice.
+        """
+        words = {}
+        for parameter in self.parameterDefinitions():
+            word = self.parameter_values.get(parameter.name())
+            if isinstance(parameter, QgsProcessingParameterEnum) and isinstance(word, (int, str)):
+                options = parameter.options()
+                if str(word) not in options:
+                    listed = ", ".join(map(repr, options))
+                    raise Refused(
+                        f"{parameter.name()} must be one of {listed}; got {word!r}", status=2
+                    )
+                words[parameter.name()] = str(word)
+        return words
 
     # Methods that algorithms override
 
@@ -275,6 +300,8 @@ class RcellAlgorithm(QgsProcessingAlgorithm):
                 name, title or tr("Table"), kind, None, is_optional, not is_optional
             )
         )
+        if name == "OUTPUT":
+            self.add_flag("RECORD", tr("Write a record that Verify can check (CSV tables only)"))
 
     def add_null(self) -> None:
         """Add the parameter for rows of cells without data."""
@@ -282,19 +309,19 @@ class RcellAlgorithm(QgsProcessingAlgorithm):
 
     def text(self, name: str) -> str:
         """Return the text of a parameter."""
-        return str(self.parameterAsString(self.given, name, self.context))
+        return str(self.parameterAsString(self.parameter_values, name, self.context))
 
     def word(self, name: str) -> str:
         """Return the chosen option."""
-        return str(self.parameterAsEnumString(self.given, name, self.context))
+        return str(self.parameterAsEnumString(self.parameter_values, name, self.context))
 
     def flag(self, name: str) -> bool:
         """Return whether a parameter says yes."""
-        return bool(self.parameterAsBoolean(self.given, name, self.context))
+        return bool(self.parameterAsBoolean(self.parameter_values, name, self.context))
 
     def number(self, name: str) -> int:
         """Return the number of a parameter."""
-        return int(self.parameterAsInt(self.given, name, self.context))
+        return int(self.parameterAsInt(self.parameter_values, name, self.context))
 
     def area(self) -> Optional[str]:
         """Return the unit of areas, None for none."""
@@ -303,28 +330,78 @@ class RcellAlgorithm(QgsProcessingAlgorithm):
 
     def path(self, name: str) -> Optional[str]:
         """Return the file that a parameter names, if it names one."""
-        return self.parameterAsFile(self.given, name, self.context) or None
+        return self.parameterAsFile(self.parameter_values, name, self.context) or None
 
     def labels(self) -> Optional[str]:
         """Return the file of labels, if one is named."""
         return self.path("LABELS")
 
+    def record_path(self) -> str:
+        """Return the file of the table that is recorded, or an empty text.
+
+        Raises
+        ------
+        Refused
+            The table is to be recorded, and is not a CSV.
+        """
+        path = plain_path(self.parameter_values.get("OUTPUT")) if self.flag("RECORD") else ""
+        if self.flag("RECORD") and not path.lower().endswith(".csv"):
+            raise Refused("RECORD needs an OUTPUT with a name that ends in .csv", status=2)
+        return path
+
+    def called(
+        self, call: Callable[..., Any], *words: Any, part: Optional[str] = None, **named: Any
+    ) -> Any:
+        """Return the result of a call that returns a table, and record the call if that is asked for.
+
+        Raises
+        ------
+        Refused
+            Only a call over files can be recorded, and the files have another table than the layers.
+        """
+        result, path = call(*words, **named), self.record_path()
+        if path:
+            files = [self.file_of(word) for word in words]
+            options = {name: self.file_of(value) for name, value in named.items()}
+            self.recorded = make(path, call, files, options, part)
+            if csv_of(self.recorded.table) != csv_of(table_of(result, part)):
+                raise Refused(
+                    "RECORD is for files, and these layers show other values, labels or features than their files: "
+                    "save them to new files first",
+                    status=2,
+                )
+        return result
+
+    def file_of(self, argument: Any) -> Any:
+        """Return an argument with the file of each layer in its place."""
+        if isinstance(argument, Mapping):
+            return {name: self.file_of(value) for name, value in argument.items()}
+        if isinstance(argument, list):
+            return [self.file_of(value) for value in argument]
+        files = getattr(argument, "files", ())
+        if files and self.has_band() and argument is self.rasters[0]:
+            return BandOf(files[0], self.number("BAND"))
+        return files[0] if files else argument
+
+    def has_band(self) -> bool:
+        """Return whether a band is chosen."""
+        return self.parameter_values.get("BAND") not in (None, "", -1, 0)
+
     def raster(self) -> Source:
         """Return the band `BAND` of the raster `INPUT` as a map."""
-        layer = self.parameterAsRasterLayer(self.given, "INPUT", self.context)
+        layer = self.parameterAsRasterLayer(self.parameter_values, "INPUT", self.context)
         if layer is None or not layer.isValid():
-            raise_unreadable(self.given["INPUT"])
-        has_band = self.given.get("BAND") not in (None, "", -1, 0)
-        return raster_of(layer, layer.name(), self.number("BAND") if has_band else None)
+            raise_unreadable(self.parameter_values["INPUT"])
+        return raster_of(layer, layer.name(), self.number("BAND") if self.has_band() else None)
 
     def read_zoned(self) -> None:
         """Read the raster of `INPUT` and its zones, if there are zones."""
         self.rasters = [self.raster()]
         self.zones = None
-        if self.given.get("ZONES"):
-            zones = self.parameterAsLayer(self.given, "ZONES", self.context)
+        if self.parameter_values.get("ZONES"):
+            zones = self.parameterAsLayer(self.parameter_values, "ZONES", self.context)
             if zones is None or not zones.isValid():
-                raise_unreadable(self.given["ZONES"])
+                raise_unreadable(self.parameter_values["ZONES"])
             self.zones = zones_of(zones)
         is_raster = self.zones is not None and not isinstance(self.zones, FeatureLayer)
         self.fit([*self.rasters, self.zones] if is_raster else self.rasters)
@@ -349,17 +426,17 @@ class RcellAlgorithm(QgsProcessingAlgorithm):
         RcellError
             A layer cannot be read, or there are too many.
         """
-        given = self.given["INPUT"]
-        values = given if isinstance(given, (list, tuple)) else [given]
+        input = self.parameter_values["INPUT"]
+        values = input if isinstance(input, (list, tuple)) else [input]
         if not values:
             raise Refused("no raster is given", status=2)
-        layers = self.parameterAsLayerList(self.given, "INPUT", self.context)
+        layers = self.parameterAsLayerList(self.parameter_values, "INPUT", self.context)
         for place, value in enumerate(values if len(layers) < len(values) else []):
             if not self.parameterAsLayerList({"INPUT": [value]}, "INPUT", self.context):
                 raise_unreadable(value, names[place] if place < len(names) else "")
         if len(layers) > most:
-            told = f"{len(layers)} rasters, and a table has at most {most}"
-            raise Refused(told, status=2)
+            problem = f"{len(layers)} rasters, and a table has at most {most}"
+            raise Refused(problem, status=2)
         return list(layers)
 
     def crs(self) -> Optional[str]:
@@ -370,17 +447,18 @@ class RcellAlgorithm(QgsProcessingAlgorithm):
         Refused
             The parameter is not a coordinate reference system.
         """
-        given = self.given.get("CRS")
-        wkt = wkt_of(self.parameterAsCrs(self.given, "CRS", self.context))
-        if given and not wkt and isinstance(given, str):
-            raise Refused(f"CRS must be a coordinate reference system; got '{given}'", status=2)
+        parameter = self.parameter_values.get("CRS")
+        wkt = wkt_of(self.parameterAsCrs(self.parameter_values, "CRS", self.context))
+        if parameter and not wkt and isinstance(parameter, str):
+            raise Refused(f"CRS must be a coordinate reference system; got '{parameter}'", status=2)
         return wkt or None
 
     def targets(self) -> list[str]:
         """Return the files that are written, after checking that they can be, before any work is done."""
         destinations = self.destinationParameterDefinitions()
         files = [each.name() for each in destinations if each.type() != "folderDestination"]
-        paths = list(filter(None, (plain_path(self.given.get(name)) for name in files)))
+        paths = list(filter(None, (plain_path(self.parameter_values.get(name)) for name in files)))
+        paths += filter(None, [self.record_path() and f"{self.record_path()}.json"])
         for path in paths:
             check_target(path, self.inputs())
         return paths
@@ -389,7 +467,7 @@ class RcellAlgorithm(QgsProcessingAlgorithm):
         """Return the files that are read."""
         maps = [*self.rasters, *([self.zones] if self.zones else [])]
         files = ("LABELS", "ZONE_LABELS", "RULES_FILE", "AREAS_FILE")
-        named = [self.path(name) for name in files if self.given.get(name)]
+        named = [self.path(name) for name in files if self.parameter_values.get(name)]
         return [path for map in maps for path in map.files] + list(filter(None, named))
 
     def put_map(
@@ -401,7 +479,7 @@ class RcellAlgorithm(QgsProcessingAlgorithm):
         null: int = NULL,
     ) -> str:
         """Write a map with its legend and return its path."""
-        path: str = self.parameterAsOutputLayer(self.given, name, self.context)
+        path: str = self.parameterAsOutputLayer(self.parameter_values, name, self.context)
         put_raster(path, map, like or self.rasters[0], self.check, null)
         if not put_legend(path, classes, self.colours, self.context):
             self.feedback.pushInfo(
@@ -413,20 +491,27 @@ class RcellAlgorithm(QgsProcessingAlgorithm):
         """Write a table to an output: a file, or another sink of QGIS such as a layer in memory."""
         if not len(table):
             warn(tr("The table is empty: all cells are without data or left out."))
-        path = plain_path(self.given.get(name))
+        path = plain_path(self.parameter_values.get(name))
         if path and is_file_of_table(path):
             target: str = QgsProcessingParameters.parameterAsOutputLayer(
-                self.parameterDefinition(name), self.given[name], self.context
+                self.parameterDefinition(name), self.parameter_values[name], self.context
             )
             write_table(target, table, self.check)
+            if name == "OUTPUT" and self.recorded is not None:
+                self.recorded.write(target, version())
             return target
         self.check()
         nowhere = QgsCoordinateReferenceSystem()
         sink, target = self.parameterAsSink(
-            self.given, name, self.context, fields_of(table), QgsWkbTypes.NoGeometry, nowhere
+            self.parameter_values,
+            name,
+            self.context,
+            fields_of(table),
+            QgsWkbTypes.NoGeometry,
+            nowhere,
         )
         if sink is None:
-            raise QgsProcessingException(self.invalidSinkError(self.given, name))
+            raise QgsProcessingException(self.invalidSinkError(self.parameter_values, name))
         put_features(sink, table, target)
         return target
 

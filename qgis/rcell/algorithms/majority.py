@@ -47,13 +47,13 @@ class MajorityAlgorithm(RcellAlgorithm):
     def answer(self) -> dict[str, Any]:
         """Return the map."""
         size = int(self.word("SIZE"))
-        made = majority(self.rasters[0], size, self.flag("FILL"))
-        path = self.put_map(made, named_classes(made))
+        raster = majority(self.rasters[0], size, self.flag("FILL"))
+        path = self.put_map(raster, named_classes(raster))
         return {"OUTPUT": path}
 
 
 class WithinAlgorithm(RcellAlgorithm):
-    """What is within distances of some classes."""
+    """Finds the cells within distances of some classes."""
 
     NAME = "within"
     TITLE = noop("Within a distance of classes")
@@ -62,7 +62,8 @@ class WithinAlgorithm(RcellAlgorithm):
     HELP = (
         noop(
             "<p>Distances are in metres, ascending, between the centres of cells, up to 255 cells. The result is 0 in the "
-            "classes, 1 up to the first distance, 2 up to the second. A map in degrees is an error: reproject it.</p>"
+            "classes, 1 up to the first distance, 2 beyond it and up to the second. As zones of <i>Composition</i> it gives "
+            "the classes of each ring. A map in degrees is an error: reproject it.</p>"
         ),
     )
 
@@ -85,9 +86,9 @@ class WithinAlgorithm(RcellAlgorithm):
     def answer(self) -> dict[str, Any]:
         """Return the map."""
         classes, distances = self.lists()
-        made = within(self.rasters[0], map(int, classes), distances, crs=self.crs())
+        raster = within(self.rasters[0], map(int, classes), distances, crs=self.crs())
         self.colours = {}
-        return {"OUTPUT": self.put_map(made, named_classes(made))}
+        return {"OUTPUT": self.put_map(raster, named_classes(raster))}
 
 
 class AggregateAlgorithm(RcellAlgorithm):
@@ -121,12 +122,12 @@ class AggregateAlgorithm(RcellAlgorithm):
 
     def answer(self) -> dict[str, Any]:
         """Return the map, and the shares if they are requested."""
-        least = self.parameterAsDouble(self.given, "MIN_PERCENT", self.context)
-        found = aggregate(self.rasters[0], self.number("FACTOR"), least, crs=self.crs())
-        made = found.majority
-        results = {"OUTPUT": self.put_map(made, named_classes(made), like=made)}
-        if self.given.get("SHARES"):
-            path = str(self.parameterAsOutputLayer(self.given, "SHARES", self.context))
-            put_shares(path, found.shares, self.check)
+        least = self.parameterAsDouble(self.parameter_values, "MIN_PERCENT", self.context)
+        result = aggregate(self.rasters[0], self.number("FACTOR"), least, crs=self.crs())
+        raster = result.majority
+        results = {"OUTPUT": self.put_map(raster, named_classes(raster), like=raster)}
+        if self.parameter_values.get("SHARES"):
+            path = str(self.parameterAsOutputLayer(self.parameter_values, "SHARES", self.context))
+            put_shares(path, result.shares, self.check)
             results["SHARES"] = path
         return results

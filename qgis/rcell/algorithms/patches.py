@@ -61,9 +61,9 @@ class ClumpAlgorithm(_OfPatches):
     def answer(self) -> dict[str, Any]:
         """Return the map."""
         connectivity, fewest = int(self.word("CONNECTIVITY")), self.number("MIN_CELLS")
-        made = clump(self.rasters[0], connectivity, self.classes(), fewest, crs=self.crs())
+        raster = clump(self.rasters[0], connectivity, self.classes(), fewest, crs=self.crs())
         self.colours = {}
-        return {"OUTPUT": self.put_map(made, named_classes(made), null=0)}
+        return {"OUTPUT": self.put_map(raster, named_classes(raster), null=0)}
 
 
 class PatchesAlgorithm(_OfPatches):
@@ -116,27 +116,28 @@ class PatchesAlgorithm(_OfPatches):
         connectivity = int(self.word("CONNECTIVITY"))
         classes = self.classes()
         min_cells = self.number("MIN_CELLS")
-        found = patches(
+        table = self.called(
+            patches,
             raster,
-            connectivity,
-            self.area(),
-            self.zones,
-            classes,
-            min_cells,
-            self.number("CORE_DEPTH"),
+            connectivity=connectivity,
+            area=self.area(),
+            zones=self.zones,
+            classes=classes,
+            min_cells=min_cells,
+            core_depth=self.number("CORE_DEPTH"),
             labels=self.labels(),
             each=self.flag("EACH"),
             **zoning,
         )
         self.colours = {}
         results = {
-            "PATCHES": len(found),
-            "OUTPUT": self.put_table("OUTPUT", found),
+            "PATCHES": len(table),
+            "OUTPUT": self.put_table("OUTPUT", table),
         }
-        if self.given.get("MAP"):
-            made = clump(raster, connectivity, classes, min_cells, crs=zoning["crs"])
-            legend = _legend(found, raster, zoning["crs"])
-            results["MAP"] = self.put_map(made, legend, "MAP", null=0)
+        if self.parameter_values.get("MAP"):
+            clumps = clump(raster, connectivity, classes, min_cells, crs=zoning["crs"])
+            legend = _legend(table, raster, zoning["crs"])
+            results["MAP"] = self.put_map(clumps, legend, "MAP", null=0)
         return results
 
 
@@ -157,7 +158,8 @@ class SieveAlgorithm(RcellAlgorithm):
             "Give the smallest size in cells or in hectares; in degrees, in cells.</p>"
         ),
         noop(
-            "<p>The outputs count patches and changed cells in the result. Patches that border only cells without data stay.</p>"
+            "<p>The outputs count patches and changed cells in the result. Patches that border only cells without data stay: "
+            "<code>PATCHES_BELOW</code> counts them.</p>"
         ),
     )
 
@@ -178,19 +180,22 @@ class SieveAlgorithm(RcellAlgorithm):
 
     def answer(self) -> dict[str, Any]:
         """Return the map, and the numbers of patches and changed cells."""
-        given = {name: self.given.get(name) not in (None, "") for name in ("MIN_CELLS", "MIN_HA")}
-        fewest = self.number("MIN_CELLS") if given["MIN_CELLS"] else None
-        area = self.parameterAsDouble(self.given, "MIN_HA", self.context)
-        made, facts = sieve(
+        has_limit = {
+            name: self.parameter_values.get(name) not in (None, "")
+            for name in ("MIN_CELLS", "MIN_HA")
+        }
+        fewest = self.number("MIN_CELLS") if has_limit["MIN_CELLS"] else None
+        area = self.parameterAsDouble(self.parameter_values, "MIN_HA", self.context)
+        sieved, facts = sieve(
             self.rasters[0],
             fewest,
-            area if given["MIN_HA"] else None,
+            area if has_limit["MIN_HA"] else None,
             int(self.word("CONNECTIVITY")),
             self.flag("DROP"),
             crs=self.crs(),
         )
-        path = self.put_map(made, named_classes(made))
-        return {"OUTPUT": path, **{name.upper(): it for name, it in facts._asdict().items()}}
+        path = self.put_map(sieved, named_classes(sieved))
+        return {"OUTPUT": path, **{name.upper(): count for name, count in facts._asdict().items()}}
 
 
 class MetricsAlgorithm(RcellAlgorithm):
@@ -203,7 +208,7 @@ class MetricsAlgorithm(RcellAlgorithm):
     HELP = (
         noop(
             "<p>Definitions are as in FRAGSTATS 4, without background. The landscape consists of all cells that have data. "
-            "Edges are between two classes.</p>"
+            "Edges are between two classes: borders of zones and of cells without data do not count.</p>"
         ),
         noop(
             "<p>Each zone is a landscape of its own: patches end at its border. Without a reference system, and in degrees, "
@@ -229,27 +234,29 @@ class MetricsAlgorithm(RcellAlgorithm):
 
     def answer(self) -> dict[str, Any]:
         """Return the table."""
-        found = metrics(
+        table = self.called(
+            metrics,
             self.rasters[0],
-            self.word("LEVEL"),
-            int(self.word("CONNECTIVITY")),
-            self.area(),
-            self.zones,
+            level=self.word("LEVEL"),
+            connectivity=int(self.word("CONNECTIVITY")),
+            area=self.area(),
+            zones=self.zones,
             labels=self.labels(),
             each=self.flag("EACH"),
             **self.zoning(),
         )
-        return {"OUTPUT": self.put_table("OUTPUT", found)}
+        return {"OUTPUT": self.put_table("OUTPUT", table)}
 
 
-def _legend(found: Table, raster: Source, crs: Any) -> list[tuple[int, str]]:
+def _legend(table: Table, raster: Source, crs: Any) -> list[tuple[int, str]]:
     """Return the legend: number, class and size of each patch; too many patches get entries that only count them."""
-    if len(found) > MOST_CLASSES:
-        return [(0, "")] * len(found)
-    values: dict[str, list[Any]] = {column.name: column.listed() for column in found.data}
+    if len(table) > MOST_CLASSES:
+        return [(0, "")] * len(table)
+    values: dict[str, list[Any]] = {column.name: column.listed() for column in table.data}
     labels = values.get("label", values["class"])
     entries = zip(values["patch"], values["class"], labels, values["cells"])
-    return [
-        (number, counted(f"{number}: {code if label is None else label}", cells, raster, crs))
-        for number, code, label, cells in entries
-    ]
+    legend = []
+    for number, code, label, cells in entries:
+        title = f"{number}: {code if label is None else label}"
+        legend.append((number, counted(title, cells, raster, crs)))
+    return legend

@@ -58,12 +58,12 @@ class ReclassAlgorithm(RcellAlgorithm):
         raster = self.rasters[0]
         crosswalk, other = self.path("RULES_FILE"), self.word("OTHER")
         if crosswalk is None:
-            made = _reclassed(raster, self.text("RULES"))
+            reclassified = _reclassed(raster, self.text("RULES"))
         else:
-            made = reclass(raster, crosswalk, None if other == OTHERS[0] else other)
+            reclassified = reclass(raster, crosswalk, None if other == OTHERS[0] else other)
         self.colours = {}
-        classes = counted_classes(made, raster, None)
-        return {"OUTPUT": self.put_map(made, classes)}
+        classes = counted_classes(reclassified, raster, None)
+        return {"OUTPUT": self.put_map(reclassified, classes)}
 
 
 def _reclassed(raster: Source, rules: str) -> ArrayMap:

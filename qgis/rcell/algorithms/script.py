@@ -14,6 +14,7 @@ from qgis.core import (
 )
 
 from ..engine.core.area import flat_measure
+from ..engine.core.arguments import known_names
 from ..engine.core.columns import Table
 from ..engine.core.errors import Refused, WriteFailed
 from ..engine.core.host import Host, serving
@@ -89,11 +90,11 @@ class ScriptAlgorithm(RcellAlgorithm):
                 return
             raise
         self._wanted(plan)
-        tables = [each.line for each in plan if each.command == "r.stats"]
-        if self.given.get("TABLE") and len(tables) != 1:
-            found = ", ".join(f"r.stats in line {line}" for line in tables) or "no r.stats"
-            told = f"expected one table, but the script has {found}: a folder has all outputs"
-            raise Refused(told, "script")
+        tables = [statement.line for statement in plan if statement.command == "r.stats"]
+        if self.parameter_values.get("TABLE") and len(tables) != 1:
+            listed = ", ".join(f"r.stats in line {line}" for line in tables) or "no r.stats"
+            problem = f"expected one table, but the script has {listed}: a folder has all outputs"
+            raise Refused(problem, "script")
 
     def read(self) -> None:
         """Read the rasters with their names in the script, and check that they fit each other."""
@@ -109,13 +110,13 @@ class ScriptAlgorithm(RcellAlgorithm):
         outputs = self._measured(run, [wanted] if wanted else [])
         results: dict[str, Any] = {}
         if wanted:
-            made = outputs.pop()
-            classes = counted_classes(made, run.first, run.crs)
-            results["OUTPUT"] = self.put_map(made, classes)
+            raster_map = outputs.pop()
+            classes = counted_classes(raster_map, run.first, run.crs)
+            results["OUTPUT"] = self.put_map(raster_map, classes)
         tables = [output for _, output in outputs if isinstance(output, Table)]
-        if self.given.get("TABLE"):
+        if self.parameter_values.get("TABLE"):
             results["TABLE"] = self.put_table("TABLE", tables[0])
-        if self.given.get("FOLDER"):
+        if self.parameter_values.get("FOLDER"):
             folder = self.text("FOLDER")
             results["FOLDER"] = self._put_all(folder, outputs, run)
         for line, output in outputs:
@@ -130,17 +131,18 @@ class ScriptAlgorithm(RcellAlgorithm):
         percent = self.flag("PERCENT")
         outputs = run.outputs(wanted)
         count = len(outputs) - len(wanted)
-        return [
-            (output.line, output.table(measure, percent))
-            if isinstance(output, Stats)
-            else (0, output)
-            for output in outputs[:count]
-        ] + outputs[count:]
+        written: list[Any] = []
+        for output in outputs[:count]:
+            if isinstance(output, Stats):
+                written.append((output.line, output.table(measure, percent)))
+            else:
+                written.append((0, output))
+        return written + outputs[count:]
 
     def _named_layers(self) -> list[tuple[str, Any]]:
-        given = self.text("NAMES")
-        layers = self.raster_layers([name.strip() for name in given.split(",")])
-        return list(zip(names_of(layers, given), layers))
+        names = self.text("NAMES")
+        layers = self.raster_layers([name.strip() for name in names.split(",")])
+        return list(zip(names_of(layers, names), layers))
 
     def _plan(self) -> list[Statement]:
         names = [name for name, _ in self._named_layers()]
@@ -155,18 +157,18 @@ class ScriptAlgorithm(RcellAlgorithm):
     def _wanted(self, plan: list[Statement]) -> str:
         """Return the name of the requested map, or an empty text."""
         name: str = self.text("MAP").strip()
-        if not self.given.get("OUTPUT"):
+        if not self.parameter_values.get("OUTPUT"):
             if name:
                 raise Refused(f"the map {name} is requested, but no file for it is given", status=2)
             return ""
-        made = [each.made for each in plan if each.made]
-        if not name and len(made) != 1:
-            maps = f"makes {', '.join(made)}" if made else "makes no map"
-            raise Refused(f"the script {maps}: name the output map", status=2)
-        known = [*(raster.name for raster in self.rasters), *made]
+        maps = [statement.made for statement in plan if statement.made]
+        if not name and len(maps) != 1:
+            result = f"makes {', '.join(maps)}" if maps else "makes no map"
+            raise Refused(f"the script {result}: name the output map", status=2)
+        known = [*(raster.name for raster in self.rasters), *maps]
         if name and self.rasters and name not in known:
-            raise Refused(f"no map {name}: there are {', '.join(known)}", status=2)
-        return name or made[0]
+            raise Refused(f"no map {name}: {known_names('map', known)}", status=2)
+        return name or maps[0]
 
     def _put_all(self, folder: str, outputs: list[tuple[int, Any]], run: Run) -> str:
         """Write a file for each output of the script and return the folder."""
@@ -189,18 +191,20 @@ class ScriptAlgorithm(RcellAlgorithm):
 
 def _shown(line: int, table: Table) -> str:
     """Return the first rows of a table, for the log."""
-    rows = [
-        [
-            "" if value is None else f"{value:.10g}" if isinstance(value, float) else str(value)
-            for value in row
-        ]
-        for row in table.rows[:_SHOWN_ROWS]
-    ]
-    lines = [list(table.columns), *rows]
-    widths = [max(len(each[place]) for each in lines) for place in range(len(table.columns))]
-    text = "\n".join(
-        "  ".join(value.rjust(width) for value, width in zip(each, widths)) for each in lines
-    )
-    rest = len(table) - len(rows)
-    more = f"\n({rest:,} more rows)" if rest > 0 else ""
-    return f"r.stats in line {line}:\n{text}{more}"
+    rows = [list(table.columns)]
+    for row in table.rows[:_SHOWN_ROWS]:
+        rows.append([_cell_text(value) for value in row])
+    widths = [max(map(len, column)) for column in zip(*rows)]
+    lines = [f"r.stats in line {line}:"]
+    for texts in rows:
+        lines.append("  ".join(text.rjust(width) for text, width in zip(texts, widths)))
+    rest = len(table) - _SHOWN_ROWS
+    if rest > 0:
+        lines.append(f"({rest:,} more rows)")
+    return "\n".join(lines)
+
+
+def _cell_text(value: Any) -> str:
+    if value is None:
+        return ""
+    return f"{value:.10g}" if isinstance(value, float) else str(value)

@@ -14,7 +14,7 @@ from ..engine.core.dominant import dominant
 from ..engine.core.errors import Refused
 from ..engine.core.trajectories import trajectories
 from ..engine.core.zonal import zonal
-from ..layers import raster_of
+from ..layers import made_names, raster_of
 from ..results import named_classes
 from ..translation import noop, tr
 from .base import RcellAlgorithm, renamed
@@ -66,16 +66,17 @@ class CompositionAlgorithm(RcellAlgorithm):
 
     def answer(self) -> dict[str, Any]:
         """Return the table."""
-        found = composition(
+        table = self.called(
+            composition,
             self.rasters[0],
-            self.zones,
-            self.area(),
-            self.labels(),
+            zones=self.zones,
+            area=self.area(),
+            labels=self.labels(),
             include_null=self.flag("INCLUDE_NULL"),
             each=self.flag("EACH"),
             **self.zoning(),
         )
-        return {"OUTPUT": self.put_table("OUTPUT", found)}
+        return {"OUTPUT": self.put_table("OUTPUT", table)}
 
 
 class CrossAlgorithm(RcellAlgorithm):
@@ -116,14 +117,16 @@ class CrossAlgorithm(RcellAlgorithm):
 
     def answer(self) -> dict[str, Any]:
         """Return the table."""
-        maps = {f"map_{place}": raster for place, raster in enumerate(self.rasters, 1)}
-        found = cross(
+        names = made_names([raster.name for raster in self.rasters])
+        maps = dict(zip(names, self.rasters))
+        crossed = self.called(
+            cross,
             maps,
             area=self.area(),
             include_null=self.flag("INCLUDE_NULL"),
             crs=self.crs(),
         )
-        table = renamed(found, {name: raster.name for name, raster in maps.items()})
+        table = renamed(crossed, {name: raster.name for name, raster in maps.items()})
         return {"OUTPUT": self.put_table("OUTPUT", table)}
 
 
@@ -171,16 +174,17 @@ class ChangeAlgorithm(RcellAlgorithm):
     def answer(self) -> dict[str, Any]:
         """Return the table and, if they are requested, the matrix and the summary."""
         years = [int(year) for year in numbers_of(self.text("YEARS"), "years")]
-        found = change(
+        result = self.called(
+            change,
             self.rasters,
             years=years or None,
             area=self.area(),
             labels=self.labels(),
             crs=self.crs(),
         )
-        results = {"OUTPUT": self.put_table("OUTPUT", found.table)}
-        for name, part in (("MATRIX", found.matrix), ("SUMMARY", found.summary)):
-            if self.given.get(name):
+        results = {"OUTPUT": self.put_table("OUTPUT", result.table)}
+        for name, part in (("MATRIX", result.matrix), ("SUMMARY", result.summary)):
+            if self.parameter_values.get(name):
                 results[name] = self.put_table(name, part)
         return results
 
@@ -201,7 +205,7 @@ class TrajectoriesAlgorithm(RcellAlgorithm):
             "is the one in which the new class is first seen.</p>"
         ),
         noop(
-            "<p>The changes have a row for each number of changes. The intervals have a row for each two years with what changed "
+            "<p>The changes have a row for each number of changes. The intervals have a row for each pair of consecutive years with what changed "
             "between them, in percent of the area and by year.</p>"
         ),
         _DEGREES,
@@ -230,22 +234,25 @@ class TrajectoriesAlgorithm(RcellAlgorithm):
 
     def answer(self) -> dict[str, Any]:
         """Return the table and, if they are requested, the other tables and the maps."""
-        wanted = {name: title for name, title in self._MAPS.items() if self.given.get(title)}
-        found = trajectories(
+        wanted = {
+            name: title for name, title in self._MAPS.items() if self.parameter_values.get(title)
+        }
+        result = self.called(
+            trajectories,
             self.rasters,
             [int(year) for year in numbers_of(self.text("YEARS"), "years")] or None,
-            self.area(),
+            area=self.area(),
             labels=self.labels(),
             include_maps=bool(wanted),
             crs=self.crs(),
         )
-        results = {"OUTPUT": self.put_table("OUTPUT", found.table)}
-        for name, part in (("CHANGES", found.changes), ("INTERVALS", found.intervals)):
-            if self.given.get(name):
+        results = {"OUTPUT": self.put_table("OUTPUT", result.table)}
+        for name, part in (("CHANGES", result.changes), ("INTERVALS", result.intervals)):
+            if self.parameter_values.get(name):
                 results[name] = self.put_table(name, part)
         for name, title in wanted.items():
-            made = found.maps[name]
-            results[title] = self.put_map(made, named_classes(made), title)
+            raster = result.maps[name]
+            results[title] = self.put_map(raster, named_classes(raster), title)
         return results
 
 
@@ -261,7 +268,7 @@ class ZonalAlgorithm(RcellAlgorithm):
     HELP = (
         noop(
             "<p>Zones without a value have no row. The variance is the population variance; quantiles between two values "
-            "are interpolated. The columns of quantiles are named after their percentages, as q50 and q2_5.</p>"
+            "are interpolated. The columns of quantiles are named after their percentages, for example q50 and q2_5.</p>"
         ),
         _ZONES,
     )
@@ -286,19 +293,20 @@ class ZonalAlgorithm(RcellAlgorithm):
     def answer(self) -> dict[str, Any]:
         """Return the table."""
         quantiles = numbers_of(self.text("QUANTILES"), "quantiles")
-        found = zonal(
+        table = self.called(
+            zonal,
             self.rasters[0],
             self.zones,
-            quantiles,
-            self.number("SCALE") if self.has_scale() else None,
+            quantiles=quantiles,
+            scale=self.number("SCALE") if self.has_scale() else None,
             each=self.flag("EACH"),
             **self.zoning(),
         )
-        return {"OUTPUT": self.put_table("OUTPUT", found)}
+        return {"OUTPUT": self.put_table("OUTPUT", table)}
 
     def has_scale(self) -> bool:
         """Return whether decimals are rounded."""
-        return self.given.get("SCALE") not in (None, "")
+        return self.parameter_values.get("SCALE") not in (None, "")
 
     def glanced(self) -> list[Any]:
         """Return the rasters whose first rows are read before the run: not the values, if they may be decimals."""
@@ -338,23 +346,24 @@ class DominantAlgorithm(RcellAlgorithm):
 
     def answer(self) -> dict[str, Any]:
         """Return the table."""
-        found = dominant(
+        table = self.called(
+            dominant,
             self.rasters[0],
             self.zones,
-            self.area(),
-            self.labels(),
+            area=self.area(),
+            labels=self.labels(),
             each=self.flag("EACH"),
             **self.zoning(),
         )
-        return {"OUTPUT": self.put_table("OUTPUT", found)}
+        return {"OUTPUT": self.put_table("OUTPUT", table)}
 
 
 class AdjacencyAlgorithm(RcellAlgorithm):
-    """Counts the sides between cells of each two classes."""
+    """Counts the sides between the cells of each pair of classes."""
 
     NAME = "adjacency"
     TITLE = noop("Adjacency of classes")
-    SHORT = noop("Counts the sides of cells between each two classes, with their length.")
+    SHORT = noop("Counts the sides of cells between each pair of classes, with their length.")
     TAGS = "adjacency, contact, edges, neighbours, perimeter, fragmentation"
     HELP = (noop("<p>A side counts once. In degrees there are no lengths.</p>"),)
 
@@ -367,8 +376,9 @@ class AdjacencyAlgorithm(RcellAlgorithm):
 
     def answer(self) -> dict[str, Any]:
         """Return the table."""
-        found = adjacency(self.rasters[0], labels=self.labels(), crs=self.crs())
-        return {"OUTPUT": self.put_table("OUTPUT", found)}
+        named = {"labels": self.labels(), "crs": self.crs()}
+        table = self.called(adjacency, self.rasters[0], **named)
+        return {"OUTPUT": self.put_table("OUTPUT", table)}
 
 
 # The lists of numbers that are not whole, and an example of each list.
@@ -396,5 +406,6 @@ def numbers_of(text: str, name: str) -> list[float]:
     except ValueError:
         kind, example = "whole numbers" if is_whole else "numbers", _EXAMPLES[name]
         raise Refused(
-            f"{name} are {kind} with commas between them, as {example}, and not `{text}`", status=2
+            f"{name} must be {kind} with commas between them, for example {example}; got `{text}`",
+            status=2,
         ) from None
