@@ -27,7 +27,7 @@ POLYGONS = re.compile(r"\.(geojson|gpkg|shp|fgb)(\|layername=.*)?$")
 FILES = ("labels", "zone_labels", "rules", "areas")
 KINDS = [
     ("other crs", r"its coordinate reference system is |it has no coordinate reference system"),
-    ("other region", r"not of the region of |shifted by |cells of "),
+    ("other region", r"its grid differs from |shifted by |cells of "),
     ("read failed", r"cannot open|rows \d+ to \d+ cannot be read"),
     (
         "bad map",

@@ -135,8 +135,6 @@ def accuracy(calls: Any) -> Lines:
     part = one_of(calls.random, ("classes", "classes", "matrix", "summary"))
     calls.option("table", part)
     sizes, unit = sizes_of(calls, lc)
-    if kind == "table" and "areas=map" not in calls.found.words:
-        calls.found.maps["lc"].refused.pop("r", None)  # R does not open the map then
     own = lc.labels or (calls.held("ref").labels if kind == "map" else {})
     codes = sorted({code for pair in pairs for code in pair} | set(sizes or {}))
     labels = legend_of(calls, "labels", codes, own)

@@ -43,7 +43,7 @@ def missing_of_python() -> str:
 def missing_of_r() -> str:
     if not shutil.which("Rscript"):
         return "R is not installed"
-    test = 'for (p in c("terra", "data.table", "processx", "rcell")) if (!nzchar(system.file(package = p))) cat(p, "")'
+    test = 'for (p in c("terra", "data.table", "digest", "processx", "rcell")) if (!nzchar(system.file(package = p))) cat(p, "")'
     missing = subprocess.run(
         ["Rscript", "--no-init-file", "-e", test], capture_output=True, text=True
     ).stdout.strip()
@@ -75,7 +75,7 @@ MISSING = {
 PACKAGES = {
     "python": "python3-numpy python3-rasterio python3-pandas",
     "shell": "python3-numpy python3-rasterio python3-pandas",
-    "r": "r-base-core r-cran-terra r-cran-data.table r-cran-processx r-cran-codetools",
+    "r": "r-base-core r-cran-terra r-cran-data.table r-cran-digest r-cran-processx r-cran-codetools",
     "qgis": "python3-qgis python3-gdal python3-numpy",
     "grass": "grass-core python3-numpy",
 }
