@@ -135,10 +135,8 @@ RECLASS_STATS = Task(
     ("reclass", "stats"),
 )
 
-READING = (READ, STATS, WRITE)
-AREAS = (READ, CLUMP, CLUMP_CORNERS)
 NARROW = (READ, STATS, WRITE, CLUMP_WRITE, SUM_WRITE)
-REAL_TASKS = (READ, STATS, WRITE, CLUMP, SUM, LONG_IF)
+REAL_TASKS = (READ, CLUMP, SUM)
 
 TEN_TASKS = "Ten tasks"
 RACED = (
@@ -153,7 +151,6 @@ RACED = (
     RECLASS_STATS,
     WRITE,
 )
-SOME_RACED = (READ, STATS, CLUMP, WRITE)
 # What the program of --limit calls a task.
 LIMIT_WORDS = {
     READ: "read",
@@ -169,16 +166,6 @@ LIMIT_WORDS = {
 def raced(title, kind, tasks=RACED):
     """Tasks over a kind of grid."""
     return Race(f"{title}, 4 million cells", tuple((task, kind) for task in tasks))
-
-
-# Other layouts of a grid's cells: as many digits as the largest, two blanks or tabs between them, or a line each.
-LAYOUTS = tuple(
-    (Task(f"{kind}, {layout}", READ.script, READ.words), f"{kind}@{word}")
-    for kind, layout, word in (
-        ("noise", "cells five places wide", "padded"),
-        ("patchy", "cells five places wide", "padded"),
-    )
-)
 
 
 def over(kind, tasks):
@@ -209,38 +196,19 @@ PARTS = {
         raced("patchy land cover", "patchy"),
         raced("noise", "noise"),
         raced("heights of five digits", "heights:5"),
-        raced("a mask", "mask", SOME_RACED),
-        raced("a coarse zoning", "zones", SOME_RACED),
-        Race("reading other layouts, 4 million cells", LAYOUTS),
     ),
     "Larger maps": (
-        Bench("patchy land cover, 25 million cells", 5000, over("patchy", READING)),
-        Bench("noise, 25 million cells", 5000, over("noise", READING)),
+        Bench("patchy land cover, 25 million cells", 5000, over("patchy", (READ,))),
+        Bench("noise, 25 million cells", 5000, over("noise", (READ,))),
         Bench(
             "negative numbers at random, `null: -9999`, 25 million cells",
             5000,
-            over("negative", READING),
+            over("negative", (READ,)),
         ),
-        Bench("negative patches, `null: -9999`, 25 million cells", 5000, over("cold", READING)),
-        Bench(
-            "a category in each block of 60 by 60 cells, 36 million cells",
-            6000,
-            over("blocks:60", READING),
-        ),
-    ),
-    "Patches of difficult shapes": tuple(
-        Bench(f"{title}, 4 million cells", 2000, over(kind, AREAS))
-        for title, kind in (
-            ("a comb of width 2000", "comb"),
-            ("a spiral", "spiral"),
-            ("a checkerboard", "checkerboard"),
-        )
+        Bench("negative patches, `null: -9999`, 25 million cells", 5000, over("cold", (READ,))),
     ),
     "Dimensions beside C++": (
-        *(
-            Bench(f"noise, 65,535 rows by {cols}", (65535, cols), over("noise", NARROW))
-            for cols in (1, 16)
-        ),
+        Bench("noise, 65,535 rows by 1", (65535, 1), over("noise", NARROW)),
         Bench("r.stats -c of 4 million cells", 2000, COUNTED),
         Bench(
             "r.stats -c of 10 million cells",
@@ -268,10 +236,7 @@ PARTS[REAL_MAPS] = tuple(
     )
 )
 # The title of a table of GRASS is the title of the grid.
-GRASS_GRIDS = (
-    ("patchy land cover, 25 million cells", "patchy", 1, 5000),
-    ("real land and lakes of South-East Asia, 27 million cells", f"{REAL}land", 0, 0),
-)
+GRASS_GRIDS = (("patchy land cover, 25 million cells", "patchy", 1, 5000),)
 TITLES = (*PARTS, "GRASS")
 
 
