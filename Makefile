@@ -108,7 +108,6 @@ bench: bin/rcell
 figures: bin/rcell
 	@sh tools/debian.sh clang grass-core valgrind python3-matplotlib
 	python3 bench/run.py --write $(BENCH)
-	python3 bench/instructions.py --write
 	python3 bench/dimensions.py --write
 	$(PICTURES) speed docs/speed.png
 	-python3 tools/documents/documents.py --texts --write

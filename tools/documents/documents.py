@@ -77,6 +77,9 @@ READING_ROW = re.compile(
 READING_SENTENCE = re.compile(
     r"(for a table of (?P<command>r\.\w+) )(\d+)( lines, )(\d+)( with comments)"
 )
+# What README.md says of the sizes of code and proofs, in thousands of lines.
+SIZES_SENTENCE = re.compile(r"(?<=cover )(\d+)(,000 lines of code, and take )(\d+)(?=,000 lines)")
+SIZES_DIFFER_BY = 0.05  # more needs new numbers
 LANGUAGES = {"console", "pycon", "text", "python", "sh", "antt", "rust"}
 PACKAGES = {
     "gdal_retile.py": "python3-gdal",
@@ -319,6 +322,28 @@ def counts_of_reading(command):
     return re.findall(r"\d+", subprocess.check_output(words, text=True))
 
 
+def lines_below(pattern):
+    """The number of lines of the crates' files of a pattern."""
+    return sum(
+        path.read_bytes().count(b"\n") for path in pathlib.Path(ROOT, "crates").glob(pattern)
+    )
+
+
+def check_sizes(write):
+    """Whether README.md has the sizes of code and of definitions with proofs, nearly; `write` mends them."""
+    code = lines_below("*/src/**/*.rt")
+    proofs = lines_below("*/specs/**/*.antt") + lines_below("*/proofs/**/*.antt")
+    path = pathlib.Path(ROOT, "README.md")
+    document = path.read_text(encoding="utf-8")
+    told = [1000 * int(number) for number in SIZES_SENTENCE.search(document).group(1, 3)]
+    if all(abs(one - own) <= SIZES_DIFFER_BY * own for one, own in zip(told, (code, proofs))):
+        return 1, []
+    if write:
+        right = rf"{round(code / 1000)}\2{round(proofs / 1000)}"
+        path.write_text(SIZES_SENTENCE.sub(right, document), encoding="utf-8")
+    return 0, [f"README.md: the proofs cover {code} lines of code, and take {proofs}"]
+
+
 def check_reading(write):
     """Whether docs/proofs.md and README.md have the numbers of lines that have to be believed; `write` mends them."""
     counted, faults = 0, []
@@ -427,6 +452,7 @@ def main():
         ("the picture of the crates", crate_graph.check),
         ("the manual pages", check_pages),
         ("the numbers of lines", lambda: check_reading(settings.write)),
+        ("the sizes", lambda: check_sizes(settings.write)),
         ("the figures", lambda: figures.check(settings.write)),
     ]
     runs = [

@@ -46,6 +46,7 @@ def licences():
     wanted["CITATION.cff"].append(f"version: {version}")
     for name in HELPERS:
         wanted[f"helpers/{name}"] = [f'VERSION = "{version}"']
+    wanted["python/src/rcell/_version.py"] = [f'__version__ = "{version}"']
     found = [
         f"{name}: does not say {line!r}"
         for name, lines in wanted.items()

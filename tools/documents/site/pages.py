@@ -61,6 +61,7 @@ MENU = {
         "Example rasters": "examples/rasters/README.md",
     },
 }
+TITLES = {name: title for titles in MENU.values() for title, name in titles.items()}
 PICTURES = {
     "islands-islands.png": ("Islands of South-East Asia", "islands.html"),
     "study.png": ("A land-cover study", "tutorial.html"),
@@ -98,7 +99,7 @@ def named(root):
 
 
 def linked(text, name, root, names):
-    """A page whose links lead to the pages of the site; a link to another file of the repository becomes its name."""
+    """A page whose links lead to the pages of the site, by their titles; a link to another file becomes its name."""
 
     def target(found):
         words, path, anchor = found.groups()
@@ -110,7 +111,8 @@ def linked(text, name, root, names):
             return f"{words}({anchor})"
         whole = os.path.normpath(os.path.join(os.path.dirname(name), path))
         if whole in names:
-            return f"{words}({names[whole]}{anchor})"
+            is_file = words == f"[{os.path.basename(whole)}]"
+            return f"{f'[{TITLES[whole]}]' if is_file else words}({names[whole]}{anchor})"
         if whole.endswith((".png", ".svg")):
             return f"{words}({picture_name(whole)})"
         return words.strip("[]") if not words.startswith("!") else words
@@ -175,12 +177,19 @@ SEARCH = """# Search
 
 
 def landing(root):
-    """The first page: what rcell is, with numbers of the README, and one call in four languages."""
+    """The first page: what rcell is, with numbers of the README and of the cases, and one call in four languages."""
     readme = (root / "README.md").read_text(encoding="utf-8")
     lines = re.search(r"for a table of r\.stats (\d+) lines", readme)[1]
     row = re.search(r"^\| table .*\|$", readme, re.MULTILINE)[0].split("|")
+    cases = (path.read_text(encoding="utf-8") for path in (root / "fronts/cases").glob("*.case"))
+    numbers = {
+        "LINES": lines,
+        "REJECTED": str(sum("\nrefused:" in case for case in cases)),
+        "RCELL": row[5].strip(),
+        "GRASS": row[6].strip(),
+    }
     text = (HERE / "landing.txt").read_text(encoding="utf-8")
-    for key, value in (("LINES", lines), ("RCELL", row[5].strip()), ("GRASS", row[6].strip())):
+    for key, value in numbers.items():
         text = text.replace(f"@{key}@", value)
     return re.sub(r"^```(\w+) [^\n]*$", r"```\1", text, flags=re.MULTILINE)
 

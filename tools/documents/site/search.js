@@ -14,7 +14,8 @@ sections.map(section => [section, score(section)]).filter(([, found]) => found).
     const item = document.createElement("li"), link = document.createElement("a"), text = document.createElement("p");
     link.href = section.url;
     link.textContent = section.page === section.title ? section.title : `${section.page}: ${section.title}`;
-    text.textContent = section.text.slice(begin, begin + 240);
+    const end = section.text.indexOf(" ", begin + 240);
+    text.textContent = section.text.slice(begin, end < 0 ? undefined : end);
     item.append(link, text);
     list.append(item);
   });
