@@ -1,4 +1,5 @@
--- What `rcell-pipe` does: what its reads returned, what its writes accepted, and its exit status (profile).
+-- What `rcell-pipe` does, in terms of the bytes that it reads, the bytes that its writes accept, and its exit status
+-- (see the profile).
 use Rattle.std.specs.Prelude.{ℕ, ◌≡◌, false, List, drop, length, Option, None}
 use Rattle.cell_core_devices.specs.Device.{Faults, after_flush, append_known}
 use Rattle.cell_core_devices.specs.declared.source.Asked.{Asked}
@@ -7,12 +8,12 @@ use Rattle.rcell_pipe_response.specs.declared.end.PipeError.{PipeError}
 use Rattle.rcell_pipe_response.specs.RunEnds.{HasResponded, HasUsed, IsOnlyEnd, end_status_after}
 use Rattle.rcell_plan_response.specs.Responses.{form_at, IsAskedBy, IsResponseTo, IsResponseToGiven}
 
--- the bytes that the reads of a source returned that had given some before
+-- the bytes read since `before`
 abbrev pub returned : (before gave : List ℕ) → List ℕ
 returned before gave = drop (length before) gave
 
--- a request was accepted: the input has ended; the writes accepted exactly the response that the definitions give for
--- the bytes that the reads returned; no write failed; and the output was flushed once, after the last byte
+-- the request was accepted: the input has ended; the writes accepted exactly the response defined for the bytes read;
+-- no write failed; and the output was flushed once, after the last byte
 pub record IsDoneExchange (before gave : List ℕ) (asked : Asked) (taken : Option (List ℕ)) (start : Faults)
     (now : Option (List ℕ)) (after : Faults) : Type 0 where
   pub ended : asked ≡ Ended
@@ -21,10 +22,11 @@ pub record IsDoneExchange (before gave : List ℕ) (asked : Asked) (taken : Opti
   pub accepted : now ≡ append_known taken response
   pub flushed : after ≡ after_flush start false
 
--- how the work ends, with the error of the run, the error that the response reports, and how many bytes of it were
--- accepted: the status is the error's; the input was read to its end, up to the first error of the request or until
--- memory ran out; the response, all of it or its first bytes after a failed write, is the one to what the reads
--- returned, whatever is still to come; and a rejected request gets one last frame
+-- how an exchange ends: `error` is the run's error, `reported` the error that the response reports, and `written` the
+-- number of response bytes accepted. The exit status follows from the error. The input was read to its end, or to the
+-- first error in the request, or until memory ran out. The writes accepted the full response to the bytes read, or its
+-- first bytes if a write failed; unread input does not affect it. The response to a rejected request is a single
+-- final frame.
 pub record IsExchange (before gave : List ℕ) (asked : Asked) (taken : Option (List ℕ)) (start : Faults) (now : Option
     (List ℕ)) (after : Faults) (status : ℕ) : Type 0 where
   pub error : Option PipeError

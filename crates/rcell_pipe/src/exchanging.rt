@@ -1,4 +1,4 @@
-//! What the program does with its input and output.
+//! Reads a request from the input and writes its response to the output.
 
 ghost use Rattle.std.specs.Prelude.{◌≡◌};
 ghost use Rattle.rcell_pipe.specs.Exchanges.{IsDoneExchange, IsExchange};
@@ -9,12 +9,12 @@ use rcell_plan_response::responding::respond;
 use std::alloc::Global;
 use std::io::Read;
 
-/// The exit status, and the input as far as it was read.
+/// How an exchange ended: the exit status, and the input with the bytes read from it.
 #[derive(Drop)]
 pub struct Exchanged<R> {
     /// 0 if the request was accepted, 1 if it or its script was rejected, 3 if memory ran out, 4 if a read or a write failed.
     pub status: u8,
-    /// The input.
+    /// The input after the last read.
     pub input: ReadSource<R>,
 }
 
@@ -24,12 +24,12 @@ pub fn exchange<R: Read + Drop, W: Sink>(
     input: ReadSource<R>,
     out: &mut W,
 ) -> Exchanged<R>
-    // Whatever bytes the reads of the input returned: if the exit status is 0, the input has ended, and the writes accepted
-    // exactly the response that the definitions give for these bytes.
+    // For any bytes that the reads return: if the exit status is 0, the input has ended, and the writes have accepted
+    // exactly the response that the specification defines for these bytes.
     ensures done { input.1 ≡ Asked.Going → result.status ≡ 0
         → IsDoneExchange input.0.1 result.input.0.1 result.input.1
         (W.taken out.old) (W.faults out.old) (W.taken out.new) (W.faults out.new) }
-    // How it ends with any status.
+    // Covers all exit statuses.
     ensures ends { input.1 ≡ Asked.Going
         → IsExchange input.0.1 result.input.0.1 result.input.1
         (W.taken out.old) (W.faults out.old) (W.taken out.new) (W.faults out.new) result.status }

@@ -1,11 +1,11 @@
-//! The program `rcell-pipe`: reads a request from standard input, maps as bytes or names, and a
-//! script, and writes its response to standard output.
+//! The program `rcell-pipe`: reads a request (maps, given as bytes or by name, and a script) from standard input, and
+//! writes its response to standard output.
 //!
-//! It takes no arguments, opens no file and prints no error line: `main` passes standard input and output alone.
+//! It accepts no arguments, opens no files and prints no error messages: `main` uses only standard input and output.
 //!
-//! - `exchanging`: `exchange`, all that the program does
+//! - `exchanging`: `exchange` does all the work
 //!
-//! Example: this folder, `stdin` and `stdout`.
+//! Example: `main` below connects `exchange` to `stdin` and `stdout`.
 #![tactic(auto)]
 
 mod exchanging;

@@ -1,4 +1,4 @@
--- What the law of requests states, and two worked requests.
+-- Statement of the law of requests, and two worked requests.
 pub mod SentMaps
 pub mod SentBytes
 pub mod SentQuestions

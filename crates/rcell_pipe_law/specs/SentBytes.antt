@@ -1,5 +1,5 @@
--- The bytes that a caller writes for maps and a script: every length and count precedes what it describes, and numbers
--- have their lowest byte first (profile).
+-- The bytes that a caller writes for maps and a script: each length or count precedes what it counts, and numbers have
+-- their lowest byte first (see the profile).
 use Rattle.std.specs.Prelude.{ℕ, ℤ, pos, ◌+◌, ◌*◌, Bool, true, false, List, [], ◌∷◌, ◌++◌, length, map, flat_map}
 use Rattle.std.specs.Prelude.{Option, is_some, unwrap_or, if◌then◌else◌}
 use Rattle.std.specs.Int.{Width, w8, w16, w32, w64, to_le_bytes, cast_unsigned}
@@ -14,7 +14,7 @@ use Rattle.rcell_pipe_law.specs.SentMaps.{SentCell, SentMap}
 abbrev pub signed_bytes : Width → ℤ → List ℕ
 signed_bytes w number = to_le_bytes w (cast_unsigned w number)
 
--- a text after its length
+-- a text, preceded by its length
 abbrev pub sized : Width → List ℕ → List ℕ
 sized w text = to_le_bytes w (length text) ++ text
 
@@ -31,11 +31,11 @@ abbrev pub one_if : Bool → ℕ
 one_if true = 1
 one_if false = 0
 
--- flag 1: a number stands for null; flag 2: there is a mask
+-- flag 1: a number denotes null; flag 2: the map has a mask
 abbrev pub format_flags : Option ℤ → Bool → ℕ
 format_flags nodata is_masked = one_if (is_some nodata) + 2 * one_if is_masked
 
--- the type, the flags, and the number that stands for null, 0 if none does
+-- the type, the flags, and the number that denotes null, or 0 if none does
 abbrev pub format_bytes : RawFormat → List ℕ
 format_bytes format =
     to_le_bytes w8 (code_of_type format.kind)
@@ -56,11 +56,11 @@ region_bytes m = sized w8 m.north ++ (sized w8 m.south ++ (sized w8 m.east ++ (s
 abbrev pub sent_head : SentMap → List ℕ
 sent_head m = sized w8 m.name ++ (region_bytes m ++ (format_bytes m.format ++ sent_labels m.labels))
 
--- the numbers of a row
+-- the numbers in a row
 abbrev pub numbers_bytes : CellType → List SentCell → List ℕ
 numbers_bytes kind row = flat_map (λ cell. signed_bytes (width_of kind) cell.number) row
 
--- a byte for each number: 1 if it is hidden; nothing without a mask
+-- one byte for each number, 1 if the cell is hidden; empty if the map has no mask
 abbrev pub mask_bytes : Bool → List SentCell → List ℕ
 mask_bytes is_masked row = if is_masked then map (λ cell. one_if cell.hidden) row else []
 
@@ -70,6 +70,6 @@ row_bytes format row = numbers_bytes format.kind row ++ mask_bytes format.is_mas
 abbrev pub map_bytes : SentMap → List ℕ
 map_bytes m = sent_head m ++ flat_map (row_bytes m.format) m.rows
 
--- how many maps there are, and the maps
+-- the number of maps, followed by the maps
 abbrev pub maps_bytes : SentMap → List SentMap → List ℕ
 maps_bytes first others = to_le_bytes w32 (length (first ∷ others)) ++ flat_map map_bytes (first ∷ others)

@@ -1,4 +1,4 @@
--- Two worked requests: the one that docs/pipe.md writes, and one with a second map of negative numbers, a mask and a
+-- Two worked requests: the one in docs/pipe.md, and one with a second map that has negative numbers, a mask and a
 -- label.
 use Rattle.std.specs.Prelude.{ℕ, pos, negsuc, ◌≡◌, true, false, List, [], ◌∷◌, ◌++◌, Some, None, codes}
 use Rattle.cell_core.specs.Grid.{CellValue}
@@ -50,7 +50,7 @@ core_of_heat = record { map = codes "heat"; joining = EdgesAndCorners; depth = 2
 abbrev pub heat_request : SentRequest
 heat_request = record { first = docs_map; others = heat ∷ []; script = script; questions = core_of_heat ∷ [] }
 
--- one map, the script of 22 bytes, no question
+-- one map, a script of 22 bytes, and no questions
 abbrev pub land_bytes : List ℕ
 land_bytes =
     (1 ∷ 0 ∷ 0 ∷ 0 ∷ 4 ∷ []) ++ codes "land"
@@ -59,7 +59,7 @@ land_bytes =
     ++ (2 ∷ 2 ∷ 2 ∷ 255 ∷ 22 ∷ 0 ∷ 0 ∷ 0 ∷ []) ++ codes "r.stats -c input=land\n"
     ++ (0 ∷ 0 ∷ 0 ∷ 0 ∷ [])
 
--- two maps; after each row of the second its mask; a question
+-- two maps, where each row of the second is followed by its mask, and one question
 abbrev pub both_bytes : List ℕ
 both_bytes =
     (2 ∷ 0 ∷ 0 ∷ 0 ∷ 4 ∷ []) ++ codes "land"
@@ -73,7 +73,7 @@ both_bytes =
     ++ (22 ∷ 0 ∷ 0 ∷ 0 ∷ []) ++ codes "r.stats -c input=land\n"
     ++ (1 ∷ 0 ∷ 0 ∷ 0 ∷ 1 ∷ 4 ∷ []) ++ codes "heat" ++ (8 ∷ 2 ∷ 0 ∷ 0 ∷ 0 ∷ 4 ∷ []) ++ codes "land"
 
--- the cells that are meant: 255 is null, and so is what the mask hides
+-- the cells that the numbers denote: 255 and cells that the mask hides are null
 abbrev pub land_cells : List (List CellValue)
 land_cells = (Some (pos 1) ∷ Some (pos 1) ∷ Some (pos 2) ∷ []) ∷ (Some (pos 2) ∷ Some (pos 2) ∷ None ∷ []) ∷ []
 

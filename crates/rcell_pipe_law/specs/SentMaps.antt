@@ -1,4 +1,4 @@
--- What a caller of rcell-pipe has: maps of numbers, and which cells the numbers mean (profile).
+-- The maps that a caller of rcell-pipe sends, and the cells that their numbers denote (see the profile).
 use Rattle.std.specs.Prelude.{ℕ, ℤ, ◌≡◌, ◌<◌, ◌^◌, Bool, true, false, ◌&&◌, ◌||◌, List, ◌∷◌, length, map, All}
 use Rattle.std.specs.Prelude.{IfSome, Some, None, if◌then◌else◌}
 use Rattle.std.specs.Int.{w32, w64}
@@ -21,8 +21,8 @@ pub record SentCell : Type 0 where
   pub number : ℤ
   pub hidden : Bool
 
--- a map of numbers: its edges also as the texts that are sent; the type of the numbers, the number that stands for null
--- if one does, and whether there is a mask; labels; and the rows from north to south
+-- a map of numbers: its edges as numbers and as the texts that are sent; the format: the type of the numbers, the
+-- number that denotes null, if any, and whether the map has a mask; the labels; and the rows from north to south
 pub record SentMap : Type 0 where
   pub name : List ℕ
   pub region : RegionValue
@@ -34,15 +34,15 @@ pub record SentMap : Type 0 where
   pub labels : List LabelValue
   pub rows : List (List SentCell)
 
--- a number is null if the mask of the map hides it or it stands for null
+-- a cell is null if the mask hides it or its number denotes null
 abbrev pub means_null : RawFormat → SentCell → Bool
 means_null format cell = (format.is_masked && cell.hidden) || is_nodata format.nodata cell.number
 
--- and otherwise its own category
+-- the cell that a number denotes: null, or the number as a category
 abbrev pub sent_cell : RawFormat → SentCell → CellValue
 sent_cell format cell = if means_null format cell then None else Some cell.number
 
--- the map that is meant
+-- the map that the numbers denote
 abbrev pub sent_grid : SentMap → Grid
 sent_grid m = record {
   region = m.region;
@@ -50,7 +50,7 @@ sent_grid m = record {
   labels = with_labels no_labels m.labels;
 }
 
--- the maps that are meant, under their names; the first gives the region
+-- the maps that the numbers denote, with their names; the region is the first map's
 abbrev pub sent_shelf : SentMap → List SentMap → ShelfValue
 sent_shelf first others = record {
   region = first.region;
@@ -58,23 +58,23 @@ sent_shelf first others = record {
   maps = map sent_grid (first ∷ others);
 }
 
--- a number of a type
+-- a number that the type can represent
 pub record IsOfType (kind : CellType) (number : ℤ) : Type 0 where
   pub has : has_number kind number ≡ true
   pub fits : FitsSigned w64 number
 
--- a number of the type that is null or a category
+-- a number of the type that is either null or a category
 pub record IsSentCell (format : RawFormat) (cell : SentCell) : Type 0 where
   pub number : IsOfType format.kind cell.number
   pub means : (means_null format cell || is_category cell.number) ≡ true
 
--- a category with a text that fits its length, without a line feed
+-- a category and a text without line feeds, short enough for its length field
 pub record IsSentLabel (label : LabelValue) : Type 0 where
   pub good : is_bad_label label.category label.text ≡ false
   pub category : FitsSigned w32 label.category
   pub text : length label.text < 2 ^ 16
 
--- a short text that spells this coordinate
+-- a short text that spells the coordinate `edge`
 pub record Spells (edge : ℤ) (text : List ℕ) : Type 0 where
   pub short : length text < 2 ^ 8
   pub spelt : coordinate text ≡ Some edge

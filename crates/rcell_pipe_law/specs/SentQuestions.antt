@@ -1,4 +1,4 @@
--- What a caller asks about the patches of a map, and the bytes of it (profile).
+-- A caller's questions about the patches of a map, and their bytes (see the profile).
 use Rattle.std.specs.Prelude.{ℕ, ◌≡◌, ◌<◌, ◌≤◌, ◌^◌, ◌+◌, true, List, [], ◌∷◌, ◌++◌, length, flat_map}
 use Rattle.std.specs.Prelude.{IfSome, Option, unwrap_or}
 use Rattle.std.specs.Int.{w8, w32, to_le_bytes}
@@ -8,8 +8,8 @@ use Rattle.cell_core_values.specs.Name.{is_name}
 use Rattle.rcell_pipe_request.specs.Questions.{QuestionValue}
 use Rattle.rcell_pipe_law.specs.SentBytes.{sized}
 
--- the name of a map, which cells are adjacent, how many steps inside its patch a cell of its core is, and the name of a
--- map of zones, if it has one
+-- the map's name, which cells are adjacent, the depth of the core in steps from its patch's edge, and the name of the
+-- zones' map, if any
 pub record SentQuestion : Type 0 where
   pub map : List ℕ
   pub joining : Joining
@@ -23,7 +23,7 @@ pub record IsSentQuestion (question : SentQuestion) : Type 0 where
   pub fits : question.depth < 2 ^ 32
   pub zones : IfSome question.zones (λ name. is_name name ≡ true)
 
--- questions are numbered in their order
+-- the question with its number; questions are numbered in order
 abbrev pub asked : SentQuestion → ℕ → QuestionValue
 asked question number = record {
   number = number;
@@ -41,13 +41,13 @@ abbrev pub code_of_joining : Joining → ℕ
 code_of_joining Edges = 4
 code_of_joining EdgesAndCorners = 8
 
--- the kind, which is 1, the name, the connectivity, the depth, and the name of the zones or an empty text
+-- the kind (1), the map's name, the connectivity, the depth, and the zones' name or an empty text
 abbrev pub question_bytes : SentQuestion → List ℕ
 question_bytes question =
     to_le_bytes w8 1 ++ (sized w8 question.map
     ++ (to_le_bytes w8 (code_of_joining question.joining) ++ (to_le_bytes w32 question.depth
     ++ sized w8 (unwrap_or question.zones []))))
 
--- how many there are, and the questions
+-- the number of questions, followed by the questions
 abbrev pub questions_bytes : List SentQuestion → List ℕ
 questions_bytes questions = to_le_bytes w32 (length questions) ++ flat_map question_bytes questions

@@ -1,16 +1,16 @@
-//! What the bytes of a request mean for the caller that writes them.
+//! What the bytes of a request mean to the caller that writes them.
 
 ghost use Rattle.rcell_pipe_law.specs.RequestLaw.{SentRequestsAreRead};
 ghost use Rattle.rcell_pipe_law.specs.SentExamples.{SentExamples};
 
-/// The bytes that are written for maps of one region under distinct names, for a script and for questions are read as
-/// exactly these: the region, each cell, each label, each name, each byte of the script, and each question.
+/// A caller writes maps of one region with distinct names, a script and questions. The request is read as exactly
+/// these: the region, each cell, label and name, each byte of the script, and each question.
 pub fn sent_requests_are_read()
     ensures { SentRequestsAreRead }
 {}
 
-/// The request of docs/pipe.md, and one with a mask, a label, negative numbers and a question, byte for byte. So there are
-/// requests of which the law above speaks.
+/// The request of docs/pipe.md, and a request with a mask, a label, negative numbers and a question, byte for byte.
+/// They show that the law above has instances.
 pub fn worked_requests()
     ensures { SentExamples }
 {}

@@ -1,9 +1,9 @@
-//! Laws of requests to rcell-pipe. No code runs.
+//! Laws of requests to rcell-pipe. This crate contains only proofs.
 //!
-//! - `law`: the bytes that a caller writes for maps, a script and questions are read as these
-//! - specs/SentMaps.antt: what a caller has, and which cells its numbers mean
-//! - specs/SentBytes.antt: the bytes that it writes, field by field
-//! - specs/SentQuestions.antt: what it asks about patches, and the bytes of that
+//! - `law`: a request written for maps, a script and questions is read as exactly these
+//! - specs/SentMaps.antt: the caller's maps, and the cells that their numbers denote
+//! - specs/SentBytes.antt: the bytes that the caller writes, field by field
+//! - specs/SentQuestions.antt: the caller's questions about patches, and their bytes
 #![tactic(auto)]
 
 pub mod law;

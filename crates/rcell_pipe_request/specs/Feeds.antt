@@ -1,4 +1,4 @@
--- What a source that is read in blocks gave, what may still be to come, and how far it was asked.
+-- Sources that are read in blocks: the bytes returned so far, the bytes that may still come, and the read state.
 use Rattle.std.specs.Prelude.{ℕ, ◌≡◌, Bool, true, List, ◌++◌, length, Result, Ok, Err}
 use Rattle.cell_core_devices.specs.Device.{Coming, after_bytes}
 use Rattle.cell_core_devices.specs.declared.source.Asked.{Asked}
@@ -13,25 +13,25 @@ use Rattle.rcell_pipe_request.specs.RequestFields.{FieldReading}
 use Rattle.rcell_pipe_request.specs.Supposed.{may_hold}
 use Rattle.rcell_pipe_request.specs.declared.error.RequestError.{RequestError}
 
--- the bytes of a block that are not yet read, all bytes that the source gave, and how far it was asked
+-- the bytes of the block that are not yet read, all bytes that the source has returned, and its read state
 pub record FeedValue : Type 0 where
   pub unread : List ℕ
   pub gave : List ℕ
   pub asked : Asked
 
--- the source may hold this
+-- the source may hold `c`
 abbrev pub fits : Coming → FeedValue → Bool
 fits c f = may_hold f.gave f.asked c
 
--- what is to come after bytes
+-- the given bytes, followed by what is still to come
 abbrev pub after : List ℕ → Coming → Coming
 after bytes c = record { bytes = bytes ++ c.bytes; fails = c.fails }
 
--- what is still to come if the source holds this: the bytes of the block come first
+-- what is still to come if the source holds `c`: first the unread bytes of the block
 abbrev pub left : Coming → FeedValue → Coming
 left c f = after f.unread (after_bytes c (length f.gave))
 
--- how far a source was asked that is reported to have ended or failed, or else still gives bytes
+-- the read state of a source after an error: `Short` means that it ended, `ReadFailed` that it failed
 abbrev pub asked_at : ErrorKind → Asked
 asked_at kinds.Short = Ended
 asked_at kinds.ReadFailed = Failed
@@ -45,43 +45,44 @@ abbrev pub asked_at_request : RequestStop → Asked
 asked_at_request request_stops.Memory = Going
 asked_at_request (request_stops.Error error) = asked_at error.kind
 
--- a source that was going on was asked so far
+-- a source that was still open has the read state `asked` afterwards
 abbrev pub AsksTo : Asked → FeedValue → FeedValue → Type 0
 AsksTo asked old new = old.asked ≡ Going → new.asked ≡ asked
 
--- by a call for the next block
+-- the read state after a request for the next block
 abbrev pub AsksOnce : Result Unit ErrorKind → FeedValue → FeedValue → Type 0
 AsksOnce (Ok done) old new = AsksTo Going old new
 AsksOnce (Err kind) old new = AsksTo (asked_at kind) old new
 
--- whatever the source may hold: the reading of what was to come gives this, and what is to come is what it leaves
+-- for any content of the source: the reading returns `y` for the bytes still to come before the call, and leaves those
+-- after it
 abbrev pub ReadsAs : {Y E : Type 0} → FeedValue → Y → FeedValue → (Coming → Result (Y × Coming) E) → Type 0
 ReadsAs old y new reading =
     (c : Coming) → fits c new ≡ true → (fits c old ≡ true) × (reading (left c old) ≡ Ok (y, left c new))
 
--- whatever the source may hold: the reading has this error
+-- for any content of the source: the reading fails with this error
 abbrev pub FailsWith : {Y E : Type 0} → FeedValue → E → FeedValue → (Coming → Result (Y × Coming) E) → Type 0
 FailsWith old error new reading =
     (c : Coming) → fits c new ≡ true → (fits c old ≡ true) × (reading (left c old) ≡ Err error)
 
--- what the source may hold after calls, it might hold before
+-- any content that the source may hold after the calls, it could hold before
 abbrev pub Continues : FeedValue → FeedValue → Type 0
 Continues old new = (c : Coming) → fits c new ≡ true → fits c old ≡ true
 
--- an error is the reading's; memory may run out at any time
+-- an error is the reading's error; memory may run out at any time
 abbrev pub FieldFails : {Y : Type 0} → FieldStop → FeedValue → FeedValue → (Coming → FieldReading Y) → Type 0
 FieldFails field_stops.Memory old new reading = Continues old new
 FieldFails (field_stops.Error kind) old new reading = FailsWith old kind new reading
 
--- what is returned, seen by `view`, is what the reading gives of what was to come, and what is to come is what it
--- leaves; the source was asked so far, or up to its end or its `Err` if this is the error
+-- the result, seen through `view`, is what the reading returns, and the reading leaves what is still to come; the read
+-- state is `asked`, or end or failure if this is the error
 abbrev pub ReadsAsFar : Asked → {X Y : Type 0} → (X → Y) → FeedValue → Result X FieldStop → FeedValue →
     (Coming → FieldReading Y) → Type 0
 ReadsAsFar asked view old (Ok x) new reading = ReadsAs old (view x) new reading × AsksTo asked old new
 ReadsAsFar asked view old (Err stop) new reading = FieldFails stop old new reading × AsksTo (asked_at_field stop) old
     new
 
--- a field, after which the source continues; or what ends at the end of the source
+-- reads a field, after which the source is still open
 abbrev pub ReadsField : {X Y : Type 0} → (X → Y) → FeedValue → Result X FieldStop → FeedValue → (Coming → FieldReading Y) → Type 0
 ReadsField view old result new reading = ReadsAsFar Going view old result new reading
 
@@ -89,7 +90,7 @@ abbrev pub ReadsToEnd : {X Y : Type 0} → (X → Y) → FeedValue → Result X 
     (Coming → FieldReading Y) → Type 0
 ReadsToEnd view old result new reading = ReadsAsFar Ended view old result new reading
 
--- the same for errors with their places
+-- `FieldFails` for errors with positions
 abbrev pub PlacedFails : {Y : Type 0} → RequestStop → FeedValue → FeedValue → (Coming → Result (Y × Coming) RequestError)
     → Type 0
 PlacedFails request_stops.Memory old new reading = Continues old new

@@ -1,4 +1,4 @@
--- What precedes the rows of a map in a request (profile).
+-- The head of a map in a request: everything before its rows (see the profile).
 use Rattle.std.specs.Prelude.{◌≡◌, ℕ, ℤ, pos, negsuc, Bool, true, false, ◌||◌, nat_le, List, [], ◌∷◌, ◌++◌, map, Option, Some, None, Result, Ok, Err, ◌==◌, if◌then◌else◌}
 use Rattle.std.specs.Ordering.{int_eq}
 use Rattle.std.specs.List.{list_any}
@@ -21,18 +21,18 @@ use Rattle.rcell_pipe_request.specs.declared.error.ErrorKind.TheVariants as kind
 use Rattle.cell_core_values.specs.Answers.{◌>>=◌}
 use Rattle.rcell_pipe_request.specs.RequestFields.{FieldReading, number_at, signed_at, text_at, steps}
 
--- the value, or an error if there is none
+-- the value, or the error if there is none
 abbrev pub wanted : {X : Type 0} → ErrorKind → Coming → Option X → FieldReading X
 wanted kind rest None = Err kind
 wanted kind rest (Some x) = Ok (x, rest)
 
--- a coordinate, as the header of a grid text has it
+-- a coordinate, written as in the header of a grid text
 unfoldable pub coordinate_at : Coming → FieldReading ℤ
 coordinate_at c = do
   text ← text_at w8 c
   wanted kinds.BadNumber text.1 (coordinate text.0)
 
--- the region of six numbers, if they are one
+-- the region, or an error if the six numbers do not form a region
 abbrev pub region_or_error : Coming → Result RegionValue RegionFault → FieldReading RegionValue
 region_or_error rest (Ok region) = Ok (region, rest)
 region_or_error rest (Err error) = Err kinds.BadRegion
@@ -53,7 +53,7 @@ edges_at c = do
   west ← coordinate_at east.1
   Ok (record { north = north.0; south = south.0; east = east.0; west = west.0 }, west.1)
 
--- the edges, then rows and columns as numbers
+-- the edges, then the numbers of rows and columns
 unfoldable pub region_at : Coming → FieldReading RegionValue
 region_at c = do
   edges ← edges_at c
@@ -61,53 +61,51 @@ region_at c = do
   cols ← number_at w32 rows.1
   region_or_error cols.1 (region_fault (record { north = edges.0.north; south = edges.0.south; east = edges.0.east; west = edges.0.west; rows = rows.0; cols = cols.0 }))
 
--- whether a name is none of a map before
+-- no previous map has this name
 abbrev pub is_new : Option ShelfValue → List ℕ → Bool
 is_new None name = true
 is_new (Some shelf) name = is_none (place_of name shelf.names)
 
--- whether a region is the region of the maps before, if there are any
+-- the previous maps, if any, have this region
 abbrev pub is_of_shelf : Option ShelfValue → RegionValue → Bool
 is_of_shelf None region = true
 is_of_shelf (Some shelf) region = is_same_region region shelf.region
 
--- a name
+-- a map name
 unfoldable pub map_name_at : Coming → FieldReading (List ℕ)
 map_name_at c = do
   text ← text_at w8 c
   if is_name text.0 then Ok text else Err kinds.BadName
 
--- a name that no map before has
+-- a name that no previous map has
 unfoldable pub new_name_at : Option ShelfValue → Coming → FieldReading (List ℕ)
 new_name_at shelf c = do
   name ← map_name_at c
   if is_new shelf name.0 then Ok name else Err kinds.NameTwice
 
--- the region of the maps before
+-- a region, which must equal the region of the previous maps
 unfoldable pub same_region_at : Option ShelfValue → Coming → FieldReading RegionValue
 same_region_at shelf c = do
   region ← region_at c
   if is_of_shelf shelf region.0 then Ok region else Err kinds.OtherRegion
 
--- flag 1: a number stands for null, and the type has it; without the flag the number is 0
+-- with flag 1, a number of the type denotes null; without it, the number must be 0
 abbrev pub nodata_of : CellType → ℕ → ℤ → Option (Option ℤ)
 nodata_of kind flags number =
     if (flags == 1) || (flags == 3) then (if has_number kind number then Some (Some number) else None)
     else (if int_eq number (pos 0) then Some None else None)
 
--- the flags
 unfoldable pub flags_at : Coming → FieldReading ℕ
 flags_at c = do
   flags ← number_at w8 c
   if nat_le flags.0 3 then Ok flags else Err kinds.BadFlags
 
--- the type of the cells
 unfoldable pub type_at : Coming → FieldReading CellType
 type_at c = do
   code ← number_at w8 c
   wanted kinds.BadType code.1 (type_of_code code.0)
 
--- the type of the cells, which of its numbers stands for null, and whether there is a mask
+-- the cells' type, the number that denotes null, if any, and whether the map has a mask
 unfoldable pub format_at : Coming → FieldReading RawFormat
 format_at c = do
   kind ← type_at c
@@ -121,15 +119,15 @@ pub record LabelValue : Type 0 where
   pub category : ℤ
   pub text : List ℕ
 
--- whether a text has a line feed
+-- the text contains a line feed
 abbrev pub has_feed : List ℕ → Bool
 has_feed text = list_any (λ b. b == 10) text
 
--- whether a label is bad: its number is -2^31, which is not a category, or its text has a line feed
+-- a label is invalid if its number is -2^31, which is not a category, or its text contains a line feed
 abbrev pub is_bad_label : ℤ → List ℕ → Bool
 is_bad_label category text = int_eq category (negsuc 2147483647) || has_feed text
 
--- a category, and the text of its label
+-- a category and the text of its label
 unfoldable pub label_at : Coming → FieldReading LabelValue
 label_at c = do
   category ← signed_at w32 c
@@ -142,20 +140,19 @@ one_more_label labels c = do
   label ← label_at c
   Ok (labels ++ label.0 ∷ [], label.1)
 
--- how many labels there are, and the labels
+-- the number of labels, then the labels
 unfoldable pub labels_at : Coming → FieldReading (List LabelValue)
 labels_at c = do
   count ← number_at w32 c
   steps one_more_label [] count.0 count.1
 
--- name, region, format and labels
 pub record HeadValue : Type 0 where
   pub name : List ℕ
   pub region : RegionValue
   pub format : RawFormat
   pub labels : List LabelValue
 
--- what precedes the rows of a map; an error of a field is found before the next field is read
+-- the head of a map; an error in a field is reported before the next field is read
 unfoldable pub head_at : Option ShelfValue → Coming → FieldReading HeadValue
 head_at shelf c = do
   name ← new_name_at shelf c
@@ -164,7 +161,7 @@ head_at shelf c = do
   labels ← labels_at format.1
   Ok (record { name = name.0; region = region.0; format = format.0; labels = labels.0 }, labels.1)
 
--- a label without its place in memory
+-- the label as a value
 abbrev pub label_value : Label → LabelValue
 label_value label = record { category = label.category; text = label.text.items }
 
@@ -174,6 +171,6 @@ label_values labels = map label_value labels
 abbrev pub head_value : MapHead → HeadValue
 head_value head = record { name = head.name; region = head.region; format = head.format; labels = label_values head.labels.items }
 
--- whether a label belongs to a category, and has no line feed
+-- the label's number is a category, and its text contains no line feed
 abbrev pub IsGoodLabel : Label → Type 0
 IsGoodLabel label = is_bad_label label.category label.text.items ≡ false

@@ -1,5 +1,5 @@
 -- Rows of cells as bytes.
--- What the bytes of a request denote, and their first error.
+-- The meaning of a request's bytes, and their first error.
 pub mod Numbers
 pub mod RawRows
 pub mod PackedRows

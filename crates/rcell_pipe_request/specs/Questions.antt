@@ -1,4 +1,4 @@
--- What the bytes of the questions of a request denote (profile).
+-- The meaning of the bytes of a request's questions (see the profile).
 use Rattle.std.specs.Prelude.{ℕ, ◌+◌, List, [], ◌∷◌, ◌++◌, length, map, nat_le, Option, Some, None, Ok, Err}
 use Rattle.std.specs.Prelude.{◌==◌, if◌then◌else◌}
 use Rattle.std.specs.Int.{w8, w32}
@@ -12,8 +12,8 @@ use Rattle.rcell_pipe_request.specs.declared.question.Question.{Question}
 use Rattle.rcell_pipe_request.specs.RequestFields.{FieldReading, Placed, error_at, number_at, text_at, end_at, steps}
 use Rattle.rcell_pipe_request.specs.Heads.{wanted}
 
--- a question for the patches of a map: its number in the request, from 1, the name of the map, which cells are
--- adjacent, how many steps inside its patch a cell of its core is, and the name of a map of zones, if it has one
+-- a question about the patches of a map: its number in the request, from 1, the map's name, which cells are adjacent,
+-- the depth of the core in steps from its patch's edge, and the name of the zones' map, if any
 pub record QuestionValue : Type 0 where
   pub number : ℕ
   pub map : List ℕ
@@ -21,23 +21,22 @@ pub record QuestionValue : Type 0 where
   pub depth : ℕ
   pub zones : Option (List ℕ)
 
--- the connectivity of a code
+-- the connectivity with this code
 abbrev pub joining_of_code : ℕ → Option Joining
 joining_of_code code = if code == 4 then Some Edges else (if code == 8 then Some EdgesAndCorners else None)
 
--- the kind, which is 1
+-- the kind of a question, which must be 1
 unfoldable pub question_kind_at : Coming → FieldReading Unit
 question_kind_at c = do
   kind ← number_at w8 c
   if kind.0 == 1 then Ok (tt, kind.1) else Err kinds.BadQuestion
 
--- the connectivity
 unfoldable pub joining_at : Coming → FieldReading Joining
 joining_at c = do
   code ← number_at w8 c
   wanted kinds.BadConnectivity code.1 (joining_of_code code.0)
 
--- the depth, which is at least 1
+-- the depth, which must be at least 1
 unfoldable pub depth_at : Coming → FieldReading ℕ
 depth_at c = do
   depth ← number_at w32 c
@@ -53,7 +52,7 @@ zones_at c = do
   text ← text_at w8 c
   wanted kinds.BadZones text.1 (zones_of_text text.0)
 
--- a question; an error of a field is found before the next field is read
+-- a question; an error in a field is reported before the next field is read
 unfoldable pub question_at : ℕ → Coming → FieldReading QuestionValue
 question_at number c = do
   kind ← question_kind_at c
@@ -63,13 +62,13 @@ question_at number c = do
   zones ← zones_at depth.1
   Ok (record { number = number; map = name.0; joining = joining.0; depth = depth.0; zones = zones.0 }, zones.1)
 
--- the questions so far, and one more; an error has the number of the question in the place of a row
+-- the questions so far, and one more; an error has the question's number in place of a row
 unfoldable pub one_more_question : ℕ → List QuestionValue → Coming → Placed (List QuestionValue)
 one_more_question maps questions c = do
   question ← error_at maps (length questions + 1) (question_at (length questions + 1) c)
   Ok (questions ++ question.0 ∷ [], question.1)
 
--- how many questions there are, and the questions
+-- the number of questions, then the questions
 unfoldable pub questions_at : ℕ → Coming → Placed (List QuestionValue)
 questions_at maps c = do
   count ← error_at maps 0 (number_at w32 c)
@@ -82,7 +81,7 @@ last_questions_at maps c = do
   end ← error_at maps 0 (end_at questions.1)
   Ok (questions.0, end.1)
 
--- a question without the place of its name in memory
+-- the question as a value
 abbrev pub question_value : Question → QuestionValue
 question_value question = record {
   number = question.number;

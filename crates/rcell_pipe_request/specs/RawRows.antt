@@ -1,4 +1,4 @@
--- The cells of a row of bytes: a mask hides cells, one number may stand for null, and every other number is a category.
+-- The cells in a row of bytes: a mask hides cells, one number may denote null, and every other number is a category.
 use Rattle.std.specs.Prelude.{ℕ, ℤ, Bool, false, ◌&&◌, not, nat_lt, List, map, slice_get, Option, Some, None, Result, Ok, Err, ◌==◌, if◌then◌else◌}
 use Rattle.std.specs.Ordering.{int_eq}
 use Rattle.std.specs.List.{list_any, range_with_len}
@@ -8,33 +8,33 @@ use Rattle.rcell_pipe_request.specs.declared.raw_row.RowError.{RowError}
 use Rattle.rcell_pipe_request.specs.declared.raw_row.RowError.TheVariants.{BadMask, OutOfRange}
 use Rattle.rcell_pipe_request.specs.Numbers.{raw_number}
 
--- whether a byte of a mask hides a cell; without a mask there is none
+-- a byte of the mask, if there is a mask, hides a cell unless it is 0
 abbrev pub is_hiding : Option ℕ → Bool
 is_hiding None = false
 is_hiding (Some byte) = not (byte == 0)
 
--- whether a number stands for null
+-- the number denotes null
 abbrev pub is_nodata : Option ℤ → ℤ → Bool
 is_nodata None number = false
 is_nodata (Some nodata) number = int_eq number nodata
 
--- whether a number that no mask hides is neither null nor a category
+-- the number is neither null nor a category
 abbrev pub is_outside : Option ℤ → ℤ → Bool
 is_outside nodata number = not (is_nodata nodata number) && not (is_category number)
 
--- the cell of a number that no mask hides
+-- the cell that a visible number denotes
 abbrev pub cell_of_raw : Option ℤ → ℤ → Option ℤ
 cell_of_raw nodata number = if is_nodata nodata number then None else (if is_category number then Some number else None)
 
--- the cell in a place of a row
+-- the cell at index `place` of a row
 abbrev pub raw_cell : CellType → Option ℤ → List ℕ → List ℕ → ℕ → Option ℤ
 raw_cell kind nodata mask bytes place = if is_hiding (slice_get mask place) then None else cell_of_raw nodata (raw_number kind bytes place)
 
--- whether the number in a place of a row is none of a cell
+-- the number at index `place` of a row is visible, and neither null nor a category
 abbrev pub is_raw_outside : CellType → Option ℤ → List ℕ → List ℕ → ℕ → Bool
 is_raw_outside kind nodata mask bytes place = not (is_hiding (slice_get mask place)) && is_outside nodata (raw_number kind bytes place)
 
--- the places of a row of cols cells
+-- the indexes of a row of `cols` cells
 abbrev pub places : ℕ → List ℕ
 places cols = range_with_len 0 cols
 
@@ -42,19 +42,19 @@ places cols = range_with_len 0 cols
 abbrev pub raw_cells : CellType → Option ℤ → List ℕ → List ℕ → ℕ → List (Option ℤ)
 raw_cells kind nodata mask bytes cols = map (raw_cell kind nodata mask bytes) (places cols)
 
--- whether a row has a number that is none of a cell
+-- some number in the row is not a valid cell
 abbrev pub has_outside : CellType → Option ℤ → List ℕ → List ℕ → ℕ → Bool
 has_outside kind nodata mask bytes cols = list_any (is_raw_outside kind nodata mask bytes) (places cols)
 
--- whether a mask has a byte other than 0 and 1
+-- the mask has a byte other than 0 and 1
 abbrev pub is_bad_mask : List ℕ → Bool
 is_bad_mask mask = list_any (nat_lt 1) mask
 
--- the first error of a row: a mask is looked at before the numbers
+-- the first error of a row: the mask is checked before the numbers
 abbrev pub row_error : CellType → Option ℤ → List ℕ → List ℕ → ℕ → Option RowError
 row_error kind nodata mask bytes cols = if is_bad_mask mask then Some BadMask else (if has_outside kind nodata mask bytes cols then Some OutOfRange else None)
 
--- the error of a result, if it is an error
+-- the error of a result, if any
 abbrev pub error_of : {X : Type 0} → Result X RowError → Option RowError
 error_of (Ok done) = None
 error_of (Err error) = Some error

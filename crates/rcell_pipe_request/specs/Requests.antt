@@ -1,5 +1,5 @@
--- What the bytes of a request denote: maps of one region under distinct names, the bytes of a script, and questions
--- (profile).
+-- The meaning of a request's bytes: maps of one region with distinct names, the bytes of a script, and questions (see
+-- the profile).
 use Rattle.std.specs.Prelude.{ℕ, ◌+◌, ◌-◌, ◌&&◌, nat_le, List, [], ◌∷◌, ◌++◌, length, Option, Some, None, Result, Ok, Err, ◌==◌, if◌then◌else◌}
 use Rattle.std.specs.FinMap as finmap
 use Rattle.std.specs.Ordering.{int_cmp}
@@ -23,7 +23,7 @@ use Rattle.rcell_pipe_request.specs.Heads.{LabelValue, head_at}
 use Rattle.rcell_pipe_request.specs.Rows.{cells_at}
 use Rattle.rcell_pipe_request.specs.declared.head.RawFormat.{RawFormat}
 
--- the error of a field, at its place
+-- the error of a field, with its position
 abbrev pub stop_at : ℕ → ℕ → FieldStop → RequestStop
 stop_at maps row field_stops.Memory = request_stops.Memory
 stop_at maps row (field_stops.Error kind) = request_stops.Error (record { kind = kind; maps = maps; row = row })
@@ -34,24 +34,24 @@ one_more_row maps format cols rows c = do
   row ← error_at maps (length rows + 1) (cells_at format cols c)
   Ok (rows ++ row.0 ∷ [], row.1)
 
--- labels; a later one of a category replaces an earlier one
+-- adds labels; a category's last label replaces earlier ones
 unfoldable pub with_labels : finmap.FinMap int_cmp (List ℕ) → List LabelValue → finmap.FinMap int_cmp (List ℕ)
 with_labels labels [] = labels
 with_labels labels (label ∷ more) = with_labels (finmap.insert labels label.category label.text) more
 
--- a map under its name
+-- a map and its name
 pub record NamedGrid : Type 0 where
   pub name : List ℕ
   pub grid : Grid
 
--- what precedes its rows, and its rows
+-- the head of a map, then its rows
 unfoldable pub map_at : ℕ → Option ShelfValue → Coming → Placed NamedGrid
 map_at maps shelf c = do
   head ← error_at maps 0 (head_at shelf c)
   rows ← steps (one_more_row maps head.0.format head.0.region.cols) [] head.0.region.rows head.1
   Ok (record { name = head.0.name; grid = record { region = head.0.region; rows = rows.0; labels = with_labels no_labels head.0.labels } }, rows.1)
 
--- the shelf of a map, and a shelf with one more map
+-- a shelf with one map
 abbrev pub first_shelf : NamedGrid → ShelfValue
 first_shelf named = record { region = named.grid.region; names = named.name ∷ []; maps = named.grid ∷ [] }
 
@@ -64,32 +64,31 @@ one_more_map shelf c = do
   named ← map_at (length shelf.names) (Some shelf) c
   Ok (shelf_with shelf named.0, named.1)
 
--- how many maps there are
+-- the number of maps
 unfoldable pub count_at : Coming → FieldReading ℕ
 count_at c = do
   count ← number_at w32 c
   if nat_le 1 count.0 && nat_le count.0 65535 then Ok count else Err kinds.BadCount
 
--- the bytes of the script
 unfoldable pub script_at : Coming → FieldReading (List ℕ)
 script_at c = do
   size ← number_at w32 c
   if nat_le size.0 1048576 then bytes_at size.0 size.1 else Err kinds.ScriptSize
 
--- the bytes of the script, which end a request without questions
+-- the script of a request without questions, which ends the request
 unfoldable pub last_script_at : Coming → FieldReading (List ℕ)
 last_script_at c = do
   script ← script_at c
   end ← end_at script.1
   Ok (script.0, end.1)
 
--- maps, a script, and questions about the maps at its end
+-- maps, a script, and questions about the maps that exist at its end
 pub record RunRequestValue : Type 0 where
   pub shelf : ShelfValue
   pub script : List ℕ
   pub questions : List QuestionValue
 
--- how many maps there are, and the first of them
+-- the number of maps, and a shelf with the first map
 unfoldable pub first_map_at : Coming → Placed (ℕ × ShelfValue)
 first_map_at c = do
   count ← error_at 0 0 (count_at c)

@@ -1,4 +1,4 @@
--- The rows of a map in a request: the numbers of the cells, then the mask of the row if there is one (profile).
+-- The rows of a map in a request: each row's numbers, then its mask, if any (see the profile).
 use Rattle.std.specs.Prelude.{ℕ, ◌*◌, List, Option, Some, None, Ok, Err, if◌then◌else◌}
 use Rattle.cell_core_devices.specs.Device.{Coming}
 use Rattle.cell_core.specs.Grid.{CellValue}
@@ -12,21 +12,20 @@ use Rattle.rcell_pipe_request.specs.declared.error.ErrorKind.TheVariants as kind
 use Rattle.cell_core_values.specs.Answers.{◌>>=◌}
 use Rattle.rcell_pipe_request.specs.RequestFields.{FieldReading, bytes_at}
 
--- how many bytes the mask of a row has: one for each cell, or none at all
+-- the number of bytes in a row's mask: one for each cell, or 0 without a mask
 abbrev pub mask_size : RawFormat → ℕ → ℕ
 mask_size format cols = if format.is_masked then cols else 0
 
--- what is wrong with a row
+-- the request error for a row error
 abbrev pub kind_of_row : RowError → ErrorKind
 kind_of_row row_errors.BadMask = kinds.BadMask
 kind_of_row row_errors.OutOfRange = kinds.CellRange
 
--- the cells of a row, if it has no error
+-- the cells of a row, or its error
 abbrev pub cells_or_error : Option RowError → List CellValue → Coming → FieldReading (List CellValue)
 cells_or_error None cells rest = Ok (cells, rest)
 cells_or_error (Some error) cells rest = Err (kind_of_row error)
 
--- a row of cells
 unfoldable pub cells_at : RawFormat → ℕ → Coming → FieldReading (List CellValue)
 cells_at format cols c = do
   bytes ← bytes_at (cols * byte_size format.kind) c

@@ -1,4 +1,4 @@
-//! Why bytes are not a request.
+//! Errors of requests.
 
 ghost use Rattle.std.specs.Prelude.{◌≡◌};
 ghost use Rattle.rcell_pipe_request.specs.declared.error.FieldStop.TheVariants as field_stops;
@@ -20,21 +20,21 @@ pub enum ErrorKind {
     BadCount,
     /// A name is not the name of a map.
     BadName,
-    /// A map before has the name.
+    /// A previous map has the same name.
     NameTwice,
     /// A coordinate is not a number, or has more than 8 decimals.
     BadNumber,
     /// The six numbers are not a region.
     BadRegion,
-    /// The region is not the first map's.
+    /// The region differs from the first map's.
     OtherRegion,
     /// The type of cells is unknown.
     BadType,
     /// The flags are unknown.
     BadFlags,
-    /// The type does not have the nodata value, or it is not 0 without flag 1.
+    /// The type cannot represent the nodata value, or flag 1 is not set and the value is not 0.
     BadNodata,
-    /// A label belongs to no category, or has a line feed.
+    /// A label's number is not a category, or its text contains a line feed.
     BadLabel,
     /// A byte of a mask is neither 0 nor 1.
     BadMask,
@@ -42,19 +42,20 @@ pub enum ErrorKind {
     CellRange,
     /// The script has more than 1048576 bytes.
     ScriptSize,
-    /// There are no such questions.
+    /// A question has an unknown kind.
     BadQuestion,
     /// The connectivity of a question is neither 4 nor 8.
     BadConnectivity,
     /// The depth of a question is 0.
     BadDepth,
-    /// The zones of a question are not the name of a map.
+    /// The name of a question's zones is not a map name.
     BadZones,
     /// There are bytes after the request.
     Trailing,
 }
 
-/// What is wrong, with the number of maps before it and the number of the row or the question, 0 if it belongs to none.
+/// An error and its position: the number of maps before it, and the number of the row or question, or 0 if it is in
+/// neither.
 #[derive(Clone, Copy, Debug, PartialEq, Eq)]
 pub struct RequestError {
     pub kind: ErrorKind,
@@ -62,12 +63,12 @@ pub struct RequestError {
     pub row: u32,
 }
 
-/// Why a field was not read.
+/// Why a field could not be read.
 #[derive(Clone, Copy, Debug)]
 pub enum FieldStop {
     /// Memory ran out.
     Memory,
-    /// The bytes have an error.
+    /// The bytes contain an error.
     Error(ErrorKind),
 }
 
@@ -87,12 +88,12 @@ impl<T: Drop> From<AllocFailed<T>> for FieldStop {
     }
 }
 
-/// Why a request was not read.
+/// Why a request could not be read.
 #[derive(Clone, Copy, Debug, PartialEq, Eq)]
 pub enum RequestStop {
     /// Memory ran out.
     Memory,
-    /// The bytes have an error.
+    /// The bytes contain an error.
     Error(RequestError),
 }
 
@@ -113,7 +114,7 @@ impl<T: Drop> From<AllocFailed<T>> for RequestStop {
 }
 
 impl FieldStop {
-    /// The same at a place.
+    /// Adds the position to an error.
     pub fn at(self, maps: u32, row: u32) -> RequestStop
         ensures { result ≡ stop_at maps row self }
     {

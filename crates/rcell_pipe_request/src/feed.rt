@@ -1,4 +1,4 @@
-//! The fields of a request, read from a source in blocks. No memory is taken for bytes that have not come.
+//! Reads the fields of a request from a source, block by block. Memory is allocated only for bytes that have arrived.
 
 ghost use Rattle.std.specs.Prelude.{◌≡◌, ◌<◌, ◌≤◌, ◌+◌, List, [], true, length, take, drop, ◌++◌, IfOk, IfErr, OnOk};
 ghost use Rattle.std.specs.Int.{w8, w16, w32, w64};
@@ -12,10 +12,10 @@ use std::alloc::{AllocError, Global};
 use std::io::Read;
 use std::marker::Model;
 
-// How many bytes are asked for at once.
+// Number of bytes requested from the source at a time.
 const BLOCK: usize = 65536;
 
-/// The memory of a block.
+/// Allocates the memory for a block.
 pub fn new_block(alloc: Global) -> Result<Vec<u8>, AllocError>
     ensures { IfOk result (λ block. 0 < length block.items) }
 {
@@ -47,7 +47,7 @@ impl<R: Read> Model for Feed<R> {
 }
 
 impl<R: Read> Feed<R> {
-    /// A source that is read in such blocks.
+    /// Creates a feed with an empty buffer `block`.
     pub fn new(block: Vec<u8>, source: ReadSource<R>) -> Feed<R>
         requires { 0 < length block.items }
         ensures { result ≡ record { unread = []; gave = source.0.1; asked = source.1 } }
@@ -60,7 +60,7 @@ impl<R: Read> Feed<R> {
         }
     }
 
-    /// The source, as far as it was asked.
+    /// Returns the source, with all bytes read from it so far.
     pub fn into_source(self) -> ReadSource<R>
     where
         R: Drop,
@@ -76,15 +76,15 @@ impl<R: Read> Feed<R> {
         source
     }
 
-    // Reads the next block if the last one is used up.
+    // Reads the next block if the current one is used up.
     fn refill(&mut self) -> Result<(), ErrorKind>
-        // Whatever the source may hold after the call, it might hold before, with the same bytes to come.
+        // Any content that the source may hold after the call, it could hold before, with the same bytes still to come.
         ensures same { (c : Coming) → fits c self.new ≡ true
             → (fits c self.old ≡ true) × (left c self.new ≡ left c self.old) }
         ensures some { OnOk result (0 < length self.new.unread) }
         ensures end { IfErr result (λ kind. (c : Coming) → fits c self.new ≡ true
             → ((left c self.old).bytes ≡ []) × (kind ≡ ending (left c self.old).fails)) }
-        // Its end and an `Err` are reported as such, and no reader asks again after them.
+        // The end of the source and a read error are reported as such, and the source is not read again after them.
         ensures asked { AsksOnce result self.old self.new }
     {
         if self.at < self.end {
@@ -101,14 +101,14 @@ impl<R: Read> Feed<R> {
         }
     }
 
-    // The bytes of the block that are not yet read.
+    // Returns the bytes of the block that are not yet read.
     fn unread(&self) -> &[u8]
         ensures { result.now ≡ self.now.unread }
     {
         &self.block[self.at..self.end]
     }
 
-    // Passes bytes of the block.
+    // Skips `count` bytes of the block.
     fn pass(&mut self, count: usize)
         requires { count ≤ length self.old.unread }
         ensures { self.new ≡ record self.old { unread = drop count self.old.unread } }
@@ -117,7 +117,7 @@ impl<R: Read> Feed<R> {
     }
 }
 
-// Writes bytes over a slice from a place on.
+// Copies bytes into a slice, starting at `at`.
 fn copy_at(out: &mut [u8], at: usize, bytes: &[u8])
     requires { at + length bytes.now ≤ length out.old }
     ensures front { take (at + length bytes.now) out.new ≡ take at out.old ++ bytes.now }
@@ -146,7 +146,7 @@ pub fn read_into<R: Read>(feed: &mut Feed<R>, out: &mut [u8]) -> Result<(), Fiel
     Ok(())
 }
 
-/// So many bytes. Memory grows with those that have come.
+/// Reads `len` bytes. Memory grows only with the bytes that have arrived.
 pub fn read_bytes<R: Read>(
     alloc: Global,
     feed: &mut Feed<R>,
@@ -168,7 +168,7 @@ pub fn read_bytes<R: Read>(
     Ok(text)
 }
 
-/// A number of 8 bits.
+/// Reads an unsigned 8-bit number.
 #[tactic(auto, unfolding(crate::specs::RequestFields::number_at))]
 pub fn read_u8<R: Read>(feed: &mut Feed<R>) -> Result<u8, FieldStop>
     ensures { ReadsField (λ n. n) feed.old result feed.new (number_at w8) }
@@ -178,7 +178,7 @@ pub fn read_u8<R: Read>(feed: &mut Feed<R>) -> Result<u8, FieldStop>
     Ok(u8::from_le_bytes(bytes))
 }
 
-/// A number of 16 bits.
+/// Reads an unsigned 16-bit number.
 #[tactic(auto, unfolding(crate::specs::RequestFields::number_at))]
 pub fn read_u16<R: Read>(feed: &mut Feed<R>) -> Result<u16, FieldStop>
     ensures { ReadsField (λ n. n) feed.old result feed.new (number_at w16) }
@@ -188,7 +188,7 @@ pub fn read_u16<R: Read>(feed: &mut Feed<R>) -> Result<u16, FieldStop>
     Ok(u16::from_le_bytes(bytes))
 }
 
-/// A number of 32 bits.
+/// Reads an unsigned 32-bit number.
 #[tactic(auto, unfolding(crate::specs::RequestFields::number_at))]
 pub fn read_u32<R: Read>(feed: &mut Feed<R>) -> Result<u32, FieldStop>
     ensures { ReadsField (λ n. n) feed.old result feed.new (number_at w32) }
@@ -198,7 +198,7 @@ pub fn read_u32<R: Read>(feed: &mut Feed<R>) -> Result<u32, FieldStop>
     Ok(u32::from_le_bytes(bytes))
 }
 
-/// A number of 32 bits with a sign.
+/// Reads a signed 32-bit number.
 #[tactic(auto, unfolding(crate::specs::RequestFields::number_at, crate::specs::RequestFields::signed_at))]
 pub fn read_i32<R: Read>(feed: &mut Feed<R>) -> Result<i32, FieldStop>
     ensures { ReadsField (λ n. n) feed.old result feed.new (signed_at w32) }
@@ -208,7 +208,7 @@ pub fn read_i32<R: Read>(feed: &mut Feed<R>) -> Result<i32, FieldStop>
     Ok(i32::from_le_bytes(bytes))
 }
 
-/// A number of 64 bits with a sign.
+/// Reads a signed 64-bit number.
 #[tactic(auto, unfolding(crate::specs::RequestFields::number_at, crate::specs::RequestFields::signed_at))]
 pub fn read_i64<R: Read>(feed: &mut Feed<R>) -> Result<i64, FieldStop>
     ensures { ReadsField (λ n. n) feed.old result feed.new (signed_at w64) }
@@ -218,7 +218,7 @@ pub fn read_i64<R: Read>(feed: &mut Feed<R>) -> Result<i64, FieldStop>
     Ok(i64::from_le_bytes(bytes))
 }
 
-/// A text after its length of 8 bits.
+/// Reads a text that follows its 8-bit length.
 #[tactic(auto, unfolding(crate::specs::RequestFields::text_at))]
 pub fn read_short_text<R: Read>(alloc: Global, feed: &mut Feed<R>) -> Result<Vec<u8>, FieldStop>
     ensures { ReadsField (λ text. text.items) feed.old result feed.new (text_at w8) }
@@ -227,7 +227,7 @@ pub fn read_short_text<R: Read>(alloc: Global, feed: &mut Feed<R>) -> Result<Vec
     read_bytes(alloc, feed, len as usize)
 }
 
-/// A text after its length of 16 bits.
+/// Reads a text that follows its 16-bit length.
 #[tactic(auto, unfolding(crate::specs::RequestFields::text_at))]
 pub fn read_text<R: Read>(alloc: Global, feed: &mut Feed<R>) -> Result<Vec<u8>, FieldStop>
     ensures { ReadsField (λ text. text.items) feed.old result feed.new (text_at w16) }
@@ -236,7 +236,7 @@ pub fn read_text<R: Read>(alloc: Global, feed: &mut Feed<R>) -> Result<Vec<u8>, 
     read_bytes(alloc, feed, len as usize)
 }
 
-/// Nothing comes after what was read.
+/// Checks that no bytes follow.
 #[tactic(auto, unfolding(crate::specs::RequestFields::end_at))]
 pub fn read_end<R: Read>(feed: &mut Feed<R>) -> Result<(), FieldStop>
     ensures { ReadsToEnd (λ done. done) feed.old result feed.new end_at }

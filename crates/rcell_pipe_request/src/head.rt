@@ -1,4 +1,4 @@
-//! What precedes the rows of a map in a request.
+//! Reads the head of a map in a request: everything before its rows.
 
 ghost use Rattle.std.specs.Prelude.{ℕ, ◌≡◌, List, [], length, ◌≤◌, IfOk, All, false};
 ghost use Rattle.std.specs.Option.{option_map};
@@ -18,7 +18,7 @@ use cell_core::shelf::Shelf;
 use std::alloc::Global;
 use std::io::Read;
 
-/// How the rows of a map are kept: the type of the numbers, the number for null, and whether each row has a mask.
+/// The format of a map's rows: the type of the numbers, the number that denotes null, and whether each row has a mask.
 #[derive(Clone, Copy, Debug)]
 pub struct RawFormat {
     pub kind: CellType,
@@ -26,7 +26,7 @@ pub struct RawFormat {
     pub is_masked: bool,
 }
 
-// The edges of a region.
+// A region's coordinates.
 #[derive(Clone, Copy, Debug)]
 struct Edges {
     north: i64,
@@ -42,7 +42,7 @@ pub struct Label {
     pub text: Vec<u8>,
 }
 
-/// Name, region, format and labels of a map.
+/// The name, region, format and labels of a map.
 #[derive(Debug, Drop)]
 pub struct MapHead {
     pub name: Name,
@@ -51,7 +51,7 @@ pub struct MapHead {
     pub labels: Vec<Label>,
 }
 
-// A coordinate, as the header of a grid text has it.
+// Reads a coordinate, written as in the header of a grid text.
 #[tactic(auto, unfolding(crate::specs::Heads::coordinate_at))]
 fn read_coordinate<R: Read>(alloc: Global, feed: &mut Feed<R>) -> Result<i64, FieldStop>
     ensures { ReadsField (λ n. n) feed.old result feed.new coordinate_at }
@@ -63,7 +63,7 @@ fn read_coordinate<R: Read>(alloc: Global, feed: &mut Feed<R>) -> Result<i64, Fi
     }
 }
 
-// Four coordinates.
+// Reads four coordinates.
 #[tactic(auto, unfolding(crate::specs::Heads::edges_at))]
 fn read_edges<R: Read>(alloc: Global, feed: &mut Feed<R>) -> Result<Edges, FieldStop>
     ensures { ReadsField edges_value feed.old result feed.new edges_at }
@@ -80,14 +80,14 @@ fn read_edges<R: Read>(alloc: Global, feed: &mut Feed<R>) -> Result<Edges, Field
     })
 }
 
-// The region of edges, rows and columns.
+// Builds the region from its coordinates, rows and columns.
 fn region_of(edges: Edges, rows: u32, cols: u32) -> Result<Region, RegionFault>
     ensures { result ≡ region_fault (region_value edges rows cols) }
 {
     Region::new(edges.north, edges.south, edges.east, edges.west, rows, cols)
 }
 
-// Four coordinates and two numbers, if they are a region.
+// Reads four coordinates and two counts, and checks that they form a region.
 #[tactic(auto, unfolding(crate::specs::Heads::region_at))]
 fn read_region<R: Read>(alloc: Global, feed: &mut Feed<R>) -> Result<Region, FieldStop>
     ensures { ReadsField (λ region. region) feed.old result feed.new region_at }
@@ -101,7 +101,7 @@ fn read_region<R: Read>(alloc: Global, feed: &mut Feed<R>) -> Result<Region, Fie
     }
 }
 
-// Whether a name is none of a map before.
+// Returns whether no previous map has this name.
 fn is_new(shelf: Option<&Shelf>, name: &Name) -> bool
     ensures { result ≡ is_new (option_map (λ s. s.now) shelf.entry) name.now }
 {
@@ -111,7 +111,7 @@ fn is_new(shelf: Option<&Shelf>, name: &Name) -> bool
     }
 }
 
-// Whether a region is the region of the maps before, if there are any.
+// Returns whether the previous maps, if any, have this region.
 fn is_of_shelf(shelf: Option<&Shelf>, region: Region) -> bool
     ensures { result ≡ is_of_shelf (option_map (λ s. s.now) shelf.entry) region }
 {
@@ -121,7 +121,7 @@ fn is_of_shelf(shelf: Option<&Shelf>, region: Region) -> bool
     }
 }
 
-/// A name.
+/// Reads a map name.
 #[tactic(auto, unfolding(crate::specs::Heads::map_name_at))]
 pub fn read_name<R: Read>(alloc: Global, feed: &mut Feed<R>) -> Result<Name, FieldStop>
     ensures { ReadsField (λ name. name) feed.old result feed.new map_name_at }
@@ -134,7 +134,7 @@ pub fn read_name<R: Read>(alloc: Global, feed: &mut Feed<R>) -> Result<Name, Fie
     }
 }
 
-// A name that no map before has.
+// Reads a name that no previous map has.
 #[tactic(auto, unfolding(crate::specs::Heads::new_name_at))]
 fn read_new_name<R: Read>(
     alloc: Global,
@@ -151,7 +151,7 @@ fn read_new_name<R: Read>(
     Ok(name)
 }
 
-// The region of the maps before.
+// Reads a region that must equal the region of the previous maps.
 #[tactic(auto, unfolding(crate::specs::Heads::same_region_at))]
 fn read_same_region<R: Read>(
     alloc: Global,
@@ -168,7 +168,8 @@ fn read_same_region<R: Read>(
     Ok(region)
 }
 
-// The number that stands for null, if the flags say that one does and the type has it.
+// Returns the number that denotes null, if any. Returns `None` if it is invalid: the type cannot represent it, or it is
+// not 0 although flag 1 is not set.
 fn nodata_of(kind: CellType, flags: u8, number: i64) -> Option<Option<i64>>
     ensures { result ≡ nodata_of kind flags number }
 {
@@ -221,14 +222,14 @@ fn read_format<R: Read>(feed: &mut Feed<R>) -> Result<RawFormat, FieldStop>
     }
 }
 
-// Whether a text has a line feed.
+// Returns whether a text contains a line feed.
 fn has_feed(text: &[u8]) -> bool
     ensures { result ≡ has_feed text.now }
 {
     text.iter().any(|byte| *byte == b'\n')
 }
 
-// Whether a text is none of a label of the category.
+// Returns whether a label is invalid: its number is not a category, or its text contains a line feed.
 fn is_bad_label(category: i32, text: &[u8]) -> bool
     ensures { result ≡ is_bad_label category text.now }
 {
@@ -248,7 +249,7 @@ fn read_label<R: Read>(alloc: Global, feed: &mut Feed<R>) -> Result<Label, Field
     Ok(Label { category, text })
 }
 
-// Reads one label more.
+// Reads one more label.
 #[tactic(auto, unfolding(crate::specs::Heads::one_more_label))]
 fn push_label<R: Read>(
     alloc: Global,
@@ -264,7 +265,7 @@ fn push_label<R: Read>(
     Ok(())
 }
 
-// So many labels.
+// Reads `count` labels.
 fn read_so_many_labels<R: Read>(
     alloc: Global,
     feed: &mut Feed<R>,
@@ -294,7 +295,7 @@ fn read_labels<R: Read>(alloc: Global, feed: &mut Feed<R>) -> Result<Vec<Label>,
     read_so_many_labels(alloc, feed, count)
 }
 
-/// What precedes the rows of a map, if the maps before are on this shelf.
+/// Reads everything before the rows of a map. The shelf contains the previous maps.
 #[tactic(auto, unfolding(crate::specs::Heads::head_at))]
 pub fn read_head<R: Read>(
     alloc: Global,

@@ -1,10 +1,10 @@
-//! The types of numbers.
+//! The types of the numbers in a request.
 
 ghost use Rattle.std.specs.Prelude.{◌≡◌, ◌+◌, ◌*◌, ◌<◌, ◌≤◌, length, take, drop, true};
 ghost use Rattle.rcell_pipe_request.specs.Numbers.{type_of_code, byte_size, raw_number, has_number};
 ghost use Rattle.rcell_pipe_request.specs.parts.NarrowNumbers.{is_narrow};
 
-/// How a number is kept as bytes: its size in bits and whether it has a sign.
+/// A number's size in bits, and whether it is signed.
 #[derive(Clone, Copy, Debug, PartialEq, Eq)]
 pub enum CellType {
     U8,
@@ -17,7 +17,7 @@ pub enum CellType {
 }
 
 impl CellType {
-    /// The type of a code from 1 to 7.
+    /// Returns the type with this code, from 1 to 7.
     pub fn of_code(code: u8) -> Option<CellType>
         ensures { result ≡ type_of_code code }
     {
@@ -33,7 +33,7 @@ impl CellType {
         }
     }
 
-    /// How many bytes a number has.
+    /// Returns the number of bytes of a number.
     pub fn size(self) -> usize
         ensures value { result ≡ byte_size self }
         ensures some { 0 < result }
@@ -47,7 +47,7 @@ impl CellType {
         }
     }
 
-    /// Whether the type has a number.
+    /// Returns whether the type can represent a number.
     pub fn has(self, number: i64) -> bool
         ensures { result ≡ has_number self number }
     {
@@ -63,7 +63,7 @@ impl CellType {
     }
 }
 
-// The number of two bytes from a place on.
+// Returns two bytes, starting at `at`.
 #[inline(always)]
 fn two(bytes: &[u8], at: usize) -> [u8; 2]
     requires { at + 2 ≤ length bytes.now }
@@ -72,7 +72,7 @@ fn two(bytes: &[u8], at: usize) -> [u8; 2]
     [bytes[at], bytes[at + 1]]
 }
 
-// Four bytes from a place on.
+// Returns four bytes, starting at `at`.
 #[inline(always)]
 fn four(bytes: &[u8], at: usize) -> [u8; 4]
     requires { at + 4 ≤ length bytes.now }
@@ -81,7 +81,7 @@ fn four(bytes: &[u8], at: usize) -> [u8; 4]
     [bytes[at], bytes[at + 1], bytes[at + 2], bytes[at + 3]]
 }
 
-// Eight bytes from a place on.
+// Returns eight bytes, starting at `at`.
 #[inline(always)]
 fn eight(bytes: &[u8], at: usize) -> [u8; 8]
     requires { at + 8 ≤ length bytes.now }
@@ -99,7 +99,7 @@ fn eight(bytes: &[u8], at: usize) -> [u8; 8]
     ]
 }
 
-/// The number in a place of a row, counted from 0.
+/// Returns the number at index `place` of a row.
 #[inline(always)]
 pub fn raw_number(kind: CellType, bytes: &[u8], place: usize) -> i64
     requires { (place + 1) * byte_size kind ≤ length bytes.now }
@@ -116,7 +116,8 @@ pub fn raw_number(kind: CellType, bytes: &[u8], place: usize) -> i64
     }
 }
 
-/// The number in a place of a row, if an `i32` holds each number of the type. A vector holds more numbers of 32 bits than of 64.
+/// Returns the number at index `place` of a row whose type fits in an `i32`. A vector register holds more 32-bit than
+/// 64-bit numbers.
 #[inline(always)]
 pub(crate) fn narrow_number(kind: CellType, bytes: &[u8], place: usize) -> i32
     requires size { (place + 1) * byte_size kind ≤ length bytes.now }

@@ -1,15 +1,15 @@
-//! Requests of `rcell-pipe`: from bytes to maps, a script and questions, or their first error.
-//! docs/pipe.md defines the bytes (profile).
+//! Requests to `rcell-pipe`: parses bytes into maps, a script and questions, or reports the first error. docs/pipe.md
+//! defines the bytes (see the profile).
 //!
-//! - `request`: `read_run`, a `Request`: maps of one region, a script, and questions
-//! - `question`: `Question`, about the patches of a map; private `questions`: from bytes
-//! - `error`: `RequestError`, the first error, after how many maps and in which row
-//! - `feed`: `Feed`, a source in blocks; numbers with their lowest byte first, texts
-//! - `head`: `read_head`, what precedes the rows of a map; private `named_map`: the map
+//! - `request`: `read_run` reads a `Request`: maps of one region, a script, and questions
+//! - `question`: `Question`, about the patches of a map; private `questions` reads them
+//! - `error`: `RequestError`, the first error, with the number of maps before it and its row
+//! - `feed`: `Feed` reads a source in blocks: numbers with their lowest byte first, and texts
+//! - `head`: `read_head` reads everything before the rows of a map; private `named_map` reads the map
 //! - `kind`: `CellType`, the seven types of numbers
-//! - `raw_row`: `read_row`, a row of bytes as a row of cells; `packed_row`, the same for `u8`
+//! - `raw_row`: `read_row` converts a row of bytes to cells; `packed_row` does so in place for `u8`
 //!
-//! Of tools/test_pipe.py: edges, type 1 (`u8`), rows, and 255 for null:
+//! From tools/test_pipe.py: edges, type 1 (`u8`), rows, and 255 for null:
 //!
 //! ```
 //! land = Raster(b"land", (b"2", b"0", b"3", b"0"), 1, [[1, 1, 2], [2, 2, 255]], 255)

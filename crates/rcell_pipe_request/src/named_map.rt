@@ -1,4 +1,4 @@
-//! Maps in a request: what precedes their rows, and the rows.
+//! Reads a map of a request: its head and its rows.
 
 ghost use Rattle.std.specs.Prelude.{◌≡◌, ◌+◌, ◌*◌, ◌<◌, ◌≤◌, List, [], ◌∷◌, ◌++◌, length, map, true, Ok, OnOk, IfOk, All};
 ghost use Rattle.std.specs.Option.{option_map};
@@ -27,7 +27,7 @@ use cell_core::shelf::Shelf;
 use std::alloc::Global;
 use std::io::Read;
 
-/// A map under its name.
+/// A map and its name.
 #[derive(Debug, Drop)]
 pub struct NamedMap {
     pub name: Name,
@@ -43,7 +43,8 @@ fn kind_of_row(error: RowError) -> ErrorKind
     }
 }
 
-// Reads a row, by a slice for its bytes and one for its mask: packed into its bytes, or else into a slice of cells.
+// Reads a row's numbers and mask into buffers. Packs the cells into their bytes if possible, or else writes them to
+// `cells`.
 #[tactic(auto, unfolding(crate::specs::Rows::cells_at))]
 fn read_cells<R: Read>(
     feed: &mut Feed<R>,
@@ -135,7 +136,7 @@ fn push_rows<R: Read>(
     Ok(())
 }
 
-// The map of the rows, without labels.
+// Reads the rows into a map without labels.
 fn read_rows<R: Read>(
     alloc: Global,
     feed: &mut Feed<R>,
@@ -177,7 +178,7 @@ fn set_label(map: &mut CellMap, label: &Label) -> Result<(), Memory>
     map.set_label(label.category, &label.text)
 }
 
-// Sets the labels of a map, one after another.
+// Sets the labels of a map, in order.
 fn set_labels(map: &mut CellMap, labels: &[Label]) -> Result<(), Memory>
     requires { All IsGoodLabel labels.now }
     ensures { OnOk result (map.new ≡ record map.old {
@@ -193,7 +194,7 @@ fn set_labels(map: &mut CellMap, labels: &[Label]) -> Result<(), Memory>
     Ok(())
 }
 
-/// A map under its name, if the maps before are on this shelf.
+/// Reads a map and its name. The shelf contains the previous maps.
 #[tactic(auto, unfolding(crate::specs::Requests::map_at))]
 pub fn read_named_map<R: Read>(
     alloc: Global,

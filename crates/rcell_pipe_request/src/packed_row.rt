@@ -1,4 +1,4 @@
-//! Rows of `u8` numbers, packed into the bytes in which maps keep small cells.
+//! Rows of `u8` numbers, packed into bytes as maps store small cells.
 
 ghost use Rattle.std.specs.Prelude.{◌≡◌, ◌≢◌, ◌<◌, ◌*◌, ℕ, pos, ◌==◌, true, false, length, map, slice_get, slice_index_or, Ok, IfOk};
 ghost use Rattle.cell_core_values.specs.SmallCells.{cells_of_bytes};
@@ -12,10 +12,10 @@ use crate::kind::CellType;
 use crate::raw_row::{RowError, is_bad_mask, is_hidden, is_nodata, read_row};
 use cell_core_values::cell::Cell;
 
-// The byte that stands for null in a packed row.
+// The byte that denotes null in a packed row.
 const NULL: u8 = 255;
 
-// The number below 255 that stands for null, or 255 if none does.
+// Returns the number below 255 that denotes null, or 255 if there is none.
 fn null_byte(nodata: Option<i64>) -> u8
     ensures { (number : ℕ) → number < 255
         → (number == result) ≡ is_nodata nodata (pos number) }
@@ -32,7 +32,7 @@ fn null_byte(nodata: Option<i64>) -> u8
     }
 }
 
-// Whether a number that no mask hides is 255.
+// Returns whether a number that no mask hides is 255.
 #[inline(always)]
 fn has_255(mask: &[u8], bytes: &[u8]) -> bool
     ensures { result ≡ false → (place : ℕ) → place < length bytes.now
@@ -45,13 +45,13 @@ fn has_255(mask: &[u8], bytes: &[u8]) -> bool
     found
 }
 
-// The number in a place, packed.
+// Returns the packed number at index `place`.
 #[inline(always)]
 fn packed_byte(mask: &[u8], null: u8, bytes: &[u8], place: usize) -> u8
     requires { place < length bytes.now }
     ensures { result ≡ packed_byte mask.now null bytes.now place }
 {
-    // The number is read whether it is hidden or not, so that a vector takes several at a time.
+    // The number is read even if it is hidden, so that the loop can be vectorized.
     let byte = bytes[place];
     if is_hidden(mask, place) | (byte == null) {
         NULL
@@ -71,7 +71,7 @@ fn pack_all(mask: &[u8], null: u8, bytes: &mut [u8])
     }
 }
 
-// The same as pack_row, with a mask that the compiler may know to be empty.
+// Does the work of `pack_row`. Inlined, so that the compiler may know that the mask is empty.
 #[inline(always)]
 fn pack_hidden(nodata: Option<i64>, mask: &[u8], bytes: &mut [u8]) -> bool
     ensures packed { result ≡ true → cells_of_bytes bytes.new
@@ -88,8 +88,8 @@ fn pack_hidden(nodata: Option<i64>, mask: &[u8], bytes: &mut [u8]) -> bool
     true
 }
 
-/// Packs a row of `u8` numbers into the bytes of its cells, 255 for null. An empty mask hides nothing.
-/// Returns false, and leaves the row, if one of the cells is the category 255, which has no byte.
+/// Packs a row of `u8` numbers into the bytes of its cells, with 255 for null. An empty mask hides nothing. Returns
+/// false and leaves the row unchanged if a cell is the category 255, which cannot be packed.
 pub fn pack_row(nodata: Option<i64>, mask: &[u8], bytes: &mut [u8]) -> bool
     ensures packed { result ≡ true → cells_of_bytes bytes.new
         ≡ raw_cells U8 nodata mask.now bytes.old (length bytes.old) }
@@ -101,19 +101,19 @@ pub fn pack_row(nodata: Option<i64>, mask: &[u8], bytes: &mut [u8]) -> bool
     if mask.is_empty() {
         pack_hidden(nodata, &[], bytes)
     } else if mask.len() == bytes.len() {
-        // Here the compiler knows that each number has a byte of the mask, and takes several at a time.
+        // Here the compiler knows that the mask has a byte for each number, and can vectorize the loop.
         pack_hidden(nodata, mask, bytes)
     } else {
         pack_hidden(nodata, mask, bytes)
     }
 }
 
-/// Reads a row of numbers: packs it, if bytes stand for all of its cells, and returns true, or else reads it into a slice of
-/// as many cells and returns false. An empty mask hides nothing.
+/// Reads a row of numbers. Packs it in place and returns true if each cell fits in a byte, or else writes the cells to
+/// a slice of the same length and returns false. An empty mask hides nothing.
 ///
 /// # Errors
 ///
-/// The first [`RowError`] in the order of its variants.
+/// Returns the first [`RowError`], in the order of its variants.
 pub fn read_or_pack_row(
     kind: CellType,
     nodata: Option<i64>,

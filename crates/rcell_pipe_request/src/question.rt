@@ -1,22 +1,22 @@
-//! Questions about the maps of a script.
+//! Questions about the maps that a script produces.
 
 ghost use Rattle.std.specs.Prelude.{◌<◌};
 
 use cell_cats_areas::clump::Joining;
 use cell_core::name::Name;
 
-/// A question: the patches of a map that the script knows at its end.
+/// A question about the patches of a map that exists at the end of the script.
 #[derive(Debug, Drop)]
 pub struct Question {
-    /// Its number in the request, from 1.
+    /// The question's number in the request, from 1.
     pub number: u32,
     /// The name of the map.
     pub map: Vec<u8>,
     /// Which cells are adjacent.
     pub joining: Joining,
-    /// How many steps inside its patch a cell of its core is, at least 1.
+    /// The depth of the core, in steps from the edge of its patch, at least 1.
     pub depth: u32,
-    /// The name of a map of zones: the patches are asked for with their main zones.
+    /// The name of a map of zones, if each patch's main zone is wanted.
     pub zones: Option<Name>,
     pub ghost positive: { 0 < depth },
 }

@@ -1,4 +1,4 @@
-//! The questions of a request, read from its bytes.
+//! Reads the questions of a request.
 
 ghost use Rattle.std.specs.Prelude.{◌≡◌, ◌+◌, ◌<◌, ◌≤◌, [], length, OnOk, IfOk};
 ghost use Rattle.rcell_pipe_request.specs.RequestFields.{steps};
@@ -13,7 +13,7 @@ use cell_core::name::{Name, NameFault};
 use std::alloc::Global;
 use std::io::Read;
 
-// The kind of a question, which is that it asks for patches.
+// Reads the kind of a question. The only kind is 1, which asks for patches.
 #[tactic(auto, unfolding(crate::specs::Questions::question_kind_at))]
 fn read_question_kind<R: Read>(feed: &mut Feed<R>) -> Result<(), FieldStop>
     ensures { ReadsField (λ done. done) feed.old result feed.new question_kind_at }
@@ -48,7 +48,7 @@ fn read_depth<R: Read>(feed: &mut Feed<R>) -> Result<u32, FieldStop>
     Err(FieldStop::Error(ErrorKind::BadDepth))
 }
 
-// The name of a map of zones, or none.
+// Reads the name of a map of zones, or `None` if it is empty.
 #[tactic(auto, unfolding(crate::specs::Questions::zones_at))]
 fn read_zones<R: Read>(alloc: Global, feed: &mut Feed<R>) -> Result<Option<Name>, FieldStop>
     ensures { ReadsField (λ zones. zones) feed.old result feed.new zones_at }
@@ -64,7 +64,7 @@ fn read_zones<R: Read>(alloc: Global, feed: &mut Feed<R>) -> Result<Option<Name>
     }
 }
 
-// A question under its number.
+// Reads a question and gives it its number.
 #[tactic(auto, unfolding(crate::specs::Questions::question_at))]
 fn read_question<R: Read>(
     alloc: Global,
@@ -87,7 +87,7 @@ fn read_question<R: Read>(
     })
 }
 
-// Reads one question more.
+// Reads one more question.
 #[tactic(auto, unfolding(crate::specs::Questions::one_more_question))]
 fn push_question<R: Read>(
     alloc: Global,
@@ -110,7 +110,7 @@ fn push_question<R: Read>(
     Ok(())
 }
 
-// So many questions.
+// Reads `count` questions.
 fn read_so_many_questions<R: Read>(
     alloc: Global,
     feed: &mut Feed<R>,
@@ -146,7 +146,7 @@ fn read_questions<R: Read>(
     read_so_many_questions(alloc, feed, maps, count)
 }
 
-/// The questions after so many maps and a script, which end the request. Memory grows with the bytes that have come.
+/// Reads the questions, which end the request. Memory grows only with the bytes that have arrived.
 #[tactic(auto, unfolding(crate::specs::Questions::last_questions_at))]
 pub(crate) fn read_last_questions<R: Read>(
     alloc: Global,

@@ -1,4 +1,4 @@
-//! Rows of bytes are read as rows of cells.
+//! Converts rows of bytes to rows of cells.
 
 ghost use Rattle.std.specs.Prelude.{◌≡◌, ◌≤◌, ◌+◌, ◌*◌, ◌&&◌, not, true, ℤ, Option, length, slice_get, OnOk};
 ghost use Rattle.cell_core_values.specs.Cell.{is_category};
@@ -9,7 +9,7 @@ ghost use Rattle.rcell_pipe_request.specs.RawRows.{is_hiding, is_nodata, is_outs
 use crate::kind::{CellType, narrow_number, raw_number};
 use cell_core_values::cell::Cell;
 
-/// Why a row of bytes is not a row of cells: the first reason in this order.
+/// Why a row of bytes is not a row of cells. The first variant that applies is reported.
 #[derive(Clone, Copy, Debug, PartialEq, Eq)]
 pub enum RowError {
     /// A byte of the mask is neither 0 nor 1.
@@ -18,7 +18,7 @@ pub enum RowError {
     OutOfRange,
 }
 
-// Whether the mask hides the cell in a place.
+// Returns whether the mask hides the cell at index `place`.
 #[inline(always)]
 pub(crate) fn is_hidden(mask: &[u8], place: usize) -> bool
     ensures { result ≡ is_hiding (slice_get mask.now place) }
@@ -29,7 +29,7 @@ pub(crate) fn is_hidden(mask: &[u8], place: usize) -> bool
     }
 }
 
-// Whether a number stands for null.
+// Returns whether a number denotes null.
 #[inline(always)]
 pub(crate) fn is_nodata(nodata: Option<i64>, number: i64) -> bool
     ensures { result ≡ is_nodata nodata number }
@@ -40,7 +40,7 @@ pub(crate) fn is_nodata(nodata: Option<i64>, number: i64) -> bool
     }
 }
 
-// Whether a number is a category.
+// Returns whether a number is a category.
 #[inline(always)]
 fn is_category(number: i64) -> bool
     ensures { result ≡ is_category number }
@@ -48,7 +48,7 @@ fn is_category(number: i64) -> bool
     -2147483647 <= number && number <= 2147483647
 }
 
-// The cell of a number; null for one that is not a category.
+// Returns the cell that a number denotes, or null if the number is not a category.
 #[inline(always)]
 fn cell_of_raw(nodata: Option<i64>, number: i64) -> Cell
     ensures { result ≡ cell_of_raw nodata number }
@@ -65,7 +65,7 @@ fn cell_of_raw(nodata: Option<i64>, number: i64) -> Cell
     }
 }
 
-// Whether a number is neither null nor a category.
+// Returns whether a number is neither null nor a category.
 #[inline(always)]
 fn is_outside(nodata: Option<i64>, number: i64) -> bool
     ensures { result ≡ is_outside nodata number }
@@ -73,7 +73,7 @@ fn is_outside(nodata: Option<i64>, number: i64) -> bool
     !is_nodata(nodata, number) && !is_category(number)
 }
 
-// The cell in a place of a row.
+// Returns the cell at index `place` of a row.
 #[inline(always)]
 fn raw_cell(kind: CellType, nodata: Option<i64>, mask: &[u8], bytes: &[u8], place: usize) -> Cell
     requires { (place + 1) * byte_size kind ≤ length bytes.now }
@@ -85,7 +85,7 @@ fn raw_cell(kind: CellType, nodata: Option<i64>, mask: &[u8], bytes: &[u8], plac
     cell_of_raw(nodata, raw_number(kind, bytes, place))
 }
 
-// Whether the number in a place of a row is none of a cell.
+// Returns whether the number at index `place` is visible, and neither null nor a category.
 #[inline(always)]
 fn is_raw_outside(
     kind: CellType,
@@ -121,7 +121,7 @@ fn fill_row(
     outside
 }
 
-// The same, with the type known to the compiler in each loop.
+// Fills a row with one loop per type, so that the compiler knows the type in each loop.
 fn fill_row_of(
     kind: CellType,
     nodata: Option<i64>,
@@ -144,7 +144,7 @@ fn fill_row_of(
     }
 }
 
-// The 32-bit number that stands for null; if there is none, the smallest, which is not a category.
+// Returns the number that denotes null, if it is a category, or else the smallest `i32`, which is not a category.
 fn null_number(nodata: Option<i64>) -> i32
     ensures { IsNullNumber nodata result }
 {
@@ -160,7 +160,7 @@ fn null_number(nodata: Option<i64>) -> i32
     }
 }
 
-// The cell of a number that an `i32` holds.
+// Returns the cell that an `i32` number denotes.
 #[inline(always)]
 fn narrow_cell(null: i32, number: i32) -> Cell
     ensures { (nodata : Option ℤ) → IsNullNumber nodata null → result ≡ cell_of_raw nodata number }
@@ -174,7 +174,7 @@ fn narrow_cell(null: i32, number: i32) -> Cell
     }
 }
 
-// The cell at a place in a row of numbers that fit in an `i32`.
+// Returns the cell at index `place` of a row whose numbers fit in an `i32`.
 #[inline(always)]
 fn raw_narrow_cell(kind: CellType, null: i32, mask: &[u8], bytes: &[u8], place: usize) -> Cell
     requires size { (place + 1) * byte_size kind ≤ length bytes.now }
@@ -182,7 +182,7 @@ fn raw_narrow_cell(kind: CellType, null: i32, mask: &[u8], bytes: &[u8], place: 
     ensures { (nodata : Option ℤ) → IsNullNumber nodata null
         → result ≡ raw_cell kind nodata mask.now bytes.now place }
 {
-    // The number is read whether it is hidden or not, so that a vector takes several at a time.
+    // The number is read even if it is hidden, so that the loop can be vectorized.
     let cell = narrow_cell(null, narrow_number(kind, bytes, place));
     if !is_hidden(mask, place) {
         return cell;
@@ -190,7 +190,8 @@ fn raw_narrow_cell(kind: CellType, null: i32, mask: &[u8], bytes: &[u8], place: 
     Cell::null()
 }
 
-// Whether the number in a place of a row of numbers that an `i32` holds is none of a cell, if the smallest is not null.
+// Returns whether the number at index `place` is not a valid cell, if numbers fit in an `i32` and the smallest does not
+// denote null.
 #[inline(always)]
 fn is_narrow_outside(kind: CellType, mask: &[u8], bytes: &[u8], place: usize) -> bool
     requires size { (place + 1) * byte_size kind ≤ length bytes.now }
@@ -202,7 +203,7 @@ fn is_narrow_outside(kind: CellType, mask: &[u8], bytes: &[u8], place: usize) ->
     !is_hidden(mask, place) & (number == i32::MIN)
 }
 
-// The same as fill_row for numbers that an `i32` holds.
+// Fills a row of numbers that fit in an `i32`. Returns whether any number is not a valid cell.
 #[inline(always)]
 fn fill_narrow(
     kind: CellType,
@@ -225,7 +226,8 @@ fn fill_narrow(
     found && !is_nodata(nodata, i64::from(i32::MIN))
 }
 
-// The same as fill_row_of, for a mask that hides nothing or has a byte for each number, which the compiler may know.
+// Fills a row, with `i32` loops for narrow types. Inlined, so that the compiler may know that the mask is empty or
+// complete.
 #[inline(always)]
 fn fill_fast(
     kind: CellType,
@@ -246,11 +248,11 @@ fn fill_fast(
     }
 }
 
-// Whether a mask has a byte other than 0 and 1.
+// Returns whether a mask has a byte other than 0 and 1.
 pub(crate) fn is_bad_mask(mask: &[u8]) -> bool
     ensures { result ≡ is_bad_mask mask.now }
 {
-    // It looks at each, so that a vector looks at several at a time.
+    // There is no early exit, so that the loop can be vectorized.
     let mut found = false;
     for byte in mask {
         found = found | (1 < *byte);
@@ -262,7 +264,7 @@ pub(crate) fn is_bad_mask(mask: &[u8]) -> bool
 ///
 /// # Errors
 ///
-/// The first [`RowError`] in the order of its variants.
+/// Returns the first [`RowError`], in the order of its variants.
 pub fn read_row(
     kind: CellType,
     nodata: Option<i64>,
@@ -283,7 +285,7 @@ pub fn read_row(
     let outside = if mask.is_empty() {
         fill_fast(kind, nodata, &[], bytes, cells)
     } else if mask.len() == cells.len() {
-        // Here the compiler knows that each number has a byte of the mask, and takes several at a time.
+        // Here the compiler knows that the mask has a byte for each number, and can vectorize the loop.
         fill_fast(kind, nodata, mask, bytes, cells)
     } else {
         fill_row_of(kind, nodata, mask, bytes, cells)

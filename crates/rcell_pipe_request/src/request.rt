@@ -1,4 +1,4 @@
-//! Requests, read whole.
+//! Reads complete requests.
 
 ghost use Rattle.std.specs.Prelude.{◌≡◌, ◌+◌, ◌<◌, ◌≤◌, length, OnOk, IfOk, IfErr};
 ghost use Rattle.rcell_pipe_request.specs.RequestFields.{steps};
@@ -14,7 +14,7 @@ use cell_core::shelf::Shelf;
 use std::alloc::Global;
 use std::io::Read;
 
-/// Maps, a script, and questions about the maps at its end.
+/// Maps, a script, and questions about the maps that exist at its end.
 #[derive(Debug, Drop)]
 pub struct Request {
     pub shelf: Shelf,
@@ -22,7 +22,7 @@ pub struct Request {
     pub questions: Vec<Question>,
 }
 
-// The number of maps.
+// Reads the number of maps.
 #[tactic(auto, unfolding(crate::specs::Requests::count_at))]
 fn read_count<R: Read>(feed: &mut Feed<R>) -> Result<u32, FieldStop>
     ensures reads { ReadsField (λ n. n) feed.old result feed.new count_at }
@@ -35,7 +35,7 @@ fn read_count<R: Read>(feed: &mut Feed<R>) -> Result<u32, FieldStop>
     Err(FieldStop::Error(ErrorKind::BadCount))
 }
 
-// The bytes of the script.
+// Reads the script.
 #[tactic(auto, unfolding(crate::specs::Requests::script_at))]
 fn read_script<R: Read>(alloc: Global, feed: &mut Feed<R>) -> Result<Vec<u8>, FieldStop>
     ensures { ReadsField (λ text. text.items) feed.old result feed.new script_at }
@@ -47,7 +47,7 @@ fn read_script<R: Read>(alloc: Global, feed: &mut Feed<R>) -> Result<Vec<u8>, Fi
     read_bytes(alloc, feed, size as usize)
 }
 
-/// The bytes of the script, which end a request without questions.
+/// Reads the script of a request without questions, and checks that the request ends.
 #[tactic(auto, unfolding(crate::specs::Requests::last_script_at))]
 pub fn read_last_script<R: Read>(alloc: Global, feed: &mut Feed<R>) -> Result<Vec<u8>, FieldStop>
     ensures { ReadsToEnd (λ text. text.items) feed.old result feed.new last_script_at }
@@ -57,7 +57,7 @@ pub fn read_last_script<R: Read>(alloc: Global, feed: &mut Feed<R>) -> Result<Ve
     Ok(script)
 }
 
-// A shelf of one map.
+// Creates a shelf with one map.
 fn first_shelf(alloc: Global, named: NamedMap) -> Result<Shelf, RequestStop>
     ensures ok { IfOk result (λ shelf. shelf ≡ first_shelf (named_value named)) }
     ensures error { IfErr result (λ stop. stop ≡ RequestStop.Memory) }
@@ -70,7 +70,7 @@ fn first_shelf(alloc: Global, named: NamedMap) -> Result<Shelf, RequestStop>
     }
 }
 
-// Puts one map more on a shelf.
+// Puts one more map on the shelf.
 fn put_map(shelf: &mut Shelf, named: NamedMap) -> Result<(), RequestStop>
     ensures ok { OnOk result (shelf.new ≡ shelf_with shelf.old (named_value named)) }
     ensures count { OnOk result (length shelf.new.names ≡ length shelf.old.names + 1) }
@@ -83,7 +83,7 @@ fn put_map(shelf: &mut Shelf, named: NamedMap) -> Result<(), RequestStop>
     }
 }
 
-// Reads one map more.
+// Reads one more map.
 #[tactic(auto, unfolding(crate::specs::Requests::one_more_map))]
 fn push_map<R: Read>(
     alloc: Global,
@@ -102,7 +102,7 @@ fn push_map<R: Read>(
     put_map(shelf, named)
 }
 
-// Reads so many maps more.
+// Reads `count` more maps.
 fn push_maps<R: Read>(
     alloc: Global,
     feed: &mut Feed<R>,
@@ -122,7 +122,7 @@ fn push_maps<R: Read>(
     Ok(())
 }
 
-// How many maps there are, and a shelf of the first.
+// The number of maps, and a shelf with the first map.
 #[derive(Drop)]
 struct FirstMap {
     count: u32,
@@ -150,11 +150,12 @@ fn read_first_map<R: Read>(alloc: Global, feed: &mut Feed<R>) -> Result<FirstMap
     }
 }
 
-/// Reads the maps, the script and the questions of a run, to the end of its source. Memory grows with the bytes that have come.
+/// Reads the maps, script and questions of a run, to the end of the source. Memory grows only with the bytes that have
+/// arrived.
 ///
 /// # Errors
 ///
-/// The first error of the bytes, or [`RequestStop::Memory`] if memory ran out.
+/// Returns the first error in the bytes, or [`RequestStop::Memory`] if memory runs out.
 #[tactic(auto, unfolding(crate::specs::Requests::run_at))]
 pub fn read_run<R: Read>(alloc: Global, feed: &mut Feed<R>) -> Result<Request, RequestStop>
     ensures { ReadsPlacedToEnd run_request_value feed.old result feed.new run_at }

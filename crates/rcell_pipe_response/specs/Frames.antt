@@ -1,5 +1,5 @@
--- The frames of a response: one for each statement that writes, in order, with all that it writes (r.stats and
--- r.out.ascii manuals; profile); QuestionFrames.antt has the frames of questions, which come after them.
+-- The frames of a response: one for each statement that writes, in order, with all that the statement prints (r.stats
+-- and r.out.ascii manuals; profile). The frames of questions, in QuestionFrames.antt, follow them.
 use Rattle.std.specs.Prelude.{ℕ, ◌≡◌, false, List, [], ◌∷◌, ◌++◌, map, flat_map, slice_get, unwrap_or, codes, decimal, Option, Some, None, if◌then◌else◌}
 use Rattle.std.specs.List.{zip}
 use Rattle.cell_core.specs.Grid.{Grid, CellValue}
@@ -19,7 +19,8 @@ use Rattle.rcell_script_commands.specs.declared.command.StatsOptions.{StatsOptio
 use Rattle.rcell.specs.After.{IsShelfAfter}
 use Rattle.rcell.specs.Output.{combinations_of, format_of}
 
--- a table: the line of its statement, how it is printed, the names of its maps, its combinations with their counts, and a label for each cell of each combination
+-- a table: its statement's line, the output format, its maps' names, its combinations with their counts, and a label
+-- for each cell of each combination
 pub record TableFrame : Type 0 where
   pub line : ℕ
   pub format : FormatValue
@@ -27,7 +28,7 @@ pub record TableFrame : Type 0 where
   pub pairs : Pairs
   pub labels : List (List (List ℕ))
 
--- a map: the line of its statement, the text that stands for null, its name, its edges as they are printed, and its cells row by row
+-- a map: its statement's line, the text for null, its name, its edges as printed, and its cells, row by row
 pub record GridFrame : Type 0 where
   pub line : ℕ
   pub null_text : List ℕ
@@ -40,8 +41,8 @@ pub record GridFrame : Type 0 where
   pub cols : ℕ
   pub cells : List (List CellValue)
 
--- the patches of a map: the place of the question among all, from 0, which cells are adjacent, how many steps inside
--- its patch a cell of its core is, the patches in the order of their numbers, and their zones if the question has zones
+-- the patches of a map: the question's index, from 0, which cells are adjacent, the depth of the core in steps from its
+-- patch's edge, the patches in the order of their numbers, and their zones if the question has zones
 pub record PatchFrame : Type 0 where
   pub question : ℕ
   pub joining : Joining
@@ -49,26 +50,26 @@ pub record PatchFrame : Type 0 where
   pub patches : List Patch
   pub zones : Option (List CellValue)
 
--- the result of a statement that writes, or of a question
+-- the result of a question, or of a statement that writes
 pub data OutputFrame : Type 0 where
   Table : TableFrame → OutputFrame
   Cells : TableFrame → OutputFrame
   Map : GridFrame → OutputFrame
   Patches : PatchFrame → OutputFrame
 
--- a cell and its label as they are printed
+-- a cell and its label, as printed
 abbrev pub printed_fields : FormatValue → CellValue × List ℕ → List (List ℕ)
 printed_fields format given = cell_text format.null_text given.0 ∷ (if format.labels then given.1 ∷ [] else [])
 
--- the line of a combination with its count and its labels
+-- the printed line of a combination, with its count and labels
 abbrev pub printed_line : FormatValue → (Combination × ℕ) × List (List ℕ) → List ℕ
 printed_line format given = line_text format (flat_map (printed_fields format) (zip given.0.0 given.1) ++ count_fields format given.0.1)
 
--- the lines of a table
+-- the printed lines of a table
 abbrev pub printed_lines : TableFrame → List ℕ
 printed_lines t = flat_map (printed_line t.format) (zip t.pairs t.labels)
 
--- the six lines of a region
+-- the six lines that describe a region
 abbrev pub frame_header : GridFrame → List ℕ
 frame_header g =
     line_of_key (codes "north") g.north
@@ -78,14 +79,14 @@ frame_header g =
     ++ line_of_key (codes "rows") (decimal g.rows)
     ++ line_of_key (codes "cols") (decimal g.cols)
 
--- the text that rcell writes for a frame: it has no questions
+-- the text that rcell prints for a frame; frames of questions have no text
 abbrev pub frame_text : OutputFrame → List ℕ
 frame_text (Table t) = printed_lines t
 frame_text (Cells t) = printed_lines t
 frame_text (Map g) = frame_header g ++ null_line g.null_text ++ flat_map (row_text g.null_text) g.cells
 frame_text (Patches p) = []
 
--- the name of the map in a place, or nothing if there is no map
+-- the name of the map at index `place`, or an empty name if there is none
 abbrev pub name_in : ShelfValue → ℕ → List ℕ
 name_in shelf place = unwrap_or (slice_get shelf.names place) []
 
@@ -97,30 +98,27 @@ combination_labels maps places pair = map (λ p. label_of_cell maps p.0 p.1) (zi
 abbrev pub listed_pairs : ShelfValue → List ℕ → StatsOptions → Pairs
 listed_pairs shelf places options = printed_pairs options.after (table_of options.skip (combinations_of shelf places))
 
--- the cells that r.stats -1 prints: an entry for each, with count 1
+-- the cells that r.stats -1 prints, each an entry with count 1
 abbrev pub each_once : List Combination → Pairs
 each_once cells = map (λ k. (k, 1)) cells
 
 abbrev pub cell_pairs : ShelfValue → List ℕ → StatsOptions → Pairs
 cell_pairs shelf places options = each_once (kept_cells options.skip (combinations_of shelf places))
 
--- how they are printed: without counts
+-- the format of r.stats -1, which prints no counts
 abbrev pub cells_format : StatsOptions → FormatValue
 cells_format options = record (format_of options) { counts = false }
 
--- the frame of a table
 abbrev pub table_frame : ShelfValue → ℕ → List ℕ → FormatValue → Pairs → TableFrame
 table_frame shelf line places format pairs =
     record { line = line; format = format; names = map (name_in shelf) places; pairs = pairs; labels = map (combination_labels shelf.maps places) pairs }
 
--- the frame of r.stats
 abbrev pub stats_frame : ShelfValue → ℕ → List ℕ → StatsOptions → OutputFrame
 stats_frame shelf line places options =
     if options.cells
     then Cells (table_frame shelf line places (cells_format options) (cell_pairs shelf places options))
     else Table (table_frame shelf line places (format_of options) (listed_pairs shelf places options))
 
--- the frame of a map
 abbrev pub grid_frame : ℕ → List ℕ → List ℕ → Grid → GridFrame
 grid_frame line null_text name grid = record {
   line = line;
@@ -135,12 +133,12 @@ grid_frame line null_text name grid = record {
   cells = grid.rows;
 }
 
--- the frame of r.out.ascii, or nothing if there is no map
+-- the frame of r.out.ascii, or no frame if there is no map
 abbrev pub map_frames : ShelfValue → ℕ → ℕ → List ℕ → Option Grid → List OutputFrame
 map_frames shelf line place null_text None = []
 map_frames shelf line place null_text (Some grid) = Map (grid_frame line null_text (name_in shelf place) grid) ∷ []
 
--- the frames of a command over a shelf: one if it writes
+-- the frame of a command over a shelf, if the command writes
 abbrev pub command_frames : ShelfValue → ℕ → Command → List OutputFrame
 command_frames shelf line (Mapcalc target bound) = []
 command_frames shelf line (Reclass place target rules) = []
@@ -148,7 +146,8 @@ command_frames shelf line (Clump place target joining) = []
 command_frames shelf line (Stats places options) = stats_frame shelf line places options ∷ []
 command_frames shelf line (OutAscii place null_text) = map_frames shelf line place null_text (slice_get shelf.maps place)
 
--- statements over a shelf give the frames and leave the other shelf: each over the shelf that those before it left
+-- executed over `shelf`, the statements produce these frames and leave the shelf `after`; each statement runs over the
+-- shelf that the previous statements have left
 abbrev pub GivesFrames : ShelfValue → List Statement → List OutputFrame → ShelfValue → Type 0
 GivesFrames shelf [] frames after = (frames ≡ []) × (after ≡ shelf)
 GivesFrames shelf (s ∷ ss) frames after =

@@ -1,4 +1,5 @@
--- The frames of questions about the maps at the end of a script, and which questions are rejected (profile).
+-- The frames for questions about the maps at the end of a script, and the questions that are rejected (see the
+-- profile).
 use Rattle.std.specs.Prelude.{ℕ, ◌+◌, ◌≡◌, Bool, false, ◌||◌, List, [], ◌∷◌, length, slice_get}
 use Rattle.std.specs.Prelude.{Option, Some, None, if◌then◌else◌}
 use Rattle.std.specs.Option.{is_none}
@@ -19,23 +20,23 @@ use Rattle.rcell_pipe_response.specs.declared.question_error.QuestionKind.TheVar
 use Rattle.rcell_pipe_response.specs.declared.question_error.QuestionError.{QuestionError}
 use Rattle.rcell_pipe_response.specs.Frames.{OutputFrame, Patches}
 
--- the names of all maps: of those that are given, and of those that statements make
+-- the names of all maps: the given maps and the maps that statements make
 abbrev pub all_names : List (List ℕ) → List Statement → List (List ℕ)
 all_names names [] = names
 all_names names (s ∷ ss) = all_names (known_after names s.command) ss
 
--- whether a question names a map of zones that has none of these names
+-- a question's map of zones is none of the maps with these names
 abbrev pub has_unknown_zones : List (List ℕ) → Option (List ℕ) → Bool
 has_unknown_zones names None = false
 has_unknown_zones names (Some zones) = is_none (place_of zones names)
 
--- why a question is rejected: a text has no room for its frame, or no map has one of its names
+-- why a question is rejected: the response is text, which cannot contain its frame, or one of its maps is unknown
 abbrev pub question_fault : RunForm → List (List ℕ) → QuestionValue → Option QuestionKind
 question_fault Text names question = Some OfText
 question_fault Frames names question =
     if is_none (place_of question.map names) || has_unknown_zones names question.zones then Some UnknownMap else None
 
--- the error of a question if it is rejected, or else the error of the questions after it
+-- the error of this question, or else the first error among the questions after it
 abbrev pub fault_or : ℕ → Option QuestionKind → Option QuestionError → Option QuestionError
 fault_or number (Some kind) others = Some (record { kind = kind; number = number })
 fault_or number None others = others
@@ -46,20 +47,20 @@ first_fault form names [] = None
 first_fault form names (question ∷ questions) =
     fault_or question.number (question_fault form names question) (first_fault form names questions)
 
--- the map of a shelf with a name
+-- the shelf's map with this name
 pub record IsMapNamed (shelf : ShelfValue) (name : List ℕ) (map : Grid) : Type 0 where
   pub place : ℕ
   pub named : place_of name shelf.names ≡ Some place
   pub at : slice_get shelf.maps place ≡ Some map
 
--- the zones of so many patches: if a map of zones is named, the main zone of each by this map
+-- the zones of a map's patches: the main zone of each patch, if a map of zones is named
 abbrev pub AreZonesOf : ShelfValue → Grid → ℕ → Option (List ℕ) → Option (List CellValue) → Type 0
 AreZonesOf shelf numbers patches None given = given ≡ None
 AreZonesOf shelf numbers patches (Some name) None = ⊥
 AreZonesOf shelf numbers patches (Some name) (Some main) =
     (zones : Grid) × (IsMapNamed shelf name zones × (AreMainZones numbers zones main × (length main ≡ patches)))
 
--- the frame of a question in a place among all: the measures of the patches of the map with its name, and their zones
+-- the frame for the question at index `place`: the measures of the patches of the named map, and their zones
 pub record IsAnswer (shelf : ShelfValue) (place : ℕ) (question : QuestionValue) (frame : OutputFrame) : Type 0 where
   pub map : Grid
   pub named : IsMapNamed shelf question.map map
@@ -77,7 +78,7 @@ pub record IsAnswer (shelf : ShelfValue) (place : ℕ) (question : QuestionValue
     zones = zones;
   })
 
--- a frame for each question, in order, from a place on
+-- a frame for each question, in order; the first has the index `place`
 abbrev pub AreAnswers : ShelfValue → ℕ → List QuestionValue → List OutputFrame → Type 0
 AreAnswers shelf place [] frames = frames ≡ []
 AreAnswers shelf place (question ∷ questions) frames =

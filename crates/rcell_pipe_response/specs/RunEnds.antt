@@ -1,4 +1,4 @@
--- What a run of `rcell-pipe` has written when it ends (profile).
+-- What a run of `rcell-pipe` has written when it ends (see the profile).
 use Rattle.std.specs.Prelude.{ℕ, ◌≡◌, ◌⊎◌, ◌++◌, ⊤, Bool, true, false, List, [], ◌∷◌, length, codes, Option, Some, None}
 use Rattle.std.specs.Prelude.{Result, Ok, Err, if◌then◌else◌}
 use Rattle.cell_core_devices.specs.Device.{Faults, append_known, after_put, after_flush}
@@ -29,11 +29,11 @@ use Rattle.rcell_pipe_response.specs.declared.question_error.QuestionKind.TheVar
 use Rattle.rcell_pipe_response.specs.declared.question_error.QuestionError.{QuestionError}
 use Rattle.rcell_pipe_response.specs.QuestionFrames.{all_names, first_fault, AreAnswers}
 
--- an end without the place of its text in memory
+-- the end as a value
 abbrev pub end_value : End → EndValue
 end_value end = record { status = end.status; source = end.source; maps = end.maps; line = end.line; column = end.column; text = end.text.now }
 
--- the text of an error of the bytes
+-- the text for an error in a request's bytes
 abbrev pub kind_text : ErrorKind → List ℕ
 kind_text kinds.BadMagic = codes "bad magic"
 kind_text kinds.Short = codes "request too short"
@@ -57,17 +57,17 @@ kind_text kinds.BadDepth = codes "bad depth"
 kind_text kinds.BadZones = codes "bad zones"
 kind_text kinds.Trailing = codes "bytes after the request"
 
--- 4 if a read failed, 1 for what is wrong with the bytes
+-- 4 if a read failed, 1 if the bytes are not a request
 abbrev pub request_status : ErrorKind → ℕ
 request_status kinds.ReadFailed = 4
 request_status kind = 1
 
--- the column of an error in an expression, 0 for others
+-- the column of an error in an expression, or 0 for other errors
 abbrev pub script_column : ScriptKind → ℕ
 script_column (script_kinds.Calc error) = error.column
 script_column kind = 0
 
--- the end of a run that is done
+-- the end of a successful run
 abbrev pub done_end : EndValue
 done_end = record { status = 0; source = 0; maps = 0; line = 0; column = 0; text = [] }
 
@@ -79,7 +79,7 @@ request_end error = record { status = request_status error.kind; source = 1; map
 abbrev pub script_end : ScriptFault → EndValue
 script_end error = record { status = 1; source = 2; maps = 0; line = error.line; column = script_column error.kind; text = script_text error.kind }
 
--- the text of an error of a question
+-- the text for an error of a question
 abbrev pub question_text : QuestionKind → List ℕ
 question_text question_kinds.UnknownMap = codes "unknown map"
 question_text question_kinds.OfText = codes "question for a text"
@@ -88,11 +88,11 @@ question_text question_kinds.OfText = codes "question for a text"
 abbrev pub question_end : QuestionError → EndValue
 question_end error = record { status = 1; source = 3; maps = 0; line = error.number; column = 0; text = question_text error.kind }
 
--- the end if memory ran out, at a line, or at line 0 before the first or after the last
+-- the end if memory ran out at a line; line 0 is before the first statement or after the last
 abbrev pub memory_end : ℕ → EndValue
 memory_end line = record { status = 3; source = 0; maps = 0; line = line; column = 0; text = codes "no memory" }
 
--- the status of a run
+-- the exit status for an error
 abbrev pub error_status : PipeError → ℕ
 error_status (errors.Request error) = request_status error.kind
 error_status (errors.Script error) = 1
@@ -114,7 +114,7 @@ pub record IsPipeAccepted (form : RunForm) (read : Result RunRequestValue Reques
   pub denoted : IsScript shelf.names script statements
   pub known : first_fault form (all_names shelf.names statements) questions ≡ None
 
--- the frames of statements over a shelf, and of questions about the maps that they leave
+-- the frames of statements over a shelf, and of questions about the maps that the statements leave
 pub record GivesAll (shelf : ShelfValue) (statements : List Statement) (questions : List QuestionValue)
     (all : List OutputFrame) : Type 0 where
   pub frames : List OutputFrame
@@ -124,13 +124,13 @@ pub record GivesAll (shelf : ShelfValue) (statements : List Statement) (question
   pub answered : AreAnswers after 0 questions answers
   pub both : all ≡ frames ++ answers
 
--- what statements over a shelf and questions give: their frames and an end, or the text that rcell writes for them
+-- the response to statements and questions: their frames and an end, or the text that rcell prints for the statements
 abbrev pub GivesResponse : RunForm → ShelfValue → List Statement → List QuestionValue → EndValue → List ℕ → Type 0
 GivesResponse Frames shelf statements questions end response =
     (frames : List OutputFrame) × (GivesAll shelf statements questions frames × (response ≡ response_bytes frames end))
 GivesResponse Text shelf statements questions end response = IsOutput shelf statements response
 
--- the response that the statements of an accepted script and the questions give
+-- the request is accepted, and its statements and questions produce this response
 pub record IsPipeDone (form : RunForm) (read : Result RunRequestValue RequestError) (response : List ℕ) : Type 0 where
   pub shelf : ShelfValue
   pub statements : List Statement
@@ -138,7 +138,7 @@ pub record IsPipeDone (form : RunForm) (read : Result RunRequestValue RequestErr
   pub accepted : IsPipeAccepted form read shelf statements questions
   pub gives : GivesResponse form shelf statements questions done_end response
 
--- the script is rejected for its first error: no frame but the end
+-- the script is rejected for its first error: the response is only the end
 pub record IsScriptRejected (read : Result RunRequestValue RequestError) (response : List ℕ) (error : ScriptFault) : Type 0 where
   pub shelf : ShelfValue
   pub script : List ℕ
@@ -147,7 +147,7 @@ pub record IsScriptRejected (read : Result RunRequestValue RequestError) (respon
   pub first : IsScriptFault shelf.names script error
   pub bytes : response ≡ response_bytes [] (script_end error)
 
--- the first question that is rejected: no frame but the end
+-- a question is rejected: the response is only the end with the first such question
 pub record IsQuestionRejected (form : RunForm) (read : Result RunRequestValue RequestError) (response : List ℕ)
     (error : QuestionError) : Type 0 where
   pub shelf : ShelfValue
@@ -159,7 +159,7 @@ pub record IsQuestionRejected (form : RunForm) (read : Result RunRequestValue Re
   pub first : first_fault form (all_names shelf.names statements) questions ≡ Some error
   pub bytes : response ≡ response_bytes [] (question_end error)
 
--- memory runs out at a statement: the response that those before it give
+-- memory ran out at a statement: the statements before it produce this response
 pub record IsPipeStopped (form : RunForm) (read : Result RunRequestValue RequestError) (response : List ℕ) (line : ℕ) : Type 0 where
   pub shelf : ShelfValue
   pub first : List Statement
@@ -170,7 +170,7 @@ pub record IsPipeStopped (form : RunForm) (read : Result RunRequestValue Request
   pub line_is : line ≡ statement.line
   pub gives : GivesResponse form shelf first [] (memory_end line) response
 
--- memory runs out at a question: the response that the statements and the questions before it give
+-- memory ran out at a question: the statements and the questions before it produce this response
 pub record IsAnswerStopped (form : RunForm) (read : Result RunRequestValue RequestError) (response : List ℕ) : Type 0 where
   pub shelf : ShelfValue
   pub statements : List Statement
@@ -179,15 +179,16 @@ pub record IsAnswerStopped (form : RunForm) (read : Result RunRequestValue Reque
   pub accepted : IsPipeAccepted form read shelf statements (first ++ others)
   pub gives : GivesResponse form shelf statements first (memory_end 0) response
 
--- what the first statements, or all of them and the first questions, give before the end: their frames, or their text
+-- the response before its end: the frames or the text of the first statements, or of all statements and the first
+-- questions
 abbrev pub GivesFirst : RunForm → ShelfValue → List Statement → List QuestionValue → List ℕ → Type 0
 GivesFirst Frames shelf first answered text =
     (frames : List OutputFrame) ×
     (GivesAll shelf first answered frames × (text ≡ response_magic ++ frames_bytes frames))
 GivesFirst Text shelf first answered text = IsOutput shelf first text
 
--- a write failed in a statement or a question: what those up to it give; questions come after all statements
--- are executed
+-- a write failed at a statement or question: the response up to and including it; questions follow the execution of all
+-- statements
 pub record IsPipeBroken (form : RunForm) (read : Result RunRequestValue RequestError) (text : List ℕ) : Type 0 where
   pub shelf : ShelfValue
   pub first : List Statement
@@ -198,8 +199,8 @@ pub record IsPipeBroken (form : RunForm) (read : Result RunRequestValue RequestE
   pub in_order : (others ≡ []) ⊎ (answered ≡ [])
   pub gives : GivesFirst form shelf first answered text
 
--- the whole response of a run, by the error that it reports; or, if a write failed in a statement or a question, the
--- response up to it
+-- the complete response of a run, for the error that it reports; or, if a write failed at a statement or question, the
+-- response up to and including it
 abbrev pub IsResponse : RunForm → Result RunRequestValue RequestError → List ℕ → Option PipeError → Type 0
 IsResponse form read response None = IsPipeDone form read response
 IsResponse form read response (Some (errors.Request error)) = (read ≡ Err error) × (response ≡ response_bytes [] (request_end error))
@@ -210,7 +211,7 @@ IsResponse form read response (Some (errors.MemoryAt line)) = IsPipeStopped form
 IsResponse form read response (Some errors.MemoryAtQuestion) = IsAnswerStopped form read response
 IsResponse form read response (Some errors.Write) = IsPipeBroken form read response
 
--- the sink took the first bytes of a text, and their number is reported
+-- the sink accepted the first bytes of a text, and `written` is their number
 pub record IsCut (before now : Option (List ℕ)) (text : List ℕ) (written : ℕ) : Type 0 where
   pub front : List ℕ
   pub rest : List ℕ
@@ -218,27 +219,27 @@ pub record IsCut (before now : Option (List ℕ)) (text : List ℕ) (written : �
   pub taken : now ≡ append_known before front
   pub count : written ≡ capped_count (length front)
 
--- what the sink took of a text, by the error: all of it, or the first bytes if a write failed; and their number is
--- reported
+-- the bytes of a text that the sink accepted, for the error of the run: all bytes, or the first ones if a write failed;
+-- `written` is their number
 abbrev pub IsTaken : List ℕ → (before now : Option (List ℕ)) → Option PipeError → (written : ℕ) → Type 0
 IsTaken text before now (Some errors.Write) written = IsCut before now text written
 IsTaken text before now error written = (now ≡ append_known before text) × (written ≡ capped_count (length text))
 
--- what has been written of a response that reports an error or none, by the error of the run
+-- what has been written of a response that reports the error `reported`, for a run that ended with `error`
 pub record HasResponded (says : List ℕ → Option PipeError → Type 0) (before now : Option (List ℕ))
     (reported error : Option PipeError) (written : ℕ) : Type 0 where
   pub response : List ℕ
   pub is : says response reported
   pub taken : IsTaken response before now error written
 
--- what became of the sink, by the error of the run:
--- Write: a put failed, and it was not flushed; or no put failed, and its only flush did
--- any other, or none: no call failed, and it was flushed once
+-- the calls to the sink, for the error of the run:
+-- Write: a write failed, and the sink was not flushed; or no write failed, but the only flush did
+-- any other error, or none: no call failed, and the sink was flushed once
 abbrev pub HasUsed : Option PipeError → Faults → Faults → Type 0
 HasUsed (Some errors.Write) old new = (put : Bool) × (new ≡ (if put then after_put old true else after_flush old true))
 HasUsed error old new = new ≡ after_flush old false
 
--- the only frame of a response that reports an error of the request, of its script or of a question, or want of memory
+-- the response is only the end, if it reports an error of the request, its script or a question, or that memory ran out
 -- before the first statement
 abbrev pub only_end : PipeError → List ℕ → Type 0
 only_end (errors.Request error) response = response ≡ response_bytes [] (request_end error)

@@ -1,4 +1,4 @@
-//! Writes the frames of the questions about the maps at the end of a script, in order.
+//! Writes the frames for the questions about the maps that exist at the end of a script, in order.
 
 ghost use Rattle.std.specs.Prelude.{◌≡◌, false, length, None, OnOk, OnErr, IfErr, IfOk, IfSome};
 ghost use Rattle.std.specs.Option.{is_none, option_map};
@@ -21,7 +21,7 @@ use cell_patches::zones::zones_of;
 use rcell_pipe_request::question::Question;
 use std::alloc::Global;
 
-/// What stops the frames of questions.
+/// Why writing the frames of questions stopped.
 #[derive(Clone, Copy, Debug)]
 pub(crate) enum AnswerStop {
     /// Memory ran out.
@@ -30,7 +30,7 @@ pub(crate) enum AnswerStop {
     Write,
 }
 
-// The map with a name that the shelf has.
+// Returns the shelf's map with this name.
 fn map_named<'a>(shelf: &'a Shelf, name: &[u8]) -> &'a CellMap
     requires { is_none (place_of name.now shelf.now.names) ≡ false }
     ensures named { IsMapNamed shelf.now name.now result.now }
@@ -42,7 +42,7 @@ fn map_named<'a>(shelf: &'a Shelf, name: &[u8]) -> &'a CellMap
     }
 }
 
-// The main zone of each of so many patches, if a map of zones is named.
+// Returns the main zone of each patch, if a map of zones is named.
 fn zones_named(
     alloc: Global,
     shelf: &Shelf,
@@ -65,7 +65,7 @@ fn zones_named(
     }
 }
 
-// Answers the question in a place among all. It has all that it needs of memory before its first byte.
+// Writes the frame for the question at index `place`. Allocates all memory before it writes the first byte.
 fn answer<W: Sink>(
     alloc: Global,
     shelf: &Shelf,
@@ -88,12 +88,12 @@ fn answer<W: Sink>(
     Ok(())
 }
 
-/// Answers questions in order.
+/// Writes the frames for questions, in order.
 ///
 /// # Errors
 ///
-/// [`AnswerStop::Memory`] if memory ran out at a question, which has no frame then, or [`AnswerStop::Write`] if the sink
-/// failed.
+/// Returns [`AnswerStop::Memory`] if memory runs out at a question, for which nothing is written, or
+/// [`AnswerStop::Write`] if the sink fails.
 pub(crate) fn answer_all<W: Sink>(
     alloc: Global,
     shelf: &Shelf,

@@ -1,4 +1,4 @@
-//! Numbers, texts and cells as bytes.
+//! Writes numbers, texts and cells as bytes.
 
 ghost use Rattle.std.specs.Prelude.{◌≡◌, ◌≤◌, flat_map};
 ghost use Rattle.cell_core_devices.specs.Blocks.{Appends};
@@ -9,7 +9,7 @@ use cell_core::block::OutputBlock;
 use cell_core::cell::Cell;
 use cell_core::sink::Sink;
 
-// The number of a cell: its category, or the smallest number for null.
+// Returns the number that encodes a cell: its category, or the smallest `i32` for null.
 #[inline(always)]
 fn pattern_of(cell: Cell) -> i32
     ensures { result ≡ pattern_of_cell cell }
@@ -20,7 +20,7 @@ fn pattern_of(cell: Cell) -> i32
     }
 }
 
-/// 1 for true, 0 for false.
+/// Returns 1 for true and 0 for false.
 pub fn flag(is_so: bool) -> u8
     ensures value { result ≡ flag is_so }
     ensures most { result ≤ 1 }
@@ -28,14 +28,14 @@ pub fn flag(is_so: bool) -> u8
     if is_so { 1 } else { 0 }
 }
 
-/// A number in eight bytes.
+/// Writes a number in eight bytes.
 pub fn push_number<W: Sink>(out: &mut W, block: &mut OutputBlock, n: u64)
     ensures { Appends W.taken W.faults out.old block.old (number_bytes n) out.new block.new }
 {
     block.push(out, &n.to_le_bytes());
 }
 
-/// A length and a text.
+/// Writes a text's length, then the text.
 pub fn push_text<W: Sink>(out: &mut W, block: &mut OutputBlock, text: &[u8])
     ensures { Appends W.taken W.faults out.old block.old (text_bytes text.now) out.new block.new }
 {
@@ -43,7 +43,7 @@ pub fn push_text<W: Sink>(out: &mut W, block: &mut OutputBlock, text: &[u8])
     block.push(out, text);
 }
 
-/// A cell in four bytes.
+/// Writes a cell in four bytes.
 #[inline(always)]
 pub(crate) fn push_cell<W: Sink>(out: &mut W, block: &mut OutputBlock, cell: Cell)
     ensures { Appends W.taken W.faults out.old block.old (wide_bytes cell) out.new block.new }
@@ -51,7 +51,7 @@ pub(crate) fn push_cell<W: Sink>(out: &mut W, block: &mut OutputBlock, cell: Cel
     block.push(out, &pattern_of(cell).to_le_bytes());
 }
 
-/// Cells in four bytes each.
+/// Writes cells in four bytes each.
 pub fn push_cells<W: Sink>(out: &mut W, block: &mut OutputBlock, cells: &[Cell])
     ensures { Appends W.taken W.faults out.old block.old
         (flat_map wide_bytes cells.now) out.new block.new }

@@ -1,4 +1,4 @@
-//! The cells of maps as bytes.
+//! Writes the cells of maps as bytes.
 
 ghost use Rattle.std.specs.Prelude.{◌≡◌, ◌<◌, ◌≤◌, ◌+◌, ◌++◌, ◌∷◌, length, map, flat_map, take, drop, replicate};
 ghost use Rattle.std.specs.List.{list_all};
@@ -15,7 +15,7 @@ use cell_core::map::CellMap;
 use cell_core::runs::Runs;
 use cell_core::sink::Sink;
 
-// Whether a cell fits a byte.
+// Returns whether a cell fits in a byte.
 #[inline(always)]
 fn is_small_cell(cell: Cell) -> bool
     ensures { result ≡ is_small_cell cell }
@@ -26,11 +26,11 @@ fn is_small_cell(cell: Cell) -> bool
     }
 }
 
-// Whether each cell of a row fits a byte.
+// Returns whether each cell of a row fits in a byte.
 fn is_small_row(cells: &[Cell]) -> bool
     ensures { result ≡ list_all is_small_cell cells.now }
 {
-    // It looks at each, so that a vector looks at several at a time.
+    // There is no early exit, so that the loop can be vectorized.
     let mut all = true;
     for cell in cells {
         all = all & is_small_cell(*cell);
@@ -38,7 +38,7 @@ fn is_small_row(cells: &[Cell]) -> bool
     all
 }
 
-// Whether the cell of each run fits a byte.
+// Returns whether the cell of each run fits in a byte.
 fn are_small_runs(runs: Runs<'_>) -> bool
     requires { AreRuns runs }
     ensures { result ≡ list_all is_small_cell (written_out runs.entry) }
@@ -51,16 +51,16 @@ fn are_small_runs(runs: Runs<'_>) -> bool
     true
 }
 
-// Whether each cell that a byte stands for fits one: it does.
+// Returns true: each cell that is stored as a byte fits in a byte.
 fn are_small_bytes(bytes: &[u8]) -> bool
     ensures { result ≡ list_all is_small_cell (cells_of_bytes bytes.now) }
 {
-    // The proof looks at each byte.
+    // Only the proof looks at the bytes.
     let _ = bytes;
     true
 }
 
-// Whether each cell of a row of a map fits a byte.
+// Returns whether each cell in a row of a map fits in a byte.
 fn has_small_row(grid: &CellMap, row: u32) -> bool
     requires { row < grid.now.region.rows }
     ensures { result ≡ list_all is_small_cell (row_at grid.now row) }
@@ -74,7 +74,7 @@ fn has_small_row(grid: &CellMap, row: u32) -> bool
     }
 }
 
-// Whether each cell of a map fits a byte.
+// Returns whether each cell of a map fits in a byte.
 fn are_small(grid: &CellMap) -> bool
     ensures { result ≡ are_small grid.now.rows }
 {
@@ -86,7 +86,7 @@ fn are_small(grid: &CellMap) -> bool
     true
 }
 
-// The byte of a cell.
+// Returns the byte that encodes a cell.
 #[inline(always)]
 fn byte_of_cell(cell: Cell) -> u8
     ensures { result ≡ byte_of_cell cell }
@@ -103,7 +103,7 @@ fn byte_of_cell(cell: Cell) -> u8
     }
 }
 
-// Writes a byte `count` times, from column `at` on.
+// Writes a byte `count` times, starting at column `at`.
 #[inline(always)]
 fn fill_bytes(bytes: &mut [u8], at: usize, count: u32, byte: u8)
     requires { at + count ≤ length bytes.old }
@@ -114,7 +114,7 @@ fn fill_bytes(bytes: &mut [u8], at: usize, count: u32, byte: u8)
     bytes[at..at + count as usize].fill(byte);
 }
 
-// Writes the bytes of the cells that runs make.
+// Writes the bytes of the cells of runs.
 fn write_runs(runs: Runs<'_>, bytes: &mut [u8])
     requires { length bytes.old ≡ length (written_out runs) }
     ensures width { length bytes.new ≡ length bytes.old }
@@ -127,7 +127,7 @@ fn write_runs(runs: Runs<'_>, bytes: &mut [u8])
     }
 }
 
-// Appends a row that is kept as bytes: they are also the bytes of its cells.
+// Appends a row that the map stores as bytes. The output uses the same bytes.
 fn push_kept<W: Sink>(out: &mut W, block: &mut OutputBlock, kept: &[u8])
     ensures { Appends W.taken W.faults out.old block.old
         (map byte_of_cell (cells_of_bytes kept.now)) out.new block.new }
@@ -135,7 +135,7 @@ fn push_kept<W: Sink>(out: &mut W, block: &mut OutputBlock, kept: &[u8])
     block.push(out, kept);
 }
 
-// A row of a map in a byte a cell.
+// Writes a row of a map, one byte per cell.
 fn push_small_row<W: Sink>(
     out: &mut W,
     block: &mut OutputBlock,
@@ -157,7 +157,7 @@ fn push_small_row<W: Sink>(
     block.push(out, bytes);
 }
 
-// The rows of a map in a byte a cell.
+// Writes the rows of a map, one byte per cell.
 fn push_small_rows<W: Sink>(out: &mut W, block: &mut OutputBlock, grid: &CellMap, bytes: &mut [u8])
     requires { length bytes.old ≡ grid.now.region.cols }
     ensures { Appends W.taken W.faults out.old block.old
@@ -168,7 +168,7 @@ fn push_small_rows<W: Sink>(out: &mut W, block: &mut OutputBlock, grid: &CellMap
     }
 }
 
-// The rows of a map in four bytes a cell.
+// Writes the rows of a map, four bytes per cell.
 fn push_wide_rows<W: Sink>(out: &mut W, block: &mut OutputBlock, grid: &CellMap, cells: &mut [Cell])
     requires { length cells.old ≡ grid.now.region.cols }
     ensures { Appends W.taken W.faults out.old block.old
@@ -180,7 +180,7 @@ fn push_wide_rows<W: Sink>(out: &mut W, block: &mut OutputBlock, grid: &CellMap,
     }
 }
 
-/// The cells of a map, row by row, by a slice for the cells of a row and one for their bytes.
+/// Writes the cells of a map, row by row. The slices are buffers for a row's cells and their bytes.
 pub(crate) fn push_rows<W: Sink>(
     out: &mut W,
     block: &mut OutputBlock,

@@ -1,4 +1,4 @@
-//! The frame of the cells of several maps, one after another.
+//! Writes the frame of r.stats -1: the cells of several maps, one combination after another.
 
 ghost use Rattle.std.specs.Prelude.{◌≡◌, ◌<◌, All, [], length, replicate, codes, OnOk, OnErr, if◌then◌else◌};
 ghost use Rattle.cell_core_devices.specs.Blocks.{Appends};
@@ -22,18 +22,18 @@ use cell_stats_combinations::skip::{Skip, is_left_out};
 use rcell_script::statement::StatsOptions;
 use std::alloc::Global;
 
-/// What a walk over cells writes of each.
+/// What one pass over the cells writes for each.
 #[derive(Clone, Copy)]
 pub(crate) enum EntryPart {
-    /// A byte, by which they are counted.
+    /// One byte, so that the cells can be counted.
     Mark,
     /// The cells of the maps.
     Cells,
-    /// The labels of these cells.
+    /// The labels of the maps' cells.
     Labels,
 }
 
-// Writes an entry.
+// Writes one part of an entry.
 fn push_entry<W: Sink>(
     out: &mut W,
     block: &mut OutputBlock,
@@ -53,7 +53,7 @@ fn push_entry<W: Sink>(
     }
 }
 
-// Writes the entries of cells that are alike, or none if they are left out.
+// Writes the entries of a run of equal combinations, or nothing if they are left out.
 fn push_alike<W: Sink>(
     out: &mut W,
     block: &mut OutputBlock,
@@ -102,7 +102,7 @@ fn push_row<'a, W: Sink>(
     }
 }
 
-// Writes the entries of all cells, row by row from the top left.
+// Writes the entries of all cells, row by row, from the top left.
 fn push_rows<'a, W: Sink>(
     out: &mut W,
     block: &mut OutputBlock,
@@ -127,7 +127,7 @@ fn push_rows<'a, W: Sink>(
     }
 }
 
-// How many cells are not left out, by a walk.
+// Counts the cells that are not left out, in one pass over the maps.
 fn count_by_walk<'a>(
     selection: Selection<'a, '_>,
     cursors: &mut [Cursor<'a>],
@@ -157,7 +157,7 @@ fn count_by_walk<'a>(
     block.written()
 }
 
-// How many cells are not left out. A walk counts them only if some may be.
+// Counts the cells that are not left out. Without `-n` or `-N` this needs no pass over the maps.
 fn count_kept<'a>(
     selection: Selection<'a, '_>,
     cursors: &mut [Cursor<'a>],
@@ -178,7 +178,7 @@ fn count_kept<'a>(
     }
 }
 
-// Writes the labels of all cells, if they are asked for.
+// Writes the labels of all cells, if the options ask for labels.
 fn push_asked_labels<'a, W: Sink>(
     out: &mut W,
     block: &mut OutputBlock,
@@ -198,7 +198,7 @@ fn push_asked_labels<'a, W: Sink>(
     }
 }
 
-// Writes the frame, by a cursor and a cell for each map.
+// Writes the frame. The buffers hold a cursor and a cell for each map.
 fn push_frame<'a, W: Sink>(
     out: &mut W,
     block: &mut OutputBlock,
@@ -229,7 +229,7 @@ fn push_frame<'a, W: Sink>(
     push_asked_labels(out, block, selection, options.labels, cursors, cells);
 }
 
-/// The frame of r.stats -1. It has all that it needs of memory before its first byte.
+/// Writes the frame of r.stats -1. Allocates all memory before it writes the first byte.
 pub(crate) fn push_cells_frame<W: Sink>(
     alloc: Global,
     out: &mut W,

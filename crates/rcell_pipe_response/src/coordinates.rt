@@ -1,4 +1,4 @@
-//! Coordinates as `rcell` prints them, each after its length.
+//! Writes coordinates as `rcell` prints them, each preceded by its length.
 
 ghost use Rattle.std.specs.Prelude.{◌≡◌, ◌<◌, ◌++◌, IfOk, OnOk};
 ghost use Rattle.cell_core_devices.specs.Blocks.{Appends};
@@ -14,7 +14,7 @@ use cell_core::sink::Sink;
 use itoa::Buffer;
 use std::alloc::{AllocError, Global};
 
-/// The edges of a region as texts.
+/// A region's edges as texts.
 #[derive(Drop)]
 pub(crate) struct EdgeTexts {
     north: Vec<u8>,
@@ -23,7 +23,7 @@ pub(crate) struct EdgeTexts {
     west: Vec<u8>,
 }
 
-// Adds a point and the eight digits of a part, without the zeros at their end, or nothing if it is 0.
+// Adds a decimal point and the eight digits of `part`, without trailing zeros. Adds nothing if `part` is 0.
 fn add_fraction(text: &mut Vec<u8>, part: u64) -> Result<(), AllocError>
     requires { part < 100000000 }
     ensures { OnOk result (text.new.items ≡ text.old.items ++ fraction_text part) }
@@ -35,14 +35,14 @@ fn add_fraction(text: &mut Vec<u8>, part: u64) -> Result<(), AllocError>
     text.extend_from_slice(without_zeros(eight_digits(&mut Buffer::new(), part)))
 }
 
-// The sign of a coordinate, in units of 10^-8.
+// Returns the sign of a coordinate in units of 10^-8.
 fn sign_of(units: i64) -> &'static [u8]
     ensures { result.now ≡ sign_text units }
 {
     if units < 0 { b"-" } else { b"" }
 }
 
-// A coordinate, in units of 10^-8.
+// Formats a coordinate in units of 10^-8.
 fn coordinate(alloc: Global, units: i64) -> Result<Vec<u8>, AllocError>
     ensures { IfOk result (λ text. text.items ≡ coordinate_text units) }
 {
@@ -53,7 +53,7 @@ fn coordinate(alloc: Global, units: i64) -> Result<Vec<u8>, AllocError>
     Ok(text)
 }
 
-/// The texts of the edges of a region.
+/// Formats the edges of a region.
 pub(crate) fn edge_texts(alloc: Global, region: Region) -> Result<EdgeTexts, AllocError>
     ensures north { IfOk result (λ e. e.north.items ≡ coordinate_text region.north) }
     ensures south { IfOk result (λ e. e.south.items ≡ coordinate_text region.south) }
@@ -68,7 +68,7 @@ pub(crate) fn edge_texts(alloc: Global, region: Region) -> Result<EdgeTexts, All
     })
 }
 
-/// The texts of edges, each after its length.
+/// Writes the texts of the edges, each preceded by its length.
 pub(crate) fn push_edges<W: Sink>(out: &mut W, block: &mut OutputBlock, edges: &EdgeTexts)
     ensures { Appends W.taken W.faults out.old block.old
         (edges_bytes edges.now.north.items edges.now.south.items edges.now.east.items

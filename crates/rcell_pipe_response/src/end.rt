@@ -1,4 +1,4 @@
-//! How a run ends.
+//! The ways in which a run ends.
 
 ghost use Rattle.std.specs.Prelude.{◌≡◌};
 ghost use Rattle.rcell_pipe_response.specs.RunEnds.{kind_text, request_status, script_column, done_end, request_end, script_end, question_text, question_end, memory_end, error_status, end_status_after, end_value};
@@ -76,7 +76,7 @@ fn request_status(kind: ErrorKind) -> u8
     }
 }
 
-/// All is done.
+/// The last frame of a successful run.
 pub fn done_end() -> End<'static>
     ensures { end_value result ≡ done_end }
 {
@@ -90,7 +90,7 @@ pub fn done_end() -> End<'static>
     }
 }
 
-/// The bytes are not a request.
+/// The last frame if the bytes are not a request.
 pub fn request_end(error: RequestError) -> End<'static>
     ensures { end_value result ≡ request_end error }
 {
@@ -104,7 +104,7 @@ pub fn request_end(error: RequestError) -> End<'static>
     }
 }
 
-/// Whether a script was not read for lack of memory.
+/// Returns whether memory ran out while a script was read.
 pub(crate) fn is_memory(kind: ScriptKind) -> bool
     ensures { result ≡ is_memory kind }
 {
@@ -123,7 +123,7 @@ fn script_column(kind: ScriptKind) -> u32
     }
 }
 
-/// The script was rejected, with the text of its error.
+/// The last frame if the script was rejected, with the text of its error.
 pub fn script_end<'a>(error: ScriptFault, text: &'a [u8]) -> End<'a>
     requires { text.now ≡ script_text error.kind }
     ensures { end_value result ≡ script_end error }
@@ -147,7 +147,7 @@ fn question_text(kind: QuestionKind) -> &'static [u8]
     }
 }
 
-/// A question was rejected.
+/// The last frame if a question was rejected.
 pub(crate) fn question_end(error: QuestionError) -> End<'static>
     ensures { end_value result ≡ question_end error }
 {
@@ -161,7 +161,7 @@ pub(crate) fn question_end(error: QuestionError) -> End<'static>
     }
 }
 
-/// Memory ran out at a line, or at line 0 before the first or after the last.
+/// The last frame if memory ran out at a line. Line 0 is before the first statement or after the last.
 pub fn memory_end(line: u64) -> End<'static>
     ensures { end_value result ≡ memory_end line }
 {
@@ -175,7 +175,7 @@ pub fn memory_end(line: u64) -> End<'static>
     }
 }
 
-/// The exit status of an error.
+/// Returns the exit status for an error.
 fn error_status(error: PipeError) -> u8
     ensures { result ≡ error_status error }
 {
@@ -190,7 +190,7 @@ fn error_status(error: PipeError) -> u8
     }
 }
 
-/// The exit status of a run.
+/// Returns the exit status of a run.
 pub(crate) fn end_status_after(error: Option<PipeError>) -> u8
     ensures { result ≡ end_status_after error }
 {

@@ -1,4 +1,4 @@
-//! Statements are executed in order: those that make maps put them on the shelf, the others write their frame.
+//! Executes statements in order: a statement that makes a map puts it on the shelf, and any other writes its frame.
 
 ghost use Rattle.std.specs.Prelude.{◌≡◌, ◌<◌, ◌≤◌, All, length, IfSome, OnOk, OnErr, IfErr};
 ghost use Rattle.cell_core_devices.specs.Blocks.{Appends};
@@ -21,7 +21,7 @@ use rcell::making::{make_classes, make_numbers, make_values};
 use rcell_script::statement::{Command, Statement, StatsOptions};
 use std::alloc::Global;
 
-/// What stops an execution.
+/// Why an execution stopped.
 #[derive(Clone, Copy, Debug)]
 pub(crate) enum PipeStop {
     /// Memory ran out at the statement of this line.
@@ -30,7 +30,7 @@ pub(crate) enum PipeStop {
     Write,
 }
 
-// Writes the frame of r.stats. It has all that it needs of memory before its first byte.
+// Writes the frame of r.stats. Allocates all memory before it writes the first byte.
 fn push_stats<W: Sink>(
     alloc: Global,
     shelf: &Shelf,
@@ -58,7 +58,7 @@ fn push_stats<W: Sink>(
     Ok(())
 }
 
-// Executes a statement. It has all that it needs of memory before its first byte.
+// Executes a statement. Allocates all memory before it writes the first byte.
 fn execute_statement<W: Sink>(
     alloc: Global,
     shelf: &mut Shelf,
@@ -107,8 +107,8 @@ fn execute_statement<W: Sink>(
 ///
 /// # Errors
 ///
-/// [`PipeStop::Memory`] with the line of the first statement for which memory ran out, which has written nothing, or
-/// [`PipeStop::Write`] if the sink failed.
+/// Returns [`PipeStop::Memory`] with the line of the first statement for which memory ran out, and which has written
+/// nothing, or [`PipeStop::Write`] if the sink fails.
 pub(crate) fn execute<W: Sink>(
     alloc: Global,
     shelf: &mut Shelf,

@@ -1,4 +1,4 @@
-//! A run, from a request to bytes.
+//! Runs a request and writes the response.
 
 ghost use Rattle.std.specs.Prelude.{ℕ, ◌≡◌, List, [], ◌++◌, length, false, Option, Some, None, Result, Ok, IfOk};
 ghost use Rattle.std.specs.String.{string_bytes};
@@ -41,10 +41,10 @@ use rcell_script::script_parsing::parse_script;
 use rcell_script::statement::Script;
 use std::alloc::{AllocError, Global};
 
-/// What a run responds with.
+/// The form of a run's response.
 #[derive(Clone, Copy, Debug, PartialEq, Eq)]
 pub enum RunForm {
-    /// A frame for each statement that writes and for each question, and a last frame.
+    /// A frame for each statement that writes, a frame for each question, and a last frame.
     Frames,
     /// The text that `rcell` writes for the same maps and script.
     Text,
@@ -53,22 +53,23 @@ pub enum RunForm {
 /// The outcome of a run.
 #[derive(Clone, Copy, Debug, PartialEq, Eq)]
 pub struct PipeOutcome {
-    /// 0 if it is done, 1 if the request or the script was rejected, 3 if memory ran out, 4 if a read or a write failed.
+    /// 0 for success, 1 if the request or the script was rejected, 3 if memory ran out, 4 if a read or a write failed.
     pub status: u8,
-    /// Why it is not done.
+    /// The error, if the run failed.
     pub error: Option<PipeError>,
-    /// What the last frame reports, also if that frame or the flush failed; `Write` if a write failed in a statement.
+    /// The error that the last frame reports, even if writing that frame or the flush failed; `Write` if a write failed
+    /// in a statement.
     pub reported: Option<PipeError>,
-    /// How many bytes of the response went out, or the largest `u64` if more did.
+    /// The number of response bytes written, capped at the largest `u64`.
     pub written: u64,
 }
 
 /// The state of the sink after a response.
 #[derive(Clone, Copy, Debug, PartialEq, Eq)]
 pub enum Sending {
-    /// The sink took it, and was flushed.
+    /// All bytes were written, and the sink was flushed.
     Flushed,
-    /// The sink took it, and failed to flush.
+    /// All bytes were written, but the flush failed.
     Unflushed,
     /// A write failed.
     Refused,
@@ -85,7 +86,7 @@ fn flush_sink<W: Sink>(out: &mut W) -> Sending
     }
 }
 
-// Flushes the sink, once all that a block held was put.
+// Flushes the sink after the block has been emptied.
 fn flush_after<W: Sink>(out: &mut W, block: &OutputBlock) -> Sending
     requires good { block.now.failed ≡ false }
     requires held { block.now.held ≡ [] }
@@ -95,7 +96,7 @@ fn flush_after<W: Sink>(out: &mut W, block: &OutputBlock) -> Sending
     flush_sink(out)
 }
 
-// The outcome of a response that reports an error or none.
+// Builds the outcome of a complete response from the error that it reports, if any.
 fn outcome_of(reported: Option<PipeError>, sending: Sending, written: u64) -> PipeOutcome
     ensures reported { result.reported ≡ reported }
     ensures error { result.error ≡ error_after reported sending }
@@ -115,7 +116,7 @@ fn outcome_of(reported: Option<PipeError>, sending: Sending, written: u64) -> Pi
     }
 }
 
-// The outcome of a response of which a write failed, after so many bytes.
+// Builds the outcome of a response that was cut short by a failed write.
 fn cut_short(written: u64) -> PipeOutcome
     ensures reported { result.reported ≡ Some PipeError.Write }
     ensures error { result.error ≡ Some PipeError.Write }
@@ -125,7 +126,7 @@ fn cut_short(written: u64) -> PipeOutcome
     outcome_of(Some(PipeError::Write), Sending::Refused, written)
 }
 
-/// Puts the last frame, and flushes the sink unless a put failed.
+/// Writes the last frame, and flushes the sink unless a write failed.
 pub fn end_response<W: Sink>(
     out: &mut W,
     mut block: OutputBlock,
@@ -145,7 +146,7 @@ pub fn end_response<W: Sink>(
     outcome_of(reported, flush_after(out, &block), block.written())
 }
 
-/// The first eight bytes of a response, in a block.
+/// Writes the first eight bytes of a response to a new block.
 pub fn begin_response<W: Sink>(out: &mut W) -> OutputBlock
     ensures { Appended (W.taken out.old) (W.faults out.old) response_magic
         (W.taken out.new) (W.faults out.new) result }
@@ -155,7 +156,7 @@ pub fn begin_response<W: Sink>(out: &mut W) -> OutputBlock
     block
 }
 
-/// A response with no frame but the last.
+/// Writes a response that contains only the last frame.
 pub fn reject<W: Sink>(out: &mut W, error: PipeError, end: &End<'_>) -> PipeOutcome
     ensures { Finished (W.taken out.old) (W.faults out.old) (W.taken out.new) (W.faults out.new)
         (Some error) (response_bytes [] (end_value end.now)) result }
@@ -164,14 +165,14 @@ pub fn reject<W: Sink>(out: &mut W, error: PipeError, end: &End<'_>) -> PipeOutc
     end_response(out, block, Some(error), end)
 }
 
-// The text of an error of a script.
+// Formats the error of a script.
 fn script_text(alloc: Global, kind: ScriptKind) -> Result<String, AllocError>
     ensures { IfOk result (λ text. string_bytes text ≡ kind_text kind) }
 {
     format!(in alloc; "{kind}")
 }
 
-/// Rejects a script, with the text of its error, or for lack of memory if there is none for the text.
+/// Rejects a script with the text of its error. Reports that memory ran out if the text cannot be allocated.
 pub fn reject_script<W: Sink>(alloc: Global, out: &mut W, error: ScriptFault) -> PipeOutcome
     ensures { Rejected (W.taken out.old) (W.faults out.old) (W.taken out.new) (W.faults out.new)
         error result }
@@ -186,7 +187,7 @@ pub fn reject_script<W: Sink>(alloc: Global, out: &mut W, error: ScriptFault) ->
     }
 }
 
-// Answers questions about the maps that statements left on a shelf, after their frames.
+// Writes the frames of questions about the maps that the statements have left on the shelf.
 fn answer_questions<W: Sink>(
     alloc: Global,
     shelf: &Shelf,
@@ -218,7 +219,7 @@ fn answer_questions<W: Sink>(
     }
 }
 
-// Writes the frames of statements over the maps on a shelf, and of questions about the maps after them.
+// Runs statements over the maps on a shelf, and writes their frames and the frames of the questions.
 fn run_statements<W: Sink>(
     alloc: Global,
     mut shelf: Shelf,
@@ -259,7 +260,7 @@ fn end_text<W: Sink>(out: &mut W, reported: Option<PipeError>, written: u64) -> 
     outcome_of(reported, flush_sink(out), written)
 }
 
-// Writes the text of statements over the maps on a shelf, and nothing else: there are no questions.
+// Runs statements over the maps on a shelf, and writes their output as text. There are no questions.
 fn print_statements<W: Sink>(
     alloc: Global,
     mut shelf: Shelf,
@@ -283,7 +284,7 @@ fn print_statements<W: Sink>(
     }
 }
 
-// Runs the statements of a script over the maps on a shelf, unless a question is rejected.
+// Runs a script over the maps on a shelf, unless a question is rejected.
 fn run_script<W: Sink>(
     alloc: Global,
     shelf: Shelf,

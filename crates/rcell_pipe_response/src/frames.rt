@@ -1,4 +1,4 @@
-//! The frames of maps, and the last frame.
+//! Writes the frames of maps, and the last frame.
 
 ghost use Rattle.std.specs.Prelude.{◌≡◌, ◌++◌, OnOk, OnErr};
 ghost use Rattle.cell_core_devices.specs.Blocks.{Appends};
@@ -18,7 +18,7 @@ use cell_core::region::Region;
 use cell_core::sink::Sink;
 use std::alloc::Global;
 
-// What a map begins with.
+// Writes the head of a map's frame.
 fn push_grid_head<W: Sink>(
     out: &mut W,
     block: &mut OutputBlock,
@@ -35,7 +35,7 @@ fn push_grid_head<W: Sink>(
     push_text(out, block, name);
 }
 
-// The numbers of rows and columns.
+// Writes the numbers of rows and columns.
 fn push_sides<W: Sink>(out: &mut W, block: &mut OutputBlock, region: Region)
     ensures { Appends W.taken W.faults out.old block.old
         (number_bytes region.rows ++ number_bytes region.cols) out.new block.new }
@@ -44,7 +44,7 @@ fn push_sides<W: Sink>(out: &mut W, block: &mut OutputBlock, region: Region)
     push_number(out, block, region.cols() as u64);
 }
 
-/// The frame of a map. All that it needs of memory it has before its first byte.
+/// Writes the frame of a map. Allocates all memory before it writes the first byte.
 pub(crate) fn push_grid<W: Sink>(
     alloc: Global,
     out: &mut W,
@@ -76,7 +76,7 @@ pub(crate) fn push_grid<W: Sink>(
     Ok(())
 }
 
-/// The last frame.
+/// Writes the last frame.
 pub(crate) fn push_end<W: Sink>(out: &mut W, block: &mut OutputBlock, end: &End<'_>)
     ensures { Appends W.taken W.faults out.old block.old
         (end_bytes (end_value end.now)) out.new block.new }

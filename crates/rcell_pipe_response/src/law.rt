@@ -1,9 +1,9 @@
-//! The law that ties frames to the output of `rcell`.
+//! The law that relates frames to the output of `rcell`.
 
 ghost use Rattle.rcell_pipe_response.specs.FrameLaw.{FramesAreOutput, OutputIsFrames};
 
-/// If a script gives frames, `rcell` writes their text for the same maps; and if it writes a text, there are frames
-/// of that text.
+/// If a script produces frames, `rcell` prints their text for the same maps. Conversely, any text that `rcell` prints
+/// is the text of frames.
 pub fn frames_are_output()
     ensures output { FramesAreOutput }
     ensures frames { OutputIsFrames }

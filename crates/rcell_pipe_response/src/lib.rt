@@ -1,17 +1,16 @@
-//! Responses of `rcell-pipe`: a frame for each statement that writes and for each question, and a
-//! last frame that says how the run ended; or the text that `rcell` writes. docs/pipe.md defines the
-//! bytes (profile).
+//! Responses of `rcell-pipe`: a frame for each statement that writes and for each question, and a last frame that
+//! reports how the run ended; or the text that `rcell` prints. docs/pipe.md defines the bytes (see the profile).
 //!
-//! - `frame_run`: `run_request`, from a request to its response in a `RunForm`; `PipeOutcome`
-//! - `end`: `End`, the fields of the last frame; `PipeError`, why the work was not done
-//! - `bytes`: numbers, texts and cells as bytes
+//! - `frame_run`: `run_request` runs a request and writes its response in a `RunForm`; `PipeOutcome`
+//! - `end`: `End`, the fields of the last frame; `PipeError`, why a run failed
+//! - `bytes`: writes numbers, texts and cells as bytes
 //! - specs/FrameBytes.antt: the bytes of a response; specs/Frames.antt: the frames of a script;
 //!   specs/QuestionFrames.antt: the frames of questions
-//! - `question_error`: why a question is rejected; `made_names`: the names of all maps
-//! - `law`: `frames_are_output`, frames as text are what `rcell` writes for the same maps
-//! - private: `frame_execution`, the statements in order; `answers`, the questions after them;
-//!   `table_frame`, `cells_frame`, `patches_frame`, and `frames` for maps and the end; `cells`,
-//!   `coordinates`, `null_sink`, what these need
+//! - `question_error`: why a question is rejected; `made_names`: the names of all maps of a script
+//! - `law`: `frames_are_output`: the text of frames is what `rcell` prints for the same maps
+//! - private: `frame_execution` executes the statements in order; `answers` writes the questions' frames;
+//!   `table_frame`, `cells_frame`, `patches_frame` and `frames` write one kind of frame each; `cells`, `coordinates`
+//!   and `null_sink` are helpers
 #![tactic(auto)]
 
 mod answers;

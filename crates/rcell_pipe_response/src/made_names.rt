@@ -1,4 +1,4 @@
-//! The names of all maps of a script.
+//! Collects the names of all maps of a script.
 
 ghost use Rattle.std.specs.Prelude.{◌≡◌, IfOk, OnOk};
 ghost use Rattle.rcell_script_commands.specs.FittingCommands.{FitsCommand};
@@ -11,7 +11,7 @@ use cell_core::name::Names;
 use rcell_script::statement::{Command, Statement};
 use std::alloc::Global;
 
-// Adds the name of the map that a command makes.
+// Adds the name of the map that a command makes, if it makes one.
 fn push_made(alloc: Global, names: &mut Names, command: &Command) -> Result<(), Memory>
     requires { FitsCommand names.old command.now }
     ensures { OnOk result (names.new ≡ known_after names.old command.now) }
@@ -33,11 +33,11 @@ fn push_made(alloc: Global, names: &mut Names, command: &Command) -> Result<(), 
     }
 }
 
-/// The names, and the names of the maps that statements make.
+/// Returns the given names and the names of the maps that statements make.
 ///
 /// # Errors
 ///
-/// [`Memory`] if memory ran out.
+/// Returns [`Memory`] if memory runs out.
 pub fn all_names(alloc: Global, mut names: Names, statements: &[Statement]) -> Result<Names, Memory>
     requires { Fits names statements.now }
     ensures { IfOk result (λ all. all ≡ all_names names statements.now) }

@@ -1,4 +1,4 @@
-//! A sink that takes everything and keeps nothing, by which the bytes of a text are counted.
+//! A sink that discards all bytes, used to count the bytes of a text.
 
 ghost use Rattle.std.specs.Prelude.{◌≡◌};
 ghost use Rattle.cell_core_devices.specs.declared.sink.Flushes.TheVariants.{Never};
@@ -7,7 +7,7 @@ use cell_core::device::DeviceFault;
 use cell_core::sink::{Flushes, Sink};
 use std::marker::Model;
 
-/// A sink that takes everything.
+/// A sink that accepts and discards all bytes.
 #[derive(Debug, Drop)]
 pub(crate) struct NullSink {
     flushes: Flushes,

@@ -1,4 +1,4 @@
-//! The frame of the patches of a map.
+//! Writes the frame of a map's patches.
 
 ghost use Rattle.std.specs.Prelude.{◌≡◌, [], ◌∷◌, flat_map, length, Some, IfSome};
 ghost use Rattle.std.specs.List.{zip};
@@ -13,7 +13,7 @@ use cell_core::block::OutputBlock;
 use cell_core::sink::Sink;
 use cell_patches::patch::Patch;
 
-// The code of a connectivity: 4 or 8.
+// Returns the code of a connectivity: 4 or 8.
 fn joining_code(joining: Joining) -> u8
     ensures { result ≡ joining_code joining }
 {
@@ -44,7 +44,7 @@ fn push_class<W: Sink>(out: &mut W, block: &mut OutputBlock, class: i32)
     block.push(out, &class.to_le_bytes());
 }
 
-// A patch.
+// Writes a patch.
 fn push_patch<W: Sink>(out: &mut W, block: &mut OutputBlock, patch: &Patch)
     ensures { Appends W.taken W.faults out.old block.old (patch_bytes patch.now) out.new block.new }
 {
@@ -59,7 +59,7 @@ fn push_patch<W: Sink>(out: &mut W, block: &mut OutputBlock, patch: &Patch)
     push_number(out, block, patch.last_col as u64);
 }
 
-// Each patch.
+// Writes each patch.
 fn push_each_patch<W: Sink>(out: &mut W, block: &mut OutputBlock, patches: &[Patch])
     ensures { Appends W.taken W.faults out.old block.old (flat_map patch_bytes patches.now)
         out.new block.new }
@@ -69,14 +69,14 @@ fn push_each_patch<W: Sink>(out: &mut W, block: &mut OutputBlock, patches: &[Pat
     }
 }
 
-// The zone of a patch, or the smallest number if it has none.
+// Writes the zone of a patch, or the smallest `i32` if it has none.
 fn push_zone<W: Sink>(out: &mut W, block: &mut OutputBlock, zone: Option<i32>)
     ensures { Appends W.taken W.faults out.old block.old (wide_bytes zone) out.new block.new }
 {
     push_class(out, block, zone.unwrap_or(i32::MIN));
 }
 
-// A patch, and its zone.
+// Writes a patch and its zone.
 fn push_zoned<W: Sink>(out: &mut W, block: &mut OutputBlock, patch: &Patch, zone: Option<i32>)
     ensures { Appends W.taken W.faults out.old block.old (zoned_bytes (patch.now, zone))
         out.new block.new }
@@ -85,7 +85,7 @@ fn push_zoned<W: Sink>(out: &mut W, block: &mut OutputBlock, patch: &Patch, zone
     push_zone(out, block, zone);
 }
 
-// Each patch, with its zone.
+// Writes each patch with its zone.
 fn push_each_zoned<W: Sink>(
     out: &mut W,
     block: &mut OutputBlock,
@@ -101,14 +101,14 @@ fn push_each_zoned<W: Sink>(
     }
 }
 
-// Whether there are zones, in a byte.
+// Writes whether there are zones, as one byte.
 fn push_has_zones<W: Sink>(out: &mut W, block: &mut OutputBlock, has_zones: bool)
     ensures { Appends W.taken W.faults out.old block.old (flag has_zones ∷ []) out.new block.new }
 {
     block.push(out, &[flag(has_zones)]);
 }
 
-// Each patch, with its zone if there are zones.
+// Writes each patch, with its zone if there are zones.
 fn push_rows<W: Sink>(
     out: &mut W,
     block: &mut OutputBlock,
@@ -125,7 +125,7 @@ fn push_rows<W: Sink>(
     }
 }
 
-/// The frame of the question in a place among all, from 0.
+/// Writes the frame for the question at index `place`, from 0.
 pub(crate) fn push_patches<W: Sink>(
     out: &mut W,
     block: &mut OutputBlock,

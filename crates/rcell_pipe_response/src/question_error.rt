@@ -1,4 +1,4 @@
-//! Why a question is rejected, once the script is accepted.
+//! Errors of questions, which are checked after the script has been accepted.
 
 ghost use Rattle.std.specs.Prelude.{◌≡◌};
 ghost use Rattle.rcell_pipe_response.specs.QuestionFrames.{has_unknown_zones, question_fault, first_fault};
@@ -11,20 +11,20 @@ use rcell_pipe_request::question::Question;
 /// What is wrong with a question.
 #[derive(Clone, Copy, Debug, PartialEq, Eq)]
 pub enum QuestionKind {
-    /// The script knows no map of a name at its end.
+    /// No map has this name at the end of the script.
     UnknownMap,
-    /// The response is a text, which has no frames.
+    /// The response is text, which cannot contain the frames of questions.
     OfText,
 }
 
-/// What is wrong, with the number of the question, from 1.
+/// An error, and the number of its question, from 1.
 #[derive(Clone, Copy, Debug, PartialEq, Eq)]
 pub struct QuestionError {
     pub kind: QuestionKind,
     pub number: u32,
 }
 
-// Whether a question names a map of zones that has none of these names.
+// Returns whether a question's map of zones is none of the maps with these names.
 fn has_unknown_zones(names: &Names, zones: &Option<Name>) -> bool
     ensures { result ≡ has_unknown_zones names.now zones.now }
 {
@@ -34,7 +34,7 @@ fn has_unknown_zones(names: &Names, zones: &Option<Name>) -> bool
     }
 }
 
-// Why a question is rejected, if these are the names of all maps.
+// Returns why a question is rejected, if it is. `names` contains the names of all maps.
 fn question_fault(form: RunForm, names: &Names, question: &Question) -> Option<QuestionKind>
     ensures { result ≡ question_fault form names.now (question_value question.now) }
 {
@@ -50,7 +50,7 @@ fn question_fault(form: RunForm, names: &Names, question: &Question) -> Option<Q
     }
 }
 
-/// The first question that is rejected, if these are the names of all maps.
+/// Returns the error of the first question that is rejected. `names` contains the names of all maps.
 pub(crate) fn first_fault(
     form: RunForm,
     names: &Names,

@@ -1,4 +1,4 @@
-//! The frame of a table.
+//! Writes the frame of a table.
 
 ghost use Rattle.std.specs.Prelude.{◌≡◌, ◌<◌, All, [], length, map, flat_map, codes, IfSome, if◌then◌else◌};
 ghost use Rattle.std.specs.List.{zip};
@@ -17,7 +17,7 @@ use cell_core::sink::Sink;
 use cell_stats::table::{Listing, Table};
 use rcell_script::statement::StatsOptions;
 
-// The entries of a table that are printed.
+// Returns the entries of a table that are printed.
 fn listed<'a>(table: &'a Table, options: &StatsOptions) -> Listing<'a>
     requires { IfSome options.now.after (λ k. length k ≡ table.now.width) }
     ensures { result ≡ printed_pairs options.now.after table.now.pairs }
@@ -28,7 +28,7 @@ fn listed<'a>(table: &'a Table, options: &StatsOptions) -> Listing<'a>
     }
 }
 
-// How many entries there are.
+// Counts the entries.
 fn count_of(entries: Listing<'_>) -> u64
     requires { length entries < 18446744073709551616 }
     ensures { result ≡ length entries.entry }
@@ -40,7 +40,7 @@ fn count_of(entries: Listing<'_>) -> u64
     count
 }
 
-// The counts of entries.
+// Writes the counts of entries.
 fn push_counts<W: Sink>(out: &mut W, block: &mut OutputBlock, entries: Listing<'_>)
     ensures { Appends W.taken W.faults out.old block.old
         (flat_map (λ pair. number_bytes pair.1) entries.entry) out.new block.new }
@@ -50,7 +50,7 @@ fn push_counts<W: Sink>(out: &mut W, block: &mut OutputBlock, entries: Listing<'
     }
 }
 
-// The cells of entries.
+// Writes the cells of entries.
 fn push_combinations<W: Sink>(out: &mut W, block: &mut OutputBlock, entries: Listing<'_>)
     ensures { Appends W.taken W.faults out.old block.old
         (combinations_bytes entries.entry) out.new block.new }
@@ -60,7 +60,7 @@ fn push_combinations<W: Sink>(out: &mut W, block: &mut OutputBlock, entries: Lis
     }
 }
 
-// The label of a cell of a map.
+// Returns the label of a cell of the map at index `place`.
 fn label_of<'a>(shelf: &'a Shelf, place: usize, cell: Cell) -> &'a [u8]
     requires { place < length shelf.now.maps }
     ensures { result.now ≡ label_of_cell shelf.now.maps place cell }
@@ -74,7 +74,7 @@ fn label_of<'a>(shelf: &'a Shelf, place: usize, cell: Cell) -> &'a [u8]
     }
 }
 
-/// The labels of the cells of a combination.
+/// Writes the labels of a combination's cells.
 pub(crate) fn push_cell_labels<W: Sink>(
     out: &mut W,
     block: &mut OutputBlock,
@@ -104,7 +104,7 @@ fn push_names<W: Sink>(out: &mut W, block: &mut OutputBlock, shelf: &Shelf, plac
     }
 }
 
-// The labels of the cells of entries.
+// Writes the labels of the entries' cells.
 fn push_labels<W: Sink>(
     out: &mut W,
     block: &mut OutputBlock,
@@ -122,7 +122,7 @@ fn push_labels<W: Sink>(
     }
 }
 
-/// What a table begins with: its letters, and whether it has counts.
+/// Writes the head of a table's frame: its four letters, and the fields that precede the entries.
 pub(crate) fn push_head<W: Sink>(
     out: &mut W,
     block: &mut OutputBlock,
@@ -151,7 +151,7 @@ pub(crate) fn push_head<W: Sink>(
     push_names(out, block, shelf, places);
 }
 
-// The counts of entries, if they are asked for.
+// Writes the counts of entries, if the options ask for counts.
 fn push_asked_counts<W: Sink>(
     out: &mut W,
     block: &mut OutputBlock,
@@ -166,7 +166,7 @@ fn push_asked_counts<W: Sink>(
     }
 }
 
-// The labels of the cells of entries, if they are asked for.
+// Writes the labels of the entries' cells, if the options ask for labels.
 fn push_asked_labels<W: Sink>(
     out: &mut W,
     block: &mut OutputBlock,
@@ -186,7 +186,7 @@ fn push_asked_labels<W: Sink>(
     }
 }
 
-/// The frame of a table of the maps in these places.
+/// Writes the frame of a table over the maps at these indexes.
 pub(crate) fn push_table<W: Sink>(
     out: &mut W,
     block: &mut OutputBlock,

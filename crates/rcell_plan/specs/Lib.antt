@@ -1,4 +1,4 @@
--- What statements read, what they need from the given maps, and that they need no more.
+-- What statements read, what they need from the given maps, and that these needs are enough.
 pub mod Needs
 pub mod NeedsLaw
 pub mod Plans

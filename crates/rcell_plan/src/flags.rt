@@ -1,4 +1,4 @@
-//! The kind of a statement, as numbers.
+//! The kind of a statement, encoded in numbers.
 
 ghost use Rattle.std.specs.Prelude.{◌≡◌};
 ghost use Rattle.std.specs.List.{list_any};
@@ -45,8 +45,8 @@ fn position_flag(bound: &Bound) -> u8
     if steps_ask(bound.steps()) { 8 } else { 0 }
 }
 
-/// The sum of: 1 if a command writes, 2 if it prints labels, 4 if it needs the full map, 8 if it depends on the
-/// position.
+/// Returns the sum of the flags: 1 if a command writes, 2 if it prints labels, 4 if it needs the full map, 8 if it
+/// depends on the position.
 pub fn command_flags(command: &Command) -> u8
     ensures { result ≡ command_flags command.now }
 {
@@ -59,7 +59,7 @@ pub fn command_flags(command: &Command) -> u8
     }
 }
 
-/// 1 for r.mapcalc, 2 for r.reclass, 3 for r.clump, 4 for r.stats, 5 for r.out.ascii.
+/// Returns 1 for r.mapcalc, 2 for r.reclass, 3 for r.clump, 4 for r.stats, 5 for r.out.ascii.
 pub fn command_code(command: &Command) -> u8
     ensures { result ≡ command_code command.now }
 {

@@ -1,4 +1,4 @@
-//! Which maps are needed around a cell, and how far.
+//! The maps that are needed around a cell, and how far.
 
 ghost use Rattle.std.specs.Prelude.{◌≡◌, ◌+◌, [], ◌∷◌, map, IfOk, OnOk};
 ghost use Rattle.rcell_plan.specs.Needs.{margin_of_both, added, joined, moved, wholly, with_need, with_needs};
@@ -17,16 +17,16 @@ pub struct Margin {
     pub right: u64,
 }
 
-/// The map at a place, and how far it is needed around a cell.
+/// A map, by index, and how far it is needed around a cell.
 #[derive(Clone, Copy, Debug, PartialEq, Eq)]
 pub struct Need {
     pub place: usize,
     pub margin: Margin,
-    /// Whether the full map is needed, because there is an r.clump in between.
+    /// Whether the full map is needed, because an r.clump is in between.
     pub whole: bool,
 }
 
-/// Needs of different maps, by ascending places.
+/// Needs of distinct maps, ordered by map index.
 #[derive(Debug, Drop)]
 pub struct Needs {
     list: Vec<Need>,
@@ -52,7 +52,7 @@ fn margin_of_both(a: Margin, b: Margin) -> Margin
     }
 }
 
-// Only a script that fits in no memory has a margin that overflows.
+// Adds two numbers. A margin can overflow only for scripts too large for memory.
 fn sum(a: u64, b: u64) -> Result<u64, Memory>
     ensures { IfOk result (λ n. n ≡ a + b) }
 {
@@ -98,7 +98,7 @@ fn moved(margin: Margin, need: Need) -> Result<Need, Memory>
     })
 }
 
-// The place of a need among others, or where it would be inserted.
+// Returns the position of the need for the map `place`, or where to insert it.
 fn place_among(needs: &[Need], place: usize) -> usize
     ensures { result ≡ place_among place needs.now }
 {
@@ -110,7 +110,7 @@ fn place_among(needs: &[Need], place: usize) -> usize
     needs.len()
 }
 
-// Inserts a need at its place.
+// Inserts a need at its position, or joins it with the need there for the same map.
 fn put_need(needs: &mut Vec<Need>, at: usize, need: Need) -> Result<(), Memory>
     ensures { OnOk result (needs.new.items ≡ put_need needs.old.items at need) }
 {
@@ -128,7 +128,7 @@ fn put_need(needs: &mut Vec<Need>, at: usize, need: Need) -> Result<(), Memory>
 }
 
 impl Needs {
-    /// No map is needed.
+    /// Creates an empty list of needs.
     pub fn new(alloc: Global) -> Needs
         ensures { result ≡ [] }
     {
@@ -137,18 +137,18 @@ impl Needs {
         }
     }
 
-    /// The needs as a slice.
+    /// Returns the needs as a slice.
     pub fn in_order(&self) -> &[Need]
         ensures { result.now ≡ self.now }
     {
         &self.list
     }
 
-    /// Adds a need. A need for the same map is widened to contain both.
+    /// Adds a need. If the same map is already needed, widens its need to contain both.
     ///
     /// # Errors
     ///
-    /// [`Memory`] if memory ran out.
+    /// Returns [`Memory`] if memory runs out.
     #[tactic(auto, using(crate::proofs::NeedLemmas::put_among))]
     pub fn add(&mut self, need: Need) -> Result<(), Memory>
         ensures { OnOk result (self.new ≡ with_need self.old need) }
@@ -157,11 +157,11 @@ impl Needs {
         put_need(&mut self.list, at, need)
     }
 
-    /// Adds the needs of a map that is read within a margin of the cell.
+    /// Adds the needs of a map that is itself read within a margin.
     ///
     /// # Errors
     ///
-    /// [`Memory`] if memory ran out.
+    /// Returns [`Memory`] if memory runs out.
     pub fn add_moved(&mut self, margin: Margin, more: &[Need]) -> Result<(), Memory>
         ensures { OnOk result (self.new ≡ with_needs self.old (map (moved margin) more.now)) }
     {
@@ -172,11 +172,11 @@ impl Needs {
         Ok(())
     }
 
-    /// The same needs.
+    /// Copies needs.
     ///
     /// # Errors
     ///
-    /// [`Memory`] if memory ran out.
+    /// Returns [`Memory`] if memory runs out.
     pub fn copy_of(alloc: Global, needs: &[Need]) -> Result<Needs, Memory>
         ensures { IfOk result (λ copy. copy ≡ needs.now) }
     {
@@ -184,11 +184,11 @@ impl Needs {
         Ok(Needs { list })
     }
 
-    /// The same maps, with each needed in full.
+    /// Copies needs, and requires each map in full.
     ///
     /// # Errors
     ///
-    /// [`Memory`] if memory ran out.
+    /// Returns [`Memory`] if memory runs out.
     pub fn wholly(alloc: Global, needs: &[Need]) -> Result<Needs, Memory>
         ensures { IfOk result (λ whole. whole ≡ map wholly needs.now) }
     {

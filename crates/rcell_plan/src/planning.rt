@@ -1,4 +1,4 @@
-//! The plans of statements.
+//! Plans statements.
 
 ghost use Rattle.std.specs.Prelude.{◌≡◌, [], ◌∷◌, ◌++◌, IfOk, OnOk};
 ghost use Rattle.rcell_plan.specs.Plans.{needs_at, needs_of_reads, command_reads, command_needs, makes_map, made_place, needs_after, plan_of, plans_of, given_needs};
@@ -13,21 +13,21 @@ use std::alloc::Global;
 /// The plan of a statement.
 #[derive(Debug, Drop)]
 pub struct Plan {
-    /// Its line.
+    /// The statement's line.
     pub line: u64,
-    /// The number of its command.
+    /// The code of the command.
     pub code: u8,
-    /// The kind of the statement.
+    /// The flags of the statement.
     pub flags: u8,
-    /// The place of the map that it makes.
+    /// The index of the map that the statement makes, if it makes one.
     pub made: Option<usize>,
-    /// The maps that it reads, as places on the shelf before it.
+    /// The maps that the statement reads, by their indexes on the shelf before it.
     pub reads: Needs,
-    /// The given maps that it depends on, directly or through maps made earlier.
+    /// The given maps that the statement depends on, directly or through maps made earlier.
     pub needs: Needs,
 }
 
-// What the map at a place needs from the given maps.
+// Returns what the map at index `place` needs from the given maps.
 fn needs_at<'a>(known: &'a [Needs], place: usize) -> &'a [Need]
     ensures { result.now ≡ needs_at known.now place }
 {
@@ -91,7 +91,7 @@ fn plan_of(alloc: Global, known: &[Needs], statement: &Statement) -> Result<Plan
     })
 }
 
-// Whether a command makes a map.
+// Returns whether a command makes a map.
 fn makes_map(command: &Command) -> bool
     ensures { result ≡ makes_map command.now }
 {
@@ -104,7 +104,7 @@ fn makes_map(command: &Command) -> bool
     }
 }
 
-// The needs of the map that a command makes are known after it.
+// Adds the needs of the map that a command makes, if it makes one.
 fn add_known(
     alloc: Global,
     known: &mut Vec<Needs>,
@@ -121,7 +121,7 @@ fn add_known(
     Ok(())
 }
 
-// The given maps: each needs itself.
+// Returns the needs of the given maps: each needs only itself.
 fn given_needs(alloc: Global, count: usize) -> Result<Vec<Needs>, Memory>
     ensures { IfOk result (λ known. known.items ≡ given_needs count) }
 {
@@ -133,11 +133,11 @@ fn given_needs(alloc: Global, count: usize) -> Result<Vec<Needs>, Memory>
     Ok(known)
 }
 
-/// The plans of statements over `count` given maps.
+/// Plans statements over `count` given maps.
 ///
 /// # Errors
 ///
-/// [`Memory`] if memory ran out.
+/// Returns [`Memory`] if memory runs out.
 pub fn plans_of(alloc: Global, count: usize, statements: &[Statement]) -> Result<Vec<Plan>, Memory>
     ensures { IfOk result (λ plans. plans.items ≡ plans_of (given_needs count) statements.now) }
 {

@@ -1,4 +1,4 @@
-//! What a statement reads.
+//! The maps that a statement reads.
 
 ghost use Rattle.std.specs.Prelude.{◌≡◌, [], ◌∷◌, map, flat_map, IfOk, OnOk};
 ghost use Rattle.cell_calc_language.specs.Grammatical.{up_by, down_by};
@@ -27,7 +27,7 @@ fn down_by(offset: i32) -> u64
     if offset < 0 { 0 } else { offset as u64 }
 }
 
-// The margin that an offset asks for.
+// Returns the margin that contains an offset.
 fn margin_of(down: i32, right: i32) -> Margin
     ensures { result ≡ margin_of down right }
 {
@@ -39,7 +39,7 @@ fn margin_of(down: i32, right: i32) -> Margin
     }
 }
 
-/// The map at a place, read only at the cell itself.
+/// Returns the need of a map that is read only at the cell itself.
 pub(crate) fn own(place: usize) -> Need
     ensures { result ≡ own place }
 {
@@ -56,7 +56,7 @@ pub(crate) fn own(place: usize) -> Need
     }
 }
 
-/// Only the map at a place, read only at the cell itself.
+/// Returns the needs of a command that reads only this map, at the cell itself.
 pub(crate) fn own_alone(alloc: Global, place: usize) -> Result<Needs, Memory>
     ensures { IfOk result (λ needs. needs ≡ own place ∷ []) }
 {
@@ -98,7 +98,7 @@ fn places_reads(alloc: Global, places: &[usize]) -> Result<Needs, Memory>
     Ok(reads)
 }
 
-/// The maps that a command reads, each once.
+/// Returns the maps that a command reads, each once.
 pub(crate) fn command_reads(alloc: Global, command: &Command) -> Result<Needs, Memory>
     ensures { IfOk result (λ reads. reads ≡ command_reads command.now) }
 {

@@ -1,4 +1,4 @@
--- Plan requests, their responses, and responses to requests of any form.
+-- Plan requests and their responses, and the responses to requests of any form.
 pub mod PlanRequests
 pub mod MapNames
 pub mod PlanOptions

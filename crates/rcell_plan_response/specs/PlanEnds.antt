@@ -1,4 +1,4 @@
--- What is written in response to a plan request (profile).
+-- The response to a plan request (see the profile).
 use Rattle.std.specs.Prelude.{ℕ, ◌≡◌, List, [], Option, Some, None, Result, Ok, Err}
 use Rattle.rcell_script.specs.Lines.{script_lines}
 use Rattle.rcell_script.specs.Scripts.{IsScript}
@@ -20,14 +20,14 @@ pub record IsPlanAccepted (read : Result PlanRequestValue RequestError) (names :
   pub request : read ≡ Ok (record { names = names; script = script })
   pub denoted : IsScript names script statements
 
--- the plan of each statement, and the end
+-- the request is accepted, and the response contains the plan of each statement and the end
 pub record IsPlanDone (read : Result PlanRequestValue RequestError) (response : List ℕ) : Type 0 where
   pub names : List (List ℕ)
   pub statements : List Statement
   pub accepted : IsPlanAccepted read names statements
   pub bytes : response ≡ plan_response names (script_lines accepted.script) statements
 
--- the script is rejected for its first error: no frame but the end
+-- the script is rejected for its first error: the response is only the end
 pub record IsPlanRejected (read : Result PlanRequestValue RequestError) (response : List ℕ)
     (error : ScriptFault) : Type 0 where
   pub names : List (List ℕ)
@@ -36,7 +36,7 @@ pub record IsPlanRejected (read : Result PlanRequestValue RequestError) (respons
   pub first : IsScriptFault names script error
   pub bytes : response ≡ response_bytes [] (script_end error)
 
--- the whole response to a plan request, by its error
+-- the complete response to a plan request, for the error that it reports
 abbrev pub IsPlanResponse : Result PlanRequestValue RequestError → List ℕ → Option PipeError → Type 0
 IsPlanResponse read response None = IsPlanDone read response
 IsPlanResponse read response (Some (errors.Request error)) = (read ≡ Err error) ×

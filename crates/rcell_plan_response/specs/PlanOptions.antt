@@ -1,4 +1,4 @@
--- What a plan says about the options of a statement (profile).
+-- The options of a statement in a plan (see the profile).
 use Rattle.std.specs.Prelude.{ℕ, ◌+◌, ◌*◌, List, [], ◌∷◌, ◌++◌, length, flat_map, Option, Some, None}
 use Rattle.cell_stats_combinations.specs.Combinations.{Combination}
 use Rattle.cell_stats_combinations.specs.declared.skip.Skip.{Skip}
@@ -9,13 +9,13 @@ use Rattle.rcell_script_commands.specs.declared.command.StatsOptions.{StatsOptio
 use Rattle.rcell_pipe_response.specs.FrameBytes.{number_bytes, text_bytes, wide_bytes, flag}
 use Rattle.rcell_plan_response.specs.MapNames.{name_of_place}
 
--- 8: combinations with a null are left out; 16: combinations of nulls only
+-- 8 if combinations that contain a null are left out; 16 if only combinations of nulls are left out
 abbrev pub skip_flag : Skip → ℕ
 skip_flag Nothing = 0
 skip_flag AnyNull = 8
 skip_flag AllNull = 16
 
--- 1: counts; 2: labels; 4: a line for each cell
+-- the sum of: 1 for counts, 2 for labels, 4 for a line per cell, and the skip flag
 abbrev pub options_flags : StatsOptions → ℕ
 options_flags o = flag o.counts + 2 * flag o.labels + 4 * flag o.cells + skip_flag o.skip
 
@@ -34,7 +34,7 @@ command_inputs (Clump place target joining) = place ∷ []
 command_inputs (Stats places options) = places
 command_inputs (OutAscii place null_text) = place ∷ []
 
--- the combination of `after=`, empty without one
+-- the combination of `after=`, or an empty one without this option
 abbrev pub after_combination : Option Combination → Combination
 after_combination None = []
 after_combination (Some k) = k
@@ -46,15 +46,14 @@ command_after (Clump place target joining) = []
 command_after (Stats places options) = after_combination options.after
 command_after (OutAscii place null_text) = []
 
--- how many maps there are, and their names
+-- the number of maps, then their names
 abbrev pub inputs_bytes : List (List ℕ) → List ℕ → List ℕ
 inputs_bytes names places = number_bytes (length places) ++ flat_map (λ place. text_bytes (name_of_place names place)) places
 
--- how many cells there are, and their categories
+-- the number of cells, then their categories
 abbrev pub after_list_bytes : Combination → List ℕ
 after_list_bytes k = number_bytes (length k) ++ flat_map wide_bytes k
 
--- the options of a statement
 abbrev pub options_bytes : List (List ℕ) → Command → List ℕ
 options_bytes names command =
     (command_options command ∷ []) ++ inputs_bytes names (command_inputs command) ++ after_list_bytes (command_after command)

@@ -1,4 +1,4 @@
--- What the bytes of a plan request denote: distinct names of maps, and the bytes of a script (profile).
+-- The meaning of a plan request's bytes: distinct names of maps, and the bytes of a script (see the profile).
 use Rattle.std.specs.Prelude.{ℕ, nat_le, List, [], ◌∷◌, ◌++◌, length, Ok, Err, if◌then◌else◌}
 use Rattle.std.specs.Option.{is_none}
 use Rattle.std.specs.Int.{w32}
@@ -11,13 +11,13 @@ use Rattle.rcell_pipe_request.specs.Heads.{map_name_at}
 use Rattle.rcell_pipe_request.specs.Requests.{last_script_at}
 use Rattle.rcell_plan_response.specs.declared.plan_request.PlanRequest.{PlanRequest}
 
--- how many names there are
+-- the number of names
 unfoldable pub name_count_at : Coming → FieldReading ℕ
 name_count_at c = do
   count ← number_at w32 c
   if nat_le count.0 65535 then Ok count else Err kinds.BadCount
 
--- a name that is none of those before it
+-- a name that differs from all previous names
 unfoldable pub unused_name_at : List (List ℕ) → Coming → FieldReading (List ℕ)
 unused_name_at names c = do
   name ← map_name_at c
@@ -29,12 +29,10 @@ one_more_name names c = do
   name ← error_at (length names) 0 (unused_name_at names c)
   Ok (names ++ name.0 ∷ [], name.1)
 
--- names of maps and a script
 pub record PlanRequestValue : Type 0 where
   pub names : List (List ℕ)
   pub script : List ℕ
 
--- the names and the script
 unfoldable pub plan_at : Coming → Placed PlanRequestValue
 plan_at c = do
   count ← error_at 0 0 (name_count_at c)
@@ -42,6 +40,6 @@ plan_at c = do
   script ← error_at count.0 0 (last_script_at names.1)
   Ok (record { names = names.0; script = script.0 }, script.1)
 
--- a request without where it lies in memory
+-- the request as a value
 abbrev pub plan_request_value : PlanRequest → PlanRequestValue
 plan_request_value request = record { names = request.names; script = request.script.items }

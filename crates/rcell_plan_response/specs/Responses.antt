@@ -1,4 +1,4 @@
--- What is written in response to a request of any form (profile).
+-- The response to a request of any form (see the profile).
 use Rattle.std.specs.Prelude.{ℕ, ◌≡◌, ◌≢◌, Bool, true, false, List, length, Option, Some, None}
 use Rattle.std.specs.Prelude.{Result, Ok, Err, if◌then◌else◌, codes}
 use Rattle.std.specs.Prelude.{bytes_eq}
@@ -28,43 +28,42 @@ use Rattle.rcell_pipe_response.specs.declared.frame_run.RunForm.TheVariants.{Fra
 use Rattle.rcell_plan_response.specs.PlanRequests.{PlanRequestValue, plan_at}
 use Rattle.rcell_plan_response.specs.PlanEnds.{IsPlanResponse, IsPlanAccepted}
 
--- the form of a request, by its first eight bytes
+-- the form of a request, given its first eight bytes
 abbrev pub form_of : List ℕ → Option RequestForm
 form_of magic = if bytes_eq magic (codes "RCELLQ1\n") then Some (Run Frames) else
     (if bytes_eq magic (codes "RCELLT1\n") then Some (Run Text) else
     (if bytes_eq magic (codes "RCELLP1\n") then Some Plan else None))
 
--- the first eight bytes
+-- the form, read from the first eight bytes
 unfoldable pub form_at : Coming → FieldReading RequestForm
 form_at c = do
   magic ← bytes_at 8 c
   wanted kinds.BadMagic magic.1 (form_of magic.0)
 
--- the maps, the script and the questions of a run, or the first error
+-- the maps, script and questions of a run request, or its first error
 abbrev pub run_request_of : Coming → Result RunRequestValue RequestError
 run_request_of c = run_at c >>= λ run. Ok run.0
 
--- the names and the script of a plan, or the first error
+-- the names and script of a plan request, or its first error
 abbrev pub plan_request_of : Coming → Result PlanRequestValue RequestError
 plan_request_of c = plan_at c >>= λ plan. Ok plan.0
 
--- the whole response to a request, by its form and by the error that it reports; or, if a write failed in a statement
--- or a question, the response up to it
+-- the complete response to a request, for its form and the error that it reports; or, if a write failed at a statement
+-- or question, the response up to and including it
 abbrev pub IsResponseTo : FieldReading RequestForm → List ℕ → Option PipeError → Type 0
 IsResponseTo (Err kind) response error = IsResponse Frames (Err (record { kind = kind; maps = 0; row = 0 })) response error
 IsResponseTo (Ok (Run form, rest)) response error = IsResponse form (run_request_of rest) response error
 IsResponseTo (Ok (Plan, rest)) response error = IsPlanResponse (plan_request_of rest) response error
 
--- the response to what a source gave in this call, by the error that it reports: it is the response to whatever the
--- source may hold, of which it gave the first bytes before the call, and so much after it; if it has ended or failed,
--- that is all
+-- the response to the bytes returned in this call, for the error that it reports: for any content that the source may
+-- hold, given the bytes before and in this call and the read state, this is the response to the bytes after `before`
 abbrev pub IsResponseToGiven : (before gave : List ℕ) → Asked → List ℕ → Option PipeError → Type 0
 IsResponseToGiven before gave asked response error =
     (c : Coming) → may_hold gave asked c ≡ true
     → IsResponseTo (form_at (after_bytes c (length before))) response error
 
--- how far the source was asked, by the error that the response reports: to the end of the request, which is complete,
--- or up to its first error; if memory ran out before the first statement, no further than its end
+-- the read state of the source, for the error that the response reports: read to its end, or to the first error of the
+-- request; if memory ran out before the first statement, at most to its end
 abbrev pub IsAskedBy : Option PipeError → Asked → Type 0
 IsAskedBy None asked = asked ≡ Ended
 IsAskedBy (Some (errors.Request error)) asked = asked ≡ asked_at error.kind
@@ -84,15 +83,15 @@ IsRequestAccepted (Ok (Run form, rest)) = (shelf : ShelfValue) ×
 IsRequestAccepted (Ok (Plan, rest)) = (names : List (List ℕ)) ×
     ((statements : List Statement) × IsPlanAccepted (plan_request_of rest) names statements)
 
--- the bytes ask for the frames of a script over maps and of questions: its statements over these maps are these
+-- the bytes ask for the frames of a script over these maps and of questions, and the script denotes these statements
 pub record AsksForFrames (c : Coming) (shelf : ShelfValue) (statements : List Statement)
     (questions : List QuestionValue) : Type 0 where
   pub rest : Coming
   pub form : form_at c ≡ Ok (Run Frames, rest)
   pub accepted : IsPipeAccepted Frames (run_request_of rest) shelf statements questions
 
--- unless memory runs out (status 3) or the sink fails: status 0, no error, and exactly the frames of the statements and
--- of the questions and the end are written
+-- unless memory runs out (status 3) or the sink fails, the status is 0, there is no error, and exactly the frames of
+-- the statements and questions and the end are written
 abbrev pub WritesFrames : ShelfValue → List Statement → List QuestionValue → Option (List ℕ) → Option (List ℕ) → Bool
     → PipeOutcome → Type 0
 WritesFrames shelf statements questions before now failed outcome =

@@ -1,12 +1,12 @@
-//! Responses of `rcell-pipe` to requests of each form: a run, with frames or as text, or a plan.
-//! docs/pipe.md defines the bytes (profile).
+//! Responses of `rcell-pipe` to requests of each form: a run, with frames or as text, or a plan. docs/pipe.md defines
+//! the bytes (see the profile).
 //!
-//! - `responding`: `respond`, from a source of bytes to its response; all that `rcell-pipe` does
-//! - `plan_request`: `read_plan`, names of maps and a script, or their first error
-//! - `plan_response`: `plan_request`, the plan of each statement, as `rcell_plan` makes it
-//! - specs/Responses.antt: the response of every request
-//! - private: `plan_frames`, `plan_options`: a plan as bytes; `plan_details`: the calls of
-//!   `position_calls` in a statement and the labels of its rules
+//! - `responding`: `respond` reads a request and writes its response: all that `rcell-pipe` does
+//! - `plan_request`: `read_plan` reads names of maps and a script, or reports the first error
+//! - `plan_response`: `plan_request` writes the plan of each statement, as computed by `rcell_plan`
+//! - specs/Responses.antt: the response to every request
+//! - private: `plan_frames` and `plan_options` write plans as bytes; `plan_details` collects a statement's position
+//!   calls (`position_calls`) and the labels in its rules
 #![tactic(auto)]
 
 mod plan_details;

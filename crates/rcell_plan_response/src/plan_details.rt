@@ -1,4 +1,4 @@
-//! What a plan says about the text of statements.
+//! Details that a plan reports about the text of statements.
 
 ghost use Rattle.std.specs.Prelude.{◌≡◌, ◌≤◌, All, IfOk, length, map};
 ghost use Rattle.std.specs.List.{filter_map};
@@ -14,32 +14,32 @@ use cell_core::memory::Memory;
 use rcell_script::statement::{Command, Statement};
 use std::alloc::{AllocError, Global};
 
-/// A category with its label.
+/// A category and its label.
 #[derive(Debug, Drop)]
 pub struct RuleLabel<'a> {
     pub category: i32,
     pub text: &'a [u8],
 }
 
-/// The calls of functions of the position in a statement, and the labels that its rules give.
+/// A statement's calls of position functions, and the labels in its rules.
 #[derive(Debug, Drop)]
 pub struct Details<'a> {
     pub calls: Vec<PositionCall>,
     pub labels: Vec<RuleLabel<'a>>,
 }
 
-/// The lines of a script.
+/// Splits a script into lines.
 ///
 /// # Errors
 ///
-/// [`AllocError`] if memory ran out.
+/// Returns [`AllocError`] if memory runs out.
 pub(crate) fn lines_of<'a>(alloc: Global, text: &'a [u8]) -> Result<Vec<&'a [u8]>, AllocError>
     ensures { IfOk result (λ lines. map (λ line. line.now) lines.items ≡ script_lines text.now) }
 {
     text.lines().collect(alloc)
 }
 
-// The line of a number, from 1.
+// Returns the line with this number, from 1.
 fn line_of<'a>(lines: &[&'a [u8]], number: usize) -> &'a [u8]
     ensures { result.now ≡ line_of (map (λ line. line.now) lines.now) number }
 {
@@ -49,7 +49,7 @@ fn line_of<'a>(lines: &[&'a [u8]], number: usize) -> &'a [u8]
     }
 }
 
-// The calls in a statement.
+// Returns the calls of position functions in a statement.
 fn statement_calls(
     alloc: Global,
     lines: &[&[u8]],
@@ -65,7 +65,7 @@ fn statement_calls(
     }
 }
 
-// The labels of rules, in the order of the rules.
+// Returns the labels in rules, in order.
 fn labels_of<'a>(alloc: Global, rules: &'a [Rule]) -> Result<Vec<RuleLabel<'a>>, Memory>
     ensures { IfOk result (λ labels. map rule_label_value labels.items
         ≡ filter_map label_entry rules.now) }
@@ -80,7 +80,7 @@ fn labels_of<'a>(alloc: Global, rules: &'a [Rule]) -> Result<Vec<RuleLabel<'a>>,
     Ok(labels)
 }
 
-// The labels of a statement.
+// Returns the labels in the rules of a statement.
 fn statement_labels<'a>(
     alloc: Global,
     statement: &'a Statement,
@@ -94,11 +94,11 @@ fn statement_labels<'a>(
     }
 }
 
-/// The details of statements of a script with these lines.
+/// Returns the details of each statement of a script with these lines.
 ///
 /// # Errors
 ///
-/// [`Memory`] if memory ran out.
+/// Returns [`Memory`] if memory runs out.
 pub(crate) fn details_of<'a>(
     alloc: Global,
     lines: &[&[u8]],

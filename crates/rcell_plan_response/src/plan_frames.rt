@@ -1,4 +1,4 @@
-//! The frames of a plan as bytes.
+//! Writes the frames of a plan.
 
 ghost use Rattle.std.specs.Prelude.{◌≡◌, length, map, flat_map};
 ghost use Rattle.cell_core_devices.specs.Blocks.{Appends};
@@ -34,7 +34,7 @@ fn push_margin<W: Sink>(out: &mut W, block: &mut OutputBlock, margin: Margin)
     push_number(out, block, margin.right);
 }
 
-// A map that is read.
+// Writes a map that a statement reads.
 fn push_read<W: Sink>(out: &mut W, block: &mut OutputBlock, names: &Names, need: Need)
     ensures { Appends W.taken W.faults out.old block.old (read_bytes names.now need)
         out.new block.new }
@@ -43,7 +43,7 @@ fn push_read<W: Sink>(out: &mut W, block: &mut OutputBlock, names: &Names, need:
     push_margin(out, block, need.margin);
 }
 
-// A map that is needed.
+// Writes a map that a statement needs.
 fn push_need<W: Sink>(out: &mut W, block: &mut OutputBlock, names: &Names, need: Need)
     ensures { Appends W.taken W.faults out.old block.old (need_bytes names.now need)
         out.new block.new }
@@ -86,7 +86,7 @@ fn push_needs<W: Sink>(out: &mut W, block: &mut OutputBlock, names: &Names, need
     push_each_need(out, block, names, needs);
 }
 
-// What the frame of a statement begins with.
+// Writes the head of a statement's frame.
 fn push_plan_head<W: Sink>(out: &mut W, block: &mut OutputBlock, names: &Names, plan: &Plan)
     ensures { Appends W.taken W.faults out.old block.old (plan_head names.now plan.now)
         out.new block.new }
@@ -163,7 +163,7 @@ fn push_details<W: Sink>(out: &mut W, block: &mut OutputBlock, details: &Details
     push_labels(out, block, &details.labels);
 }
 
-// The frame of a statement.
+// Writes the frame of a statement.
 fn push_plan<W: Sink>(
     out: &mut W,
     block: &mut OutputBlock,
@@ -183,7 +183,7 @@ fn push_plan<W: Sink>(
     push_details(out, block, details);
 }
 
-/// The frames of statements by their plans and details, over the names of all maps.
+/// Writes the frames of statements from their plans and details. `names` contains the names of all maps.
 pub(crate) fn push_plans<W: Sink>(
     out: &mut W,
     block: &mut OutputBlock,

@@ -1,4 +1,4 @@
-//! What a plan says about the options of a statement, as bytes.
+//! Writes the options of a statement in a plan.
 
 ghost use Rattle.std.specs.Prelude.{◌≡◌, ◌≤◌, [], ◌∷◌, flat_map};
 ghost use Rattle.cell_core_devices.specs.Blocks.{Appends};
@@ -15,7 +15,7 @@ use cell_stats_combinations::skip::Skip;
 use rcell_pipe_response::bytes::{flag, push_cells, push_number, push_text};
 use rcell_script::statement::{Command, StatsOptions};
 
-/// The name of the map at a place, or nothing.
+/// Returns the name of the map at index `place`, or an empty name if there is none.
 pub(crate) fn name_of_place<'a>(names: &'a Names, place: usize) -> &'a [u8]
     ensures { result.now ≡ name_of_place names.now place }
 {
@@ -120,7 +120,7 @@ fn push_after<W: Sink>(out: &mut W, block: &mut OutputBlock, cells: &[Cell])
     push_cells(out, block, cells);
 }
 
-/// The options of a statement.
+/// Writes the options of a statement.
 pub(crate) fn push_options<W: Sink>(
     out: &mut W,
     block: &mut OutputBlock,

@@ -1,4 +1,4 @@
-//! Plan requests, read whole.
+//! Reads complete plan requests.
 
 ghost use Rattle.std.specs.Prelude.{◌≡◌, ◌+◌, ◌<◌, ◌≤◌, [], length, None, OnOk, IfOk};
 ghost use Rattle.cell_core_values.specs.Name.{place_of};
@@ -14,14 +14,14 @@ use rcell_pipe_request::request::read_last_script;
 use std::alloc::Global;
 use std::io::Read;
 
-/// Names of maps and a script.
+/// Names of maps, and a script.
 #[derive(Debug, Drop)]
 pub struct PlanRequest {
     pub names: Names,
     pub script: Vec<u8>,
 }
 
-// The number of names.
+// Reads the number of names.
 #[tactic(auto, unfolding(crate::specs::PlanRequests::name_count_at))]
 fn read_name_count<R: Read>(feed: &mut Feed<R>) -> Result<u32, FieldStop>
     ensures reads { ReadsField (λ n. n) feed.old result feed.new name_count_at }
@@ -34,7 +34,7 @@ fn read_name_count<R: Read>(feed: &mut Feed<R>) -> Result<u32, FieldStop>
     Err(FieldStop::Error(ErrorKind::BadCount))
 }
 
-// A name that is none of those before it.
+// Reads a name that differs from all previous names.
 #[tactic(auto, unfolding(crate::specs::PlanRequests::unused_name_at))]
 fn read_unused_name<R: Read>(
     alloc: Global,
@@ -51,7 +51,7 @@ fn read_unused_name<R: Read>(
     }
 }
 
-// Reads one name more.
+// Reads one more name.
 #[tactic(auto, unfolding(crate::specs::PlanRequests::one_more_name))]
 fn push_name<R: Read>(
     alloc: Global,
@@ -94,11 +94,12 @@ fn push_names<R: Read>(
     Ok(())
 }
 
-/// Reads the names and the script of a plan request, to the end of its source. Memory grows with the bytes that have come.
+/// Reads the names and the script of a plan request, to the end of the source. Memory grows only with the bytes that
+/// have arrived.
 ///
 /// # Errors
 ///
-/// The first error of the bytes, or [`RequestStop::Memory`] if memory ran out.
+/// Returns the first error in the bytes, or [`RequestStop::Memory`] if memory runs out.
 #[tactic(auto, unfolding(crate::specs::PlanRequests::plan_at))]
 pub fn read_plan<R: Read>(alloc: Global, feed: &mut Feed<R>) -> Result<PlanRequest, RequestStop>
     ensures { ReadsPlacedToEnd plan_request_value feed.old result feed.new plan_at }

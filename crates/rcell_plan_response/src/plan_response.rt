@@ -1,4 +1,4 @@
-//! The response to a plan request.
+//! Writes the response to a plan request.
 
 ghost use Rattle.std.specs.Prelude.{◌≡◌, ◌++◌, length, map, None, Ok, Result};
 ghost use Rattle.rcell_script.specs.FittingScripts.{Fits};
@@ -28,7 +28,7 @@ use rcell_script::script_parsing::parse_script;
 use rcell_script::statement::Statement;
 use std::alloc::Global;
 
-// Writes the plans and details of statements, over the names of all maps.
+// Writes the plans and details of statements. `names` contains the names of all maps.
 fn write_plans<W: Sink>(
     out: &mut W,
     names: &Names,
@@ -48,7 +48,7 @@ fn write_plans<W: Sink>(
     end_response(out, block, None, &done_end())
 }
 
-// Responds with the plans of statements. It has all that it needs of memory before the first byte.
+// Responds with the plans of statements. Allocates all memory before it writes the first byte.
 fn plan_statements<W: Sink>(
     alloc: Global,
     names: Names,
@@ -78,7 +78,7 @@ fn plan_statements<W: Sink>(
     write_plans(out, &all, plans.as_slice(), statements, details.as_slice())
 }
 
-/// Responds to a plan request: with the plan of each statement, or with the first error of the script.
+/// Responds to a plan request with the plan of each statement, or with the first error of the script.
 pub fn plan_request<W: Sink>(alloc: Global, request: PlanRequest, out: &mut W) -> PipeOutcome
     ensures { EndsAs (IsPlanResponse (Ok (plan_request_value request))) (W.taken out.old)
         (W.faults out.old) (W.taken out.new) (W.faults out.new) result }

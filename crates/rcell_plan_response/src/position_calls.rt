@@ -1,4 +1,4 @@
-//! Calls of `row()`, `col()`, `nrows()` and `ncols()` in the line of an r.mapcalc.
+//! Finds the calls of `row()`, `col()`, `nrows()` and `ncols()` in the line of an r.mapcalc.
 
 ghost use Rattle.std.specs.Prelude.{◌≡◌, ◌≤◌, IfOk, length};
 ghost use Rattle.rcell_script_commands.specs.RMapcalc.{text_after_command, after_command, assignment_text};
@@ -12,12 +12,12 @@ use cell_core::memory::Memory;
 use cell_core_values::blanks::{after_blanks, is_blank};
 use std::alloc::Global;
 
-/// A call, by the columns of its first and its last byte, from 1.
+/// A call, from the column of its first byte to the column of its last byte. Columns start at 1.
 #[derive(Clone, Copy, Debug, PartialEq, Eq)]
 pub struct PositionCall {
     pub first: u32,
     pub last: u32,
-    /// The number of the function.
+    /// The code of the function.
     pub code: u8,
 }
 
@@ -60,7 +60,7 @@ fn closes_call(token: &Token) -> bool
     }
 }
 
-// The call that three tokens are.
+// Returns the call that three tokens form, if they form one.
 fn call_of(name: &Placed, opening: &Placed, closing: &Placed) -> Option<PositionCall>
     ensures { result ≡ call_of name.now opening.now closing.now }
 {
@@ -75,7 +75,7 @@ fn call_of(name: &Placed, opening: &Placed, closing: &Placed) -> Option<Position
     })
 }
 
-// The call that a token begins.
+// Returns the call that starts at a token, if there is one.
 fn call_from(name: &Placed, others: &[Placed]) -> Option<PositionCall>
     ensures { result ≡ call_from name.now others.now }
 {
@@ -113,7 +113,7 @@ fn after_word<'a>(text: &'a [u8]) -> &'a [u8]
     rest
 }
 
-// The assignment of a line, with blanks for all up to the end of the command.
+// Returns the line with blanks in place of the command name, so that columns do not change.
 fn assignment_text(alloc: Global, line: &[u8]) -> Result<Vec<u8>, Memory>
     ensures text { IfOk result (λ text. text.items ≡ assignment_text line.now) }
     ensures length { IfOk result (λ text. length text.items ≡ length line.now) }
@@ -124,11 +124,11 @@ fn assignment_text(alloc: Global, line: &[u8]) -> Result<Vec<u8>, Memory>
     Ok(text)
 }
 
-/// The calls in the line of an r.mapcalc, from left to right.
+/// Returns the calls in the line of an r.mapcalc, from left to right.
 ///
 /// # Errors
 ///
-/// [`Memory`] if memory ran out.
+/// Returns [`Memory`] if memory runs out.
 pub(crate) fn calls_in_line(alloc: Global, line: &[u8]) -> Result<Vec<PositionCall>, Memory>
     requires { length line.now ≤ 65535 }
     ensures { IfOk result (λ calls. calls.items ≡ calls_in_line line.now) }

@@ -1,4 +1,4 @@
-//! Responses to requests, from bytes to bytes.
+//! Reads requests and writes responses.
 
 ghost use Rattle.std.specs.Prelude.{◌≡◌, ◌≢◌, List, [], true, false, length, Some, None, bytes_eq, codes};
 ghost use Rattle.std.specs.Option.{IsNone};
@@ -29,12 +29,12 @@ use rcell_script::law::{no_fault_of_a_script, one_script};
 use std::alloc::Global;
 use std::io::Read;
 
-/// What a request asks for.
+/// The action that a request asks for.
 #[derive(Clone, Copy, Debug, PartialEq, Eq)]
 pub enum RequestForm {
-    /// To run a script over maps.
+    /// Runs a script over maps.
     Run(RunForm),
-    /// To report what the statements of a script read, make and write.
+    /// Reports what the statements of a script read, make and write.
     Plan,
 }
 
@@ -71,7 +71,7 @@ fn form_of(magic: &[u8]) -> Option<RequestForm>
     None
 }
 
-// The first eight bytes.
+// Reads the form of a request from its first eight bytes.
 #[tactic(auto, unfolding(crate::specs::Responses::form_at))]
 fn read_form<R: Read>(feed: &mut Feed<R>) -> Result<RequestForm, FieldStop>
     ensures { ReadsField (λ form. form) feed.old result feed.new form_at }
@@ -84,7 +84,7 @@ fn read_form<R: Read>(feed: &mut Feed<R>) -> Result<RequestForm, FieldStop>
     }
 }
 
-// Rejects a request that was not read.
+// Rejects a request that could not be read.
 fn reject_stop<W: Sink>(out: &mut W, stop: RequestStop) -> PipeOutcome
     ensures { Finished (W.taken out.old) (W.faults out.old) (W.taken out.new) (W.faults out.new)
         (Some (error_of_stop stop)) (response_bytes [] (end_of_stop stop)) result }
@@ -95,7 +95,7 @@ fn reject_stop<W: Sink>(out: &mut W, stop: RequestStop) -> PipeOutcome
     }
 }
 
-// Reads what follows the first eight bytes of a run, and responds to it.
+// Reads a run request after its first eight bytes, and responds to it.
 fn respond_to_run<R: Read, W: Sink>(
     alloc: Global,
     feed: &mut Feed<R>,
@@ -113,7 +113,7 @@ fn respond_to_run<R: Read, W: Sink>(
     }
 }
 
-// Reads what follows the first eight bytes of a plan, and responds to it.
+// Reads a plan request after its first eight bytes, and responds to it.
 fn respond_to_plan<R: Read, W: Sink>(alloc: Global, feed: &mut Feed<R>, out: &mut W) -> PipeOutcome
     ensures end { EndsAs
         (IsOfFeed feed.old feed.new (λ c. IsPlanResponse (plan_request_of c)))
@@ -131,8 +131,8 @@ fn respond_to<R: Read, W: Sink>(alloc: Global, feed: &mut Feed<R>, out: &mut W) 
     ensures end { EndsAs
         (IsOfFeed feed.old feed.new (λ c. IsResponseTo (form_at c)))
         (W.taken out.old) (W.faults out.old) (W.taken out.new) (W.faults out.new) result }
-    // The source is not asked again after its end or an `Err`. Unless the response is one last frame, the source has
-    // reported its end, so the request is complete.
+    // The source is not read again after its end or a read error. Unless the response is only the last frame, the
+    // source has ended, so the request is complete.
     ensures asked { feed.old.asked ≡ Asked.Going → IsAskedBy result.reported feed.new.asked }
 {
     match read_form(feed) {
@@ -144,12 +144,12 @@ fn respond_to<R: Read, W: Sink>(alloc: Global, feed: &mut Feed<R>, out: &mut W) 
     }
 }
 
-/// A response to a request, and the source of the request, as far as it was asked.
+/// The outcome of a response, and the source of the request with the bytes read from it.
 #[derive(Drop)]
 pub struct Responded<R> {
-    /// What was written.
+    /// The outcome of the response.
     pub outcome: PipeOutcome,
-    /// The source.
+    /// The source after the last read.
     pub source: ReadSource<R>,
 }
 
@@ -181,54 +181,57 @@ fn respond_whole<R: Read + Drop, W: Sink>(
 
 /// Reads a request, runs or plans its script, and writes the response.
 ///
-/// The request is read whole before the first statement is executed. Each statement and each question of a run has all that
-/// it needs of memory before its first byte is written, and a plan before the first byte of its response.
+/// The request is read to its end before the first statement is executed. All memory for a statement or question is
+/// allocated before its first byte is written, and all memory for a plan before the first byte of the response.
 pub fn respond<R: Read + Drop, W: Sink>(
     alloc: Global,
     source: ReadSource<R>,
     out: &mut W,
 ) -> Responded<R>
-    // What was written, by the error that the response reports: the frames of the statements, or their plans, and the
-    // end; or the text that `rcell` writes. With an error: the end with the first error of the request or of its script,
-    // or the frames, or the text, of the statements before memory ran out. If a write failed: the first bytes of this.
-    // All that is known of the source is what its reads gave, and whether it has ended or failed.
+    // The bytes written depend on the error that the response reports. Without an error, they are the frames or the
+    // text of the statements, or their plans, and the end. If the request or its script has an error, they are only the
+    // end with the first error. If memory ran out, they are the frames or the text of the previous statements, and the
+    // end. If a write failed, they are the first bytes of these. Only the bytes that the source has returned, and
+    // whether it has ended or failed, are known.
     ensures end { HasResponded
         (IsResponseToGiven source.0.1 result.source.0.1 result.source.1)
         (W.taken out.old) (W.taken out.new) result.outcome.reported result.outcome.error
         result.outcome.written }
-    // The source is not asked again after its end or an `Err`. Unless the response is one last frame, the source has
-    // reported its end, so the request is complete.
+    // The source is not read again after its end or a read error. Unless the response is only the last frame, the
+    // source has ended, so the request is complete.
     ensures asked { source.1 ≡ Asked.Going
         → IsAskedBy result.outcome.reported result.source.1 }
-    // Whatever the source gives: a response that reports an error of the request or of its script is its last frame.
+    // For any bytes from the source: if the response reports an error in the request or its script, it is only the last
+    // frame.
     ensures rejected { HasResponded IsOnlyEnd (W.taken out.old) (W.taken out.new)
         result.outcome.reported result.outcome.error result.outcome.written }
     ensures status { result.outcome.status ≡ end_status_after result.outcome.error }
-    // Unless a write failed, the run has the error that the response reports, or none.
+    // Unless a write failed, the error of the run is the error that the response reports.
     ensures same { result.outcome.error ≢ Some PipeError.Write
         → result.outcome.error ≡ result.outcome.reported }
-    // The sink is flushed once, after the last byte, unless a put failed. Write comes only if a put or the flush
-    // failed.
+    // The sink is flushed once, after the last byte, unless a write failed. The error is `Write` only if a write or the
+    // flush failed.
     ensures first { HasUsed result.outcome.error (W.faults out.old) (W.faults out.new) }
     ensures write { result.outcome.error ≡ Some PipeError.Write
         → has_failed (W.faults out.new) ≡ true }
     ensures flushed { result.outcome.error ≢ Some PipeError.Write
         → W.faults out.new ≡ after_flush (W.faults out.old) false }
-    // If Write is reported and no put failed, only the flush did: the sink took the whole response.
+    // If the error is `Write` but no write failed, only the flush failed, and the sink has accepted the full response.
     ensures whole { result.outcome.error ≡ Some PipeError.Write
         → (W.faults out.new).refused ≡ false
         → (result.outcome.reported ≢ Some PipeError.Write) × HasResponded
         (IsResponseToGiven source.0.1 result.source.0.1 result.source.1)
         (W.taken out.old) (W.taken out.new) result.outcome.reported None result.outcome.written }
-    // For every request for the frames of a script and of questions that is accepted, if memory lasts and the sink takes
-    // everything, exactly these frames and the end are written.
+    // If a request for the frames of a script and of questions is accepted, memory does not run out and the sink does
+    // not fail, exactly these frames and the end are written.
     ensures headline { (c : Coming) (shelf : ShelfValue) (statements : List Statement)
         (questions : List QuestionValue)
         → may_hold result.source.0.1 result.source.1 c ≡ true
         → AsksForFrames (after_bytes c (length source.0.1)) shelf statements questions
         → WritesFrames shelf statements questions (W.taken out.old) (W.taken out.new)
         (has_failed (W.faults out.new)) result.outcome }
-    // If the script of a request of any form is accepted, memory lasts and the sink takes everything, all is done.
+    // If the script of a request of any form is accepted, memory does not run out and the sink does not fail, the run
+    // succeeds.
     ensures complete { (c : Coming) → may_hold result.source.0.1 result.source.1 c ≡ true
         → IsRequestAccepted (form_at (after_bytes c (length source.0.1)))
         → result.outcome.status ≢ 3

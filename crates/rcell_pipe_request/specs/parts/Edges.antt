@@ -1,10 +1,10 @@
--- The edges of a region, as the code has them before the region is known.
+-- A region's coordinates, as the code stores them before the region is checked.
 use Rattle.std.specs.Prelude.{ℕ}
 use Rattle.cell_core_values.specs.Region.{RegionValue}
 use Rattle.rcell_pipe_request.specs.declared.head.Edges.{Edges}
 use Rattle.rcell_pipe_request.specs.Heads.{EdgesValue}
 
--- edges, rows and columns
+-- edges, rows and columns as a region
 abbrev pub region_value : Edges → ℕ → ℕ → RegionValue
 region_value edges rows cols = record { north = edges.north; south = edges.south; east = edges.east; west = edges.west; rows = rows; cols = cols }
 

@@ -1,4 +1,4 @@
--- Numbers that a signed number of 32 bits holds.
+-- Numbers that fit in a signed 32-bit integer.
 use Rattle.std.specs.Prelude.{◌≡◌, ℤ, Bool, true, false, Option}
 use Rattle.std.specs.Ordering.{int_eq}
 use Rattle.cell_core_values.specs.Cell.{is_category}
@@ -6,7 +6,7 @@ use Rattle.rcell_pipe_request.specs.declared.kind.CellType.{CellType}
 use Rattle.rcell_pipe_request.specs.declared.kind.CellType.TheVariants.{U8, I8, U16, I16, U32, I32, I64}
 use Rattle.rcell_pipe_request.specs.RawRows.{is_nodata}
 
--- whether a type has no others
+-- all numbers of the type fit
 abbrev pub is_narrow : CellType → Bool
 is_narrow U8 = true
 is_narrow I8 = true
@@ -16,6 +16,6 @@ is_narrow U32 = false
 is_narrow I32 = true
 is_narrow I64 = false
 
--- the only category that stands for null, if one does, is this number
+-- a category denotes null exactly if it equals `null`
 abbrev pub IsNullNumber : Option ℤ → ℤ → Type 0
 IsNullNumber nodata null = (n : ℤ) → is_category n ≡ true → int_eq n null ≡ is_nodata nodata n

@@ -10,21 +10,21 @@ use Rattle.rcell_pipe_response.specs.Frames.{OutputFrame}
 use Rattle.rcell_pipe_response.specs.FrameBytes.{frame_bytes, frames_bytes}
 use Rattle.rcell_pipe_response.specs.QuestionFrames.{IsAnswer, AreAnswers}
 
--- the frame of a question was appended
+-- the frame for a question was appended
 pub record HasAnswer {S : Type 0} (taken : S → Option (List ℕ)) (faults : S → Faults) (shelf : ShelfValue) (place : ℕ)
     (question : QuestionValue) (old : S) (block : BlockValue) (now : S) (new : BlockValue) : Type 0 where
   pub frame : OutputFrame
   pub answer : IsAnswer shelf place question frame
   pub appends : Appends taken faults old block (frame_bytes frame) now new
 
--- the frames of questions were appended
+-- the frames for all questions were appended
 pub record HasAnswered {S : Type 0} (taken : S → Option (List ℕ)) (faults : S → Faults) (shelf : ShelfValue)
     (questions : List QuestionValue) (old : S) (block : BlockValue) (now : S) (new : BlockValue) : Type 0 where
   pub frames : List OutputFrame
   pub answers : AreAnswers shelf 0 questions frames
   pub appends : Appends taken faults old block (frames_bytes frames) now new
 
--- the frames of the first questions were appended
+-- the frames for the first questions were appended
 pub record AnswersFirst {S : Type 0} (taken : S → Option (List ℕ)) (faults : S → Faults) (shelf : ShelfValue)
     (questions : List QuestionValue) (old : S) (block : BlockValue) (now : S) (new : BlockValue) : Type 0 where
   pub first : List QuestionValue
@@ -32,12 +32,12 @@ pub record AnswersFirst {S : Type 0} (taken : S → Option (List ℕ)) (faults :
   pub whole : first ++ others ≡ questions
   pub answered : HasAnswered taken faults shelf first old block now new
 
--- whether the sink failed, if that stops the frames
+-- the sink failed, if the stop is a write error
 abbrev pub FailsBy : BlockValue → AnswerStop → Type 0
 FailsBy new stops.Memory = Unit {0}
 FailsBy new stops.Write = new.failed ≡ true
 
--- why they stop after these
+-- the frames for the first questions were appended, and then writing stopped
 pub record StopsAnswers {S : Type 0} (taken : S → Option (List ℕ)) (faults : S → Faults) (shelf : ShelfValue)
     (questions : List QuestionValue) (old : S) (block : BlockValue) (now : S) (new : BlockValue)
     (stop : AnswerStop) : Type 0 where

@@ -4,7 +4,7 @@ use Rattle.cell_core_devices.specs.Device.{Faults, after_flush}
 use Rattle.rcell_pipe_response.specs.declared.frame_run.Sending.{Sending}
 use Rattle.rcell_pipe_response.specs.declared.frame_run.Sending.TheVariants as sendings
 
--- the sink was flushed once, by what became of that
+-- the sink was flushed once, with this result
 abbrev pub IsFlushed : Sending → Faults → Faults → Type 0
 IsFlushed sendings.Flushed start after = after ≡ after_flush start false
 IsFlushed sendings.Unflushed start after = after ≡ after_flush start true

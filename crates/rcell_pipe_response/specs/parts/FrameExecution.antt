@@ -9,7 +9,7 @@ use Rattle.rcell_pipe_response.specs.declared.frame_execution.PipeStop.TheVarian
 use Rattle.rcell_pipe_response.specs.Frames.{OutputFrame, GivesFrames}
 use Rattle.rcell_pipe_response.specs.FrameBytes.{frames_bytes}
 
--- the frames of statements were appended, and they left the shelf
+-- the frames of the statements were appended, and the statements left the shelf `after`
 pub record HasGiven {S : Type 0} (taken : S → Option (List ℕ)) (faults : S → Faults) (shelf : ShelfValue) (first : List Statement) (old : S) (block : BlockValue) (now : S) (new : BlockValue) (after : ShelfValue) : Type 0 where
   pub frames : List OutputFrame
   pub given : GivesFrames shelf first frames after
@@ -34,7 +34,7 @@ pub record StopsWithin {S : Type 0} (taken : S → Option (List ℕ)) (faults : 
   pub given : HasGiven taken faults shelf first old block now new after
   pub failed : new.failed ≡ true
 
--- an execution stopped
+-- an execution stopped for this reason
 abbrev pub StopsFrames : {S : Type 0} (taken : S → Option (List ℕ)) (faults : S → Faults) → ShelfValue → List Statement → S → BlockValue → S → BlockValue → PipeStop → Type 0
 StopsFrames taken faults shelf statements old block now new (stops.Memory line) = StopsBefore taken faults shelf statements old block now new line
 StopsFrames taken faults shelf statements old block now new stops.Write = StopsWithin taken faults shelf statements old block now new

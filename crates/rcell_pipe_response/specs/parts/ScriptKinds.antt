@@ -1,9 +1,9 @@
--- Why a script was not read.
+-- Why a script could not be read.
 use Rattle.std.specs.Prelude.{Bool, true, false}
 use Rattle.rcell_script_commands.specs.declared.script_fault.ScriptKind.{ScriptKind}
 use Rattle.rcell_script_commands.specs.declared.script_fault.ScriptKind.TheVariants.{Memory}
 
--- whether memory ran out
+-- memory ran out
 abbrev pub is_memory : ScriptKind → Bool
 is_memory Memory = true
 is_memory kind = false

@@ -1,16 +1,16 @@
--- The place of a need among others in the order of their maps' places.
+-- The position of a need in a list ordered by map index.
 use Rattle.std.specs.Prelude.{ℕ, ◌+◌, ◌==◌, nat_le, List, [], ◌∷◌, ◌++◌, slice_get, slice_set, Option, Some, None}
 use Rattle.std.specs.Prelude.{if◌then◌else◌}
 use Rattle.std.specs.List.{insert}
 use Rattle.rcell_plan.specs.declared.needs.Need.{Need}
 use Rattle.rcell_plan.specs.Needs.{joined}
 
--- the first need whose map has no smaller place
+-- the position of the first need whose map index is at least `place`
 abbrev pub place_among : ℕ → List Need → ℕ
 place_among place [] = 0
 place_among place (x ∷ xs) = if nat_le place x.place then 0 else place_among place xs + 1
 
--- joined with the need there, if it is for the same map; otherwise inserted before it
+-- joins the need with the need `x` at this position if both are for the same map, or else inserts it before `x`
 abbrev pub put_at : List Need → ℕ → Need → Option Need → List Need
 put_at xs at n None = xs ++ n ∷ []
 put_at xs at n (Some x) = if x.place == n.place then slice_set xs at (joined x n) else insert xs at n

@@ -1,10 +1,10 @@
--- Which steps ask for the position.
+-- The steps that depend on the position of the cell or the size of the region.
 use Rattle.std.specs.Prelude.{ℕ, Bool, false}
 use Rattle.cell_calc_grammar.specs.declared.step.Step.{Step}
 use Rattle.cell_calc_grammar.specs.declared.step.Step.TheVariants.{Number, Map, Negated, Not, Binary, Call}
 use Rattle.cell_calc_law.specs.LocalLaw.{asks_where}
 
--- row() and col(), nrows() and ncols()
+-- the step calls row(), col(), nrows() or ncols()
 abbrev pub step_asks : Step ℕ → Bool
 step_asks (Call f n) = asks_where f
 step_asks (Number n) = false

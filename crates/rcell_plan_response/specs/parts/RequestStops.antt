@@ -1,4 +1,4 @@
--- How a request is rejected that was not read.
+-- How a request that could not be read is rejected.
 use Rattle.rcell_pipe_request.specs.declared.error.RequestStop.{RequestStop}
 use Rattle.rcell_pipe_request.specs.declared.error.RequestStop.TheVariants.{Memory, Error}
 use Rattle.rcell_pipe_response.specs.declared.end.PipeError.{PipeError}
@@ -6,7 +6,7 @@ use Rattle.rcell_pipe_response.specs.declared.end.PipeError.TheVariants as error
 use Rattle.rcell_pipe_response.specs.FrameBytes.{EndValue}
 use Rattle.rcell_pipe_response.specs.RunEnds.{request_end, memory_end}
 
--- the error of a stop, and the last frame
+-- the error for a stop, and the last frame
 abbrev pub error_of_stop : RequestStop → PipeError
 error_of_stop Memory = errors.Memory
 error_of_stop (Error error) = errors.Request error
