@@ -1,4 +1,4 @@
--- An open grid reader, and what its calls return.
+-- The state of an open grid reader, and the results of its calls.
 use Rattle.std.specs.Prelude.{ℕ, ◌≡◌, ◌≢◌, ◌<◌, Bool, true, false, List, length, take, drop, Option, Some, None, Result, Ok, Err, IfErr, IfSome}
 use Rattle.std.specs.Option.{option_map}
 use Rattle.cell_core_devices.specs.Asking.{Heard}
@@ -12,8 +12,8 @@ use Rattle.cell_ascii_reading.specs.Scan.{FailsInText}
 use Rattle.cell_ascii_meaning.specs.declared.grid_fault.GridKind.TheVariants.{Memory, Failed}
 use Rattle.cell_ascii_meaning.specs.declared.grid_fault.GridFault.{GridFault}
 
--- the header, the number of rows still to come, a first token of the data that is not yet judged, the line, the length
--- of the run of blanks and line feeds, whether the reader has failed, the bytes to come if they are known, and the
+-- the header, the number of unread rows, a pending data token that was not checked yet, the line, the length of the
+-- current run of blanks and line feeds, whether the reader has failed, the bytes to come if they are known, and the
 -- source's state
 pub record ReaderValue : Type 0 where
   pub header : HeaderValue
@@ -25,24 +25,24 @@ pub record ReaderValue : Type 0 where
   pub coming : Option Coming
   pub heard : Heard
 
--- the reader's place in the text
+-- the reader's position in the text
 abbrev pub reader_place : ReaderValue → Coming → At
 reader_place r c = record { pending = r.pending; line = r.line; run = r.run; coming = c }
 
--- the header that was read, and where the data begins
+-- the header that was read, and the position at which the data begins
 abbrev pub opened_in : ReaderValue → Coming → OpenedText
 opened_in r c = record { header = r.header; at = reader_place r c }
 
--- a reader that has read the header of a text, and nothing after the first token of the data
+-- the reader has read the header of a text and at most the first token of its data
 abbrev pub IsOpened : Option Coming → ReaderValue → Type 0
 IsOpened text r = option_map header_of_text text ≡ option_map (λ c. Ok (opened_in r c)) r.coming
 
--- the error of a reading: running out of memory is reported at line 0, and `Failed` is not reported
+-- an error from reading a grid: `Memory` has line 0, and the kind is never `Failed`
 pub record IsOfReading (f : GridFault) : Type 0 where
   pub memory : f.kind ≡ Memory → f.line ≡ 0
   pub kinds : f.kind ≢ Failed
 
--- a result is what the reading gives, and an error is the error of the reading, unless memory ran out
+-- the result equals the specified reading, unless memory ran out
 abbrev pub AnswersGrid : {A : Type 0} → Result A GridFault → Result A GridFault → Type 0
 AnswersGrid (Ok x) reading = reading ≡ Ok x
 AnswersGrid (Err f) reading = f.kind ≢ Memory → reading ≡ Err f
@@ -52,11 +52,11 @@ abbrev pub fault_of_reading : {X : Type 0} → Result X GridFault → Option Gri
 fault_of_reading (Ok x) = None
 fault_of_reading (Err f) = Some f
 
--- a reader that has failed returns this error from then on
+-- the error that a reader returns after it has failed
 abbrev pub reader_has_failed : GridFault
 reader_has_failed = grid_fault Failed 0
 
--- a row that was cut off: it begins with the cells that were read, and its other cells are unchanged
+-- a row interrupted by an error: it starts with the cells that were read, and the rest is unchanged
 pub record IsCutRow (h : HeaderValue) (at : At) (f : GridFault) (old new : List CellValue) : Type 0 where
   pub count : ℕ
   pub fewer : count < length old
@@ -65,13 +65,13 @@ pub record IsCutRow (h : HeaderValue) (at : At) (f : GridFault) (old new : List 
   pub stop : cell_from h rest ≡ Err f
   pub kept : drop count new ≡ drop count old
 
--- a row in which only cells at the start have changed
+-- a row in which only cells at the start may have changed
 pub record IsChangedInFront (old new : List CellValue) : Type 0 where
   pub count : ℕ
   pub fewer : count < length old
   pub kept : drop count new ≡ drop count old
 
--- the result at the end of a text: its error, or `Failed` if the reader failed before
+-- the result at the end of a text: the error there, or `Failed` if the reader failed before
 pub record ReportsEnd (r : ReaderValue) (answer : Result (Unit {0}) GridFault) : Type 0 where
   pub failed : r.failed ≡ true → answer ≡ Err reader_has_failed
   pub reported : r.failed ≡ false → IfSome r.coming (λ c. fault_of_reading answer ≡ end_fault (reader_place r c))

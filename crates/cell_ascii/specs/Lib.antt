@@ -1,4 +1,4 @@
--- Cells whose bytes are in the buffer. Open readers of grid texts.
+-- Cells whose bytes are buffered, and open readers of grid texts.
 pub mod BufferedCells
 pub mod TableWords
 pub mod GridReaders

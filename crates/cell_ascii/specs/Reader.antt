@@ -1,4 +1,4 @@
--- The place of a reader, and what its calls return.
+-- The position of a cell reader, and the results of its calls.
 use Rattle.std.specs.Prelude.{ℕ, ◌≡◌, ◌+◌, ◌*◌, ◌^◌, ◌<◌, Bool, false, List, [], Option, Some, None, Result, Ok, Err, IfSome, if◌then◌else◌}
 use Rattle.cell_core_devices.specs.Device.{Coming}
 use Rattle.cell_core.specs.Grid.{CellValue}
@@ -12,7 +12,8 @@ use Rattle.cell_ascii.specs.GridReaders.{ReaderValue, reader_place}
 use Rattle.cell_ascii_meaning.specs.declared.grid_fault.GridKind.TheVariants.{TooFew}
 use Rattle.cell_ascii_meaning.specs.declared.grid_fault.GridFault.{GridFault}
 
--- the header, a first word that is not yet judged, the line, the length of the run of blanks and line feeds, and the bytes ahead
+-- the header, a pending word that was not checked yet, the line, the length of the current run of blanks and line
+-- feeds, and the bytes ahead
 pub record ReaderPlace : Type 0 where
   pub header : HeaderValue
   pub pending : Option (List ℕ)
@@ -20,15 +21,15 @@ pub record ReaderPlace : Type 0 where
   pub run : ℕ
   pub ahead : Ahead
 
--- the scanner's place in the text
+-- the reader's position in the text
 abbrev pub at_place : ReaderPlace → Coming → At
 at_place p c = record { pending = p.pending; line = p.line; run = p.run; coming = c }
 
--- the header that was read, and where the data begins
+-- the header that was read, and the position at which the data begins
 abbrev pub opened_at : ReaderPlace → Coming → OpenedText
 opened_at p c = record { header = p.header; at = at_place p c }
 
--- the same for a scanner, after the header and the first word of the data if there is one
+-- the header and the scanner's position after the first word of the data, if there is one
 abbrev pub opened_by : HeaderValue × Bool → Scan → Coming → OpenedText
 opened_by (header, waiting) s c =
     record { header = header; at = record { pending = (if waiting then Some s.word else None); line = s.line; run = 0; coming = c } }
@@ -39,30 +40,30 @@ token_read (Begins line c) = word_from line [] c >>= (λ w. Ok (line, w))
 token_read (Ends line) = Err (grid_fault TooFew line)
 token_read (Stops f) = Err f
 
--- what a result says about the next word and its line
+-- the next word and its line, or the error, as a call of the scanner reports them
 abbrev pub token_seen : Result (Unit {0}) GridFault → ℕ → List ℕ → Coming → Result (ℕ × (List ℕ × Coming)) GridFault
 token_seen (Ok u) line word c = Ok (line, (word, c))
 token_seen (Err f) line word c = Err f
 
--- what a result says about a reading
+-- the value that was read and the position after it, or the error
 abbrev pub reading_seen : {X : Type 0} → Result X GridFault → ReaderPlace → Coming → Reading X
 reading_seen (Ok x) p c = Ok (x, at_place p c)
 reading_seen (Err f) p c = Err f
 
--- all that is still to come
+-- a value that does not depend on the bytes to come
 abbrev pub always : {X : Type 0} → X → Coming → X
 always x c = x
 
--- a reader of rows at a place
+-- a row reader at a position of a cell reader
 abbrev pub reader_at : ReaderPlace → ℕ → Bool → ReaderValue
 reader_at p rows_left failed =
     record { header = p.header; rows_left = rows_left; pending = p.pending; line = p.line; run = p.run; failed = failed; coming = bytes_to_come p.ahead; heard = p.ahead.heard }
 
--- a place of the text, with no token waiting after the last row
+-- the reader is at a valid position of the text, and no token is pending after the last row
 abbrev pub IsPlaced : ReaderValue → Type 0
 IsPlaced r = IfSome r.coming (λ c. IsPlaceOf (reader_place r c) × (r.rows_left ≡ 0 → r.pending ≡ None))
 
--- a reader of rows that has not failed: it can number the lines to come, is at a place of the text, and saw no `Err`
+-- a reader that can continue: its line numbers cannot overflow, its position is valid, and its source has not failed
 pub record IsReaderReady (r : ReaderValue) : Type 0 where
   pub wide : 0 < r.header.region.cols
   pub lines : r.failed ≡ false → r.line + (r.rows_left * r.header.region.cols + 1) * 1048577 < 2 ^ 63

@@ -1,4 +1,4 @@
--- Words that were read before, kept by their bytes; and blanks as bits.
+-- Words that were read before, found by their bytes; and blanks as bits of a number.
 use Rattle.std.specs.Prelude.{ℕ, zero, suc, ◌+◌, ◌-◌, ◌*◌, ◌/◌, ◌^◌, ◌≡◌, ◌<◌, ◌≤◌, Bool, false, List, [], ◌∷◌, map, length, take, drop, slice_set, Ok}
 use Rattle.std.specs.Simd.Lanes.{digits_l}
 use Rattle.cell_core_devices.specs.Device.{Coming}
@@ -9,15 +9,15 @@ use Rattle.cell_ascii_meaning.specs.Header.{HeaderValue}
 use Rattle.cell_ascii_meaning.specs.CellTexts.{cell_from, cell_of_word, at_of, many}
 use Rattle.cell_ascii.specs.declared.word_table.WordEntry.{WordEntry}
 
--- the top size bytes of a 64-bit number
+-- the top `size` bytes of a 64-bit number
 abbrev pub kept_bytes : ℕ → ℕ → List ℕ
 kept_bytes key size = digits_l 256 size (key / 2 ^ (64 - 8 * size))
 
--- an entry is free, or has the cell of the word that its bytes spell
+-- an entry is free, or contains the cell of the word that its bytes spell
 abbrev pub IsEntry : HeaderValue → WordEntry → Type 0
 IsEntry h e = 0 < e.size → cell_of_word h (kept_bytes e.key e.size) ≡ Ok e.cell
 
--- a row has the cell of a word at the given place
+-- the row contains the word's cell at index `i`, and is otherwise unchanged
 pub record IsCellPut (h : HeaderValue) (word : List ℕ) (i : ℕ) (old new : List CellValue) : Type 0 where
   pub cell : CellValue
   pub is : cell_of_word h word ≡ Ok cell
@@ -27,23 +27,23 @@ pub record IsCellPut (h : HeaderValue) (word : List ℕ) (i : ℕ) (old new : Li
 abbrev pub blanks : List ℕ → List Bool
 blanks bs = map is_space (take 64 bs)
 
--- which of them are line feeds
+-- which of the first 64 bytes are line feeds
 abbrev pub feeds : List ℕ → List Bool
 feeds bs = map is_line_feed (take 64 bs)
 
--- the list with its first n items set to false
+-- the list with its first n flags cleared
 abbrev pub cleared_front : ℕ → List Bool → List Bool
 cleared_front zero ms = ms
 cleared_front (suc n) [] = []
 cleared_front (suc n) (m ∷ ms) = false ∷ cleared_front n ms
 
--- as HoldsCells, and these bytes contain the given number of line feeds
+-- like `HoldsCells`, for bytes that contain `lines` line feeds
 abbrev pub HoldsLines : HeaderValue → List ℕ → List CellValue → ℕ → ℕ → ℕ → Type 0
 HoldsLines h bs cells count n lines = (line : ℕ) (c : Coming)
     → many (cell_from h) count (at_of line 0 (before_coming bs c)) ≡ Ok (cells, at_of (line + lines) 0 (before_coming (drop n bs) c))
 
--- a row begins with the next cells of these bytes: their number, the bytes and the lines that they take are in read;
--- the row's other cells stay
+-- the row starts with the next cells of these bytes, and the rest is unchanged; `read` holds the number of cells, bytes
+-- and line feeds that were read
 pub record AreCellsRead (h : HeaderValue) (bs : List ℕ) (old new : List CellValue) (read : ℕ × ℕ × ℕ) : Type 0 where
   pub cells : HoldsLines h bs (take read.0 new) read.0 read.1 read.2
   pub count : read.0 ≤ length old

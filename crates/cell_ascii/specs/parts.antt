@@ -1,5 +1,4 @@
--- Cells that were read where no line ends, and what is needed to read the cell of a word.
--- A reader before its first row.
+-- Cells read within one line, what reading a word's cell requires, and a reader before its first row.
 pub mod InLine
 pub mod WordPlaces
 pub mod BlankRuns

@@ -1,4 +1,5 @@
-//! Reads the numbers 0 to 254, and stars that are null, into bytes, 64 bytes of text at a time, with vector instructions.
+//! Reads the numbers 0 to 254, and `*` if it means null, into bytes: 64 bytes of text at a time, with vector
+//! instructions.
 
 ghost use Rattle.std.specs.Prelude.{true, false, ◌≡◌, ◌+◌, ◌*◌, ◌<◌, ◌≤◌, length, take};
 ghost use Rattle.cell_core_values.specs.SmallCells.{cells_of_bytes};
@@ -13,13 +14,13 @@ use cell_ascii_lanes::word_lanes::{
 };
 use std::simd::prelude::*;
 
-// Bytes read at once.
+// Number of bytes read at once.
 pub(crate) const BLOCK: usize = 64;
 
-// Spare bytes at the end of a row, so that a vector can be stored after its last cell.
+// Spare bytes at the end of a row, so that a full vector can be stored after its last cell.
 pub(crate) const MORE_BYTES: usize = 72;
 
-// Whether there is a star, and stars are not null.
+// Returns whether the block contains a star that does not mean null.
 #[inline(always)]
 fn has_other_star(stars: u64, is_star_null: bool) -> bool
     ensures { result ≡ false → is_star_null ≡ false → stars ≡ 0 }
@@ -27,9 +28,9 @@ fn has_other_star(stars: u64, is_star_null: bool) -> bool
     !is_star_null && stars != 0
 }
 
-// Reads at most `most` words that end among the first 64 buffered bytes, as bytes at the start of `row`. Returns their
-// number and where the last one ends; 0 if a word is neither a number below 255 of at most three digits nor, if stars
-// are null, a star.
+// Reads at most `most` words that end among the first 64 buffered bytes into the start of `row`, one byte per cell.
+// Returns the number of cells and where the last word ends. Returns 0 if any word is neither a number below 255 of at
+// most three digits nor a null star.
 #[inline(always)]
 fn block_bytes_in(
     buffered: &[u8],
@@ -67,8 +68,8 @@ fn block_bytes_in(
     (count, 64 - ends.leading_zeros() as usize)
 }
 
-/// Reads at most `most` buffered words, if they are numbers below 255 of at most three digits or, if stars are null,
-/// stars, as bytes at the start of `row`. Returns the number of cells, the bytes of text that they take, and the line
+/// Reads at most `most` buffered words into the start of `row`, one byte per cell, as long as each is a number below
+/// 255 of at most three digits or a null star. Returns the number of cells, the number of text bytes read, and the line
 /// feeds among these bytes.
 #[inline(never)]
 pub(crate) fn bytes_in(
@@ -103,13 +104,14 @@ pub(crate) fn bytes_in(
     (i, passed, lines)
 }
 
-// The length of runs is judged by at most this many bytes.
+// Maximum number of bytes inspected to estimate the length of runs.
 const SAMPLE: usize = 256;
 
-// Runs of up to this many bytes, on average, are short.
+// Runs are short if they have at most this many bytes on average.
 const SHORT_RUN: usize = 64;
 
-/// Whether most runs of equal bytes are short, judged by the first bytes. If not, reading cells by runs is faster.
+/// Returns whether most runs of equal bytes are short, judging by the first bytes. If runs are long, reading cells by
+/// runs is faster.
 pub(crate) fn has_short_runs(bytes: &[u8]) -> bool {
     let mut changes: usize = 0;
     let mut at = 0;

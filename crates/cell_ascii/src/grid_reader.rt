@@ -1,4 +1,4 @@
-//! Grids, read row by row.
+//! Reads grids row by row.
 
 ghost use Rattle.std.specs.Prelude.{◌≡◌, ◌≢◌, ◌+◌, ◌*◌, ◌++◌, [], ◌∷◌, ◌^◌, ◌<◌, ◌≤◌, ◌||◌, true, false, length, take, drop, Option, Some, Ok, Err, OnOk, OnErr, IfOk, IfErr, IfSome};
 ghost use Rattle.std.specs.Option.{option_map};
@@ -39,7 +39,7 @@ use cell_core_values::small_cells::write_byte_cells;
 use std::alloc::Global;
 use std::marker::Model;
 
-// Rows with fewer cells are read together, about this many cells per call, since each call has a fixed cost.
+// Each call has a fixed cost, so short rows are read together, about this many cells per call.
 const BAND: u32 = 1024;
 
 const NO_MEMORY: GridFault = GridFault {
@@ -52,7 +52,7 @@ const HAS_FAILED: GridFault = GridFault {
     line: 0,
 };
 
-// A grid text after its header, read cell by cell.
+// Reads the data of a grid text cell by cell.
 #[derive(Drop)]
 struct CellReader<R: Source> {
     scanner: Scanner<R>,
@@ -93,14 +93,15 @@ fn read_token<R: Source>(scanner: &mut Scanner<R>) -> Result<(), GridFault>
     }
 }
 
-// The header that the keys give, judged at a line.
+// Builds the header from its keys. An error is reported at `line`.
 fn header_at(keys: HeaderKeys, line: u64) -> Result<Header, GridFault>
     ensures { result ≡ at_line line (header_of keys) }
 {
     keys.into_header().map_err(|kind| GridFault { kind, line })
 }
 
-// Reads the header of an unread text and the first word after it. Returns the header, and whether there was such a word.
+// Reads the header of an unread text and the first word after it. Returns the header, and whether there is a word after
+// it.
 fn read_opening<R: Source>(scanner: &mut Scanner<R>) -> Result<(Header, bool), GridFault>
     requires start { (scanner.old.line ≡ 1) × (scanner.old.run ≡ 0) }
     ensures opened { IfOk result (λ r. IsBehindHeader r scanner.old scanner.new) }
@@ -121,7 +122,7 @@ fn read_opening<R: Source>(scanner: &mut Scanner<R>) -> Result<(Header, bool), G
     }
 }
 
-// The cell of the word that was read.
+// Returns the cell that the scanner's current word denotes.
 fn cell_here<R: Source>(header: &Header, scanner: &Scanner<R>) -> Result<Cell, GridFault>
     ensures { result ≡ at_line scanner.now.line (cell_of_word header.now scanner.now.word) }
 {
@@ -132,7 +133,7 @@ fn cell_here<R: Source>(header: &Header, scanner: &Scanner<R>) -> Result<Cell, G
 }
 
 impl<R: Source> CellReader<R> {
-    // Reads the header and the first word after it.
+    // Opens a source and reads the header and the first word after it.
     fn open(alloc: Global, source: R) -> Result<CellReader<R>, GridFault>
     where
         R: Drop,
@@ -165,7 +166,7 @@ impl<R: Source> CellReader<R> {
         self.words.header().region()
     }
 
-    // Reads the buffered cells into the start of a row, and returns their number.
+    // Reads buffered cells into the start of a row and returns their number.
     #[tactic(auto, using(crate::proofs::WordLemmas::lines_buffered))]
     fn buffered_cells(&mut self, row: &mut [Cell]) -> usize
         requires room { self.old.line + length row.old * 64 < 2 ^ 64 }
@@ -193,7 +194,7 @@ impl<R: Source> CellReader<R> {
         count
     }
 
-    // Reads at most `most` buffered cells as bytes into the start of a row. Returns their number.
+    // Reads at most `most` buffered cells into the start of a row, one byte per cell, and returns their number.
     #[tactic(auto, using(crate::proofs::WordLemmas::lines_buffered))]
     fn buffered_bytes(&mut self, row: &mut [u8], most: usize) -> usize
         requires plain { HasPlainNumbers self.old.header }
@@ -219,7 +220,7 @@ impl<R: Source> CellReader<R> {
         count
     }
 
-    // Whether too few bytes are buffered to read words 64 bytes at a time.
+    // Returns whether fewer than 64 bytes are buffered, or a word is pending, so that no block can be read.
     fn is_at_seam(&self) -> bool {
         self.waiting || self.scanner.buffered_bytes().len() < BLOCK
     }
@@ -244,7 +245,7 @@ impl<R: Source> CellReader<R> {
         cell_here(self.words.header(), &self.scanner)
     }
 
-    // Nothing but blanks and line feeds is left.
+    // Checks that only blanks and line feeds are left.
     fn check_end(&mut self) -> Result<(), GridFault>
         requires room { self.old.line + 1048576 < 2 ^ 64 }
         ensures end { Agrees (λ c. end_of (grid_start self.old.line self.old.run c)) self.old.ahead
@@ -290,7 +291,7 @@ fn read_row<R: Source>(cells: &mut CellReader<R>, row: &mut [Cell]) -> Result<()
     }
 }
 
-// The byte that stands for a cell, if one does.
+// Returns the byte that stores a cell, if there is one.
 fn byte_of(cell: Cell) -> Option<u8>
     ensures { IfSome result (λ byte. byte_cell byte ≡ cell) }
 {
@@ -301,8 +302,8 @@ fn byte_of(cell: Cell) -> Option<u8>
     }
 }
 
-// Reads cells at the start of a row as bytes, while their words are short and each cell has a byte. Returns their
-// number, and whether they fill the row and are kept as bytes. If not, `row` begins with these cells.
+// Reads cells from the start of a row as bytes until a word is long or a cell has no byte. Returns the number of cells,
+// and whether they fill the row and stay bytes. If not, they are written to the start of `row`.
 fn read_front<R: Source>(
     cells: &mut CellReader<R>,
     bytes: &mut [u8],
@@ -343,7 +344,7 @@ fn read_front<R: Source>(
     }
 }
 
-// The same, but reads no cells if that is of no use.
+// Like `read_front`, but reads nothing if an earlier attempt did not pay off.
 fn read_bytes<R: Source>(
     cells: &mut CellReader<R>,
     bytes: &mut [u8],
@@ -373,7 +374,7 @@ fn read_bytes<R: Source>(
     Ok(front)
 }
 
-// Reads a row of cells, as bytes or else as cells. Returns whether as bytes.
+// Reads a row of cells, as bytes if possible. Returns whether the row was read as bytes.
 fn read_either<R: Source>(
     cells: &mut CellReader<R>,
     bytes: &mut [u8],
@@ -404,12 +405,12 @@ fn read_either<R: Source>(
     Ok(false)
 }
 
-/// A grid text whose header was read, and whose cells are read row by row from the north.
+/// Reads the cells of a grid text row by row from the north, after its header.
 ///
-/// The contracts of its calls are about what it keeps, and the contract of [`read_map`] is about the full text. Both
-/// follow from one table of the places of errors.
+/// The contracts of its methods describe the state of the reader. The contract of [`read_map`] describes the full text.
+/// Both are derived from one table that assigns an error to each position.
 ///
-/// After an error it returns `Failed`, with line 0, from then on.
+/// After an error, every call returns `Failed` with line 0.
 #[derive(Drop)]
 pub struct GridReader<R: Source> {
     cells: CellReader<R>,
@@ -429,12 +430,12 @@ impl<R: Source> Model for GridReader<R> {
 }
 
 impl<R: Source> GridReader<R> {
-    /// Reads the header of a text and the first token of its data, which is not yet judged as a
-    /// cell (r.in.ascii manual).
+    /// Reads the header of a text and the first token of its data. The token is checked later, when its
+    /// cell is read (r.in.ascii manual).
     ///
     /// # Errors
     ///
-    /// The first error up to there with its line, or `Memory` with line 0 if memory runs out.
+    /// Returns the first error up to the end of that token, with its line, or `Memory` with line 0 if memory runs out.
     pub fn open(alloc: Global, source: R) -> Result<GridReader<R>, GridFault>
     where
         R: Drop,
@@ -444,7 +445,8 @@ impl<R: Source> GridReader<R> {
         ensures fault { IfErr result (λ f. f.kind ≢ GridKind.Memory
             → IfSome (R.coming source) (λ c. opening_fault c ≡ Some f)) }
         ensures kinds { IfErr result IsOfReading }
-        // The source is asked only while it continues. Its `Err` is reported as `Read`; so far there was none.
+        // The reader stops asking the source after its end or an `Err`, and reports an `Err` as `Read`. None has
+        // occurred so far.
         ensures heard { IfOk result (λ r. r.heard ≡ heard_first (R.asked source)) }
     {
         let cells = CellReader::open(alloc, source)?;
@@ -456,14 +458,14 @@ impl<R: Source> GridReader<R> {
         })
     }
 
-    /// The region that the header gives.
+    /// Returns the region given by the header.
     pub fn region(&self) -> Region
         ensures { result ≡ self.now.header.region }
     {
         self.cells.region()
     }
 
-    /// The number of rows that are still to be read.
+    /// Returns the number of unread rows.
     pub fn rows_left(&self) -> u32
         ensures { result ≡ self.now.rows_left }
     {
@@ -471,12 +473,13 @@ impl<R: Source> GridReader<R> {
     }
 
     /// Reads the next row, from west to east, into a slice with one cell per column. Returns whether a row was left; if
-    /// not, the slice is unchanged. Takes no memory.
+    /// not, the slice is unchanged. Does not allocate.
     ///
     /// # Errors
     ///
-    /// The first error up to the end of the row, with its line: the slice begins with the cells read before it, and its
-    /// other cells are unchanged. `Failed`, with line 0, if an earlier call failed: the slice is unchanged.
+    /// Returns the first error up to the end of the row, with its line. The slice then starts with the cells read
+    /// before the error, and the rest is unchanged. Returns `Failed` with line 0, and leaves the slice unchanged, if an
+    /// earlier call failed.
     pub fn next_row(&mut self, row: &mut [Cell]) -> Result<bool, GridFault>
         requires width { length row.old ≡ self.old.header.region.cols }
         ensures failed { self.old.failed ≡ true
@@ -502,7 +505,7 @@ impl<R: Source> GridReader<R> {
         ensures fails { self.new.failed ≡ (self.old.failed || is_err result) }
         ensures memory { IfErr result (λ f. f.kind ≢ GridKind.Memory) }
         ensures kinds { self.old.failed ≡ false → FailsInText result }
-        // The source is asked only while it continues, and its `Err` is reported as `Read`.
+        // The reader stops asking the source after its end or an `Err`, and reports an `Err` as `Read`.
         ensures heard { self.old.failed ≡ false
             → self.new.heard ≡ hears (reports_read result) self.old.heard }
     {
@@ -524,11 +527,11 @@ impl<R: Source> GridReader<R> {
         }
     }
 
-    /// Reads to the end of the text after the last row: only blanks and line feeds may be left. Takes no memory.
+    /// Checks that only blanks and line feeds follow the last row. Does not allocate.
     ///
     /// # Errors
     ///
-    /// The first error from there on, with its line, or `Failed`, with line 0, if an earlier call failed.
+    /// Returns the first error after the last row, with its line, or `Failed` with line 0 if an earlier call failed.
     pub fn finish(self) -> Result<(), GridFault>
     where
         R: Drop,
@@ -539,7 +542,7 @@ impl<R: Source> GridReader<R> {
         reader.end()
     }
 
-    // Reads to the end of the text after the last row. The reader has failed from then on.
+    // Reads to the end of the text after the last row, and marks the reader as failed.
     fn end(&mut self) -> Result<(), GridFault>
         requires done { self.old.failed ≡ false → self.old.rows_left ≡ 0 }
         ensures end { ReportsEnd self.old result }
@@ -554,8 +557,8 @@ impl<R: Source> GridReader<R> {
     }
 }
 
-// Reads the next `rows` rows, or those that are left if they are fewer, as bytes or else as cells. Returns whether as
-// bytes.
+// Reads the next `rows` rows, or all remaining rows if there are fewer, as bytes if possible. Returns whether they were
+// read as bytes.
 fn next_either<R: Source>(
     reader: &mut GridReader<R>,
     rows: u32,
@@ -595,7 +598,7 @@ fn next_either<R: Source>(
     }
 }
 
-// Adds a row at the bottom of a map, as bytes or as cells.
+// Appends a row to the bottom of a map, from bytes or from cells.
 fn push_either(
     builder: &mut MapBuilder,
     is_bytes: bool,
@@ -616,7 +619,7 @@ fn push_either(
     builder.push_row(row)
 }
 
-// Adds rows at the bottom of a map, as bytes or as cells.
+// Appends rows to the bottom of a map, from bytes or from cells.
 fn push_rows(
     builder: &mut MapBuilder,
     rows: u32,
@@ -644,7 +647,7 @@ fn push_rows(
     Ok(())
 }
 
-// The number of rows of a region that are read at once.
+// Returns how many rows of a region are read per call.
 fn rows_at_once(region: Region) -> u32
     ensures some { 0 < result }
     ensures few { result ≤ 1024 }
@@ -652,7 +655,7 @@ fn rows_at_once(region: Region) -> u32
     (BAND / region.cols()).min(region.rows()).max(1)
 }
 
-// Reads the rows that are left into a map.
+// Reads the remaining rows into a map.
 fn read_rows<R: Source>(alloc: Global, reader: &mut GridReader<R>) -> Result<CellMap, GridFault>
     requires { IsUnread reader.old }
     ensures rows { IfOk result (λ m. HasRows m reader.old reader.new) }
@@ -686,13 +689,13 @@ fn read_rows<R: Source>(alloc: Global, reader: &mut GridReader<R>) -> Result<Cel
     Ok(builder.finish())
 }
 
-// Reads the rows of a text whose header was read, and its end.
+// Reads all rows of a text after its header, then its end.
 fn read_whole<R: Source>(alloc: Global, reader: &mut GridReader<R>) -> Result<CellMap, GridFault>
     requires { IsUnread reader.old }
     ensures reading { (text : Option Coming) → IsOpened text reader.old
         → IfSome text (λ c. AnswersGrid result (grid_of c)) }
     ensures kinds { IfErr result IsOfReading }
-    // The source is asked only while it continues, and its `Err` is reported as `Read`.
+    // The reader stops asking the source after its end or an `Err`, and reports an `Err` as `Read`.
     ensures heard { reader.new.heard ≡ hears (reports_read result) reader.old.heard }
 {
     let map = read_rows(alloc, reader)?;
@@ -702,11 +705,11 @@ fn read_whole<R: Source>(alloc: Global, reader: &mut GridReader<R>) -> Result<Ce
     }
 }
 
-/// Reads a whole grid: the map that the text of a source denotes (r.in.ascii manual).
+/// Reads a complete grid and returns the map that it denotes (r.in.ascii manual).
 ///
 /// # Errors
 ///
-/// The text's first error with its line, or `Memory` with line 0 if memory runs out.
+/// Returns the text's first error with its line, or `Memory` with line 0 if memory runs out.
 pub fn read_map<R: Source + Drop>(alloc: Global, source: R) -> Result<CellMap, GridFault>
     ensures map { IfOk result (λ m. IfSome (R.coming source) (λ c. Denotes c m)) }
     ensures fault { IfErr result (λ f. f.kind ≢ GridKind.Memory

@@ -1,4 +1,4 @@
-//! What reading a grid text means, and which error it gives.
+//! Laws about reading a grid text: its meaning, and which error is reported.
 
 pub use cell_ascii_law::law::grid_reading_denotes;
 pub use cell_ascii_law_faults::law::{

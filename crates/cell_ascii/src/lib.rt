@@ -1,17 +1,17 @@
-//! Reading a grid, row by row or all of it (GRASS manual: r.in.ascii), and writing one.
+//! Reads grids, complete or row by row, and writes them (GRASS manual: r.in.ascii, r.out.ascii).
 //!
-//! - `grid_reader`: `read_map`, the map of a source; `GridReader`, its rows one at a time
+//! - `grid_reader`: `read_map` reads a source into a map; `GridReader` reads it row by row
 //! - `grid_fault`: `GridFault`, the first error with its line, re-exported from
 //!   `cell_ascii_meaning`
 //! - `writer`: `write_map`, re-exported from `cell_ascii_writer`
-//! - `law`: what reading means, re-exported from `cell_ascii_law` and `cell_ascii_law_faults`
-//! - `short_cells`, `word_table`, `pace`: the fast ways to read cells that are in the buffer: words
-//!   in place, words that occurred before, numbers by their digits, and which way is next. They
-//!   change no result.
-//! - `byte_words`, `number_words`: short words read as bytes by vectors, and words of digits two at
-//!   a time
+//! - `law`: laws about reading, re-exported from `cell_ascii_law` and `cell_ascii_law_faults`
+//! - `short_cells`, `word_table`, `pace`: fast ways to read buffered cells. They read words in place,
+//!   look up words that occurred before, convert numbers digit by digit, and choose between these
+//!   ways. They do not affect results.
+//! - `byte_words`, `number_words`: read short words as bytes, and numbers two at a time, with vector
+//!   instructions
 //!
-//! `GRID` is a text of three rows and four columns, here in pieces of seven bytes:
+//! `GRID` is a text with three rows and four columns, which the source delivers seven bytes at a time:
 //!
 //! ```
 //! let source = MemorySource::new(GRID.to_vec(rt.alloc())?, 7, false);

@@ -1,4 +1,4 @@
-//! Words of digits, each after one blank: read two at a time, with vector instructions.
+//! Reads words of digits, each after one blank, two at a time with vector instructions.
 
 ghost use Rattle.std.specs.Prelude.{true, ◌≡◌, ◌<◌, ◌≤◌, length, take, drop, pos, Some};
 ghost use Rattle.cell_ascii_meaning.specs.GridTokens.{newlines};
@@ -12,7 +12,7 @@ use cell_ascii_lanes::word_lanes::digit_mask;
 use cell_core::cell::Cell;
 use std::simd::prelude::*;
 
-// The cell of a number of at most eight digits.
+// Returns the cell for a number with at most eight digits.
 #[inline(always)]
 fn cell_of(number: u64) -> Cell
     requires { number < 100000000 }
@@ -24,8 +24,8 @@ fn cell_of(number: u64) -> Cell
     }
 }
 
-// Reads an even number of words that end among the first 64 buffered bytes, if all have one to seven digits and one
-// blank before them. Returns their number and where the last one ends.
+// Reads an even number of words that end among the first 64 buffered bytes, if every word has one to seven digits and
+// follows a single blank. Returns the number of words and where the last one ends.
 #[inline(always)]
 pub(crate) fn block_numbers_in(buffered: &[u8], row: &mut [Cell]) -> (usize, usize)
     requires buffered { 80 ≤ length buffered.now }

@@ -1,42 +1,42 @@
-//! Which way cells are read next.
+//! Chooses how cells are read next.
 
-// A way that was of no use is not tried again for this many cells, then for twice as many each time, up to LAST_WAIT.
+// A way that did not pay off is skipped for this many cells. The wait doubles each time, up to LAST_WAIT.
 const FIRST_WAIT: usize = 16;
 
 const LAST_WAIT: usize = 4096;
 
-// The same for cells of rows that may be read as bytes.
+// Waits before rows are read as bytes again.
 const FIRST_BYTES_WAIT: usize = 1 << 14;
 
 const LAST_BYTES_WAIT: usize = 1 << 18;
 
-// Words repeat often if more than this many cells were read by repetition.
+// Repetition pays off if it yields more than this many cells.
 const MANY_CELLS: usize = 64;
 
-// Number of words looked up to see whether looking up is of use again.
+// Number of words looked up to test whether lookup pays off again.
 const FEW_WORDS: usize = 16;
 
 /// A way to read cells.
 #[derive(Clone, Copy)]
 pub(crate) enum Way {
-    /// Repeated words, each read once.
+    /// Reads each repeated word once.
     Repeated,
-    /// Words that are looked up among those read before.
+    /// Looks words up among those read before.
     Sought,
-    /// Numbers by their digits.
+    /// Converts numbers digit by digit.
     Digits,
-    /// Words one by one, for example at the end of the buffer.
+    /// Reads words one by one, for example at the end of the buffer.
     Single,
 }
 
-/// How long a way is not used.
+/// Counts how long a way of reading is paused.
 #[derive(Drop)]
 pub(crate) struct Pause {
-    /// The number of cells still to wait.
+    /// Number of cells until the next trial.
     pub(crate) left: usize,
-    // The number of cells to wait after the next failed trial.
+    // Number of cells to wait after the next failed trial.
     next: usize,
-    // The shortest and the longest wait.
+    // Shortest and longest wait.
     first: usize,
     last: usize,
 }
@@ -51,7 +51,7 @@ impl Pause {
         }
     }
 
-    /// Ends a trial of the way.
+    /// Ends a trial of the way and sets the next wait.
     pub(crate) fn end_trial(&mut self, is_of_use: bool) {
         if is_of_use {
             self.next = self.first;
@@ -61,24 +61,24 @@ impl Pause {
         }
     }
 
-    /// Counts cells that were read in other ways.
+    /// Counts `count` cells that were read in other ways.
     pub(crate) fn pass(&mut self, count: usize) {
         self.left = self.left.saturating_sub(count);
     }
 }
 
-/// Chooses how cells are read next: a way that was of no use is tried less and less often. It does not affect the
-/// result.
+/// Chooses how cells are read next. A way that did not pay off is tried less and less often. The choice never affects
+/// the result.
 #[derive(Drop)]
 pub struct Pace {
     repeated: Pause,
     sought: Pause,
-    /// Of rows read as bytes.
+    /// Pause of reading rows as bytes.
     pub(crate) bytes: Pause,
 }
 
 impl Pace {
-    /// The pace of a new reader.
+    /// Returns the pace of a new reader, which may try every way.
     pub fn new() -> Pace {
         Pace {
             repeated: Pause::new(FIRST_WAIT, LAST_WAIT),
@@ -87,7 +87,7 @@ impl Pace {
         }
     }
 
-    /// The way to read next, and the maximum number of cells. Cells are read one by one on the last try but one.
+    /// Returns the way to read next and the maximum number of cells. The last try reads cells one by one.
     pub(crate) fn next_way(&self, tries: usize) -> (Way, usize) {
         if tries == 1 {
             return (Way::Single, usize::MAX);
@@ -105,8 +105,8 @@ impl Pace {
         }
     }
 
-    /// Counts the cells that a way has read, and how many of them were looked up in vain. `ends_row`: they end where
-    /// the row does.
+    /// Records that `way` read `count` cells and failed to find `missed` of their words in the table. `ends_row` means
+    /// that the last of these cells is the last of its row.
     pub(crate) fn pass(&mut self, way: Way, count: usize, missed: usize, ends_row: bool) {
         self.repeated.pass(count);
         match way {

@@ -1,4 +1,4 @@
-//! Cells whose bytes are in the buffer.
+//! Reads cells whose bytes are in the buffer.
 
 ghost use Rattle.std.specs.Prelude.{◌≡◌, ℕ, List, ◌∷◌, ◌++◌, ◌+◌, ◌*◌, ◌/◌, ◌<◌, ◌≤◌, pos, neg_ℤ, length, take, drop, replicate, Some, IfSome};
 ghost use Rattle.cell_ascii.specs.BufferedCells.{HoldsFront, HoldsWord, IsNumeral, ComesAgain, buffered_word};
@@ -14,7 +14,7 @@ use cell_core::cell::Cell;
 use cell_core_values::whole_numbers::is_digit;
 use std::simd::prelude::*;
 
-// Any number of this many digits fits in 32 bits.
+// Maximum number of digits for which every number fits in 32 bits.
 pub(crate) const MOST_DIGITS: usize = 9;
 
 // Maximum length of a word.
@@ -23,16 +23,17 @@ const MOST_BYTES: usize = 64;
 // Number of bytes compared at once.
 const LANES: usize = 16;
 
-// Repeated words are looked for on credit: each word costs some, each repetition pays back 1, up to a maximum. When the
+// Looking for repeated words runs on credit: each word costs credit, each repetition earns 1, up to a maximum. When the
 // credit is used up, cells are read one by one for a while.
 const MOST_CREDIT: usize = 8;
 
 const COST_OF_A_WORD: usize = 2;
 
-// Number of ways that are tried if none finds a cell.
+// Number of ways tried before reading gives up.
 const MOST_TRIES: usize = 3;
 
-// One to three digits and the byte that ends them, at the start of four bytes. Returns the number of digits.
+// Reads one to three digits followed by a blank or line feed from the start of four bytes. Returns the value and the
+// number of digits.
 #[inline(always)]
 #[tactic(auto, using(crate::proofs::BufferedLemmas::short_one, crate::proofs::BufferedLemmas::short_two, crate::proofs::BufferedLemmas::short_three))]
 fn short_digits(a: u8, b: u8, c: u8, d: u8) -> Option<(u32, usize)>
@@ -58,7 +59,7 @@ fn short_digits(a: u8, b: u8, c: u8, d: u8) -> Option<(u32, usize)>
     Some((value * 10 + (c - b'0') as u32, 3))
 }
 
-// One to nine digits and the byte that ends them. Returns the number of digits.
+// Reads one to nine digits followed by a blank or line feed. Returns the value and the number of digits.
 #[inline(always)]
 fn more_digits(bytes: &[u8]) -> Option<(u32, usize)>
     ensures { IfSome result (λ r. IsNumeral bytes.now r.0 r.1) }
@@ -79,15 +80,15 @@ fn more_digits(bytes: &[u8]) -> Option<(u32, usize)>
     None
 }
 
-// The number of digits after a minus sign.
+// Negates a value that was read after a minus sign.
 pub(crate) fn negative(value: u32) -> i64
     ensures { result ≡ neg_ℤ (pos value) }
 {
     -(value as i64)
 }
 
-// A space, a number of one to three digits and the byte that ends it. Returns the number of bytes before that byte. The
-// length is compared once, so the buffer must hold the longest form.
+// Reads a space, a number of one to three digits, and the byte that ends it. Returns the number and the bytes before
+// that last byte. The buffer must be long enough for the longest form, so that its length is checked only once.
 #[inline(always)]
 fn short_number_in(buffered: &[u8]) -> Option<(i64, usize)>
     ensures word { IfSome result (λ r. HoldsWord buffered.now r.1) }
@@ -105,7 +106,7 @@ fn short_number_in(buffered: &[u8]) -> Option<(i64, usize)>
     Some((value as i64, n + 1))
 }
 
-// Like `short_number_in`, for one to nine digits.
+// Like `short_number_in`, for numbers of one to nine digits.
 fn number_in(buffered: &[u8]) -> Option<(i64, usize)>
     ensures word { IfSome result (λ r. HoldsWord buffered.now r.1) }
     ensures number { IfSome result (λ r. whole_number (buffered_word buffered.now r.1) ≡ Some r.0) }
@@ -122,7 +123,7 @@ fn number_in(buffered: &[u8]) -> Option<(i64, usize)>
     Some((value as i64, n + 1))
 }
 
-// A space, a word and the byte that ends it. Returns the number of bytes before that byte.
+// Finds a space, a word, and the byte that ends it. Returns the number of bytes before that last byte.
 fn word_in(buffered: &[u8]) -> Option<usize>
     ensures word { IfSome result (λ n. HoldsWord buffered.now n) }
     ensures within { IfSome result (λ n. (0 < n) × (n ≤ length buffered.now)) }
@@ -142,7 +143,7 @@ fn word_in(buffered: &[u8]) -> Option<usize>
     None
 }
 
-// The cell of the number that ends before place n, and that place.
+// Returns the cell of the number that ends before index `n`, together with `n`.
 #[inline(always)]
 fn buffered_number_cell(
     buffered: &[u8],
@@ -162,7 +163,7 @@ fn buffered_number_cell(
     }
 }
 
-// As `buffered_cell`, for words that are not short numbers.
+// Like `buffered_cell`, for words that are not short numbers.
 #[inline(never)]
 fn other_cell_in(buffered: &[u8], header: &Header) -> Option<(Cell, usize)>
     ensures cell { IfSome result (λ r. HoldsFront header.now buffered.now r.0 r.1) }
@@ -178,8 +179,8 @@ fn other_cell_in(buffered: &[u8], header: &Header) -> Option<(Cell, usize)>
     }
 }
 
-// The cell of a space and a word that ends in the buffer, and the number of bytes taken. None for any other form, or a
-// word that is not a cell.
+// Reads a space and a word that ends within the buffer. Returns the cell and the number of bytes read, or `None` if the
+// bytes have another form or the word is not a cell.
 #[inline(always)]
 fn buffered_cell(buffered: &[u8], header: &Header) -> Option<(Cell, usize)>
     ensures cell { IfSome result (λ r. HoldsFront header.now buffered.now r.0 r.1) }
@@ -191,7 +192,7 @@ fn buffered_cell(buffered: &[u8], header: &Header) -> Option<(Cell, usize)>
     }
 }
 
-// How many of the first 16 bytes of two slices are equal, up to the first that differ.
+// Returns the length of the common prefix of two slices, at most 16.
 #[inline(always)]
 fn front_alike(a: &[u8], b: &[u8]) -> usize
     requires left { 16 ≤ length a.now }
@@ -209,7 +210,8 @@ fn front_alike(a: &[u8], b: &[u8]) -> usize
     }
 }
 
-// How many bytes from place n on equal the bytes n places before them. Some of the last buffered bytes may be left out.
+// Returns how many bytes from index `n` on equal the byte `n` places earlier. May ignore some of the last buffered
+// bytes.
 #[inline(always)]
 fn bytes_again(buffered: &[u8], n: usize) -> usize
     requires { n ≤ length buffered.now }
@@ -223,13 +225,13 @@ fn bytes_again(buffered: &[u8], n: usize) -> usize
         if more < LANES {
             return count + more;
         }
-        // The next load does not wait for this comparison.
+        // Adding a constant, not `more`, lets the next load start before this comparison ends.
         count += LANES;
     }
     count
 }
 
-// A quotient. Most words have lengths that are divided by as constants.
+// Divides `a` by `n`. The most common word lengths have their own branches, so the compiler divides by a constant.
 #[inline(always)]
 fn quotient(a: usize, n: usize) -> usize
     requires { 0 < n }
@@ -244,7 +246,7 @@ fn quotient(a: usize, n: usize) -> usize
     }
 }
 
-// How often the first n bytes and the byte after them are repeated, as far as the buffer shows.
+// Returns how often the first `n` bytes and the byte after them are repeated within the buffer.
 #[inline(always)]
 fn times_again(buffered: &[u8], n: usize) -> usize
     requires some { 0 < n }
@@ -259,7 +261,7 @@ fn times_again(buffered: &[u8], n: usize) -> usize
     quotient(bytes - 1, n)
 }
 
-// Writes `cell` over `count` cells of a row, from place `at`.
+// Writes `cell` to `count` cells of a row, starting at index `at`.
 #[inline(always)]
 fn fill_cells(row: &mut [Cell], at: usize, count: usize, cell: Cell)
     requires { at + count ≤ length row.old }
@@ -268,7 +270,7 @@ fn fill_cells(row: &mut [Cell], at: usize, count: usize, cell: Cell)
     row[at..at + count].fill(cell);
 }
 
-// The credit that is left after a word that was repeated `more` times.
+// Returns the remaining credit after a word that was repeated `more` times.
 #[inline(always)]
 fn next_credit(credit: usize, more: usize) -> usize {
     credit
@@ -277,7 +279,7 @@ fn next_credit(credit: usize, more: usize) -> usize {
         .saturating_sub(COST_OF_A_WORD)
 }
 
-// As `cells_in`, for a text in which words are repeated: each is read once. It stops when few words are repeated.
+// Like `cells_in`, for texts with repeated words: each repeated word is read once. Stops when few words repeat.
 #[inline(never)]
 fn repeated_cells_in(buffered: &[u8], header: &Header, row: &mut [Cell]) -> (usize, usize)
     ensures { AreCellsInLine header.now buffered.now row.old row.new result }
@@ -298,9 +300,10 @@ fn repeated_cells_in(buffered: &[u8], header: &Header, row: &mut [Cell]) -> (usi
     (i, passed)
 }
 
-// The same as `cells_in`, each cell read by itself.
+// Like `cells_in`, but reads each cell separately.
 //
-// It is not inlined: within a larger function, or with one parameter more, its loop would keep less in registers.
+// It is not inlined, because in a larger function, or with one more parameter, its loop would keep fewer values in
+// registers.
 #[inline(never)]
 fn single_cells_in(buffered: &[u8], header: &Header, row: &mut [Cell]) -> (usize, usize)
     ensures { AreCellsInLine header.now buffered.now row.old row.new result }
@@ -316,16 +319,17 @@ fn single_cells_in(buffered: &[u8], header: &Header, row: &mut [Cell]) -> (usize
     (row.len(), passed)
 }
 
-// The number of tries left: reset if the last try found some cells.
+// Returns the number of tries left, which is reset if the last try found cells.
 fn tries_left(tries: usize, found: usize) -> usize
     requires { 0 < tries }
-    // This ensures that the tries for all cells end.
+    // This bound proves that `cells_in` terminates.
     ensures { result < tries + 4 * found }
 {
     if found > 0 { MOST_TRIES } else { tries - 1 }
 }
 
-// Reads at most `most` cells in one way. Returns their number and how many of them were looked up in vain.
+// Reads at most `most` cells in one way. Returns the number of cells, the bytes read, and the line feeds among them.
+// Adds the words not found in the table to `missed`.
 #[inline(never)]
 fn cells_by(
     way: Way,
@@ -349,11 +353,10 @@ fn cells_by(
     (found.0, found.1, 0)
 }
 
-/// The cells whose words are held one after another, apart by blanks and line feeds, up to the length of a row: they
-/// fill the start of the row. Returns how many they are, how many bytes they take, and how many of these are line
-/// feeds.
+/// Reads cells whose words are buffered one after another, separated by blanks and line feeds, into the start of a row.
+/// Returns the number of cells, the number of bytes read, and the line feeds among these bytes.
 ///
-/// Each way gives the same cells, so nothing is proved of the pace.
+/// All ways read the same cells, so no contract mentions the pace.
 pub fn cells_in(
     buffered: &[u8],
     words: &mut WordTable,

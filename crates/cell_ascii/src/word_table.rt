@@ -1,5 +1,5 @@
-//! Cells of words that were read before: each word is read once, and later found using its bytes. If most words are
-//! new, numbers are read digit by digit.
+//! Remembers the cells of words, so that a repeated word is looked up by its bytes and not read again. If most words
+//! are new, numbers are converted digit by digit.
 
 ghost use Rattle.std.specs.Prelude.{ℕ, List, ◌++◌, replicate, true, false, ◌≡◌, ◌+◌, ◌-◌, ◌*◌, ◌%◌, ◌^◌, ◌<◌, ◌≤◌, length, take, drop, Some, Ok, IfOk, IfSome};
 ghost use Rattle.std.specs.List.{All, list_all};
@@ -24,22 +24,23 @@ use std::alloc::Global;
 use std::marker::Model;
 use std::simd::prelude::*;
 
-// Number of words that are kept. They take 64 KiB per open reader.
+// Number of words that are kept, in 64 KiB per open reader.
 const ENTRIES: usize = 4096;
 
-// The place is this many upper bits of a number below 2^64.
+// A word's index in the table is this many top bits of its 64-bit hash.
 const PLACE_BITS: u32 = 12;
 
 // Maximum length of a kept word.
 const MOST_KEPT: usize = 8;
 
-// Bytes that must be buffered for that, and for a load of 16 bytes at the last of them.
+// Minimum number of buffered bytes: a block of 64, and 16 more so that a vector can be loaded at its last byte.
 const LEAST_BUFFERED: usize = 80;
 
-// After this many failed blocks in a row, only one block per call is tried as numbers, until one succeeds.
+// After this many consecutive blocks that are not all numbers, each call tries only one block as numbers, until one
+// succeeds.
 const BLOCK_TRIES: usize = 8;
 
-// A word that was read, as its bytes, and its cell. A place is free if it has no bytes.
+// A word's bytes and the cell that it denotes. An entry of size 0 is free.
 #[derive(Clone, Copy)]
 struct WordEntry {
     key: u64,
@@ -47,7 +48,7 @@ struct WordEntry {
     cell: Cell,
 }
 
-// Which of the first 64 bytes are blanks or line feeds; the first byte is the lowest bit.
+// Marks the blanks and line feeds among the first 64 bytes. The lowest bit is the first byte.
 #[inline(always)]
 pub(crate) fn blanks_in(buffered: &[u8]) -> u64
     requires { 64 ≤ length buffered.now }
@@ -56,7 +57,7 @@ pub(crate) fn blanks_in(buffered: &[u8]) -> u64
     space_mask(u8x64::from_slice(buffered))
 }
 
-// Which of them are line feeds.
+// Marks the line feeds among the first 64 bytes.
 #[inline(always)]
 fn feeds_in(buffered: &[u8]) -> u64
     requires { 64 ≤ length buffered.now }
@@ -67,7 +68,7 @@ fn feeds_in(buffered: &[u8]) -> u64
         .to_bitmask()
 }
 
-// A number of lines, plus the line feeds among the first n bytes.
+// Adds the line feeds among the first `n` bytes to a number of lines.
 #[inline(always)]
 pub(crate) fn lines_below(lines: u64, buffered: &[u8], n: usize) -> u64
     requires room { lines + 64 < 2 ^ 64 }
@@ -76,7 +77,7 @@ pub(crate) fn lines_below(lines: u64, buffered: &[u8], n: usize) -> u64
     ensures { result ≡ lines + newlines (take n buffered.now) }
 {
     let feeds = feeds_in(buffered);
-    // The usual case in most blocks.
+    // Most blocks contain no line feed.
     if feeds == 0 {
         return lines;
     }
@@ -92,20 +93,20 @@ pub(crate) fn next_bits(bits: u64) -> u64
     bits & (bits - 1)
 }
 
-// The place after a run of blanks that begins at a place, and the bits of the blanks after it.
+// Returns the index after the run of blanks at `at`, and the bits of the blanks after that index.
 //
-// Computing bits for both ends of each word was faster for right-aligned columns, and slower for single blanks.
+// Computing bits for both ends of each word was faster for right-aligned columns, but slower for single blanks.
 #[inline(always)]
 fn pass_blanks(ends: u64, at: usize) -> (usize, u64)
     requires { at < 64 }
     ensures { (bytes : List ℕ) → IsAtBlank bytes ends at → IsBehindBlanks bytes at result }
 {
-    // The sum carries through the bits of the run, and sets the bit after it.
+    // The addition carries through the bits of the run and sets the bit after it.
     let carried = ends.wrapping_add(1 << at);
     (carried.trailing_zeros() as usize, ends & carried)
 }
 
-// The first bytes of a word, as the upper bytes of a number.
+// Packs the first bytes of a word into the upper bytes of a number.
 #[inline(always)]
 fn word_key(bytes: &[u8], size: usize) -> u64
     requires some { 0 < size }
@@ -118,7 +119,7 @@ fn word_key(bytes: &[u8], size: usize) -> u64
     all << (64 - 8 * size)
 }
 
-// The place of a word among those that are kept.
+// Returns the table index of a word.
 #[inline(always)]
 fn word_place(key: u64) -> usize
     ensures { result < 4096 }
@@ -126,7 +127,7 @@ fn word_place(key: u64) -> usize
     (key.wrapping_mul(0x9E37_79B9_7F4A_7C15) >> (64 - PLACE_BITS)) as usize
 }
 
-// The number of digits at the start of the first eight bytes. If all eight are digits, the result may be above 8.
+// Counts the digits at the start of the first eight bytes. If all eight are digits, the result may exceed 8.
 #[inline(always)]
 fn digits_at(bytes: &[u8]) -> usize
     requires { 8 ≤ length bytes.now }
@@ -139,7 +140,8 @@ fn digits_at(bytes: &[u8]) -> usize
         .trailing_zeros() as usize
 }
 
-// The value of `size` digits, by three multiplications: of pairs of digits, of pairs of these, and of both fours.
+// Returns the value of `size` digits. Three multiplications combine digits into pairs, pairs into groups of four, and
+// these into eight digits.
 #[inline(always)]
 fn digits_value(bytes: &[u8], size: usize) -> u64
     requires some { 0 < size }
@@ -156,7 +158,7 @@ fn digits_value(bytes: &[u8], size: usize) -> u64
     first.wrapping_add(second) >> 32
 }
 
-// The value of nine digits.
+// Returns the value of nine digits.
 fn nine_value(bytes: &[u8], size: usize) -> Option<u32>
     requires { 9 ≤ length bytes.now }
     ensures { IfSome result (λ value. digits_of (take size bytes.now) ≡ Some value) }
@@ -170,7 +172,7 @@ fn nine_value(bytes: &[u8], size: usize) -> Option<u32>
     Some(digits_value(bytes, MOST_KEPT) as u32 * 10 + (bytes[MOST_KEPT] - b'0') as u32)
 }
 
-// The value of one to nine digits.
+// Returns the value of one to nine digits.
 #[inline(always)]
 fn value_of(bytes: &[u8], size: usize) -> Option<u32>
     requires { 9 ≤ length bytes.now }
@@ -185,7 +187,7 @@ fn value_of(bytes: &[u8], size: usize) -> Option<u32>
     Some(digits_value(bytes, size) as u32)
 }
 
-// The number that a word of one to nine digits spells, with or without a minus sign.
+// Returns the number that a word of one to nine digits denotes, with an optional minus sign.
 #[inline(always)]
 fn word_number(bytes: &[u8], size: usize) -> Option<i64>
     requires some { 0 < size }
@@ -198,7 +200,7 @@ fn word_number(bytes: &[u8], size: usize) -> Option<i64>
     Some(value_of(bytes, size)? as i64)
 }
 
-// The cell of the number that a word of one to nine digits spells, with or without a minus sign.
+// Returns the cell of a number with one to nine digits and an optional minus sign.
 #[inline(always)]
 fn number_cell(bytes: &[u8], size: usize, header: &Header) -> Option<Cell>
     requires some { 0 < size }
@@ -210,7 +212,7 @@ fn number_cell(bytes: &[u8], size: usize, header: &Header) -> Option<Cell>
     header.cell_of_number(&bytes[..size], number).ok()
 }
 
-// The cell of a word that is not kept.
+// Returns the cell of a word that is not in the table.
 #[inline(always)]
 fn read_word(bytes: &[u8], size: usize, header: &Header) -> Option<Cell>
     requires some { 0 < size }
@@ -224,7 +226,7 @@ fn read_word(bytes: &[u8], size: usize, header: &Header) -> Option<Cell>
     }
 }
 
-// Keeps the cell of a word if the word is short. It may replace another one.
+// Stores the cell of a short word in the table, where it may replace another word's cell.
 fn keep_word(bytes: &[u8], size: usize, cell: Cell, header: &Header, entries: &mut [WordEntry])
     requires some { 0 < size }
     requires buffered { 8 ≤ length bytes.now }
@@ -244,8 +246,8 @@ fn keep_word(bytes: &[u8], size: usize, cell: Cell, header: &Header, entries: &m
     };
 }
 
-// Reads the cell of the first word into a place of a row, and keeps it. Returns whether the word is a cell. It counts
-// as missed.
+// Reads the cell of the first word into a row and stores it in the table. Returns whether the word is a cell, and
+// counts the word as missed.
 #[inline(never)]
 fn read_cell(
     bytes: &[u8],
@@ -270,8 +272,8 @@ fn read_cell(
     true
 }
 
-// Writes the cell of the first word to a place of a row. Returns whether the word is a cell. Numbers are looked up if
-// SOUGHT is set, and otherwise read digit by digit.
+// Writes the cell of the first word to a row. Returns whether the word is a cell. With SOUGHT, numbers are looked up in
+// the table; without it, they are converted digit by digit.
 #[inline(always)]
 fn put_cell<const SOUGHT: bool>(
     bytes: &[u8],
@@ -302,8 +304,8 @@ fn put_cell<const SOUGHT: bool>(
     read_cell(bytes, size, header, entries, row, i, missed)
 }
 
-// Reads the words that end among the first 64 buffered bytes, up to the length of a row. Returns their number and where
-// the last one ends. It ends before a word that is not a cell.
+// Reads the words that end among the first 64 buffered bytes, until the row is full or a word is not a cell. Returns
+// the number of cells and where the last word ends.
 #[inline(always)]
 fn block_cells_in<const SOUGHT: bool>(
     buffered: &[u8],
@@ -346,12 +348,12 @@ fn block_cells_in<const SOUGHT: bool>(
     (i, last)
 }
 
-/// What the header of a grid text says about its cells, and words that were read under it. No call allocates.
+/// Holds a grid's header and the words read under it. Only `new` allocates.
 #[derive(Drop)]
 pub struct WordTable {
     header: Header,
     entries: Vec<WordEntry>,
-    // The number of blocks that may still be tried as numbers.
+    // Number of blocks that may still be tried as numbers.
     tries: usize,
 }
 
@@ -369,7 +371,8 @@ impl Model for WordTable {
     ghost invariant = { λ t. (length t.entries.items ≡ 4096) × All (IsEntry t.header) t.entries.items };
 }
 
-// The same with vector instructions, if words of digits are their numbers, a try is left, and all words are numbers.
+// Like `block_cells_in`, but first tries to read the block as numbers with vector instructions, if the header allows it
+// and a try is left.
 #[inline(always)]
 fn next_cells_in<const SOUGHT: bool>(
     buffered: &[u8],
@@ -402,10 +405,9 @@ fn next_cells_in<const SOUGHT: bool>(
     block_cells_in::<SOUGHT>(buffered, header, entries, row, missed)
 }
 
-// Reads the words in the buffer, which are separated by blanks and line feeds, into the start of a row, up to its
-// length. Returns the number of cells, the bytes that they take, and the line feeds among these. Leaves out the last
-// bytes of the buffer and words of 64 bytes or more; stops at a word that is not a cell. Words that are not kept count
-// as missed.
+// Reads buffered words, separated by blanks and line feeds, into the start of a row. Returns the number of cells, the
+// bytes read, and the line feeds among them. Stops at a word of 64 bytes or more, at a word that is not a cell, and
+// before the last bytes of the buffer. Counts words that are not in the table as missed.
 #[inline(never)]
 fn table_cells_in<const SOUGHT: bool>(
     buffered: &[u8],
@@ -438,7 +440,7 @@ fn table_cells_in<const SOUGHT: bool>(
 }
 
 impl WordTable {
-    /// An empty table.
+    /// Returns an empty table for the words of a grid with this header.
     pub fn new(alloc: Global, header: Header) -> Result<WordTable, Memory>
         ensures { IfOk result (λ t. t ≡ header) }
     {
@@ -455,16 +457,16 @@ impl WordTable {
         })
     }
 
-    /// The header by which words are read as cells.
+    /// Returns the header that determines which cell a word denotes.
     pub fn header(&self) -> &Header
         ensures { result.now ≡ self.now }
     {
         &self.header
     }
 
-    /// Reads the words in the buffer, which are separated by blanks and line feeds, into the start of a row, up to its
-    /// length. Returns the number of cells, the bytes that they take, and the line feeds among these. Words that were
-    /// not read before count as missed. Numbers are looked up only if SOUGHT is set.
+    /// Reads buffered words, separated by blanks and line feeds, into the start of a row. Returns the number of cells,
+    /// the bytes read, and the line feeds among them. Counts words that are not in the table as missed. With SOUGHT,
+    /// numbers are also looked up in the table.
     pub fn cells_in<const SOUGHT: bool>(
         &mut self,
         buffered: &[u8],

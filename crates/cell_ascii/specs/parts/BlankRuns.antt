@@ -1,17 +1,17 @@
--- Runs of blanks, given as bits from a place on.
+-- Runs of blanks, given as bits from an index on.
 use Rattle.std.specs.Prelude.{ℕ, ◌-◌, ◌≡◌, ◌<◌, ◌≤◌, true, List, drop, take, length, slice_index_or}
 use Rattle.std.specs.List.{list_all}
 use Rattle.std.specs.Simd.Lanes.{mask_l}
 use Rattle.cell_ascii_meaning.specs.GridTokens.{is_space}
 use Rattle.cell_ascii.specs.TableWords.{blanks, cleared_front}
 
--- the byte at the place is a blank
+-- the byte at the index is a blank, and the bits mark the blanks from there on
 pub record IsAtBlank (bs : List ℕ) (ends at : ℕ) : Type 0 where
   pub buffered : 64 ≤ length bs
   pub bits : ends ≡ mask_l (cleared_front at (blanks bs))
   pub blank : is_space (slice_index_or bs at 0) ≡ true
 
--- all bytes from one place to another are blanks, and the bits of the blanks after them are known
+-- all bytes from `at` to the returned index are blanks, and the returned bits mark the blanks after it
 pub record IsBehindBlanks (bs : List ℕ) (at : ℕ) (behind : ℕ × ℕ) : Type 0 where
   pub some : at < behind.0
   pub few : behind.0 ≤ 64

@@ -1,18 +1,18 @@
--- Cells at the start of a row, as bytes or as cells.
+-- Cells at the start of a row, stored as bytes or as cells.
 use Rattle.std.specs.Prelude.{ℕ, zero, suc, ◌≡◌, ◌+◌, ◌*◌, ◌≤◌, Bool, true, List, [], ◌∷◌, take, drop, if◌then◌else◌}
 use Rattle.cell_core.specs.Grid.{CellValue}
 use Rattle.cell_core_values.specs.SmallCells.{cells_of_bytes}
 
--- the first n cells: of the bytes, or of the cells
+-- the first n cells, taken from the bytes or from the row
 abbrev pub front_cells : ℕ × Bool → List ℕ → List CellValue → List CellValue
 front_cells front bytes row = if front.1 then cells_of_bytes (take front.0 bytes) else take front.0 row
 
--- the cells of a list, cut into rows of cols cells
+-- the cells of a list, cut into rows of `cols` cells
 abbrev pub rows_of : {X : Type 0} → ℕ → ℕ → List X → List (List X)
 rows_of cols zero cells = []
 rows_of cols (suc rows) cells = take cols cells ∷ rows_of cols rows (drop cols cells)
 
--- the first cells of a row, all of them if they are bytes; they take no more lines than they may
+-- cells at the start of a row, all of its cells if they are bytes; the line number stays within its limit
 pub record IsFront (cols line next : ℕ) (front : ℕ × Bool) : Type 0 where
   pub count : front.0 ≤ cols
   pub all : front.1 ≡ true → front.0 ≡ cols

@@ -1,4 +1,4 @@
--- A reader after the header, before its first row, and after its last.
+-- A reader after the header: before its first row, and after its last.
 use Rattle.std.specs.Prelude.{◌≡◌, ◌<◌, ◌^◌, false, Bool, Option, Ok}
 use Rattle.std.specs.Option.{option_map}
 use Rattle.cell_core.specs.Grid.{Grid, no_labels}
@@ -10,23 +10,23 @@ use Rattle.cell_ascii_reading.specs.Scan.{Scan}
 use Rattle.cell_ascii.specs.GridReaders.{ReaderValue, reader_place}
 use Rattle.cell_ascii.specs.Reader.{ReaderPlace, opened_at, opened_by, rows_from}
 
--- it has read no row yet, and its source has not failed
+-- the reader has read no row, and its source has not failed
 abbrev pub IsUnread : ReaderValue → Type 0
 IsUnread r = (r.rows_left ≡ r.header.region.rows) × ((r.failed ≡ false) × (r.heard.failed ≡ false))
 
--- a scanner has passed the header of a text and the first word after it
+-- the scanner has read the header of a text and the first word after it
 pub record IsBehindHeader (header : HeaderValue × Bool) (old new : Scan) : Type 0 where
   pub reading : Agrees header_of_text old.ahead (λ c. Ok (opened_by header new c)) new.ahead
   pub line : new.line < 2 ^ 62
   pub run : new.run ≡ 0
 
--- the header of a text was read, with this state of its source
+-- the header of a text was read, and the source is in the state `first`
 pub record IsAtData (text : Option Coming) (first : Heard) (p : ReaderPlace) : Type 0 where
   pub reading : option_map header_of_text text ≡ option_map (λ c. Ok (opened_at p c)) (bytes_to_come p.ahead)
   pub line : p.line < 2 ^ 62
   pub heard : p.ahead.heard ≡ first
 
--- all remaining rows were read into a map, and there were some
+-- all remaining rows, at least one, were read into a map
 pub record HasRows (m : Grid) (old new : ReaderValue) : Type 0 where
   pub region : m.region ≡ old.header.region
   pub labels : m.labels ≡ no_labels

@@ -1,11 +1,11 @@
--- What is needed to read the cell of a word to its place.
+-- What reading a word's cell into a row requires.
 use Rattle.std.specs.Prelude.{ℕ, ◌≡◌, ◌<◌, ◌≤◌, All, List, length}
 use Rattle.cell_core.specs.Grid.{CellValue}
 use Rattle.cell_ascii_meaning.specs.Header.{HeaderValue}
 use Rattle.cell_ascii.specs.declared.word_table.WordEntry.{WordEntry}
 use Rattle.cell_ascii.specs.TableWords.{IsEntry}
 
--- the word is the first size bytes, the table has a place for it, and the row has a place for its cell
+-- the word is the first `size` bytes, enough bytes are buffered, and the table and the row have the expected lengths
 pub record CanPut (h : HeaderValue) (bytes : List ℕ) (size : ℕ) (entries : List WordEntry) (i : ℕ) (row : List CellValue) : Type 0 where
   pub some : 0 < size
   pub within : size ≤ length bytes
