@@ -1,4 +1,4 @@
--- Values of words in lanes, and lanes selected by bits.
+-- Values of words in vector lanes, and the lanes that bits select.
 pub mod NumberLanes
 pub mod WordLanes
 pub mod parts

@@ -1,8 +1,8 @@
--- Words of digits of a block of 64 bytes.
+-- Words of digits in a block of 64 bytes.
 use Rattle.std.specs.Prelude.{ℕ, ◌+◌, ◌≡◌, ◌<◌}
 use Rattle.std.specs.Int.{bit_at}
 
--- all words have one to seven digits, each after one blank, given the bits of blanks and of digits
+-- every word has one to seven digits and follows a single blank, given the bits of blanks and of digits
 pub record AreNumberWords (blanks digits : ℕ) : Type 0 where
   pub first : bit_at blanks 0 ≡ 1
   pub known : (i : ℕ) → i < 64 → bit_at blanks i ≡ 0 → bit_at digits i ≡ 1

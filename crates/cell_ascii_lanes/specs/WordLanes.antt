@@ -1,4 +1,4 @@
--- Short words of a block of 64 bytes, as bytes.
+-- Short words in a block of 64 bytes, stored as bytes.
 use Rattle.std.specs.Prelude.{ℕ, ◌+◌, ◌%◌, ◌^◌, ◌≡◌, ◌<◌, ◌≤◌, Bool, true, false, ◌==◌, List, [], ◌∷◌, take, drop, slice_index_or, codes}
 use Rattle.std.specs.List.{list_all}
 use Rattle.std.specs.Int.{bit_at}
@@ -6,7 +6,7 @@ use Rattle.std.specs.Int.RustNames.{count_ones}
 use Rattle.cell_core_values.specs.Letters.{byte}
 use Rattle.cell_core_values.specs.Digits.{is_digit, value_of_digits}
 
--- the usual null text
+-- the byte is the default null text
 abbrev pub is_null_star : ℕ → Bool
 is_null_star b = b == byte (codes "*")
 
@@ -17,15 +17,15 @@ kept (m ∷ ms) [] = []
 kept (true ∷ ms) (x ∷ xs) = x ∷ kept ms xs
 kept (false ∷ ms) (x ∷ xs) = kept ms xs
 
--- the values of numbers are at their last digits
+-- each number's value is stored at its last digit
 abbrev pub AreWordValues : List ℕ → List ℕ → Type 0
 AreWordValues bytes values = (at n : ℕ) → n < 3 → at + 1 + n < 64 → is_digit (slice_index_or bytes at 0) ≡ false
     → list_all is_digit (take (n + 1) (drop (at + 1) bytes)) ≡ true
     → (slice_index_or values (at + 1 + n) 0 ≡ value_of_digits (take (n + 1) (drop (at + 1) bytes)))
     × (slice_index_or values (at + 1 + n) 0 < 255)
 
--- all words are stars and numbers of at most three digits, and a blank comes first, given the bits of word bytes,
--- digits and stars
+-- all words are stars or numbers of at most three digits, and a blank comes first, given the bits of word bytes, digits
+-- and stars
 pub record AreShortWords (words digits stars : ℕ) : Type 0 where
   pub first : bit_at words 0 ≡ 0
   pub known : (i : ℕ) → i < 64 → bit_at words i ≡ 1 → bit_at digits i ≡ 0 → bit_at stars i ≡ 1
@@ -33,7 +33,7 @@ pub record AreShortWords (words digits stars : ℕ) : Type 0 where
   pub behind : (i : ℕ) → bit_at stars i ≡ 1 → bit_at words (i + 1) ≡ 0
   pub few : (i : ℕ) → i + 3 < 64 → bit_at words i ≡ 1 → bit_at words (i + 1) ≡ 1 → bit_at words (i + 2) ≡ 1 → bit_at words (i + 3) ≡ 0
 
--- the bits below a place, of which at most `most` are set
+-- the bits below a position, at most `most` of them set
 pub record AreLowest (bits most result : ℕ) : Type 0 where
   pub place : ℕ
   pub within : place ≤ 64

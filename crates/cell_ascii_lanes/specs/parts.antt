@@ -1,2 +1,2 @@
--- What bytes add to the values of words.
+-- Tables of what bytes contribute to the values of words.
 pub mod LaneTables

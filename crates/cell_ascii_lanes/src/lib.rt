@@ -1,8 +1,8 @@
-//! Words of a text, in the lanes of vectors.
+//! Reads the words of a text in vector lanes.
 //!
-//! - `word_lanes`: which words are stars or numbers of at most three digits, their values, and the lanes that bits
-//!   select, one after another
-//! - `number_lanes`: the values of words of digits, two at a time
+//! - `word_lanes`: finds stars and numbers of at most three digits, computes their values, and packs
+//!   the lanes that bits select
+//! - `number_lanes`: computes the values of words of digits, two at a time
 #![tactic(auto)]
 
 pub mod number_lanes;

@@ -1,7 +1,7 @@
-//! Words of digits, two at a time, in the lanes of vectors.
+//! Reads words of digits in vector lanes, two at a time.
 //!
-//! Each of the two words ends a half of a vector, after zeros. Pairs of lanes then become lanes of twice the width: the
-//! values of two digits, of four, and of eight.
+//! Each of the two words fills the end of one half of a vector, after zeros. Adjacent lanes are then combined into
+//! lanes of twice the width: values of two digits, of four, and of eight.
 
 ghost use Rattle.std.specs.Prelude.{ℕ, true, ◌≡◌, ◌+◌, ◌-◌, ◌*◌, ◌%◌, ◌<◌, ◌≤◌, ◌++◌, length, take, replicate, slice_index_or};
 ghost use Rattle.std.specs.List.{list_all};
@@ -10,12 +10,13 @@ ghost use Rattle.cell_ascii_lanes.specs.NumberLanes.{AreNumberWords};
 
 use std::simd::prelude::*;
 
-// For each length, where the bytes of a word of that length come from if it ends a half, and 128 for zeros.
+// For each word length, the source index of each byte in a half that ends with the word; 128 stands for a zero.
 static SOURCES: [u8; 24] = [
     128, 128, 128, 128, 128, 128, 128, 128, 0, 1, 2, 3, 4, 5, 6, 7, 8, 9, 10, 11, 12, 13, 14, 15,
 ];
 
-/// Whether all words have one to seven digits, each after one blank, given the bits of blanks and of digits.
+/// Returns whether every word has one to seven digits and follows a single blank, given the bits of blanks and of
+/// digits.
 #[inline(always)]
 pub fn are_numbers(blanks: u64, digits: u64) -> bool
     ensures { result ≡ true → AreNumberWords blanks digits }
@@ -27,7 +28,7 @@ pub fn are_numbers(blanks: u64, digits: u64) -> bool
     ((words & !digits) | (blanks & (blanks << 1)) | eight | (words & 1)) == 0
 }
 
-// A word at the end of the first eight lanes, after zeros.
+// Moves a word to the end of the first eight lanes, after zeros.
 #[inline(always)]
 fn at_end(bytes: &[u8], size: usize) -> u8x16
     requires few { size ≤ 8 }
@@ -38,7 +39,7 @@ fn at_end(bytes: &[u8], size: usize) -> u8x16
     u8x16::from_slice(bytes).swizzle_dyn(u8x16::from_slice(&SOURCES[size..]))
 }
 
-// The values of pairs of digits, from their bytes.
+// Combines digits into the values of pairs.
 #[inline(always)]
 fn twos(digits: u8x16) -> u16x8
     requires { (k : ℕ) → k < 16 → slice_index_or digits k 0 % 16 < 10 }
@@ -49,7 +50,7 @@ fn twos(digits: u8x16) -> u16x8
     (lanes * u16x8::splat(10 * 256 + 1)) >> u16x8::splat(8)
 }
 
-// The values of groups of four digits, from the values of pairs.
+// Combines pairs into the values of four digits.
 #[inline(always)]
 fn fours(twos: u16x8) -> u32x4
     requires { (k : ℕ) → k < 8 → slice_index_or twos k 0 < 100 }
@@ -60,7 +61,7 @@ fn fours(twos: u16x8) -> u32x4
     (lanes * u32x4::splat(100 * 65536 + 1)) >> u32x4::splat(16)
 }
 
-// The values of groups of eight digits, from the values of fours.
+// Combines groups of four digits into the values of eight.
 #[inline(always)]
 fn eights(fours: u32x4) -> u64x2
     requires { (k : ℕ) → k < 4 → slice_index_or fours k 0 < 10000 }
@@ -71,7 +72,7 @@ fn eights(fours: u32x4) -> u64x2
     (lanes & u64x2::splat(0xffff_ffff)) * u64x2::splat(10_000) + (lanes >> u64x2::splat(32))
 }
 
-/// The values of two words of digits.
+/// Returns the values of two words of digits.
 #[inline(always)]
 pub fn two_values(first: &[u8], size: usize, second: &[u8], size_of_second: usize) -> (u64, u64)
     requires few { (size ≤ 8) × (size_of_second ≤ 8) }

@@ -1,7 +1,7 @@
-//! Stars and numbers of at most three digits, in the lanes of vectors.
+//! Reads stars and numbers of at most three digits in vector lanes.
 //!
-//! Each lane gets the value of the word that would end there, from its byte and the two before it. The lanes where
-//! words end are then moved together, using a table of the positions of bits.
+//! Each lane receives the value of the word that would end there, computed from its byte and the two before it. The
+//! lanes at which words end are then packed, using a table of bit positions.
 
 ghost use Rattle.std.specs.Prelude.{ℕ, Bool, List, if◌then◌else◌, true, false, ◌≡◌, ◌+◌, ◌*◌, ◌%◌, ◌^◌, ◌<◌, ◌≤◌, length, take, map, bit_and, slice_index_or};
 ghost use Rattle.std.specs.Int.{bit_at};
@@ -14,8 +14,8 @@ ghost use Rattle.cell_ascii_lanes.specs.parts.LaneTables.{IsLaneTable, table_pla
 
 use std::simd::prelude::*;
 
-// The positions of the set bits of each number below 256, followed by zeros: eight bytes per number, and eight more, so
-// that a vector can be loaded from each.
+// The positions of the set bits of each number below 256, padded with zeros to eight bytes. Eight spare bytes follow,
+// so that a vector can be loaded at each entry.
 static PLACES: [u8; 2056] = [
     0, 0, 0, 0, 0, 0, 0, 0, 0, 0, 0, 0, 0, 0, 0, 0, 1, 0, 0, 0, 0, 0, 0, 0, 0, 1, 0, 0, 0, 0, 0, 0,
     2, 0, 0, 0, 0, 0, 0, 0, 0, 2, 0, 0, 0, 0, 0, 0, 1, 2, 0, 0, 0, 0, 0, 0, 0, 1, 2, 0, 0, 0, 0, 0,
@@ -84,42 +84,42 @@ static PLACES: [u8; 2056] = [
     0, 0, 0, 0, 0, 0, 0, 0,
 ];
 
-// What a digit adds to the value of a word as its last digit, indexed by its byte minus 48. The table is repeated four
-// times, for the four parts of a vector.
+// The value of a digit in the last position of a word, indexed by its byte minus 48. The table is repeated for each of
+// the four parts of a vector.
 static ONES: [u8; 64] = [
     0, 1, 2, 3, 4, 5, 6, 7, 8, 9, 0, 0, 0, 0, 0, 0, 0, 1, 2, 3, 4, 5, 6, 7, 8, 9, 0, 0, 0, 0, 0, 0,
     0, 1, 2, 3, 4, 5, 6, 7, 8, 9, 0, 0, 0, 0, 0, 0, 0, 1, 2, 3, 4, 5, 6, 7, 8, 9, 0, 0, 0, 0, 0, 0,
 ];
 
-// The same for the last digit but one.
+// Like `ONES`, for the second-to-last digit.
 static TENS: [u8; 64] = [
     0, 10, 20, 30, 40, 50, 60, 70, 80, 90, 0, 0, 0, 0, 0, 0, 0, 10, 20, 30, 40, 50, 60, 70, 80, 90,
     0, 0, 0, 0, 0, 0, 0, 10, 20, 30, 40, 50, 60, 70, 80, 90, 0, 0, 0, 0, 0, 0, 0, 10, 20, 30, 40,
     50, 60, 70, 80, 90, 0, 0, 0, 0, 0, 0,
 ];
 
-// The same for the digit before that, or 255 if the word would be above 254.
+// Like `ONES`, for the third-to-last digit; 255 if the word would exceed 254.
 static HUNDREDS: [u8; 64] = [
     0, 100, 200, 255, 255, 255, 255, 255, 255, 255, 0, 0, 0, 0, 0, 0, 0, 100, 200, 255, 255, 255,
     255, 255, 255, 255, 0, 0, 0, 0, 0, 0, 0, 100, 200, 255, 255, 255, 255, 255, 255, 255, 0, 0, 0,
     0, 0, 0, 0, 100, 200, 255, 255, 255, 255, 255, 255, 255, 0, 0, 0, 0, 0, 0,
 ];
 
-// All ones for a digit.
+// All bits set for digits, indexed like `ONES`.
 static DIGITS: [u8; 64] = [
     255, 255, 255, 255, 255, 255, 255, 255, 255, 255, 0, 0, 0, 0, 0, 0, 255, 255, 255, 255, 255,
     255, 255, 255, 255, 255, 0, 0, 0, 0, 0, 0, 255, 255, 255, 255, 255, 255, 255, 255, 255, 255, 0,
     0, 0, 0, 0, 0, 255, 255, 255, 255, 255, 255, 255, 255, 255, 255, 0, 0, 0, 0, 0, 0,
 ];
 
-// Blanks and line feeds, indexed by the low four bits of their bytes. No byte with other low bits is 0.
+// Blanks and line feeds, indexed by the low four bits of their bytes. All other entries are 0.
 static SPACES: [u8; 64] = [
     32, 0, 0, 0, 0, 0, 0, 0, 0, 9, 10, 0, 0, 13, 0, 0, 32, 0, 0, 0, 0, 0, 0, 0, 0, 9, 10, 0, 0, 13,
     0, 0, 32, 0, 0, 0, 0, 0, 0, 0, 0, 9, 10, 0, 0, 13, 0, 0, 32, 0, 0, 0, 0, 0, 0, 0, 0, 9, 10, 0,
     0, 13, 0, 0,
 ];
 
-// The entries of a table at the places given by lanes.
+// Returns the table entries at the indices given by `places`.
 #[inline(always)]
 fn looked_up(table: &[u8; 64], places: u8x64) -> u8x64
     requires { (k : ℕ) → slice_index_or places k 0 < 16 }
@@ -128,7 +128,7 @@ fn looked_up(table: &[u8; 64], places: u8x64) -> u8x64
     u8x64::from_slice(table).swizzle_dyn_within::<16>(places)
 }
 
-// The places of bytes in the tables.
+// Returns the table index of each byte.
 #[inline(always)]
 fn places_of(bytes: u8x64) -> u8x64
     ensures { result ≡ map table_place bytes }
@@ -136,7 +136,7 @@ fn places_of(bytes: u8x64) -> u8x64
     (bytes - u8x64::splat(b'0')).simd_min(u8x64::splat(15))
 }
 
-// Sums of lanes, capped at 255.
+// Adds lanes, capping sums at 255.
 #[inline(always)]
 fn sums(a: u8x64, b: u8x64) -> u8x64
     ensures { (p : ℕ) → p < 64
@@ -145,7 +145,7 @@ fn sums(a: u8x64, b: u8x64) -> u8x64
     a.saturating_add(b)
 }
 
-// The lanes rotated by one.
+// Rotates the lanes by one, so that each lane receives its predecessor.
 #[inline(always)]
 fn moved_up(lanes: u8x64) -> u8x64
     ensures { (p : ℕ) → p < 64
@@ -154,7 +154,7 @@ fn moved_up(lanes: u8x64) -> u8x64
     lanes.rotate_elements_right::<1>()
 }
 
-// The lanes of digits as places in a table, and 0 elsewhere.
+// Keeps the lanes whose table index is a digit, and sets the others to 0.
 #[inline(always)]
 fn of_digits(places: u8x64, lanes: u8x64) -> u8x64
     requires { (k : ℕ) → slice_index_or places k 0 < 16 }
@@ -164,7 +164,7 @@ fn of_digits(places: u8x64, lanes: u8x64) -> u8x64
     looked_up(&DIGITS, places) & lanes
 }
 
-// The values of words of one or two digits, at their last digits.
+// Returns the values of words of one or two digits, at their last digits.
 #[inline(always)]
 fn two_digits(bytes: u8x64) -> u8x64
     ensures { (p : ℕ) → p < 64 → slice_index_or result p 0
@@ -175,7 +175,7 @@ fn two_digits(bytes: u8x64) -> u8x64
     sums(looked_up(&ONES, places), moved_up(tens))
 }
 
-// The values of words of one to three digits, at their last digits; 255 if a value is larger.
+// Returns the values of words of one to three digits, at their last digits; 255 stands for larger values.
 #[inline(always)]
 fn three_digits(bytes: u8x64) -> u8x64
     ensures { (p : ℕ) → p < 64 → slice_index_or result p 0
@@ -187,7 +187,7 @@ fn three_digits(bytes: u8x64) -> u8x64
     sums(looked_up(&ONES, places), moved_up(more))
 }
 
-/// Which bytes are blanks or line feeds.
+/// Returns a mask of the bytes that are blanks or line feeds.
 #[inline(always)]
 pub fn space_mask(bytes: u8x64) -> u64
     ensures { result ≡ mask_l (map is_space bytes) }
@@ -197,7 +197,7 @@ pub fn space_mask(bytes: u8x64) -> u64
         .to_bitmask()
 }
 
-/// Which bytes are digits.
+/// Returns a mask of the bytes that are digits.
 #[inline(always)]
 pub fn digit_mask(bytes: u8x64) -> u64
     ensures { result ≡ mask_l (map is_digit bytes) }
@@ -205,7 +205,7 @@ pub fn digit_mask(bytes: u8x64) -> u64
     places_of(bytes).simd_lt(u8x64::splat(10)).to_bitmask()
 }
 
-// Whether a value at a digit is 255.
+// Returns whether the value at any digit is 255.
 #[inline(always)]
 fn has_large(bytes: u8x64, values: u8x64) -> bool
     ensures { result ≡ false → (p : ℕ) → p < 64 → is_digit (slice_index_or bytes p 0) ≡ true
@@ -215,7 +215,7 @@ fn has_large(bytes: u8x64, values: u8x64) -> bool
     (is_digit & values.simd_eq(u8x64::splat(255))).to_bitmask() != 0
 }
 
-/// The values of words of at most three digits, and whether none of them is above 254.
+/// Returns the values of words of at most three digits, and whether all of them are below 255.
 #[inline(always)]
 pub fn word_values(bytes: u8x64, words: u64) -> (u8x64, bool)
     requires { (p : ℕ) → p < 64 → is_digit (slice_index_or bytes p 0) ≡ true → bit_at words p ≡ 1 }
@@ -228,7 +228,7 @@ pub fn word_values(bytes: u8x64, words: u64) -> (u8x64, bool)
     (values, !has_large(bytes, values))
 }
 
-/// Whether all words are stars and numbers of at most three digits, after a blank.
+/// Returns whether a blank comes first and all words are stars or numbers of at most three digits.
 #[inline(always)]
 pub fn are_short(words: u64, digits: u64, stars: u64) -> bool
     ensures { result ≡ true → AreShortWords words digits stars }
@@ -239,7 +239,7 @@ pub fn are_short(words: u64, digits: u64, stars: u64) -> bool
     (other | joined | (two & (two << 2)) | (words & 1)) == 0
 }
 
-// Moves the first eight lanes whose bits are set to the start.
+// Moves the lanes whose bits are set to the start; there are at most eight.
 #[inline(always)]
 fn packed(values: u8x16, bits: u64) -> u8x16
     requires { bits < 256 }
@@ -250,7 +250,7 @@ fn packed(values: u8x16, bits: u64) -> u8x16
     values.swizzle_dyn(u8x16::from_slice(&PLACES[8 * bits as usize..]))
 }
 
-/// Writes the bytes whose bits are set to a row. Returns their number.
+/// Writes the bytes whose bits are set to the start of a row. Returns their number.
 #[inline(always)]
 pub fn put_lanes(values: &[u8], bits: u64, row: &mut [u8]) -> usize
     requires values { 72 ≤ length values.now }
@@ -267,7 +267,7 @@ pub fn put_lanes(values: &[u8], bits: u64, row: &mut [u8]) -> usize
     i
 }
 
-// `place`, or `place + step` if at most `most` bits below that are set.
+// Returns `place + step` if at most `most` bits below it are set, and `place` otherwise.
 #[inline(always)]
 fn further(bits: u64, most: usize, place: usize, step: usize) -> usize
     requires within { place + step < 64 }
@@ -282,7 +282,7 @@ fn further(bits: u64, most: usize, place: usize, step: usize) -> usize
     }
 }
 
-/// The lowest bits, up to the place where `most` of them are set.
+/// Returns the lowest bits of `bits`, as many as contain at most `most` set bits.
 #[inline(always)]
 pub fn lowest_bits(bits: u64, most: usize) -> u64
     ensures { AreLowest bits most result }
@@ -299,7 +299,7 @@ pub fn lowest_bits(bits: u64, most: usize) -> u64
     bits & ((1 << place) - 1)
 }
 
-/// The bytes of cells: the values of words of digits, and 255 for stars.
+/// Writes the bytes of cells: the values of words of digits, and 255 for stars.
 #[inline(always)]
 pub fn cell_bytes(bytes: u8x64, values: u8x64, lanes: &mut [u8])
     requires { 64 ≤ length lanes.old }
@@ -312,7 +312,7 @@ pub fn cell_bytes(bytes: u8x64, values: u8x64, lanes: &mut [u8])
         .copy_to_slice(lanes);
 }
 
-/// Which bytes are stars.
+/// Returns a mask of the bytes that are stars.
 #[inline(always)]
 pub fn star_mask(bytes: u8x64) -> u64
     ensures { result ≡ mask_l (map is_null_star bytes) }

@@ -1,4 +1,3 @@
--- What the law of grid texts states.
--- What the law of written grid texts states.
+-- The laws of read and of written grid texts.
 pub mod GridLaw
 pub mod WrittenLaw

@@ -7,11 +7,11 @@ use Rattle.cell_ascii_meaning.specs.EdgeNumbers.{is_in_range}
 use Rattle.cell_ascii_meaning.specs.GridText.{Denotes}
 use Rattle.cell_ascii_meaning.specs.Writing.{IsNullText, grid_text}
 
--- the map that a grid text denotes: all but the labels
+-- the map that a grid text denotes, which has no labels
 abbrev pub without_labels : Grid → Grid
 without_labels m = record { region = m.region; rows = m.rows; labels = no_labels }
 
--- a map of a region and of categories in range, none of them written as the null text
+-- a map with a valid region, filled with categories in range, none of them written like the null text
 pub record IsWritable (null_text : List ℕ) (m : Grid) : Type 0 where
   pub region : IsRegion m.region
   pub filled : IsFilled m.region m.rows

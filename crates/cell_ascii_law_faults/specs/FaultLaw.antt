@@ -1,4 +1,4 @@
--- Reading a grid text, or a part of it, gives the error of the first place that reports one.
+-- Reading a grid text, or a section of it, fails with the error of the first place that reports one.
 use Rattle.std.specs.Prelude.{ℕ, ◌≡◌, ◌<◌, List, ◌↔◌, ◌⊎◌, Some, None, Ok, Err}
 use Rattle.cell_core_devices.specs.Device.{Coming}
 use Rattle.cell_core.specs.Grid.{CellValue, Grid}
@@ -10,45 +10,45 @@ use Rattle.cell_ascii_meaning.specs.FaultPlaces.{text_fault, opening_fault}
 use Rattle.cell_ascii_meaning.specs.RowPlaces.{IsPlaceOf, cells_fault, end_fault}
 use Rattle.cell_ascii_meaning.specs.declared.grid_fault.GridFault.{GridFault}
 
--- reading a text gives an error exactly if it is the error of the first place that reports one
+-- reading a text fails with an error if and only if it is the first error that the text reports
 abbrev pub FaultsAgree : Type 0
 FaultsAgree = (c : Coming) (f : GridFault) → (grid_of c ≡ Err f) ↔ (text_fault c ≡ Some f)
 
--- reading the opening of a text, up to the end of the first token of its data, gives an error exactly if the opening
--- reports it
+-- reading the header of a text, up to the end of its first data token, fails with an error if and only if it is the
+-- first error reported up to there
 abbrev pub OpeningAgrees : Type 0
 OpeningAgrees = (c : Coming) (f : GridFault) → (header_of_text c ≡ Err f) ↔ (opening_fault c ≡ Some f)
 
--- reading the next cells from a place after the header gives an error exactly if it is the first that is reported up to
--- their end
+-- reading the next cells from a position after the header fails with an error if and only if it is the first error
+-- reported up to their end
 abbrev pub CellsAgree : Type 0
 CellsAgree = (h : HeaderValue) (count : ℕ) (at : At) (f : GridFault) → IsPlaceOf at → (many (cell_from h) count at ≡ Err f) ↔ (cells_fault h count at ≡ Some f)
 
--- reading the end gives an error exactly if it is the first that is reported up to the first byte of a token
+-- reading the end fails with an error if and only if it is the first error reported up to the first byte of a token
 abbrev pub EndAgrees : Type 0
 EndAgrees = (at : At) (f : GridFault) → IsPlaceOf at → at.pending ≡ None → (end_of (grid_start at.line at.run at.coming) ≡ Err f) ↔ (end_fault at ≡ Some f)
 
--- the opening of a text ends at a place
+-- reading a header ends at a valid position
 abbrev pub OpeningKeepsPlaces : Type 0
 OpeningKeepsPlaces = (c : Coming) (o : OpenedText) → header_of_text c ≡ Ok o → IsPlaceOf o.at
 
--- and so do cells, with no token waiting after them
+-- reading cells ends at a valid position, without a pending token
 abbrev pub CellsKeepPlaces : Type 0
 CellsKeepPlaces = (h : HeaderValue) (count : ℕ) (at : At) (x : List CellValue × At) → IsPlaceOf at → many (cell_from h) count at ≡ Ok x → IsPlaceOf x.1 × (0 < count → x.1.pending ≡ None)
 
--- a text denotes a map and no place reports an error
+-- the text denotes exactly one map, and no place reports an error
 pub record IsMapText (c : Coming) : Type 0 where
   pub map : Grid
   pub denotes : Denotes c map
   pub alone : (other : Grid) → Denotes c other → other ≡ map
   pub silent : text_fault c ≡ None
 
--- some place reports an error, and a text denotes no map
+-- some place reports an error, and the text denotes no map
 pub record IsFaultText (c : Coming) : Type 0 where
   pub fault : GridFault
   pub reported : text_fault c ≡ Some fault
   pub none : (map : Grid) → Denotes c map → ⊥
 
--- each text is one or the other
+-- each text is a map text or a fault text
 abbrev pub GridTextsAreJudged : Type 0
 GridTextsAreJudged = (c : Coming) → IsMapText c ⊎ IsFaultText c

@@ -1,2 +1,2 @@
--- Laws of the errors of grid texts.
+-- Laws about errors in grid texts.
 pub mod FaultLaw

@@ -1,37 +1,37 @@
-//! Which error reading a grid text gives.
+//! Laws about errors in grid texts.
 
 ghost use Rattle.cell_ascii_law_faults.specs.FaultLaw.{CellsAgree, CellsKeepPlaces, EndAgrees, FaultsAgree, OpeningAgrees, OpeningKeepsPlaces, GridTextsAreJudged};
 
-/// Reading a text gives an error exactly if it is the error, with its line, of the first byte or end that reports one.
+/// Reading a text fails with an error if and only if the error table reports this error first, at this line.
 pub fn reading_faults()
     ensures { FaultsAgree }
 {}
 
-/// Reading the header of a text, up to the end of the first token of the data, gives an error exactly if it is the
-/// first error that any place up to there reports, not counting errors about cells.
+/// Reading the header of a text, up to the end of its first data token, fails with an error if and only if it is the
+/// first error reported up to there, not counting errors in cells.
 pub fn opening_faults()
     ensures { OpeningAgrees }
 {}
 
-/// Reading the next cells from a place after the header gives an error exactly if it is the first one that any place up
-/// to the end of the last cell reports.
+/// Reading the next cells from a position after the header fails with an error if and only if it is the first error
+/// reported up to the end of the last cell.
 pub fn cells_faults()
     ensures { CellsAgree }
 {}
 
-/// After the last cell, reading the end gives an error exactly if it is the first one that any place up to the next
-/// token reports.
+/// Reading the end after the last cell fails with an error if and only if it is the first error reported up to the next
+/// token.
 pub fn end_faults()
     ensures { EndAgrees }
 {}
 
-/// The opening of a text ends at such a place, and so do cells.
+/// Reading a header, or cells, ends at a valid position.
 pub fn places_are_kept()
     ensures opening { OpeningKeepsPlaces }
     ensures cells { CellsKeepPlaces }
 {}
 
-/// A text denotes one map and has no error, or has one error and denotes no map.
+/// Each text either denotes exactly one map and has no error, or denotes no map and has exactly one error.
 pub fn grid_texts_are_judged()
     ensures { GridTextsAreJudged }
 {}

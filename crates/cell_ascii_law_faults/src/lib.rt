@@ -1,10 +1,10 @@
-//! Laws of grids with an error. No code runs.
+//! Proves laws about invalid grids. Contains no executable code.
 //!
-//! Main law, `grid_texts_are_judged`: every text denotes one map and has no error, or has one first
-//! error and denotes no map.
+//! The main law is `grid_texts_are_judged`: each text either denotes exactly one map and has no error, or denotes no
+//! map and has exactly one first error.
 //!
-//! The others say the same of each step of the reader: reading the full text, the header, some
-//! cells or the end fails exactly with the error of the first byte that shows one.
+//! The other laws state the same for each step of the reader: reading the full text, the header, cells or the end fails
+//! exactly with the error of the first byte that shows one.
 #![tactic(auto)]
 
 pub mod law;

@@ -1,4 +1,4 @@
--- Whole numbers and coordinates in decimal (r.in.ascii manual; the limits on digits are the profile's).
+-- Whole numbers and coordinates in decimal (r.in.ascii manual; the limits on digits are our own).
 use Rattle.std.specs.Prelude.{ℕ, ℤ, Bool, pos, negsuc, ◌+◌, ◌-◌, ◌*◌, ◌^◌, nat_le, ◌&&◌, ◌==◌, List, length, Option, Some, None, if◌then◌else◌, codes}
 use Rattle.std.specs.List.{list_all, before_first, after_first}
 use Rattle.std.specs.Option.{option_map}
@@ -6,25 +6,25 @@ use Rattle.cell_core_values.specs.Letters.{byte}
 pub use Rattle.cell_core_values.specs.Digits.{is_digit, value_of_digits, digits_of}
 pub use Rattle.cell_core_values.specs.WholeNumbers.{signed_number, whole_number, is_in_range, whole_in_range}
 
--- at most ten digits, and at most eight after the point, at least one in all, in units of 10^-8
+-- a decimal number in units of 10^-8: at most ten digits before the point, at most eight after it, at least one in all
 abbrev pub in_units : List ℕ → List ℕ → Option ℕ
 in_units whole part =
     if (list_all is_digit whole && list_all is_digit part) && ((nat_le (length whole) 10 && nat_le (length part) 8) && nat_le 1 (length whole + length part))
     then Some (value_of_digits whole * 100000000 + value_of_digits part * 10 ^ (8 - length part)) else None
 
--- a point
+-- the byte is a decimal point
 abbrev pub is_point : ℕ → Bool
 is_point b = b == byte (codes ".")
 
--- digits, and optionally a point with further digits, in units of 10^-8
+-- digits, and optionally a point with more digits, in units of 10^-8
 abbrev pub unsigned_coordinate : List ℕ → Option ℕ
 unsigned_coordinate bs = in_units (before_first is_point bs) (after_first is_point bs)
 
--- an optional sign, digits, and optionally a point with further digits
+-- an optional sign, then digits, and optionally a point with more digits
 abbrev pub coordinate : List ℕ → Option ℤ
 coordinate bs = signed_number unsigned_coordinate bs
 
--- a whole number in range that counts rows or columns; a negative one counts none
+-- a number of rows or columns: a whole number in range, with 0 for negative ones
 abbrev pub side : List ℕ → Option ℕ
 side bs = option_map not_negative (whole_in_range bs)
   where

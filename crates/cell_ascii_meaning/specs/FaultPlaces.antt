@@ -1,5 +1,5 @@
--- The error of a grid text (profile): each byte, the end and a failing read are places, and the first place with an
--- error is reported.
+-- The error of a grid text (profile). Each byte, the end, and a failing read are places; the first place with an error
+-- is reported.
 use Rattle.std.specs.Prelude.{ℕ, ◌+◌, ◌*◌, Bool, true, false, ◌&&◌, ◌||◌, ◌==◌, not, nat_lt, nat_le, is_some, List, [], ◌∷◌, ◌++◌, length, Option, Some, None, Result, Ok, Err, if◌then◌else◌, bytes_eq, codes}
 use Rattle.std.specs.List.{slice_split, suffix_len, list_any}
 use Rattle.std.specs.Option.{option_map, option_and_then}
@@ -23,44 +23,44 @@ pub data FaultPlace : Type 0 where
   End : FaultPlace
   Fails : FaultPlace
 
--- a blank or line feed, or the end
+-- the place is a blank, a line feed or the end
 abbrev pub ends_token : FaultPlace → Bool
 ends_token (Byte b) = is_space b
 ends_token End = true
 ends_token Fails = false
 
--- a line feed, or the end
+-- the place is a line feed or the end
 abbrev pub ends_line : FaultPlace → Bool
 ends_line (Byte b) = is_line_feed b
 ends_line End = true
 ends_line Fails = false
 
--- the end
+-- the place is the end
 abbrev pub is_end_of_words : FaultPlace → Bool
 is_end_of_words (Byte b) = false
 is_end_of_words End = true
 is_end_of_words Fails = false
 
--- a list is empty
+-- the list is empty
 abbrev pub is_empty : {X : Type 0} → List X → Bool
 is_empty [] = true
 is_empty (x ∷ xs) = false
 
--- the last of some lists, empty if there are no lists
+-- the last of these lists, or an empty list if there are none
 abbrev pub last_token : {X : Type 0} → List (List X) → List X
 last_token [] = []
 last_token (p ∷ []) = p
 last_token (p ∷ q ∷ ps) = last_token (q ∷ ps)
 
--- all lists but the last
+-- all lists except the last
 abbrev pub front_of : {X : Type 0} → List X → List X
 front_of [] = []
 front_of (p ∷ []) = []
 front_of (p ∷ q ∷ ps) = p ∷ front_of (q ∷ ps)
 
--- The line, the gap and the token at a place, from the bytes before it.
+-- The line, the gap and the token at a place, computed from the bytes before it.
 
--- the line, from 1
+-- the line number, from 1
 abbrev pub line_of_place : List ℕ → ℕ
 line_of_place before = 1 + newlines before
 
@@ -68,24 +68,25 @@ line_of_place before = 1 + newlines before
 abbrev pub gap_of_place : List ℕ → ℕ
 gap_of_place before = suffix_len is_space before
 
--- the token that the byte before this place belongs to; empty after a blank or line feed, and at the start
+-- the token that the previous byte belongs to; empty after a blank or line feed, and at the start
 abbrev pub token_at_place : List ℕ → List ℕ
 token_at_place before = last_token (slice_split is_space before)
 
--- The rows of the table. `earlier` has the words of each earlier line, `line` the words so far of the place's own line.
+-- The rows of the error table. `earlier` holds the words of each earlier line, `line` the words so far of the current
+-- line.
 
--- an error that is reported if something holds
+-- the error, if the condition holds
 abbrev pub when : Bool → GridKind → Option GridKind
 when true kind = Some kind
 when false kind = None
 
--- an error that is reported if something is missing
+-- the error, if the value is missing
 abbrev pub unless : {X : Type 0} → Option X → GridKind → Option GridKind
 unless (Some x) kind = None
 unless None kind = Some kind
 
 infixr 20 ◌or◌
--- the first of two, if there is one, else the second
+-- the first value if there is one, otherwise the second
 abbrev pub ◌or◌ : {X : Type 0} → Option X → Option X → Option X
 (Some x) or other = Some x
 None or other = other
@@ -96,13 +97,13 @@ long_token token (Byte b) = when (is_word_byte b && length token == 64) LongToke
 long_token token End = None
 long_token token Fails = None
 
--- blank or line feed number 1048577 in a row
+-- the 1,048,577th blank or line feed in a row
 abbrev pub stuck : ℕ → FaultPlace → Option GridKind
 stuck gap (Byte b) = when (is_space b && gap == 1048576) ReaderStuck
 stuck gap End = None
 stuck gap Fails = None
 
--- a header line that has a key
+-- the current line is a header line with a key
 abbrev pub in_header_line : List (List (List ℕ)) → List (List ℕ) → Bool
 in_header_line earlier line = not (list_any is_data_line earlier) && is_header_line line
 
@@ -135,7 +136,7 @@ line_fault twice None line_values = Some BadHeader
 line_fault twice (Some key) [] = Some BadHeader
 line_fault twice (Some key) (value ∷ line_values) = bad_null key value or when twice TwiceKey or bad_value key value
 
--- one of these lines has the same key as a line
+-- one of the earlier lines has the same key as this line
 abbrev pub has_key_of : List (List ℕ) → List (List (List ℕ)) → Bool
 has_key_of line earlier = list_any (λ l. bytes_eq (key_text line) (key_text l)) earlier
 
@@ -144,7 +145,7 @@ abbrev pub header_line_ends : Bool → List (List (List ℕ)) → List (List ℕ
 header_line_ends inside earlier line place =
     if ends_line place && inside then line_fault (has_key_of line (header_lines earlier)) (header_key_of (key_text line)) (line_values line) else None
 
--- the values that header lines give their keys
+-- the values of the keys in these header lines
 abbrev pub keys_of : List (List (List ℕ)) → KeyValues
 keys_of lines = record {
   north = option_and_then coordinate (value_of (codes "north") lines);
@@ -158,7 +159,7 @@ keys_of lines = record {
   multiplier = option_and_then whole_in_range (value_of (codes "multiplier") lines);
 }
 
--- the header that lines give, or why they give none
+-- the header defined by these lines, or the error in it
 abbrev pub header_in : List (List (List ℕ)) → Result HeaderValue GridKind
 header_in lines = header_of (keys_of (header_lines lines))
 
@@ -167,7 +168,7 @@ abbrev pub why_not : {X : Type 0} → Result X GridKind → Option GridKind
 why_not (Ok x) = None
 why_not (Err kind) = Some kind
 
--- the end of the first token of the data, or the end before any
+-- the end of the first token of the data, or the end of the text before it
 abbrev pub header_ends : Result HeaderValue GridKind → List (List ℕ) → List ℕ → FaultPlace → Option GridKind
 header_ends header words token place =
     if (is_end_of_words place && is_empty words) || ((ends_token place && is_word token) && length words == 1) then why_not header else None
@@ -178,21 +179,21 @@ cell_fault (Err kind) words token = None
 cell_fault (Ok h) [] token = None
 cell_fault (Ok h) (word ∷ words) token = why_not (cell_of_word h token)
 
--- the end of a token of the data
+-- the end of a data token that is not a cell
 abbrev pub bad_cell : Result HeaderValue GridKind → List (List ℕ) → List ℕ → FaultPlace → Option GridKind
 bad_cell header words token place = if ends_token place && is_word token then cell_fault header words token else None
 
--- fewer words than the region of a valid header has cells
+-- there are fewer words than the region of a valid header has cells
 abbrev pub has_fewer : Result HeaderValue GridKind → List (List ℕ) → Bool
 has_fewer (Err kind) words = false
 has_fewer (Ok h) words = nat_lt (length words) (h.region.rows * h.region.cols)
 
--- at least as many words as the region of a valid header has cells
+-- there are at least as many words as the region of a valid header has cells
 abbrev pub has_all : Result HeaderValue GridKind → List (List ℕ) → Bool
 has_all (Err kind) words = false
 has_all (Ok h) words = nat_le (h.region.rows * h.region.cols) (length words)
 
--- the end before the last cell
+-- the end of the text before the last cell
 abbrev pub too_few : Result HeaderValue GridKind → List (List ℕ) → FaultPlace → Option GridKind
 too_few header words (Byte b) = None
 too_few header words End = when (has_fewer header words) TooFew
@@ -210,12 +211,13 @@ read_fails (Byte b) = None
 read_fails End = None
 read_fails Fails = Some Read
 
--- the error at a place, given the gap before it, a token that may continue, whether it is inside a header line, the
--- words of each earlier line, the words of its own line, the header, and the words of the data
+-- a function that returns the error at a place, given the gap before it, the token that may continue, whether the line
+-- is a header line, the words of each earlier line, the words of the current line, the header, and the words of the
+-- data
 abbrev pub Table : Type 0
 Table = ℕ → List ℕ → Bool → List (List (List ℕ)) → List (List ℕ) → Result HeaderValue GridKind → List (List ℕ) → FaultPlace → Option GridKind
 
--- The table: if a place is in several rows, the first of them decides.
+-- The full table: if several rows apply to a place, the first of them decides.
 abbrev pub whole_table : Table
 whole_table gap token inside earlier line header words place =
     long_token token place
@@ -228,11 +230,11 @@ whole_table gap token inside earlier line header words place =
     or too_many header words token place
     or read_fails place
 
--- up to the end of the first token of the data
+-- the place is at or before the end of the first token of the data
 abbrev pub is_opening : List (List ℕ) → List ℕ → Bool
 is_opening words token = is_empty words || (is_word token && length words == 1)
 
--- the rows that are not about cells
+-- the rows of the table that do not depend on cells
 abbrev pub header_rows : Table
 header_rows gap token inside earlier line header words place =
     long_token token place
@@ -242,29 +244,30 @@ header_rows gap token inside earlier line header words place =
     or header_ends header words token place
     or read_fails place
 
--- the errors of the opening of a text, and none after the first token of the data
+-- the errors up to the end of the first token of the data, and none after it
 abbrev pub opening_table : Table
 opening_table gap token inside earlier line header words place = if is_opening words token then header_rows gap token inside earlier line header words place else None
 
--- a table applied to the words of each line up to a place
+-- the error that a table assigns to a place, given the words of each line before it
 abbrev pub kind_at : Table → ℕ → List ℕ → List (List (List ℕ)) → List (List ℕ) → List (List (List ℕ)) → FaultPlace → Option GridKind
 kind_at table gap token earlier line lines place = table gap token (in_header_line earlier line) earlier line (header_in lines) (data_words lines) place
 
--- the error of a place after the bytes before it; a token has no line feed, so it begins in the line in which it ends
+-- the error at a place, given the bytes before it; a token contains no line feed, so it begins and ends in the same
+-- line
 abbrev pub reported_fault : Table → List ℕ → FaultPlace → Option GridFault
 reported_fault table before place = option_map (λ kind. grid_fault kind (line_of_place before))
     (kind_at table (gap_of_place before) (token_at_place before) (front_of (line_words before)) (last_token (line_words before)) (line_words before) place)
 
--- the first error that is reported after some bytes, in the rest of the text
+-- the first error at or after the given bytes, in the rest of the text
 abbrev pub first_reported : Table → List ℕ → List ℕ → Bool → Option GridFault
 first_reported table before [] false = reported_fault table before End
 first_reported table before [] true = reported_fault table before Fails
 first_reported table before (b ∷ bs) fails = reported_fault table before (Byte b) or first_reported table (before ++ b ∷ []) bs fails
 
--- the error of a text
+-- the first error of a text
 abbrev pub text_fault : Coming → Option GridFault
 text_fault c = first_reported whole_table [] c.bytes c.fails
 
--- the error of a text up to the end of the first token of its data; cells are not judged
+-- the first error of a text up to the end of its first data token; cells are not checked
 abbrev pub opening_fault : Coming → Option GridFault
 opening_fault c = first_reported opening_table [] c.bytes c.fails

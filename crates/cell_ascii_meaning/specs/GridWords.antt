@@ -1,4 +1,4 @@
--- The vocabulary of a grid text: blanks, colons, the header that a text has, the cell of a word (r.in.ascii manual).
+-- The terms used for grid texts: blanks, colons, headers, and the cell of a word (r.in.ascii manual).
 use Rattle.std.specs.Prelude.{ℕ, ℤ, pos, ◌*ℤ◌, Bool, ◌||◌, ◌==◌, List, Option, Some, None, Result, Ok, Err, if◌then◌else◌, bytes_eq, codes}
 use Rattle.std.specs.List.{list_any}
 use Rattle.cell_core_values.specs.Letters.{byte}
@@ -8,46 +8,46 @@ use Rattle.cell_ascii_meaning.specs.EdgeNumbers.{whole_number, is_in_range}
 use Rattle.cell_ascii_meaning.specs.declared.grid_fault.GridKind.{GridKind}
 use Rattle.cell_ascii_meaning.specs.declared.grid_fault.GridKind.TheVariants.{BadCell, CellRange}
 
--- a line feed
+-- the byte is a line feed
 abbrev pub is_line_feed : ℕ → Bool
 is_line_feed b = b == byte (codes "\n")
 
--- a space, a tab, a carriage return or a line feed
+-- the byte is a space, a tab, a carriage return or a line feed
 abbrev pub is_space : ℕ → Bool
 is_space b = (b == byte (codes " ") || b == byte (codes "\t")) || (b == byte (codes "\r") || is_line_feed b)
 
--- a colon
+-- the byte is a colon
 abbrev pub is_colon : ℕ → Bool
 is_colon b = b == byte (codes ":")
 
--- a null text has no colon
+-- the text contains a colon
 abbrev pub has_colon : List ℕ → Bool
 has_colon text = list_any is_colon text
 
--- the only type is the type of whole numbers
+-- the value is `int`, the only supported type
 abbrev pub is_int : List ℕ → Bool
 is_int value = bytes_eq value (codes "int")
 
--- what the header says about the cells
+-- a header: the region, the null text and the multiplier
 pub record HeaderValue : Type 0 where
   pub region : RegionValue
   pub null_text : List ℕ
   pub multiplier : ℤ
 
--- an asterisk is null if no null text is given
+-- the default null text, an asterisk
 abbrev pub usual_null : List ℕ
 usual_null = codes "*"
 
--- cells are unchanged if no multiplier is given
+-- the default multiplier, which leaves cells unchanged
 abbrev pub usual_multiplier : ℤ
 usual_multiplier = pos 1
 
--- a number and its product with the multiplier, both in range
+-- the product of a number and the multiplier, if both are in range
 abbrev pub cell_of_number : ℤ → Option ℤ → Result CellValue GridKind
 cell_of_number multiplier None = Err BadCell
 cell_of_number multiplier (Some n) =
     if is_in_range n then (if is_in_range (n *ℤ multiplier) then Ok (Some (n *ℤ multiplier)) else Err CellRange) else Err CellRange
 
--- the cell that a word denotes: null if it is the null text, else a number
+-- the cell that a word denotes: null if it is the null text, otherwise a number
 abbrev pub cell_of_word : HeaderValue → List ℕ → Result CellValue GridKind
 cell_of_word h word = if bytes_eq word h.null_text then Ok None else cell_of_number h.multiplier (whole_number word)

@@ -1,4 +1,4 @@
--- The names of the keys (r.in.ascii manual).
+-- The names of header keys (r.in.ascii manual).
 use Rattle.std.specs.Prelude.{ℕ, List, Option, Some, None, if◌then◌else◌, codes, bytes_eq}
 use Rattle.cell_ascii_meaning.specs.declared.header_key.HeaderKey.{HeaderKey}
 use Rattle.cell_ascii_meaning.specs.declared.header_key.HeaderKey.TheVariants.{North, South, East, West, Rows, Cols, Null, CellType, Multiplier}

@@ -1,4 +1,4 @@
--- Grid texts: what they mean, which error they have, how they are read from left to right, and how they are written.
+-- Grid texts: their meaning, their errors, how they are read from left to right, and how they are written.
 pub mod GridWords
 pub mod GridTokens
 pub mod EdgeNumbers

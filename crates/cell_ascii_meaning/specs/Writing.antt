@@ -1,4 +1,5 @@
--- The grid text of a map (r.out.ascii manual: header lines, then the cells row by row; how numbers are printed, the line of a null text and rows without a space at the end are the profile's).
+-- The grid text of a map (r.out.ascii manual: header lines, then the cells row by row; the format of numbers, the line
+-- of the null text, and rows without a trailing space are our own).
 use Rattle.std.specs.Prelude.{ℕ, ℤ, pos, negsuc, suc, ◌≡◌, ◌+◌, ◌-◌, ◌/◌, ◌%◌, ◌≤◌, false, ◌==◌, List, [], ◌∷◌, ◌++◌, length, map, flat_map, drop, take, reverse, IsTrue, bytes_eq, codes, decimal, if◌then◌else◌}
 use Rattle.std.specs.List.{list_all, join_with_byte, prefix_len}
 use Rattle.cell_core_values.specs.Letters.{byte}
@@ -8,28 +9,28 @@ use Rattle.cell_core.specs.Text.{cell_text}
 use Rattle.cell_ascii_meaning.specs.GridTokens.{is_word_byte}
 use Rattle.cell_ascii_meaning.specs.Header.{has_colon, usual_null}
 
--- digits without trailing zeros
+-- the digits without trailing zeros
 abbrev pub without_zeros : List ℕ → List ℕ
 without_zeros digits = take (length digits - prefix_len (λ b. b == byte (codes "0")) (reverse digits)) digits
 
--- a part of 10^8 as a point and its eight digits, without trailing zeros; nothing if it is 0
+-- a fraction of 10^8 as a point and up to eight digits, without trailing zeros; empty if the fraction is 0
 abbrev pub fraction_text : ℕ → List ℕ
 fraction_text part = if part == 0 then [] else byte (codes ".") ∷ without_zeros (drop 1 (decimal (100000000 + part)))
 
--- a non-negative number of units of 10^-8
+-- a non-negative number, given in units of 10^-8
 abbrev pub units_text : ℕ → List ℕ
 units_text n = decimal (n / 100000000) ++ fraction_text (n % 100000000)
 
--- a coordinate: its sign if it is negative, its whole part, and its fraction if that is not 0
+-- a coordinate: a minus sign if it is negative, its whole part, and its fraction if that is not 0
 abbrev pub coordinate_text : ℤ → List ℕ
 coordinate_text (pos n) = units_text n
 coordinate_text (negsuc n) = byte (codes "-") ∷ units_text (suc n)
 
--- a header line
+-- the header line of a key
 abbrev pub line_of_key : List ℕ → List ℕ → List ℕ
 line_of_key key value = key ++ codes ": " ++ value ++ codes "\n"
 
--- the six lines of a region
+-- the six header lines of a region
 abbrev pub region_text : RegionValue → List ℕ
 region_text e =
     line_of_key (codes "north") (coordinate_text e.north)
@@ -39,19 +40,19 @@ region_text e =
     ++ line_of_key (codes "rows") (decimal e.rows)
     ++ line_of_key (codes "cols") (decimal e.cols)
 
--- the line of the null text, unless it is the usual one
+-- the header line of the null text, unless it is the default
 abbrev pub null_line : List ℕ → List ℕ
 null_line null_text = if bytes_eq null_text usual_null then [] else line_of_key (codes "null") null_text
 
--- the cells of a row, joined by one space
+-- the cells of a row, separated by single spaces
 abbrev pub row_text : List ℕ → List CellValue → List ℕ
 row_text null_text row = join_with_byte (byte (codes " ")) (map (cell_text null_text) row) ++ codes "\n"
 
--- the grid text of a map
+-- the grid text of a map with this null text
 abbrev pub grid_text : List ℕ → Grid → List ℕ
 grid_text null_text m = region_text m.region ++ null_line null_text ++ flat_map (row_text null_text) m.rows
 
--- a valid null text: 1 to 64 bytes, none of them a blank, a line feed or a colon
+-- a valid null text: 1 to 64 bytes without blanks, line feeds and colons
 pub record IsNullText (null_text : List ℕ) : Type 0 where
   pub some : 1 ≤ length null_text
   pub most : length null_text ≤ 64

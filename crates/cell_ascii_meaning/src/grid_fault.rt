@@ -1,4 +1,4 @@
-//! Why a text is not a grid.
+//! Errors in grid texts.
 
 use cell_core::region::RegionFault;
 use thiserror::Error;
@@ -6,43 +6,43 @@ use thiserror::Error;
 /// What is wrong with a grid text.
 #[derive(Clone, Copy, Debug, PartialEq, Eq, Error)]
 pub enum GridKind {
-    /// An unknown key, no value, or more than one, or a null text with a colon.
+    /// A header line with an unknown key, with no value or more than one, or with a null text that contains a colon.
     #[error("bad header line")]
     BadHeader,
-    /// A key that was given before.
+    /// A key that occurred before.
     #[error("key given twice")]
     TwiceKey,
-    /// The header ends without one of the six required keys.
+    /// A header without one of the six required keys.
     #[error("missing key")]
     MissingKey,
-    /// A value that is not a number of its kind.
+    /// A value that is not a valid number for its key.
     #[error("bad number")]
     BadNumber,
     /// A type other than `int`.
     #[error("type not supported")]
     BadType,
-    /// The six numbers are not a region.
+    /// Coordinates and sizes that do not form a region.
     #[error("bad region")]
     Region(RegionFault),
     /// A word that is neither null nor a whole number.
     #[error("bad cell")]
     BadCell,
-    /// A number, or its product with the multiplier, that is not a category.
+    /// A number that is not a category, or whose product with the multiplier is not.
     #[error("cell out of range")]
     CellRange,
-    /// The text ends before the last cell.
+    /// A text that ends before the last cell.
     #[error("too few cells")]
     TooFew,
     /// A word after the last cell.
     #[error("too many cells")]
     TooMany,
-    /// The text cannot be read any further.
+    /// A source that returned an `Err`.
     #[error("read failed")]
     Read,
     /// Memory ran out.
     #[error("no memory")]
     Memory,
-    /// An earlier call of the reader failed.
+    /// A call after an earlier call of the reader failed.
     #[error("reader failed")]
     Failed,
     /// More than 1,048,576 blanks and line feeds in a row.
@@ -53,7 +53,7 @@ pub enum GridKind {
     LongToken,
 }
 
-/// What is wrong, and the line, counted from 1; 0 if memory ran out or the reader failed before.
+/// An error and its line, counted from 1. The line is 0 if memory ran out or the reader failed before.
 #[derive(Clone, Copy, Debug, PartialEq, Eq, Error)]
 #[error("{line}: {kind}")]
 pub struct GridFault {

@@ -1,4 +1,4 @@
-//! The keys of a header.
+//! Keys of header lines.
 
 /// A key of a header line.
 #[derive(Clone, Copy, Debug, PartialEq, Eq)]
