@@ -7,21 +7,22 @@ use Rattle.std.specs.Ordering.{int_cmp}
 use Rattle.cell_core.specs.Grid.{CellValue, Grid}
 use Rattle.cell_cats.specs.Rule.{RuleValue, new_category, labelled_category}
 
--- each cell replaced with its new category
+-- the row with each cell replaced by its new category
 abbrev pub new_row : List RuleValue → List CellValue → List CellValue
 new_row rules row = map (new_category rules) row
 
 abbrev pub new_rows : List RuleValue → List (List CellValue) → List (List CellValue)
 new_rows rules rows = map (new_row rules) rows
 
--- the category that a rule labels, with its label
+-- the category that a rule labels, together with its label
 abbrev pub label_entry : RuleValue → Option (ℤ × List ℕ)
 label_entry rule = option_map (λ k. (k, rule.label)) (labelled_category rule)
 
--- the labels of rules: if two rules label one category, the later one counts, since `from_entries` keeps the first entry
+-- the labels of the rules; if two rules label one category, the later rule applies, because `from_entries` keeps the
+-- first entry of the reversed list
 abbrev pub labels_of : List RuleValue → FinMap int_cmp (List ℕ)
 labels_of rules = from_entries (filter_map label_entry (reverse rules))
 
--- the reclassified map: its region, its rows cell by cell, the labels of the rules and no others
+-- the reclassified map: the same region, rows with the new categories, and only the labels of the rules
 abbrev pub reclassed_map : List RuleValue → Grid → Grid
 reclassed_map rules given = record { region = given.region; rows = new_rows rules given.rows; labels = labels_of rules }

@@ -1,4 +1,4 @@
--- What a rule line spells (r.reclass manual; comments, blank lines and commas are the profile's).
+-- Which line spells which rule (r.reclass manual; comments, blank lines and commas are our own choice).
 use Rattle.std.specs.Prelude.{ℕ, ℤ, ◌≡◌, ◌≢◌, ◌<◌, ◌⊎◌, ◌==◌, Bool, true, false, List, [], ◌∷◌, ◌++◌, length, Option, Some, None, codes}
 use Rattle.std.specs.List.{before_first, after_first, list_any}
 use Rattle.cell_core_values.specs.Letters.{byte}
@@ -9,12 +9,12 @@ use Rattle.cell_cats.specs.Rule.{RuleValue}
 use Rattle.cell_cats.specs.declared.rule.Output.{Output}
 use Rattle.cell_cats.specs.declared.rule.Output.TheVariants.{Same, To}
 
--- blank, or a comment
+-- the line is blank or a comment
 abbrev pub is_skipped : List ℕ → Bool
 is_skipped [] = true
 is_skipped (b ∷ bs) = b == byte (codes "#")
 
--- words spell ranges, one after another: `N thru N`, or a single `N`, which is both ends
+-- the words spell ranges, one after another: `N thru N`, or a single `N` for both ends
 pub data SpellsRanges : List (List ℕ) → List (ℤ × ℤ) → Type 0 where
   none : SpellsRanges [] []
   one : {word : List ℕ} {words : List (List ℕ)} {end : ℤ} {ranges : List (ℤ × ℤ)}
@@ -23,12 +23,12 @@ pub data SpellsRanges : List (List ℕ) → List (ℤ × ℤ) → Type 0 where
       → whole_in_range word ≡ Some end → whole_in_range other ≡ Some last → SpellsRanges words ranges
       → SpellsRanges (word ∷ codes "thru" ∷ other ∷ words) ((end, last) ∷ ranges)
 
--- the words of the left side: only `*`, or one or more ranges
+-- the words spell the left side of a rule: `*`, or one or more ranges
 abbrev pub SpellsListed : List (List ℕ) → Option (List (ℤ × ℤ)) → Type 0
 SpellsListed words None = words ≡ codes "*" ∷ []
 SpellsListed words (Some ranges) = (0 < length words) × SpellsRanges words ranges
 
--- the first word of the right side: `*`, null or a category
+-- the word spells an output: `*`, null or a category
 abbrev pub SpellsOutput : List ℕ → Output → Type 0
 SpellsOutput word Same = word ≡ codes "*"
 SpellsOutput word (To None) = (word ≡ codes "NULL") ⊎ (word ≡ codes "null")
@@ -38,11 +38,12 @@ SpellsOutput word (To (Some category)) = whole_in_range word ≡ Some category
 abbrev pub output_word : List ℕ → List ℕ
 output_word right = before_first is_blank right
 
--- what is after its first word
+-- the label: the text after the first word of the right side
 abbrev pub label_of_right : List ℕ → List ℕ
 label_of_right right = trimmed_text (after_first is_blank right)
 
--- a line that spells a rule, as the texts around its first equals sign; `*` is an output only if the left side is `*`
+-- the line spells a rule; its two sides are separated by the first equals sign, and `*` is an output only if the left
+-- side is `*`
 pub record SpellsRule (line : List ℕ) (rule : RuleValue) : Type 0 where
   pub not_skipped : is_skipped (trimmed_text line) ≡ false
   pub not_end : trimmed_text line ≢ codes "end"

@@ -1,4 +1,4 @@
--- Which rules keep every category, and worked lines.
+-- Which rules keep every category, and worked examples of rule lines.
 use Rattle.std.specs.Prelude.{pos, ◌≡◌, List, [], ◌∷◌, Some, None, Ok, Err, codes}
 use Rattle.cell_core.specs.Grid.{CellValue}
 use Rattle.cell_cats.specs.Rule.{RuleValue}
@@ -8,11 +8,11 @@ use Rattle.cell_cats.specs.declared.rule.Output.TheVariants.{To}
 use Rattle.cell_cats.specs.declared.rules.LineKind.TheVariants.{Rule, Skipped, End}
 use Rattle.cell_cats.specs.declared.rules.RuleFault.TheVariants.{BadRule, BadNumber}
 
--- the rules of the one line `* = *` keep the rows of a map
+-- the single rule `* = *` keeps the rows of every map
 abbrev pub StarKeeps : Type 0
 StarKeeps = (rules : List RuleValue) → with_line [] (codes "* = *") ≡ Ok (Rule, rules) → (rows : List (List CellValue)) → new_rows rules rows ≡ rows
 
--- worked lines
+-- worked examples of rule lines
 pub record WorkedLines : Type 0 where
   pub low : rule_of (codes "1 thru 3 = 7 low") ≡ Ok (record { listed = Some ((pos 1, pos 3) ∷ []); output = To (Some (pos 7)); label = codes "low" })
   pub turned : rule_of (codes "5 thru 1 = 2") ≡ Ok (record { listed = Some ((pos 5, pos 1) ∷ []); output = To (Some (pos 2)); label = [] })

@@ -1,5 +1,5 @@
--- Cells that are reclassed using what is known about them, a table of all bytes, and the pieces into which rules cut
--- the number line; borrowed words.
+-- The cache of new categories, the table of all bytes, the pieces into which rules cut the number line, and borrowed
+-- words.
 pub mod ByteTables
 pub mod KnownCategories
 pub mod Pieces

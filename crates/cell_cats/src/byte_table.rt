@@ -1,4 +1,4 @@
-//! The new categories of cells kept as bytes, also as bytes.
+//! Looks up the new categories of cells that are stored as bytes.
 
 ghost use Rattle.std.specs.Prelude.{◌≡◌, length, List, IfOk, IfSome};
 ghost use Rattle.cell_core_values.specs.SmallCells.{cells_of_bytes};
@@ -14,13 +14,13 @@ use cell_core::memory::Memory;
 use cell_core_values::small_cells::{are_small, bytes_of, cell_of_byte};
 use std::alloc::Global;
 
-// The number of different bytes.
+// Number of different bytes.
 const BYTES: usize = 256;
 
-// With fewer cells kept as bytes, a table takes more time than it saves.
+// If a map stores fewer cells as bytes, building a table takes longer than it saves.
 const FEWEST_CELLS: usize = 16_384;
 
-// Whether a map keeps enough cells as bytes for a table to save time.
+// Returns whether a map stores enough cells as bytes for a table to pay off.
 fn has_many_bytes(map: &CellMap) -> bool {
     let mut cells: usize = 0;
     for row in 0..map.region().rows() {
@@ -34,7 +34,8 @@ fn has_many_bytes(map: &CellMap) -> bool {
     false
 }
 
-// For each byte, the byte of its new category; None if some of these have no byte, or if a table would save no time.
+// Returns a table with the byte of each byte's new category. Returns `None` if some new category has no byte, or if a
+// table would not pay off.
 pub(crate) fn byte_table(
     alloc: Global,
     pieces: &Pieces,
@@ -59,7 +60,7 @@ pub(crate) fn byte_table(
     Ok(Some(table))
 }
 
-// Writes the new categories of cells kept as bytes into a slice of the same length.
+// Writes the new categories of cells stored as bytes into a slice of the same length.
 pub(crate) fn write_by_table(table: &[u8], bytes: &[u8], row: &mut [u8])
     requires size { length table.now ≡ 256 }
     requires width { length row.old ≡ length bytes.now }

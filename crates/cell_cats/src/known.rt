@@ -1,4 +1,4 @@
-//! Cells whose new category is known: most runs of a map have few different categories, so the rules are seldom
+//! Remembers the new categories of cells. Runs of a map often repeat a few categories, so the rules are rarely
 //! consulted.
 
 ghost use Rattle.std.specs.Prelude.{◌≡◌, ◌<◌, List, IfOk, length};
@@ -10,22 +10,23 @@ use cell_core::cell::Cell;
 use cell_core::memory::Memory;
 use std::alloc::Global;
 
-// There is one place per CELLS_A_PLACE cells of a map, within FEWEST and MOST: a large map may have many categories,
-// and places take time to make. The contracts only say that each place is right, so these numbers can be tuned.
+// The cache has one slot per CELLS_A_PLACE cells of the map, but at least FEWEST and at most MOST slots: a large map
+// may have many categories, and slots take time to initialize. The contracts only state that each slot is correct, so
+// these numbers can be tuned.
 const CELLS_A_PLACE: u64 = 8;
 
 const FEWEST: u64 = 64;
 
 const MOST: u64 = 32_768;
 
-// A cell, and its new category.
+// A cell and its new category.
 #[derive(Clone, Copy)]
 pub(crate) struct Known {
     cell: Cell,
     reclassed: Cell,
 }
 
-// Number of places for a map of `cells` cells: a power of two, so that no division is needed.
+// Returns the number of slots for a map of `cells` cells: a power of two, so that finding a slot needs no division.
 fn places_for(cells: u64) -> usize
     ensures { 0 < result }
 {
@@ -34,18 +35,18 @@ fn places_for(cells: u64) -> usize
         .next_power_of_two() as usize
 }
 
-// The place of a cell in a table of `places` places.
+// Returns the slot of a cell among `places` slots.
 fn category_place(cell: Cell, places: usize) -> usize
     requires { 0 < places }
     ensures { result < places }
 {
-    // The number that is kept for null, so that it needs no case of its own.
+    // The number stored for null, so that null needs no special case.
     let number = cell.get().unwrap_or(i32::MIN);
     let last = places - 1;
     (number.cast_unsigned() as usize & last).min(last)
 }
 
-// Places for a map of `cells` cells, in which only null is known: every list of rules keeps null.
+// Returns slots for a map of `cells` cells, all of them for null, which stays null under any rules.
 pub(crate) fn only_null(alloc: Global, cells: u64) -> Result<Vec<Known>, Memory>
     ensures some { IfOk result (λ known. 0 < length known.items) }
     ensures right { IfOk result (λ known. (rules : List RuleValue) → AreRight rules known.items) }
@@ -59,7 +60,7 @@ pub(crate) fn only_null(alloc: Global, cells: u64) -> Result<Vec<Known>, Memory>
     Ok(known)
 }
 
-// The new category of a cell, which is known from then on.
+// Returns the new category of a cell and remembers it.
 pub(crate) fn look_up(pieces: &Pieces, known: &mut [Known], cell: Cell) -> Cell
     requires some { 0 < length known.old }
     ensures value { ByRules pieces.now known.old (λ rules. result ≡ new_category rules cell) }

@@ -1,14 +1,14 @@
-//! Rules, and the maps that are made from rules (GRASS manual: r.reclass). Re-exports `clump` and
-//! `clump_with` of `cell_cats_areas`.
+//! Reclassifies maps with rules (GRASS manual: r.reclass). Re-exports `clump` and `clump_with` of
+//! `cell_cats_areas`.
 //!
-//! - `rules`: `Rules`, to which `add_line` adds a line or returns its `RuleFault`; the last rule
-//!   that lists a category counts
-//! - `reclassing`: `reclass`, a map whose categories and labels come from the rules
-//! - specs/Rule.antt: what rules give; specs/RuleLine.antt: which line is which rule; comments and
-//!   commas are our own choice (profile)
-//! - `law`: a line is read as a rule exactly if it spells one; `* = *` keeps every cell
+//! - `rules`: `Rules`, a list of rules to which `add_line` adds a line, or returns its `RuleFault`; the
+//!   last rule that lists a category applies
+//! - `reclassing`: `reclass`, which returns the map with the categories and labels of the rules
+//! - specs/Rule.antt: the meaning of rules; specs/RuleLine.antt: which line spells which rule; comments
+//!   and commas are our own choice (profile)
+//! - `law`: a line is read as a rule if and only if it spells that rule; `* = *` keeps every cell
 //! - private: `line` and `rule`, a line and its rule; `pieces`, the number line cut at the ends of
-//!   ranges; `byte_table`, the new categories of all bytes; `known`, those that were found before
+//!   ranges; `byte_table`, the new categories of all bytes; `known`, a cache of new categories
 //!
 //! A case of the tests: lines, categories of a map, its new categories, and a label:
 //!

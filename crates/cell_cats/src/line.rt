@@ -1,4 +1,4 @@
-//! The rule that a line spells.
+//! Parses a line into a rule.
 
 ghost use Rattle.std.specs.Prelude.{◌≡◌, ◌∷◌, ◌≤◌, ◌&&◌, length, drop};
 ghost use Rattle.std.specs.Option.{option_map, ok_or};
@@ -17,7 +17,7 @@ use cell_core_values::whole_numbers::whole_in_range;
 use cell_core_values::words::{list_words_of, pair_of};
 use std::alloc::Global;
 
-/// Whether a line, without the blanks at its ends, is empty or a comment.
+/// Returns whether a line, without surrounding blanks, is empty or a comment.
 pub fn is_skipped(text: &[u8]) -> bool
     ensures { result ≡ is_skipped text.now }
 {
@@ -45,21 +45,21 @@ fn is_null_word(word: &[u8]) -> bool
     word == b"NULL".as_slice() || word == b"null".as_slice()
 }
 
-// A word that stands for a number, in range or not.
+// Returns whether a word stands for a number, whether or not it is in range.
 fn is_end(word: &[u8]) -> bool
     ensures { result ≡ is_end word.now }
 {
     !is_thru(word) && !is_star_word(word)
 }
 
-// Whether both words stand for numbers.
+// Returns whether both words stand for numbers.
 fn are_ends(a: &[u8], b: &[u8]) -> bool
     ensures { result ≡ (is_end a.now && is_end b.now) }
 {
     is_end(a) && is_end(b)
 }
 
-// The second end of the item that begins with a word, and the number of further words of the item.
+// Returns the second end of the item that starts with the word `a`, and the number of further words in the item.
 fn item_end<'a>(a: &'a [u8], others: &[&'a [u8]]) -> (&'a [u8], usize)
     ensures items { items_of (a.now ∷ item_texts others.now)
         ≡ with_item a.now result.0.now (items_of (item_texts (drop result.1 others.now))) }
@@ -71,7 +71,7 @@ fn item_end<'a>(a: &'a [u8], others: &[&'a [u8]]) -> (&'a [u8], usize)
     }
 }
 
-// The items that words spell.
+// Splits words into items.
 fn items_of<'a>(alloc: Global, words: &[&'a [u8]]) -> Result<Vec<(&'a [u8], &'a [u8])>, RuleFault>
     ensures { Answers RuleFault.Memory (λ items. pairs items.items) result
         (ok_or (items_of (item_texts words.now)) BadRule) }
@@ -90,7 +90,7 @@ fn items_of<'a>(alloc: Global, words: &[&'a [u8]]) -> Result<Vec<(&'a [u8], &'a 
     Ok(items)
 }
 
-// The two ends of an item.
+// Parses the two ends of an item.
 fn range_of(a: &[u8], b: &[u8]) -> Option<(i32, i32)>
     ensures { result ≡ range_of (a.now, b.now) }
 {
@@ -99,7 +99,7 @@ fn range_of(a: &[u8], b: &[u8]) -> Option<(i32, i32)>
     Some((a, b))
 }
 
-// The ranges of items.
+// Parses the ranges of items.
 fn ranges_of(alloc: Global, items: &[(&[u8], &[u8])]) -> Result<Vec<(i32, i32)>, RuleFault>
     ensures { Answers RuleFault.Memory (λ ranges. ranges.items) result
         (ok_or (ranges_of (pairs items.now)) BadNumber) }
@@ -115,7 +115,7 @@ fn ranges_of(alloc: Global, items: &[(&[u8], &[u8])]) -> Result<Vec<(i32, i32)>,
     Ok(ranges)
 }
 
-// The output that a word gives.
+// Parses the output that a word denotes.
 fn output_of(word: &[u8]) -> Option<Output>
     ensures { result ≡ output_of word.now }
 {
@@ -130,7 +130,7 @@ fn output_of(word: &[u8]) -> Option<Output>
     Some(Output::To(cell))
 }
 
-// Whether a word may be on the right.
+// Returns whether a word may be the output of a rule.
 fn is_output(star: bool, word: &[u8]) -> bool
     ensures { result ≡ is_output star word.now }
 {
@@ -146,7 +146,7 @@ fn is_lone_star(words: &[&[u8]]) -> bool
     }
 }
 
-// The items, or none if the left side is `*`.
+// Returns the items of the left side, or `None` if it is `*`.
 fn left_of<'a>(
     alloc: Global,
     words: &[&'a [u8]],
@@ -164,7 +164,7 @@ fn left_of<'a>(
     Ok(Some(items))
 }
 
-// The ranges of a left side.
+// Parses the ranges of a left side.
 fn listed_of(
     alloc: Global,
     left: &Option<Vec<(&[u8], &[u8])>>,
@@ -181,12 +181,12 @@ fn listed_of(
     }
 }
 
-/// The rule that a line spells.
+/// Parses a line into a rule.
 ///
 /// # Errors
 ///
-/// [`RuleFault::BadRule`] if it lacks the shape of a rule, else [`RuleFault::BadNumber`] if a number is bad;
-/// [`RuleFault::Memory`] if memory runs out.
+/// [`RuleFault::BadRule`] if the line does not have the form of a rule, otherwise [`RuleFault::BadNumber`] if a number
+/// is invalid; [`RuleFault::Memory`] if memory runs out.
 pub fn rule_of(alloc: Global, line: &[u8]) -> Result<Rule, RuleFault>
     ensures { Answers RuleFault.Memory (λ rule. rule) result (rule_of line.now) }
 {

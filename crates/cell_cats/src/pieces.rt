@@ -1,5 +1,5 @@
-//! The number line cut into pieces, each with the output that rules give its categories: finding the new category of a
-//! cell takes a time that grows with the logarithm of the number of ranges.
+//! Cuts the number line into pieces of categories with the same output, so that the time to find a cell's new category
+//! grows only with the logarithm of the number of ranges.
 
 ghost use Rattle.std.specs.Prelude.{◌≡◌, ℤ, negsuc, ◌≤ℤ◌, List, Option, IfOk, OnOk};
 ghost use Rattle.std.specs.BTreeMap.{get};
@@ -16,14 +16,14 @@ use std::collections::BTreeMap;
 
 // Maps the start of each piece to its output. The last piece may start after the largest category.
 //
-// Contracts only say which look-ups find a start, and nothing about the order of the entries.
+// Contracts only state which lookups find a start. They do not mention the order of the entries.
 #[derive(Drop)]
 pub(crate) struct Pieces {
     starts: BTreeMap<i64, Option<Output>>,
 }
 
 impl Pieces {
-    // The pieces into which rules cut the line: at most two per range, plus one.
+    // Returns the pieces into which the rules cut the number line: at most two per range, plus one.
     pub(crate) fn of_rules(alloc: Global, rules: &Rules) -> Result<Pieces, Memory>
         ensures { IfOk result (λ pieces. AreOfRules rules.now pieces) }
     {
@@ -34,7 +34,7 @@ impl Pieces {
         Ok(pieces)
     }
 
-    // One piece for all numbers.
+    // Returns a single piece that covers all numbers.
     fn whole(alloc: Global, output: Option<Output>) -> Result<Pieces, Memory>
         ensures { IfOk result (λ pieces. HaveOutputs (λ _. output) pieces) }
     {
@@ -43,7 +43,7 @@ impl Pieces {
         Ok(Pieces { starts })
     }
 
-    // Gives the output of a rule to the categories that it lists.
+    // Assigns the output of a rule to the categories that it lists.
     fn add_output_of_rule(&mut self, rule: &Rule) -> Result<(), Memory>
         ensures { OnOk result (Repaints (ruled_outputs rule.now) self.old self.new) }
     {
@@ -53,8 +53,8 @@ impl Pieces {
         Ok(())
     }
 
-    // Gives an output to the categories of a range. Each start inside it is removed once and for all, so any ranges
-    // take n log n steps.
+    // Assigns an output to the categories of a range. Each start inside the range is removed for good, so n ranges take
+    // n log n steps.
     fn paint(&mut self, ends: (i32, i32), output: Output) -> Result<(), Memory>
         ensures { OnOk result (Repaints (painted_outputs ends output) self.old self.new) }
     {
@@ -67,7 +67,7 @@ impl Pieces {
         Ok(())
     }
 
-    // Removes the starts from one place up to another.
+    // Removes all starts between two numbers, inclusive.
     fn clear(&mut self, from: i64, to: i64)
         requires { from ≤ℤ to }
         ensures { IsCleared from to (get int_cmp self.old.starts) (get int_cmp self.new.starts) }
@@ -78,7 +78,7 @@ impl Pieces {
         }
     }
 
-    // The output at a place.
+    // Returns the output of the piece that contains `place`.
     fn output_at_place(&self, place: i64) -> Option<Output>
         requires { negsuc 2147483647 ≤ℤ place }
         ensures { (outputs : ℤ → Option Output) → HaveOutputs outputs self.now
@@ -90,7 +90,7 @@ impl Pieces {
         }
     }
 
-    // The new category of a cell.
+    // Returns the new category of a cell.
     pub(crate) fn apply(&self, cell: Cell) -> Cell
         ensures { (rules : List RuleValue) → AreOfRules rules self.now
             → result ≡ new_category rules cell }

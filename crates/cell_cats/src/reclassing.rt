@@ -1,4 +1,4 @@
-//! Reclassified maps.
+//! Reclassifies maps.
 
 ghost use Rattle.std.specs.Prelude.{◌≡◌, ◌<◌, ◌^◌, length, ℤ, IfOk, OnOk};
 ghost use Rattle.std.specs.FinMap.{get};
@@ -18,10 +18,11 @@ use cell_core::memory::Memory;
 use cell_core::runs::Runs;
 use std::alloc::Global;
 
-// A row with more than one run per this many cells is reclassed cell by cell: filling short runs takes longer.
+// A row with more than one run per this many cells is reclassified cell by cell, because filling short runs takes
+// longer.
 const CELLS_A_RUN: usize = 2;
 
-// Writes the runs of the new categories of runs: equal neighbours are merged.
+// Writes the runs of the new categories. Adjacent runs that become equal are merged.
 fn write_new_runs(
     pieces: &Pieces,
     known: &mut [Known],
@@ -66,7 +67,7 @@ fn renew(pieces: &Pieces, known: &mut [Known], row: &mut [Cell])
     }
 }
 
-// Gives a map without labels the labels of the rules. Later rules override earlier ones.
+// Adds the labels of the rules to a map without labels. Later rules override earlier ones.
 fn set_labels(rules: &Rules, made: &mut CellMap) -> Result<(), Memory>
     requires { made.old.labels ≡ no_labels }
     ensures { OnOk result (made.new ≡ record made.old { labels = labels_of rules.now }) }
@@ -79,7 +80,7 @@ fn set_labels(rules: &Rules, made: &mut CellMap) -> Result<(), Memory>
     Ok(())
 }
 
-// The reclassified map, without labels.
+// Returns the reclassified map without labels.
 fn reclass_cells(alloc: Global, given: &CellMap, rules: &Rules) -> Result<CellMap, Memory>
     ensures { IfOk result (λ made. made
         ≡ record (reclassed_map rules.now given.now) { labels = no_labels }) }
@@ -116,8 +117,8 @@ fn reclass_cells(alloc: Global, given: &CellMap, rules: &Rules) -> Result<CellMa
     Ok(builder.finish())
 }
 
-/// The map by rules: each cell has its new category; the labels come from the rules and no others. The ranges of the
-/// rules are sorted once, and the new category of a run is found in a time that grows with the logarithm of their number.
+/// Returns the map in which each cell has its new category. All labels come from the rules. The ranges of the rules are
+/// sorted once, and the time to find the new category of a run grows with the logarithm of their number.
 ///
 /// # Errors
 ///

@@ -1,4 +1,4 @@
-//! One rule.
+//! Rules of r.reclass.
 
 ghost use Rattle.std.specs.Prelude.{◌≡◌, ◌≢◌, ℤ, Some, IfSome};
 ghost use Rattle.std.specs.List.{list_any};
@@ -11,14 +11,14 @@ use std::marker::Model;
 /// The output of a rule.
 #[derive(Clone, Copy, Debug)]
 pub enum Output {
-    /// The category itself.
+    /// Keeps the category.
     Same,
-    /// Null, or a category.
+    /// Replaces the category with null or another category.
     To(Cell),
 }
 
 impl Output {
-    /// The cell that replaces a cell that is not null.
+    /// Returns the cell that replaces a non-null cell.
     pub fn of(self, cell: Cell) -> Cell
         ensures { IfSome cell (λ x. result ≡ outcome x (Some self)) }
     {
@@ -29,7 +29,7 @@ impl Output {
     }
 }
 
-/// A rule: the ends of the ranges that it lists, or none if it is a rule for `*`; its output; its label, or no bytes.
+/// A rule: the ends of the ranges that it lists, or `None` for `*`; its output; and its label, which may be empty.
 #[derive(Debug, Drop)]
 pub struct Rule {
     listed: Option<Vec<(i32, i32)>>,
@@ -46,7 +46,7 @@ impl Model for Rule {
     ghost view = { λ r. record { listed = option_map (λ ranges. ranges.items) r.listed; output = r.output; label = r.label.items } };
 }
 
-// Between two ends, in either order.
+// Returns whether a category is between two ends, which may be in either order.
 fn is_between(ends: (i32, i32), x: i32) -> bool
     ensures { result ≡ is_in_ends ends x }
 {
@@ -54,7 +54,7 @@ fn is_between(ends: (i32, i32), x: i32) -> bool
 }
 
 impl Rule {
-    /// A rule with these parts.
+    /// Returns the rule with these parts.
     pub fn new(listed: Option<Vec<(i32, i32)>>, output: Output, label: Vec<u8>) -> Rule
         ensures { result ≡ record {
           listed = option_map (λ ranges. ranges.items) listed;
@@ -69,14 +69,14 @@ impl Rule {
         }
     }
 
-    /// Whether it lists a category.
+    /// Returns whether the rule lists a category.
     pub fn lists(&self, x: i32) -> bool
         ensures { result ≡ lists x self.now }
     {
         self.ranges().iter().any(|ends| is_between(*ends, x))
     }
 
-    // The ends of the ranges that it lists; none if it is a rule for `*`.
+    // Returns the ends of the ranges that the rule lists, or none for `*`.
     pub(crate) fn ranges(&self) -> &[(i32, i32)]
         ensures { (x : ℤ) → lists x self.now ≡ list_any (λ ends. is_in_ends ends x) result.now }
     {
@@ -86,28 +86,28 @@ impl Rule {
         }
     }
 
-    /// Whether it is a rule for `*`.
+    /// Returns whether the rule is for `*`.
     pub fn is_star(&self) -> bool
         ensures { result ≡ is_star_rule self.now }
     {
         self.listed.is_none()
     }
 
-    /// The output for its categories.
+    /// Returns the output for the categories of the rule.
     pub fn output(&self) -> Output
         ensures { result ≡ self.now.output }
     {
         self.output
     }
 
-    /// Its label, or no bytes.
+    /// Returns the label, which is empty if the rule has none.
     pub fn label(&self) -> &[u8]
         ensures { result.now ≡ self.now.label }
     {
         &self.label
     }
 
-    /// The category that it labels.
+    /// Returns the category that the rule labels, if there is one.
     pub fn labelled_category(&self) -> Option<i32>
         ensures value { result ≡ labelled_category self.now }
         ensures range { IfSome result (λ category. category ≢ i32.MIN) }

@@ -17,20 +17,20 @@ use std::marker::Model;
 /// The kinds of valid lines.
 #[derive(Clone, Copy, Debug, PartialEq, Eq)]
 pub enum LineKind {
-    /// A rule.
+    /// A line with a rule.
     Rule,
-    /// Blank, or a comment.
+    /// A blank line or a comment.
     Skipped,
-    /// The end of the rules.
+    /// The line `end`, which ends the rules.
     End,
 }
 
-/// Why a line is invalid.
+/// Why a rule line is invalid.
 #[derive(Clone, Copy, Debug, PartialEq, Eq)]
 pub enum RuleFault {
-    /// It does not have the form of a rule.
+    /// The line does not have the form of a rule.
     BadRule,
-    /// One of its numbers is not whole or out of range.
+    /// A number in the line is not whole, or is out of range.
     BadNumber,
     /// Memory ran out.
     Memory,
@@ -69,7 +69,7 @@ impl<T: Drop> From<AllocFailed<T>> for RuleFault {
     }
 }
 
-/// Rules in the order in which they were given.
+/// A list of rules, in the order in which they were added.
 #[derive(Debug, Drop)]
 pub struct Rules {
     alloc: Global,
@@ -86,7 +86,7 @@ impl Model for Rules {
 }
 
 impl Rules {
-    /// No rules: every cell becomes null. Takes no memory.
+    /// Returns an empty list, under which every cell becomes null. Does not allocate.
     pub fn new(alloc: Global) -> Rules
         ensures { result ≡ [] }
     {
@@ -96,7 +96,7 @@ impl Rules {
         }
     }
 
-    // The output of the last rule for `*`.
+    // Returns the output of the last rule for `*`.
     pub(crate) fn star_output(&self) -> Option<Output>
         ensures { result ≡ last_output is_star_rule self.now }
     {
@@ -109,7 +109,7 @@ impl Rules {
         starred
     }
 
-    // The output for a category.
+    // Returns the output for a category.
     fn output_for(&self, x: i32) -> Option<Output>
         ensures { result ≡ output_for self.now x }
     {
@@ -122,7 +122,7 @@ impl Rules {
         listing.or(self.star_output())
     }
 
-    /// The new category of a cell.
+    /// Returns the new category of a cell.
     pub fn apply(&self, cell: Cell) -> Cell
         ensures { result ≡ new_category self.now cell }
     {
@@ -135,19 +135,20 @@ impl Rules {
         }
     }
 
-    /// The rules, in order.
+    /// Returns the rules in order.
     pub fn as_slice(&self) -> &[Rule]
         ensures { result.now ≡ self.now }
     {
         self.rules.as_slice()
     }
 
-    /// Adds the rule that a line spells. The line has no line feed.
+    /// Adds the rule that a line spells. The line must not contain a line feed.
     ///
     /// # Errors
     ///
-    /// [`RuleFault::BadRule`] if it lacks the shape of a rule, else [`RuleFault::BadNumber`] if a number is bad,
-    /// [`RuleFault::Memory`] if memory runs out. The rules are unchanged, and further lines may be added.
+    /// [`RuleFault::BadRule`] if the line does not have the form of a rule, otherwise [`RuleFault::BadNumber`] if a
+    /// number is invalid; [`RuleFault::Memory`] if memory runs out. The rules are then unchanged, and more lines may be
+    /// added.
     pub fn add_line(&mut self, line: &[u8]) -> Result<LineKind, RuleFault>
         ensures said { Answers RuleFault.Memory (λ kind. (kind, self.new)) result
             (with_line self.old line.now) }

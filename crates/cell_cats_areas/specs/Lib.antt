@@ -1,4 +1,4 @@
--- Connected areas: what public contracts use; in parts, what only private functions and proofs use.
+-- Clumps: what public contracts use; and, in parts, what only private functions and proofs use.
 pub mod Areas
 pub mod ClumpLaw
 pub mod parts

@@ -1,4 +1,4 @@
--- Labels of cells, and the tables of labels with which areas are found.
+-- Labels of cells, and the label tables with which clumps are found.
 pub mod Labels
 pub mod Meetings
 pub mod AreaNumbers

@@ -1,4 +1,4 @@
-//! The row above as labelled runs, walked from left to right.
+//! Walks the row above from left to right as labelled runs.
 
 ghost use Rattle.std.specs.Prelude.{◌≡◌, ◌<◌, ◌≤◌, ◌+◌, length, drop, All, slice_index_or};
 ghost use Rattle.cell_cats_areas.specs.parts.RunsOfLabels.{HaveLikeNeighbours, HasCellInHand, line_of_runs, no_neighbour, cells_to_come};
@@ -6,7 +6,7 @@ ghost use Rattle.cell_cats_areas.specs.parts.RunsOfLabels.{HaveLikeNeighbours, H
 use crate::clump::Joining;
 use crate::near::{Labelled, outside};
 
-// What is still to come of a line of labelled runs: `count` equal cells, then the runs from `place` on.
+// The unread part of a row of labelled runs: `count` equal cells, then the runs from index `place`.
 #[derive(Clone, Copy)]
 pub(crate) struct Above {
     cell: Labelled,
@@ -15,7 +15,7 @@ pub(crate) struct Above {
 }
 
 impl Above {
-    // The full line.
+    // Starts at the beginning of a row.
     pub(crate) fn of(line: &[(Labelled, u32)]) -> Above
         requires { All (λ run. 0 < run.1) line.now }
         ensures at { HasCellInHand result line.now }
@@ -29,7 +29,7 @@ impl Above {
         start.after(line, 0)
     }
 
-    // The next cell.
+    // Returns the next cell.
     #[inline(always)]
     pub(crate) fn first(&self, line: &[(Labelled, u32)]) -> Labelled
         requires at { HasCellInHand self.now line.now }
@@ -42,7 +42,7 @@ impl Above {
         }
     }
 
-    // The cell after the next.
+    // Returns the cell after the next.
     #[inline(always)]
     pub(crate) fn second(&self, line: &[(Labelled, u32)]) -> Labelled
         requires at { HasCellInHand self.now line.now }
@@ -58,7 +58,7 @@ impl Above {
         }
     }
 
-    // The number of equal cells, from the next on, whose neighbours in this row are also equal.
+    // Returns the number of equal cells, counted from the next cell, whose neighbours in this row are also equal.
     #[inline(always)]
     pub(crate) fn alike(&self, joining: Joining) -> u32
         requires { 0 < self.now.count }
@@ -71,7 +71,7 @@ impl Above {
         }
     }
 
-    // What is still to come after `count` of the equal cells.
+    // Returns the part of the row that is left after `count` of the equal cells.
     #[inline(always)]
     pub(crate) fn after(&self, line: &[(Labelled, u32)], count: u32) -> Above
         requires within { count ≤ self.now.count }

@@ -1,11 +1,11 @@
-//! Numbers in place of labels.
+//! Replaces labels with clump numbers.
 
 ghost use Rattle.std.specs.Prelude.{◌+◌, ◌<◌, ◌≤◌, length};
 ghost use Rattle.cell_cats_areas.specs.parts.Labels.{PointDown};
 ghost use Rattle.cell_cats_areas.specs.parts.AreaNumbers.{CanNumber, NumbersLabel, NumbersLabels};
 
-// Replaces a label with a number: an open label with the next number, a closed one with the number of the label that it
-// points to. Returns the largest number so far.
+// Replaces a label with a number: an open label with the next number, a closed label with the number of the label that
+// it points to. Returns the largest number so far.
 fn number_label(table: &mut [u32], place: u32, count: u32) -> u32
     requires inside { place < length table.old }
     requires short { length table.old < 2147483648 }
@@ -25,7 +25,7 @@ fn number_label(table: &mut [u32], place: u32, count: u32) -> u32
     }
 }
 
-// Replaces each label of a table with the number of its area.
+// Replaces each label in the table with the number of its clump.
 pub(crate) fn number_labels(table: &mut [u32])
     requires down { PointDown table.old }
     requires short { length table.old < 2147483648 }

@@ -1,4 +1,4 @@
-//! The numbering of a map's areas.
+//! Numbers the clumps of a map.
 
 ghost use Rattle.std.specs.Prelude.{IfOk};
 ghost use Rattle.cell_cats_areas.specs.Areas.{IsClumping};
@@ -24,10 +24,11 @@ pub enum Joining {
     EdgesAndCorners,
 }
 
-// A map is scanned run by run if its runs have at least this many cells on average: shorter runs cost more than cells.
+// A map is scanned run by run if its runs have at least this many cells on average. Shorter runs cost more than single
+// cells.
 const CELLS_A_RUN: usize = 4;
 
-// The number of runs of a map.
+// Returns the number of runs in a map.
 fn number_of_runs(map: &CellMap) -> usize {
     let mut count: usize = 0;
     for row in 0..map.region().rows() {
@@ -36,12 +37,12 @@ fn number_of_runs(map: &CellMap) -> usize {
     count
 }
 
-// Whether a map with this number of runs is scanned run by run.
+// Returns whether a map with this number of runs is scanned run by run.
 fn is_by_runs(region: Region, count_of_runs: usize) -> bool {
     count_of_runs <= (region.rows() as usize * region.cols() as usize) / CELLS_A_RUN
 }
 
-// Labels a map, by runs or by cells, whichever is faster.
+// Labels a map by runs or by cells, whichever is faster.
 fn label_map(alloc: Global, map: &CellMap, joining: Joining) -> Result<MapLabels, Memory>
     ensures { IfOk result (λ labels. AreMapLabels joining map.now
         labels.table.items labels.rows.items) }
@@ -53,16 +54,16 @@ fn label_map(alloc: Global, map: &CellMap, joining: Joining) -> Result<MapLabels
     label_cells(alloc, map, joining, count_of_runs)
 }
 
-/// The map in which each cell that is not null has the number of its area, over the same region and
-/// without labels. Null stays null.
+/// Returns the map in which each non-null cell has the number of its clump. The region is the same, and there are no
+/// labels. Null stays null.
 ///
-/// Two cells are in the same area if a path of adjacent cells of the same category joins them (r.clump
-/// manual). Areas are numbered 1, 2, .. in the order of their first cells, row by row from the top
-/// left (profile). The rows `1 2` and `2 1` give `1 2` and `3 4` by edges, and `1 2` and `2 1` by edges
-/// and corners.
+/// Two cells are in the same clump if a path of adjacent cells of the same category connects them (r.clump
+/// manual). Clumps are numbered 1, 2, .. in the order of their first cells, row by row from the top
+/// left (profile). For example, the rows `1 2` and `2 1` become `1 2` and `3 4` by edges, but `1 2` and `2 1` by
+/// edges and corners.
 ///
-/// It takes at most twelve bytes for each run of equal cells side by side, or four for each cell and each run if most runs are
-/// short, 32 for each row, and a few rows, besides the map that it returns.
+/// In addition to the result, it allocates at most twelve bytes per run (or, if most runs are short, four bytes per
+/// cell and per run), 32 bytes per row, and a few rows.
 ///
 /// # Errors
 ///
@@ -78,7 +79,7 @@ pub fn clump_with(alloc: Global, map: &CellMap, joining: Joining) -> Result<Cell
     number_rows(alloc, region, numbers, rows, cells.as_mut_slice())
 }
 
-/// The numbers of the areas that are joined by edges: [`clump_with`] by [`Joining::Edges`].
+/// Numbers the clumps that are connected by edges: [`clump_with`] with [`Joining::Edges`].
 ///
 /// # Errors
 ///

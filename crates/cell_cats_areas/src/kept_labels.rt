@@ -1,4 +1,4 @@
-//! The labels of a row, and the numbers in place of them.
+//! Stores the labels of a row and replaces them with numbers.
 
 ghost use Rattle.std.specs.Prelude.{◌≡◌, ◌<◌, All, IfOk, length, map};
 ghost use Rattle.cell_cats_areas.specs.parts.RunsOfLabels.{labels_along, number_for, numbers_along};
@@ -16,8 +16,8 @@ pub(crate) struct KeptLabels {
     kept: LabelForm,
 }
 
-// The labels of a row: each with its number of adjacent cells, or one per cell, which takes less memory if most runs
-// are short.
+// The labels of a row: runs of equal labels with their lengths, or one label per cell, which takes less memory if most
+// runs are short.
 #[derive(Debug, Drop)]
 enum LabelForm {
     Runs(Vec<(u32, u32)>),
@@ -34,7 +34,7 @@ impl Model for KeptLabels {
 }
 
 impl KeptLabels {
-    // The labels of such runs.
+    // Stores labels given as runs.
     pub(crate) fn of_runs(runs: Vec<(u32, u32)>) -> KeptLabels
         ensures { result ≡ labels_along runs.items }
     {
@@ -43,7 +43,7 @@ impl KeptLabels {
         }
     }
 
-    // The labels of the cells of a row.
+    // Stores one label per cell of a row.
     pub(crate) fn of_line(alloc: Global, line: &[Labelled]) -> Result<KeptLabels, Memory>
         ensures { IfOk result (λ labels. labels ≡ map (λ x. x.label) line.now) }
     {
@@ -54,8 +54,8 @@ impl KeptLabels {
         })
     }
 
-    // Writes the numbers of a row's cells, and frees its labels. The table has the number of each label, and none for
-    // null's.
+    // Writes the numbers of a row's cells and frees its labels. The table maps each label to its number; null's label
+    // is not in it.
     pub(crate) fn write_numbers(self, table: &[u32], cells: &mut [Cell])
         requires small { All (λ number. number < 2147483648) table.now }
         requires wide { length self ≡ length cells.old }
@@ -78,7 +78,7 @@ fn copy_labels(line: &[Labelled], labels: &mut [u32])
     }
 }
 
-// The number of a label, or null if the table has none.
+// Returns the number of a label, or null if the table does not contain the label.
 fn number_of_label(table: &[u32], label: u32) -> Cell
     requires { All (λ number. number < 2147483648) table.now }
     ensures { result ≡ number_for table.now label }
@@ -89,7 +89,7 @@ fn number_of_label(table: &[u32], label: u32) -> Cell
     }
 }
 
-// Writes the number of each label as many times as its run has cells.
+// Writes the number of each run's label to all cells of the run.
 #[inline(never)]
 fn write_run_numbers(runs: &[(u32, u32)], table: &[u32], cells: &mut [Cell])
     requires small { All (λ number. number < 2147483648) table.now }

@@ -1,9 +1,9 @@
-//! Labels of runs, and the table that says which were joined.
+//! Union-find over labels: a table maps each label to itself or to a smaller label that it was joined with.
 
 ghost use Rattle.std.specs.Prelude.{◌≡◌, ℕ, ◌<◌, ◌≤◌, length};
 ghost use Rattle.cell_cats_areas.specs.parts.Labels.{PointDown, LeadsToOpen, after_join};
 
-/// The open label that a label leads to. The path to it is halved, after its first step.
+/// Returns the open label that a label leads to. Halves the path to it, after its first step.
 pub fn open_label(table: &mut [u32], label: u32) -> u32
     requires down { PointDown table.old }
     requires inside { label < length table.old }
@@ -22,8 +22,8 @@ pub fn open_label(table: &mut [u32], label: u32) -> u32
     at
 }
 
-/// Joins two labels: of the open labels that they lead to, the larger is closed and points to the smaller. Not inlined,
-/// since it is seldom called, and the loops over cells are faster without it.
+/// Joins two labels: finds the open labels that they lead to, closes the larger one, and points it to the smaller. Not
+/// inlined, because it is rarely called, and the loops over cells are faster without it.
 #[inline(never)]
 pub fn join_labels(table: &mut [u32], one: u32, other: u32)
     requires down { PointDown table.old }

@@ -1,18 +1,18 @@
-//! The laws of clumpings.
+//! Laws about clump maps.
 
 ghost use Rattle.cell_cats_areas.specs.ClumpLaw.{ClumpingIsOne, NoNumberIsLeftOut, NumbersCountAreas};
 
-/// A map has at most one clumping for each adjacency.
+/// For each adjacency, a map has at most one clump map.
 pub fn clumping_is_one()
     ensures { ClumpingIsOne }
 {}
 
-/// If a cell has a number, it is 1 or more, and each number from 1 up to it occurs.
+/// Each number in a clump map is at least 1, and all smaller numbers from 1 up also occur.
 pub fn no_number_is_left_out()
     ensures { NoNumberIsLeftOut }
 {}
 
-/// The numbers that occur are 1 to the number of areas.
+/// The numbers that occur are 1 to the number of clumps.
 pub fn numbers_count_areas()
     ensures { NumbersCountAreas }
 {}

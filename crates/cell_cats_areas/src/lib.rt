@@ -1,18 +1,17 @@
-//! The clumps of a map and their numbers (GRASS manual: r.clump).
+//! Finds the clumps of a map and numbers them (GRASS manual: r.clump).
 //!
-//! A clump is a connected component of equal cells that are not null. Cells are adjacent if they
-//! share an edge or, if asked for, a corner. Clumps are numbered 1, 2, 3 and so on in the order of
-//! their first cells, row by row (profile).
+//! A clump is a connected component of equal non-null cells. Cells are adjacent if they share an edge
+//! or, if requested, a corner. Clumps are numbered 1, 2, 3 and so on in the order of their first cells,
+//! row by row (profile).
 //!
-//! - `clump`: `clump_with`, the map of the numbers, by a `Joining`; `clump`, the same by edges
-//! - specs/Areas.antt: `IsClumping`, what the map of the numbers is
-//! - `law`: there is one such map, and its numbers are 1 to the number of clumps
-//! - private, in the order of work: `scan`, a new label for each cell that shares none with an
-//!   earlier neighbour; `near`, the earlier neighbours of a cell; `labels`, the union-find over
-//!   labels; `kept_labels`, the labels of a row; `area_numbers`, the number of each label;
-//!   `row_numbers`, the numbers in place of labels
-//! - private, for maps of long runs: `run_scan`, a label for each run; `above`, the row above as
-//!   runs
+//! - `clump`: `clump_with` returns the clump map for a `Joining`; `clump` does so by edges
+//! - specs/Areas.antt: `IsClumping`, the definition of a clump map
+//! - `law`: a map has one clump map, and its numbers are 1 to the number of clumps
+//! - private, in the order of work: `scan` labels cells row by row, with a new label for each cell that
+//!   shares none with an earlier neighbour; `near`, the earlier neighbours of a cell; `labels`, the
+//!   union-find over labels; `kept_labels`, the labels of a row; `area_numbers`, the number of each
+//!   label; `row_numbers` replaces labels with numbers
+//! - private, for maps with long runs: `run_scan` labels run by run; `above`, the row above as runs
 //!
 //! Categories 1 2 over 2 1 are four clumps by edges:
 //!

@@ -1,4 +1,4 @@
-//! The neighbours of a cell that come before it in row order, and the label that it shares with them.
+//! Finds the neighbours of a cell that precede it in row order, and the label that the cell shares with them.
 
 ghost use Rattle.std.specs.Prelude.{◌≡◌, ◌<◌, ◌≤◌, ◌+◌, ◌^◌, length, All, None, Some, IsSome, IfOk, OnOk, slice_index_or};
 ghost use Rattle.cell_cats_areas.specs.declared.clump.Joining.TheVariants.{Edges, EdgesAndCorners};
@@ -12,17 +12,17 @@ use crate::labels::join_labels;
 use cell_core::cell::Cell;
 use cell_core::memory::Memory;
 
-// A cell, and its label or its number.
+// A cell with its label or its number.
 #[derive(Clone, Copy)]
 pub(crate) struct Labelled {
     pub(crate) cell: Cell,
     pub(crate) label: u32,
 }
 
-// The label of null: no table is this long.
+// The label of null. It is larger than the index of any table entry.
 pub(crate) const NO_LABEL: u32 = u32::MAX;
 
-// What is beyond the edge of the map.
+// Returns the cell beyond the edge of the map: null, without a label.
 pub(crate) fn outside() -> Labelled
     ensures { result ≡ no_neighbour }
 {
@@ -32,7 +32,7 @@ pub(crate) fn outside() -> Labelled
     }
 }
 
-// The earlier neighbours of a cell, null beyond the edge of the map.
+// The earlier neighbours of a cell; null beyond the edge of the map.
 #[derive(Clone, Copy)]
 pub(crate) struct Near {
     pub(crate) left: Labelled,
@@ -42,7 +42,7 @@ pub(crate) struct Near {
 }
 
 impl Near {
-    // The earlier neighbours at the start of a row: all are off the map.
+    // Returns the earlier neighbours at the start of a row, all outside the map.
     #[inline(always)]
     pub(crate) fn at_the_edge() -> Near
         ensures left { result.left.cell ≡ None }
@@ -56,8 +56,8 @@ impl Near {
         }
     }
 
-    // The neighbours of the cell at a column, from the neighbours of the cell before it, which is now on the left, and
-    // the line.
+    // Returns the neighbours of the cell at column `col`, given the neighbours of the previous cell, which is now on
+    // the left.
     #[inline(always)]
     pub(crate) fn at_next_column(self, line: &[Labelled], col: usize) -> Near
         requires { col + 1 < length line.now }
@@ -66,8 +66,8 @@ impl Near {
         Near {
             left: self.left,
             upper_left: self.above,
-            // Field by field: copied as a whole, its two fields are read as one number, which costs a shift at each
-            // cell.
+            // Copied field by field. If both fields are copied at once, they are read as one number, which costs a
+            // shift per cell.
             above: Labelled {
                 cell: line[col].cell,
                 label: line[col].label,
@@ -76,7 +76,7 @@ impl Near {
         }
     }
 
-    // The neighbours of the next cell, from the neighbours of the cell before it and the rest of the row above.
+    // Returns the neighbours of the next cell, given the neighbours of the previous cell and the rest of the row above.
     #[inline(always)]
     pub(crate) fn under(self, coming: &Above, line: &[(Labelled, u32)]) -> Near
         requires at { HasCellInHand coming.now line.now }
@@ -92,8 +92,8 @@ impl Near {
     }
 }
 
-// The label that a cell shares with a neighbour on an edge, if there is one. If there are two, their labels are joined,
-// unless another cell has joined them.
+// Returns the label that a cell shares with a neighbour along an edge, if there is one. If there are two such
+// neighbours, joins their labels, unless another cell has already joined them.
 #[inline(always)]
 fn shared_by_edges(table: &mut [u32], cell: Cell, near: &Near) -> Option<u32>
     requires { CanShare cell table.old near.now }
@@ -114,8 +114,8 @@ fn shared_by_edges(table: &mut [u32], cell: Cell, near: &Near) -> Option<u32>
     Some(near.left.label)
 }
 
-// The label that a cell shares with a neighbour on an edge or at a corner, if there is one. If there are two that no
-// other cell has joined, their labels are joined. The neighbour above touches each of the others.
+// Returns the label that a cell shares with a neighbour along an edge or at a corner, if there is one. Joins the labels
+// of two such neighbours, unless another cell has already joined them: the neighbour above touches all the others.
 #[inline(always)]
 fn shared_by_corners(table: &mut [u32], cell: Cell, near: &Near) -> Option<u32>
     requires { CanShare cell table.old near.now }
@@ -135,7 +135,8 @@ fn shared_by_corners(table: &mut [u32], cell: Cell, near: &Near) -> Option<u32>
     Some(near.left.label)
 }
 
-// The label that a cell shares with a neighbour at a corner, if there is one. If there are two, their labels are joined.
+// Returns the label that a cell shares with a neighbour at a corner, if there is one. If there are two such neighbours,
+// joins their labels.
 #[inline(always)]
 fn shared_at_corners(table: &mut [u32], cell: Cell, near: &Near) -> Option<u32>
     requires { CanShare cell table.old near.now }
@@ -155,7 +156,7 @@ fn shared_at_corners(table: &mut [u32], cell: Cell, near: &Near) -> Option<u32>
     Some(near.upper_left.label)
 }
 
-// The label that a cell shares with its neighbours, if it does.
+// Returns the label that a cell shares with its earlier neighbours, if there is one.
 #[inline(always)]
 fn shared_label(table: &mut [u32], joining: Joining, cell: Cell, near: &Near) -> Option<u32>
     requires { CanShare cell table.old near.now }
@@ -169,7 +170,7 @@ fn shared_label(table: &mut [u32], joining: Joining, cell: Cell, near: &Near) ->
     }
 }
 
-// The label of a cell: one that it shares with its neighbours, or else the next one. Null has none.
+// Labels a cell: returns a label that it shares with its neighbours, or else a new label. Null has no label.
 #[inline(always)]
 pub(crate) fn label_cell(
     table: &mut Vec<u32>,

@@ -1,4 +1,4 @@
-//! The numbers that replace the labels of a map.
+//! Replaces the labels of a map with numbers.
 
 ghost use Rattle.std.specs.Prelude.{◌≡◌, ◌<◌, All, length, map, IfOk};
 ghost use Rattle.cell_core.specs.Grid.{no_labels};
@@ -11,8 +11,8 @@ use cell_core::memory::Memory;
 use cell_core::region::Region;
 use std::alloc::Global;
 
-// The map of the numbers of labels. The labels of a row are freed before its numbers are kept, so that both together
-// take no more memory than one of them.
+// Returns the clump map. Frees the labels of each row before its numbers are stored, so that both together take no more
+// memory than one of them.
 pub(crate) fn number_rows(
     alloc: Global,
     region: Region,

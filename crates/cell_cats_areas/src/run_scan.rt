@@ -1,4 +1,4 @@
-//! The labels of a map, run by run.
+//! Labels a map run by run.
 
 ghost use Rattle.std.specs.Prelude.{◌≡◌, ℕ, ◌<◌, ◌≤◌, ◌+◌, ◌++◌, ◌∷◌, [], ◌^◌, List, All, length, IfOk, OnOk};
 ghost use Rattle.cell_core.specs.Grid.{row_at};
@@ -15,7 +15,7 @@ use cell_core::memory::Memory;
 use std::alloc::Global;
 use std::mem::swap;
 
-// Labels the runs of a row. The line has the runs of the row above; the runs of this row replace them.
+// Labels the runs of a row. `line` holds the runs of the row above; the runs of this row are written to `below`.
 #[inline(never)]
 fn label_runs_of_row(
     alloc: Global,
@@ -60,7 +60,7 @@ fn label_runs_of_row(
     Ok(KeptLabels::of_runs(runs))
 }
 
-// The table of the labels of a map, and the labels of its rows.
+// The table of a map's labels, and the labels of its rows.
 #[derive(Drop)]
 pub(crate) struct MapLabels {
     pub(crate) table: Vec<u32>,

@@ -1,4 +1,4 @@
-//! The labels of a map.
+//! Labels a map cell by cell.
 
 ghost use Rattle.std.specs.Prelude.{◌≡◌, ◌<◌, ◌≤◌, ◌+◌, ◌^◌, [], All, None, IfOk, OnOk, length};
 ghost use Rattle.cell_cats_areas.specs.parts.Labels.{PointDown};
@@ -13,7 +13,7 @@ use cell_core::map::CellMap;
 use cell_core::memory::Memory;
 use std::alloc::Global;
 
-// Labels the cells of a row. The line holds the row above, and afterwards this row; what is after it is null.
+// Labels the cells of a row. The line holds the row above before the call and this row after it, followed by null.
 #[inline(never)]
 fn label_row(
     map: &CellMap,

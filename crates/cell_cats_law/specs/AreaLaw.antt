@@ -1,4 +1,4 @@
--- Areas and their category: the areas of a category divide its cells.
+-- Clumps and their categories: the clumps of a category divide its cells.
 use Rattle.std.specs.Prelude.{ℕ, ℤ, pos, ◌-◌, ◌≡◌, ◌≢◌, ◌≤◌, ◌<◌, ◌↔◌, List, [], ◌∷◌, Some, None, IsSome, Contains, filter, sum_by, take, if◌then◌else◌}
 use Rattle.std.specs.Ordering.{eq_by_cmp}
 use Rattle.cell_core_values.specs.Cell.{cell_eq}
@@ -11,33 +11,33 @@ use Rattle.cell_stats_combinations.specs.Combinations.{Combination, combination_
 use Rattle.cell_stats_counts.specs.Counts.{count_of}
 use Rattle.cell_stats.specs.CategoryTables.{Pairs, IsTable}
 
--- the cells of one map, and of two
+-- the cells of one map, and the cell pairs of two maps
 abbrev pub cells_of : Grid → (rows cols : ℕ) → List Combination
 cells_of m rows cols = all_combinations (m ∷ []) (0 ∷ []) rows cols
 
 abbrev pub cells_of_both : Grid → Grid → (rows cols : ℕ) → List Combination
 cells_of_both m numbers rows cols = all_combinations (m ∷ numbers ∷ []) (0 ∷ 1 ∷ []) rows cols
 
--- an entry of it counts the whole area
+-- in the table of a map and its clump map, the count of each entry is the number of cells in the clump
 abbrev pub EntriesAreWhole : Type 0
 EntriesAreWhole = (j : Joining) (m numbers : Grid) → IsClumping j m numbers
     → (skip : Skip) (rows cols : ℕ) (table : Pairs) → IsTable skip (cells_of_both m numbers rows cols) table
     → (category number : CellValue) (n : ℕ) → Contains table (category ∷ number ∷ [], n)
     → n ≡ count_of (number ∷ []) (cells_of numbers rows cols)
 
--- the entries whose first cell is the category
+-- the entries of a category
 abbrev pub entries_of : ℤ → Pairs → Pairs
 entries_of category table =
     filter (λ pair. eq_by_cmp combination_cmp (Some category ∷ []) (take 1 pair.0)) table
 
--- for each category, the counts of its areas add up to its count
+-- the counts of a category's clumps add up to the count of the category
 abbrev pub AreasDivideTheirCategory : Type 0
 AreasDivideTheirCategory = (j : Joining) (m numbers : Grid) → IsClumping j m numbers
     → (skip : Skip) (rows cols : ℕ) (table : Pairs) → IsTable skip (cells_of_both m numbers rows cols) table
     → (category : ℤ)
     → sum_by (λ pair. pair.1) (entries_of category table) ≡ count_of (Some category ∷ []) (cells_of m rows cols)
 
--- an area is never empty: if a number occurs in the table, each number from 1 up to it occurs, with a count above 0
+-- no clump is empty: if a number occurs in the table, all smaller numbers from 1 up also occur, with counts above 0
 abbrev pub NoAreaIsEmpty : Type 0
 NoAreaIsEmpty = (j : Joining) (m numbers : Grid) → IsClumping j m numbers → IsFilled numbers.region numbers.rows
     → (skip : Skip) (table : Pairs)
@@ -46,12 +46,12 @@ NoAreaIsEmpty = (j : Joining) (m numbers : Grid) → IsClumping j m numbers → 
     → (number : ℕ) → 1 ≤ number → number ≤ last
     → (other : ℤ) × (cells : ℕ) × (0 < cells) × Contains table (Some other ∷ Some (pos number) ∷ [], cells)
 
--- a map in which one whole area is made null
+-- `less` is the map m with one clump set to null
 abbrev pub IsWithout : Grid → Grid → ℤ → Grid → Type 0
 IsWithout m numbers number less = (p : Position)
     → cell_at_position less p ≡ (if cell_eq (cell_at_position numbers p) (Some number) then None else cell_at_position m p)
 
--- making one whole area null changes no other: any two other cells are in the same area exactly if they were before
+-- setting one clump to null changes no other: any two other cells are in the same clump if and only if they were before
 abbrev pub OtherAreasStay : Type 0
 OtherAreasStay = (j : Joining) (m numbers : Grid) → IsClumping j m numbers
     → (number : ℤ) (less renumbered : Grid) → IsWithout m numbers number less → IsClumping j less renumbered

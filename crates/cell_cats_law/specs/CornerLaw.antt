@@ -1,4 +1,4 @@
--- Areas by edges, and areas by edges and corners: corners only join.
+-- Clumps by edges compared with clumps by edges and corners: connecting corners only merges clumps.
 use Rattle.std.specs.Prelude.{ℕ, pos, ◌≡◌, ◌≤◌, [], ◌∷◌, Some, IsSome, Contains}
 use Rattle.cell_core.specs.Grid.{Grid, CellValue}
 use Rattle.cell_cats_areas.specs.declared.clump.Joining.TheVariants.{Edges, EdgesAndCorners}
@@ -13,13 +13,13 @@ pub record AreBothClumpings (m edges corners : Grid) : Type 0 where
   pub by_edges : IsClumping Edges m edges
   pub by_corners : IsClumping EdgesAndCorners m corners
 
--- cells in the same area by edges are in the same area by corners
+-- cells in the same clump by edges are in the same clump by edges and corners
 abbrev pub CornersOnlyJoin : Type 0
 CornersOnlyJoin = (m edges corners : Grid) → AreBothClumpings m edges corners → (p q : Position)
     → IsSome (cell_at_position edges p) → cell_at_position edges p ≡ cell_at_position edges q
     → cell_at_position corners p ≡ cell_at_position corners q
 
--- connecting corners gives no more areas: each number by corners is also one by edges
+-- connecting corners adds no clumps: each number that occurs by edges and corners also occurs by edges
 abbrev pub CornersAddNoArea : Type 0
 CornersAddNoArea = (m edges corners : Grid) → AreBothClumpings m edges corners → (n : ℕ) → Occurs corners n
     → Occurs edges n

@@ -1,6 +1,4 @@
--- What the law of clumpings states.
--- Laws of tables.
--- Laws of areas.
+-- Laws about clump maps, tables and reclassified maps.
 pub mod ExistsLaw
 pub mod PageLaw
 pub mod ReclassLaw

@@ -1,4 +1,4 @@
--- Parts of reclassified maps, and the labels of parts.
+-- Tiles of reclassified maps, and their labels.
 use Rattle.std.specs.Prelude.{ℕ, ◌≡◌, List, map}
 use Rattle.cell_core.specs.Grid.{Grid}
 use Rattle.cell_cats.specs.Rule.{RuleValue}
@@ -7,21 +7,21 @@ use Rattle.cell_stats.specs.CategoryTables.{Pairs}
 use Rattle.cell_stats.specs.TableText.{FormatValue, table_text}
 use Rattle.cell_parts.specs.Parts.{Rectangle, AreCutOut}
 
--- maps that have the same labels as others
+-- two lists of maps have the same labels
 abbrev pub HaveTheLabels : (whole part : List Grid) → Type 0
 HaveTheLabels whole part = map (λ m. m.labels) part ≡ map (λ m. m.labels) whole
 
--- a rectangle cut out of maps and then reclassified equals the rectangle cut out of the reclassified maps
+-- cutting a rectangle out of maps and then reclassifying it gives the same as cutting it out of the reclassified maps
 abbrev pub ReclassedPartsAreParts : Type 0
 ReclassedPartsAreParts = (rules : List RuleValue) (r : Rectangle) (whole part : List Grid)
     → AreCutOut r whole part → AreCutOut r (map (reclassed_map rules) whole) (map (reclassed_map rules) part)
 
--- and the part has the labels of the full reclassified maps
+-- a reclassified rectangle has the labels of the full reclassified maps
 abbrev pub ReclassedPartsHaveTheLabels : Type 0
 ReclassedPartsHaveTheLabels = (rules : List RuleValue) (r : Rectangle) (whole part : List Grid)
     → AreCutOut r whole part → HaveTheLabels (map (reclassed_map rules) whole) (map (reclassed_map rules) part)
 
--- if parts have the labels of the full maps, tables are printed for them as for the full maps
+-- if tiles have the labels of the full maps, a table is printed the same for both
 abbrev pub PartsPrintTheWhole : Type 0
 PartsPrintTheWhole = (whole part : List Grid) → HaveTheLabels whole part
     → (format : FormatValue) (picks : List ℕ) (table : Pairs)

@@ -1,4 +1,4 @@
--- What rules do to a table: the cells that they send to one category are counted together, and none is lost.
+-- How rules change a table: cells that become the same category are counted together, and none is lost.
 use Rattle.std.specs.Prelude.{ℕ, ℤ, ◌≡◌, ◌↔◌, false, List, [], ◌∷◌, Some, None, All, Contains, filter, sum_by, slice_get}
 use Rattle.std.specs.Ordering.{eq_by_cmp}
 use Rattle.cell_core.specs.Grid.{Grid}
@@ -11,29 +11,30 @@ use Rattle.cell_stats_combinations.specs.LeftOut.{is_left_out}
 use Rattle.cell_stats_counts.specs.Counts.{count_of}
 use Rattle.cell_stats.specs.CategoryTables.{Pairs, IsTable}
 
--- null stays null; a category that no rule lists becomes null if there is no rule for `*`
+-- null stays null; without a rule for `*`, a category that no rule lists becomes null
 abbrev pub UnnamedIsNull : Type 0
 UnnamedIsNull = (rules : List RuleValue)
     → (new_category rules None ≡ None)
     × ((x : ℤ) → All (λ rule. lists x rule ≡ false) rules → All (λ rule. is_star_rule rule ≡ false) rules
     → new_category rules (Some x) ≡ None)
 
--- the combination to which the rules send another one, by reclassifying its first cell
+-- the combination after its first cell was reclassified
 abbrev pub sent : List RuleValue → Combination → Combination
 sent rules [] = []
 sent rules (cell ∷ others) = new_category rules cell ∷ others
 
--- the entries of a table that the rules send to a combination
+-- the entries of a table whose combinations become `to` when reclassified
 abbrev pub sent_to : List RuleValue → Combination → Pairs → Pairs
 sent_to rules to table = filter (λ pair. eq_by_cmp combination_cmp to (sent rules pair.0)) table
 
--- the maps of the shelf, and the map that the rules make from one of them
+-- two maps of the list: one, and its reclassified map
 pub record IsReclassed (rules : List RuleValue) (maps : List Grid) (old new : ℕ) : Type 0 where
   pub given : Grid
   pub first : slice_get maps old ≡ Some given
   pub second : slice_get maps new ≡ Some (reclassed_map rules given)
 
--- with any other maps, a count with the new map is the sum of the counts of the combinations sent there
+-- in combination with any other maps, each count for the new map is the sum of the counts of the old combinations that
+-- become it
 abbrev pub ReclassKeepsCells : Type 0
 ReclassKeepsCells = (rules : List RuleValue) (maps : List Grid) (old new : ℕ) → IsReclassed rules maps old new
     → (others : List ℕ) (rows cols : ℕ) (skip : Skip) (table : Pairs)

@@ -1,11 +1,11 @@
-//! Laws of clumps, of tables, and of maps that are made from rules. No code runs.
+//! Proves laws about clumps, tables and reclassified maps. Contains no executable code.
 //!
-//! - `numbering_law`: every map has a numbering of its clumps
-//! - `law`: the table of a map and of its clump map counts each clump in full, under one category,
-//!   and the clumps of a category add up to it; connecting by corners only unites clumps;
-//!   reclassifying a tile gives the tile of the reclassified map
-//! - `tables_law`: the pages of a table, one after another, are the table; reclassifying loses no
-//!   cell and counts none twice
+//! - `numbering_law`: every map has a clump map
+//! - `law`: the table of a map and its clump map counts each clump in full, under one category, and the
+//!   clumps of a category add up to it; connecting corners only merges clumps; reclassifying a tile
+//!   gives the tile of the reclassified map
+//! - `tables_law`: the pages of a table, one after another, are the table; reclassifying neither loses
+//!   a cell nor counts one twice
 #![tactic(auto)]
 
 pub mod law;

@@ -1,8 +1,8 @@
-//! A law of the areas of every map.
+//! The law that clump maps exist.
 
 ghost use Rattle.cell_cats_law.specs.ExistsLaw.{ClumpingExists};
 
-/// Each filled map has a clumping by edges, and one by edges and corners.
+/// Every filled map has a clump map by edges, and one by edges and corners.
 pub fn clumping_exists()
     ensures { ClumpingExists }
 {}
