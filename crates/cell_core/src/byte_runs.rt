@@ -1,4 +1,4 @@
-//! Runs of cells kept as bytes.
+//! Finds the runs of cells that are stored as bytes.
 
 ghost use Rattle.std.specs.Prelude.{◌≡◌, ◌<◌, ◌≤◌, ◌^◌, ◌+◌, ◌++◌, length, drop, IfOk, slice_index_or};
 ghost use Rattle.cell_core_values.specs.SmallCells.{byte_cell, cells_of_bytes};
@@ -12,7 +12,7 @@ use cell_core_values::small_cells::{cell_of_byte, write_byte_cells};
 use std::alloc::Global;
 use std::simd::prelude::*;
 
-// The number of bytes at the start that stand for a cell.
+// Returns the number of bytes at the start that stand for `cell`.
 pub(crate) fn count_alike_bytes(cell: Cell, bytes: &[u8]) -> usize
     ensures value { result ≡ alike cell (cells_of_bytes bytes.now) }
     ensures within { result ≤ length bytes.now }
@@ -27,7 +27,7 @@ pub(crate) fn count_alike_bytes(cell: Cell, bytes: &[u8]) -> usize
     count
 }
 
-// Which of the 64 bytes after the first differ from the byte before: bit k is for the byte at place k + 1.
+// Marks which of the 64 bytes after the first differ from the previous byte. Bit k is for the byte at index k + 1.
 #[inline(always)]
 fn breaks_in_bytes(bytes: &[u8]) -> u64
     requires { 64 < length bytes.now }
@@ -37,7 +37,7 @@ fn breaks_in_bytes(bytes: &[u8]) -> u64
     u8x64::from_slice(&bytes[1..]).simd_ne(before).to_bitmask()
 }
 
-// The number of runs of cells kept as bytes.
+// Returns the number of runs in cells stored as bytes.
 pub(crate) fn number_of_byte_runs(bytes: &[u8]) -> usize
     requires { length bytes.now < 2 ^ 32 }
     ensures { result ≡ length (runs_in (cells_of_bytes bytes.now)) }
@@ -51,7 +51,7 @@ pub(crate) fn number_of_byte_runs(bytes: &[u8]) -> usize
     ended + number_of_last_runs(&bytes[at..])
 }
 
-// The same, one byte at a time: for the last bytes of a row.
+// Like `number_of_byte_runs`, but processes one byte at a time, for the last bytes of a row.
 fn number_of_last_runs(bytes: &[u8]) -> usize
     requires { length bytes.now < 2 ^ 32 }
     ensures { result ≡ length (runs_in (cells_of_bytes bytes.now)) }
@@ -59,7 +59,7 @@ fn number_of_last_runs(bytes: &[u8]) -> usize
     if bytes.is_empty() {
         return 0;
     }
-    // With 32 bits, which vectors count faster than 64. Two bytes are equal exactly if their cells are.
+    // 32-bit counters are faster in vectors than 64-bit ones. Two bytes are equal if and only if their cells are.
     let mut alike: u32 = 0;
     let mut last = bytes[0];
     for byte in bytes {
@@ -71,8 +71,8 @@ fn number_of_last_runs(bytes: &[u8]) -> usize
     bytes.len() - alike as usize + 1
 }
 
-// Pushes the runs that end before the byte at place 64. The first byte is the nth cell of its run. Returns the same
-// number for the byte at place 64.
+// Pushes the runs that end before index 64. `nth` is the position of the first byte's cell in its run; returns the
+// position of the cell at index 64 in its run.
 fn push_byte_block(runs: &mut Vec<(Cell, u32)>, nth: u32, bytes: &[u8]) -> Result<u32, Memory>
     requires size { 64 < length bytes.now }
     requires room { nth + 64 < 2 ^ 32 }
@@ -94,7 +94,7 @@ fn push_byte_block(runs: &mut Vec<(Cell, u32)>, nth: u32, bytes: &[u8]) -> Resul
     Ok(count + (BLOCK - at) as u32)
 }
 
-// The runs of cells kept as bytes; their number is `count_of_runs`. Allocates once.
+// Returns the runs of cells stored as bytes, of which there are `count_of_runs`. Allocates once.
 pub(crate) fn runs_of_bytes(
     alloc: Global,
     bytes: &[u8],

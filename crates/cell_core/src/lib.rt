@@ -1,16 +1,16 @@
-//! Maps, and the shelf of maps by name that a script works on.
+//! Stores maps, and the shelf of named maps that a script works on.
 //!
-//! Maps are the CELL maps of the GRASS manual; the shelf is our own choice (profile). Users of maps only need this
+//! Maps are the CELL maps of the GRASS manual; the shelf is our own choice (profile). Users of maps need only this
 //! crate: it re-exports `cell`, `region`, `name` and `memory` of `cell_core_values`, and `source`, `sink`, `block` and
 //! `device` of `cell_core_devices`.
 //!
-//! - `map`: `MapBuilder`, which takes rows from north to south; `CellMap`, its cells and labels
-//! - `runs`: `Runs`, the equal cells next to each other in a row, as (cell, number of columns)
-//! - `stretches`: `Stretches`, a row as it is kept: by runs, or cell by cell
-//! - `shelf`: `Shelf`, maps of one region under distinct names; `ShelfFault`
-//! - `printed_cell`: `write_cell`, a category in decimal, or the null text
-//! - private: `map_rows`, the rows of a map as they are kept; `row`, a row as runs, bytes or cells, and
-//!   `row_view`, what is read from it; `byte_runs`, the runs of bytes
+//! - `map`: `MapBuilder` accepts rows from north to south; `CellMap` holds cells and labels
+//! - `runs`: `Runs` iterates over the runs of equal cells in a row as (cell, number of columns)
+//! - `stretches`: `Stretches` iterates over a row in its stored form: by runs, or cell by cell
+//! - `shelf`: `Shelf` holds maps of one region under distinct names; `ShelfFault` is its error
+//! - `printed_cell`: `write_cell` writes a category in decimal, or the null text
+//! - private: `map_rows`, the stored rows of a map; `row`, a row stored as runs, bytes or cells, and
+//!   `row_view`, a view of it; `byte_runs`, the runs of bytes
 //!
 //! ```
 //! let (one, other) = (Cell::value(1).ok_or("null")?, Cell::value(2).ok_or("null")?);

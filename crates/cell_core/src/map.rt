@@ -1,4 +1,4 @@
-//! Maps of cells, and maps in the making.
+//! Maps of cells, and the builder that creates them.
 
 ghost use Rattle.std.specs.Prelude.{◌≡◌, ◌≢◌, ◌+◌, ◌<◌, ◌++◌, [], ◌∷◌, length, All, IfSome, OnOk, OnErr};
 ghost use Rattle.std.specs.Option.{option_map};
@@ -18,9 +18,9 @@ use std::alloc::Global;
 use std::collections::BTreeMap;
 use std::marker::Model;
 
-/// A raster map of whole numbers (GRASS: a CELL map): its region, its rows from the top, and the labels of its
-/// categories. Rows and columns count from 0. A row is kept as its runs, or as its cells if these take less memory: in
-/// one byte each if all are null or from 0 to 254.
+/// A raster map of whole numbers (GRASS: a CELL map) with its region, its rows from the top, and the labels of its
+/// categories. Rows and columns are counted from 0. A row is stored as runs, or as cells if these take less memory;
+/// cells take one byte each if all of them are null or from 0 to 254.
 #[derive(Debug, Drop)]
 pub struct CellMap {
     alloc: Global,
@@ -44,7 +44,7 @@ impl Model for CellMap {
 }
 
 impl CellMap {
-    /// The region that it covers.
+    /// Returns the region that the map covers.
     pub fn region(&self) -> Region
         ensures value { result ≡ self.now.region }
         ensures filled { IsFilled self.now.region self.now.rows }
@@ -52,8 +52,8 @@ impl CellMap {
         self.rows.region()
     }
 
-    /// The cell at a row and a column. It walks the runs of the row, since a run stores its length and not its end: to
-    /// read many cells, use `copy_row` or `runs`.
+    /// Returns the cell at a row and a column. Walks the runs of the row, because a run stores its length and not its
+    /// end. To read many cells, use `copy_row` or `runs`.
     pub fn cell(&self, row: u32, col: u32) -> Cell
         requires row_in_range { row < self.now.region.rows }
         requires col_in_range { col < self.now.region.cols }
@@ -62,8 +62,8 @@ impl CellMap {
         self.rows.row(row).cell(col)
     }
 
-    /// Copies the cells of a row, from left to right, into a slice with one cell per column. Not inlined: the compiler
-    /// makes the loops over cells in its callers faster without it.
+    /// Copies the cells of a row, from left to right, into a slice with one cell per column. Not inlined, because the
+    /// compiler then makes faster loops over cells in the callers.
     #[inline(never)]
     pub fn copy_row(&self, row: u32, cells: &mut [Cell])
         requires row_in_range { row < self.now.region.rows }
@@ -73,7 +73,7 @@ impl CellMap {
         self.rows.row(row).copy_to(cells);
     }
 
-    /// The runs of a row, from left to right.
+    /// Iterates over the runs of a row, from left to right.
     pub fn runs(&self, row: u32) -> Runs<'_>
         requires row_in_range { row < self.now.region.rows }
         ensures written { written_out result ≡ row_at self.now row }
@@ -83,7 +83,7 @@ impl CellMap {
         self.rows.row(row).runs()
     }
 
-    /// The stretches of a row, from left to right: its runs, or its cells one by one, depending on how they are kept.
+    /// Iterates over a row, from left to right, in its stored form: run by run, or cell by cell.
     pub fn stretches(&self, row: u32) -> Stretches<'_>
         requires row_in_range { row < self.now.region.rows }
         ensures written { written_out result ≡ row_at self.now row }
@@ -93,7 +93,7 @@ impl CellMap {
         self.rows.row(row).stretches()
     }
 
-    /// The bytes that stand for the cells of a row, from left to right, if the row is kept as bytes.
+    /// Returns the bytes that stand for the cells of a row, from left to right, if the row is stored as bytes.
     pub fn bytes(&self, row: u32) -> Option<&[u8]>
         requires row_in_range { row < self.now.region.rows }
         ensures cells { IfSome result (λ bytes. cells_of_bytes bytes.now ≡ row_at self.now row) }
@@ -102,7 +102,7 @@ impl CellMap {
         self.rows.row(row).bytes()
     }
 
-    /// The cells of a row, from left to right, if the row is kept as cells.
+    /// Returns the cells of a row, from left to right, if the row is stored as cells.
     pub fn cells(&self, row: u32) -> Option<&[Cell]>
         requires row_in_range { row < self.now.region.rows }
         ensures { IfSome result (λ cells. cells.now ≡ row_at self.now row) }
@@ -110,16 +110,16 @@ impl CellMap {
         self.rows.row(row).cells()
     }
 
-    /// States that each cell of a map is null or a category. Does nothing. It is a call of its own, so that only laws
-    /// that need the range carry the fact.
+    /// Provides the fact that each cell is null or a category, and does nothing at run time. It is a separate call so
+    /// that only laws that need the fact carry it.
     pub fn cells_are_in_range(&self)
         ensures { AreCells self.now.rows }
     {
-        // The proof looks at the rows that are kept.
+        // Reading the field lets the proof use the invariant of the rows.
         let _ = &self.rows;
     }
 
-    /// The label last set for a category, or None if there is none.
+    /// Returns the label last set for a category, or `None` if it has no label.
     pub fn label(&self, category: i32) -> Option<&[u8]>
         ensures { option_map (λ text. text.now) result ≡ get self.now.labels category }
     {
@@ -129,25 +129,25 @@ impl CellMap {
         }
     }
 
-    /// Sets the label of a category to a copy of the text. Everything else is unchanged.
+    /// Sets the label of a category to a copy of `text`.
     ///
     /// # Errors
     ///
-    /// [`Memory`] if memory runs out: nothing is changed.
+    /// [`Memory`] if memory runs out; the map is then unchanged.
     pub fn set_label(&mut self, category: i32, text: &[u8]) -> Result<(), Memory>
         requires { category ≢ i32.MIN }
         ensures ok { OnOk result
             (self.new ≡ record self.old { labels = insert self.old.labels category text.now }) }
         ensures err { OnErr result (self.new ≡ self.old) }
     {
-        // Both the copy and the entry may run out of memory, so the copy is made before the labels change.
+        // Both the copy and the entry may run out of memory, so the text is copied before the labels change.
         let label = Vec::from_slice(self.alloc, text)?;
         self.labels.insert(category, label)?;
         Ok(())
     }
 }
 
-/// A map that is being filled row by row, from the top.
+/// Builds a map row by row, from the top.
 #[derive(Debug, Drop)]
 pub struct MapBuilder {
     alloc: Global,
@@ -163,7 +163,7 @@ impl Model for MapBuilder {
 }
 
 impl MapBuilder {
-    /// A map of this region without rows. Takes no memory.
+    /// Returns a builder for a map of this region, without rows. Does not allocate.
     pub fn new(alloc: Global, region: Region) -> MapBuilder
         ensures { result ≡ record { region = region; rows = [] } }
     {
@@ -173,7 +173,7 @@ impl MapBuilder {
         }
     }
 
-    /// The number of rows still to be pushed.
+    /// Returns the number of rows still to be pushed.
     pub fn rows_left(&self) -> u32
         ensures count { result + length self.now.rows ≡ self.now.region.rows }
         ensures draft { IsDraft self.now.region self.now.rows }
@@ -181,11 +181,11 @@ impl MapBuilder {
         self.rows.region().rows() - self.rows.len()
     }
 
-    /// Adds a row at the bottom, with one cell per column. One or more rows are left.
+    /// Appends a row at the bottom, with one cell per column. At least one row must be missing.
     ///
     /// # Errors
     ///
-    /// [`Memory`] if memory for the row runs out: nothing is changed.
+    /// [`Memory`] if memory for the row runs out; the builder is then unchanged.
     pub fn push_row(&mut self, row: &[Cell]) -> Result<(), Memory>
         requires width { length row.now ≡ self.old.region.cols }
         requires room { length self.old.rows < self.old.region.rows }
@@ -196,11 +196,11 @@ impl MapBuilder {
         self.rows.push_row(row)
     }
 
-    /// Adds a row of cells kept as bytes at the bottom, as [`MapBuilder::push_row`] does.
+    /// Appends a row given as bytes at the bottom, like [`MapBuilder::push_row`].
     ///
     /// # Errors
     ///
-    /// [`Memory`] if memory for the row runs out: nothing is changed.
+    /// [`Memory`] if memory for the row runs out; the builder is then unchanged.
     pub fn push_bytes(&mut self, bytes: &[u8]) -> Result<(), Memory>
         requires width { length bytes.now ≡ self.old.region.cols }
         requires room { length self.old.rows < self.old.region.rows }
@@ -211,12 +211,12 @@ impl MapBuilder {
         self.rows.push_bytes(bytes)
     }
 
-    /// Adds the row of some runs at the bottom, as [`MapBuilder::push_row`] does. It is kept as these runs, which take
-    /// less memory than its cells if there are at most half as many runs as cells.
+    /// Appends a row given as runs at the bottom, like [`MapBuilder::push_row`]. The row is stored as these runs, which
+    /// take no more memory than its cells if there are at most half as many runs as cells.
     ///
     /// # Errors
     ///
-    /// [`Memory`] if memory for the row runs out: nothing is changed.
+    /// [`Memory`] if memory for the row runs out; the builder is then unchanged.
     pub fn push_runs(&mut self, runs: &[(Cell, u32)]) -> Result<(), Memory>
         requires runs { AreRuns runs.now }
         requires width { length (written_out runs.now) ≡ self.old.region.cols }
@@ -228,7 +228,7 @@ impl MapBuilder {
         self.rows.push_runs(runs)
     }
 
-    /// The map of the pushed rows, without labels. No row is left to be pushed.
+    /// Returns the map of the pushed rows, without labels. All rows must have been pushed.
     pub fn finish(self) -> CellMap
         requires { length self.rows ≡ self.region.rows }
         ensures { result ≡ record { region = self.region; rows = self.rows; labels = no_labels } }

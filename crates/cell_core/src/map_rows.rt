@@ -1,4 +1,4 @@
-//! The rows of a map as they are kept.
+//! Stores the rows of a map.
 
 ghost use Rattle.std.specs.Prelude.{◌≡◌, ◌<◌, ◌++◌, [], ◌∷◌, length, OnOk, OnErr, slice_index_or};
 ghost use Rattle.cell_core_values.specs.SmallCells.{cells_of_bytes};
@@ -13,7 +13,7 @@ use cell_core_values::region::Region;
 use std::alloc::Global;
 use std::marker::Model;
 
-/// Rows of a region, from the top.
+/// The rows of a region, from the top.
 #[derive(Debug, Drop)]
 pub(crate) struct Rows {
     region: Region,
@@ -33,7 +33,7 @@ impl Model for Rows {
 }
 
 impl Rows {
-    // No rows yet. Takes no memory.
+    // Returns an empty list of rows. Does not allocate.
     pub(crate) fn new(alloc: Global, region: Region) -> Rows
         ensures { result ≡ record { region = region; rows = [] } }
     {
@@ -44,14 +44,13 @@ impl Rows {
         }
     }
 
-    // The region.
     pub(crate) fn region(&self) -> Region
         ensures { result ≡ self.now.region }
     {
         self.region
     }
 
-    // The number of rows.
+    // Returns the number of rows.
     pub(crate) fn len(&self) -> u32
         ensures count { result ≡ length self.now.rows }
         ensures draft { IsDraft self.now.region self.now.rows }
@@ -60,7 +59,7 @@ impl Rows {
         self.kept.len() as u32
     }
 
-    // The row at a place, from 0.
+    // Returns the row at index `place`.
     pub(crate) fn row(&self, place: u32) -> RowView<'_>
         requires { place < length self.now.rows }
         ensures { result ≡ slice_index_or self.now.rows place [] }
@@ -68,7 +67,7 @@ impl Rows {
         self.kept[place as usize].view()
     }
 
-    // Adds a row at the bottom.
+    // Appends a row at the bottom.
     pub(crate) fn push_row(&mut self, row: &[Cell]) -> Result<(), Memory>
         requires width { length row.now ≡ self.old.region.cols }
         requires room { length self.old.rows < self.old.region.rows }
@@ -80,7 +79,7 @@ impl Rows {
         Ok(())
     }
 
-    // Adds a row of cells kept as bytes at the bottom.
+    // Appends a row given as bytes at the bottom.
     pub(crate) fn push_bytes(&mut self, row: &[u8]) -> Result<(), Memory>
         requires width { length row.now ≡ self.old.region.cols }
         requires room { length self.old.rows < self.old.region.rows }

@@ -1,4 +1,4 @@
-//! The printed form of a cell.
+//! Prints cells.
 
 ghost use Rattle.std.specs.Prelude.{[]};
 ghost use Rattle.cell_core_devices.specs.Blocks.{Appends};
@@ -9,7 +9,7 @@ use cell_core_devices::sink::Sink;
 use cell_core_values::cell::Cell;
 use itoa::Buffer;
 
-/// Writes a cell: its category in decimal, or the null text. Takes no memory.
+/// Writes a cell: its category in decimal, or the null text. Does not allocate.
 pub fn write_cell<W: Sink>(out: &mut W, block: &mut OutputBlock, cell: Cell, null_text: &[u8])
     ensures { Appends W.taken W.faults out.old block.old (cell_text null_text.now cell)
         out.new block.new }

@@ -1,4 +1,4 @@
-//! A row of a map as it is kept.
+//! Stores a row of a map.
 
 ghost use Rattle.std.specs.Prelude.{◌≡◌, ◌<◌, ◌^◌, length, All, IfOk};
 ghost use Rattle.cell_core_values.specs.Cell.{IsCell};
@@ -14,18 +14,18 @@ use cell_core_values::small_cells::{are_small, bytes_of};
 use std::alloc::Global;
 use std::marker::Model;
 
-// A run takes the memory of this many cells.
+// A run takes as much memory as this many cells.
 const CELLS_A_RUN: usize = 2;
 
-/// A row of cells, kept in a compact form.
+/// A row of cells, stored in the form that takes the least memory.
 #[derive(Debug, Drop)]
 pub(crate) struct Row {
     kept: RowForm,
 }
 
-/// A row as its runs, or as its cells if most runs are short: in one byte each, if all cells have bytes. One allocation
-/// of exactly the right size, since the runs are counted first. One list of runs for a whole map took the same time and
-/// memory, and rows would have to be cut out of it. With runs only, noise took 8 bytes per cell.
+/// A row stored as runs, or as cells if most runs are short, in one byte each if all cells have bytes. Each row is one
+/// allocation of the exact size, because runs are counted first. A single list of runs for the full map took the same
+/// time and memory, and rows would have to be cut out of it. With only runs, noise took 8 bytes per cell.
 #[derive(Debug, Drop)]
 enum RowForm {
     Runs(Vec<(Cell, u32)>),
@@ -46,7 +46,7 @@ impl Model for Row {
 }
 
 impl Row {
-    // Keeps a row of cells. Allocates at most once.
+    // Stores a row of cells. Allocates at most once.
     pub(crate) fn of(alloc: Global, cells: &[Cell]) -> Result<Row, Memory>
         requires { length cells.now < 2 ^ 32 }
         ensures value { IfOk result (λ row. row ≡ cells.now) }
@@ -63,7 +63,7 @@ impl Row {
         Ok(Row { kept })
     }
 
-    // Keeps a row of cells given as bytes. Allocates at most once.
+    // Stores a row of cells given as bytes. Allocates at most once.
     pub(crate) fn of_bytes(alloc: Global, bytes: &[u8]) -> Result<Row, Memory>
         requires { length bytes.now < 2 ^ 32 }
         ensures value { IfOk result (λ row. row ≡ cells_of_bytes bytes.now) }
@@ -78,14 +78,14 @@ impl Row {
         Ok(Row { kept })
     }
 
-    // Keeps the row of some runs. Allocates at most once.
+    // Stores a row given as runs. Allocates at most once.
     pub(crate) fn of_runs(alloc: Global, runs: &[(Cell, u32)]) -> Result<Row, Memory>
         requires { AreRuns runs.now }
         ensures value { IfOk result (λ row. row ≡ written_out runs.now) }
         ensures cells { IfOk result (λ row. All IsCell row) }
     {
         for run in runs {
-            // The proof looks at each category.
+            // Reading each category lets the proof use its range.
             let _ = category_of(run.0);
         }
         let kept = Vec::from_slice(alloc, runs)?;
@@ -94,7 +94,7 @@ impl Row {
         })
     }
 
-    // The row, as a view of the form in which it is kept.
+    // Returns a view of the row in its stored form.
     pub(crate) fn view(&self) -> RowView<'_>
         ensures { result ≡ self.now }
     {

@@ -1,4 +1,4 @@
-//! A row of a map, as a view of the form in which it is kept.
+//! Views of stored rows.
 
 ghost use Rattle.std.specs.Prelude.{◌≡◌, ◌<◌, ◌^◌, length, All, None, IfSome, slice_index_or};
 ghost use Rattle.cell_core_values.specs.SmallCells.{cells_of_bytes};
@@ -10,7 +10,7 @@ use cell_core_values::cell::Cell;
 use cell_core_values::small_cells::{cell_of_byte, write_byte_cells};
 use std::marker::Model;
 
-/// A row of cells in the form in which it is kept.
+/// A view of a row in its stored form.
 #[derive(Drop)]
 pub(crate) struct RowView<'a> {
     form: ViewForm<'a>,
@@ -36,7 +36,7 @@ impl<'a> Model for RowView<'a> {
 }
 
 impl<'a> RowView<'a> {
-    // The row of these runs.
+    // Returns a view of a row given as runs.
     pub(crate) fn of_runs(runs: &'a [(Cell, u32)]) -> RowView<'a>
         requires { AreRuns runs.now }
         ensures { result ≡ written_out runs.now }
@@ -46,7 +46,7 @@ impl<'a> RowView<'a> {
         }
     }
 
-    // The row of cells given as bytes.
+    // Returns a view of a row given as bytes.
     pub(crate) fn of_bytes(bytes: &'a [u8]) -> RowView<'a>
         requires { length bytes.now < 2 ^ 32 }
         ensures { result ≡ cells_of_bytes bytes.now }
@@ -56,7 +56,7 @@ impl<'a> RowView<'a> {
         }
     }
 
-    // The row of these cells.
+    // Returns a view of a row given as cells.
     pub(crate) fn of_cells(cells: &'a [Cell]) -> RowView<'a>
         requires { length cells.now < 2 ^ 32 }
         ensures { result ≡ cells.now }
@@ -66,7 +66,7 @@ impl<'a> RowView<'a> {
         }
     }
 
-    // The cell at a column, or null past the end.
+    // Returns the cell at a column, or null past the end.
     pub(crate) fn cell(self, col: u32) -> Cell
         ensures { result ≡ slice_index_or self.entry col None }
     {
@@ -95,7 +95,7 @@ impl<'a> RowView<'a> {
         }
     }
 
-    // The runs, from left to right.
+    // Iterates over the runs, from left to right.
     pub(crate) fn runs(self) -> Runs<'a>
         ensures written { written_out result ≡ self.entry }
         ensures runs { AreRuns result }
@@ -107,7 +107,7 @@ impl<'a> RowView<'a> {
         }
     }
 
-    // The bytes that stand for the cells, if the row is kept as bytes.
+    // Returns the bytes that stand for the cells, if the row is stored as bytes.
     pub(crate) fn bytes(self) -> Option<&'a [u8]>
         ensures { IfSome result (λ bytes. cells_of_bytes bytes.now ≡ self.entry) }
     {
@@ -117,7 +117,7 @@ impl<'a> RowView<'a> {
         }
     }
 
-    // The cells, if the row is kept as cells.
+    // Returns the cells, if the row is stored as cells.
     pub(crate) fn cells(self) -> Option<&'a [Cell]>
         ensures { IfSome result (λ cells. cells.now ≡ self.entry) }
     {
@@ -127,7 +127,7 @@ impl<'a> RowView<'a> {
         }
     }
 
-    // The stretches, from left to right.
+    // Iterates over the stretches, from left to right.
     pub(crate) fn stretches(self) -> Stretches<'a>
         ensures written { written_out result ≡ self.entry }
         ensures some { All (λ run. 0 < run.1) result }

@@ -1,4 +1,4 @@
-//! The runs of a row: adjacent equal cells, and their number.
+//! The runs of a row: maximal groups of adjacent equal cells.
 
 ghost use Rattle.std.specs.Prelude.{◌≡◌, ◌<◌, ◌≤◌, ◌+◌, ◌-◌, ◌++◌, ◌^◌, List, length, take, drop, replicate, All, None, IfOk, OnOk, slice_index_or};
 ghost use Rattle.std.specs.Iterator.{YieldsFirst, item_count};
@@ -16,10 +16,10 @@ use std::alloc::Global;
 use std::marker::Model;
 use std::simd::prelude::*;
 
-// Cells compared at a time.
+// Number of cells compared at a time.
 pub(crate) const BLOCK: usize = 64;
 
-// Its category, or None for null: there are no other cells.
+// Returns the category of a cell, or `None` for null. The contract states that a cell is one or the other.
 pub(crate) fn category_of(cell: Cell) -> Option<i32>
     ensures value { result ≡ cell }
     ensures cell { IsCell cell }
@@ -27,7 +27,7 @@ pub(crate) fn category_of(cell: Cell) -> Option<i32>
     cell.get()
 }
 
-// The number of runs of a row. Its cells are null or categories.
+// Returns the number of runs in a row. The contract also states that its cells are null or categories.
 pub(crate) fn number_of_runs(row: &[Cell]) -> usize
     requires { length row.now < 2 ^ 32 }
     ensures count { result ≡ length (runs_in row.now) }
@@ -36,12 +36,12 @@ pub(crate) fn number_of_runs(row: &[Cell]) -> usize
     if row.is_empty() {
         return 0;
     }
-    // With 32 bits, so that a vector counts as many cells as it compares. Counts the cells that continue a run, which
-    // takes one step less.
+    // A 32-bit counter lets a vector count as many cells as it compares. Counting the cells that continue a run takes
+    // one step less than counting runs.
     let mut alike: u32 = 0;
     let mut last = row[0];
     for cell in row {
-        // The proof looks at each category. The count itself only compares cells, several at a time.
+        // Reading each category lets the proof use its range. The count only compares cells, several at a time.
         let _ = category_of(*cell);
         if *cell == last {
             alike = alike.wrapping_add(1);
@@ -51,7 +51,7 @@ pub(crate) fn number_of_runs(row: &[Cell]) -> usize
     row.len() - alike as usize + 1
 }
 
-// Which of 64 bytes are not 0, as bits.
+// Returns a mask of the bytes that are not 0.
 #[inline(always)]
 fn set_bits(flags: &[u8]) -> u64
     requires { length flags.now ≡ 64 }
@@ -62,13 +62,13 @@ fn set_bits(flags: &[u8]) -> u64
         .to_bitmask()
 }
 
-// Which cells of a block differ from the one before, the first from a given cell: bit k is for the cell at place k.
+// Marks which cells of a block differ from the previous cell, which is `cell` for the first. Bit k is for index k.
 #[inline(always)]
 fn breaks_in(cell: Cell, block: &[Cell]) -> u64
     requires { length block.now ≡ 64 }
     ensures { result ≡ mark_bits cell block.now }
 {
-    // One byte for each, so that a vector compares several.
+    // One byte per flag lets a vector compare several cells at a time.
     let mut flags = [0u8; 64];
     let mut last = cell;
     for j in 0..BLOCK {
@@ -79,7 +79,7 @@ fn breaks_in(cell: Cell, block: &[Cell]) -> u64
     set_bits(&flags)
 }
 
-// Pushes the runs that end in a block, the first of which may have begun earlier. Returns the run that continues.
+// Pushes the runs that end in a block. The first of them may have begun earlier. Returns the run that continues.
 fn push_block(
     runs: &mut Vec<(Cell, u32)>,
     run: (Cell, u32),
@@ -108,7 +108,7 @@ fn push_block(
     Ok((cell, count + (BLOCK - at) as u32))
 }
 
-// Pushes the runs of the last cells of a row, the first of which may have begun before them.
+// Pushes the runs of the last cells of a row. The first of them may have begun earlier.
 pub(crate) fn push_last(
     runs: &mut Vec<(Cell, u32)>,
     run: (Cell, u32),
@@ -132,7 +132,7 @@ pub(crate) fn push_last(
     Ok(())
 }
 
-// The runs of a row; their number is `count_of_runs`. Allocates once.
+// Returns the runs of a row, of which there are `count_of_runs`. Allocates once.
 pub(crate) fn runs_of(
     alloc: Global,
     row: &[Cell],
@@ -155,7 +155,7 @@ pub(crate) fn runs_of(
     Ok(runs)
 }
 
-// The cell at a column of the row that runs make, or null past its end.
+// Returns the cell at a column of a row given as runs, or null past the end.
 pub(crate) fn cell_of_runs(runs: &[(Cell, u32)], col: u32) -> Cell
     ensures { result ≡ slice_index_or (written_out runs.now) col None }
 {
@@ -169,7 +169,7 @@ pub(crate) fn cell_of_runs(runs: &[(Cell, u32)], col: u32) -> Cell
     Cell::null()
 }
 
-/// Writes a run over the cells of a row, from a column on.
+/// Writes a run to the cells of a row, starting at column `at`.
 #[inline]
 pub fn fill_run(cells: &mut [Cell], at: usize, run: (Cell, u32))
     requires { at + run.1 ≤ length cells.old }
@@ -179,7 +179,7 @@ pub fn fill_run(cells: &mut [Cell], at: usize, run: (Cell, u32))
     cells[at..at + run.1 as usize].fill(run.0);
 }
 
-// Writes the row that runs make into a slice of the same length.
+// Writes a row given as runs into a slice of the same length.
 pub(crate) fn write_out(runs: &[(Cell, u32)], cells: &mut [Cell])
     requires { length cells.old ≡ length (written_out runs.now) }
     ensures { cells.new ≡ written_out runs.now }
@@ -191,7 +191,7 @@ pub(crate) fn write_out(runs: &[(Cell, u32)], cells: &mut [Cell])
     }
 }
 
-// The number of cells at the start that equal a cell.
+// Returns the number of cells at the start that equal `cell`.
 fn count_alike(cell: Cell, cells: &[Cell]) -> usize
     ensures value { result ≡ alike cell cells.now }
     ensures within { result ≤ length cells.now }
@@ -206,14 +206,14 @@ fn count_alike(cell: Cell, cells: &[Cell]) -> usize
     count
 }
 
-/// The runs of a row, from left to right: a cell and its number of repeats, at least 1. Neighbouring runs have
-/// different cells. In contracts it is the list of the runs still to come.
+/// Iterates over the runs of a row, from left to right: a cell and the number of times it is repeated, at least 1.
+/// Adjacent runs have different cells. In contracts, its value is the list of remaining runs.
 #[derive(Drop)]
 pub struct Runs<'a> {
     rest: Rest<'a>,
 }
 
-// The form from which the runs are read.
+// The form in which the remaining runs are stored.
 #[derive(Drop)]
 enum Rest<'a> {
     Runs(&'a [(Cell, u32)]),
@@ -234,7 +234,7 @@ impl<'a> Model for Runs<'a> {
 }
 
 impl<'a> Runs<'a> {
-    // Over given runs.
+    // Iterates over given runs.
     pub(crate) fn over(runs: &'a [(Cell, u32)]) -> Runs<'a>
         ensures { result ≡ runs.now }
     {
@@ -243,7 +243,7 @@ impl<'a> Runs<'a> {
         }
     }
 
-    /// The number of runs still to come.
+    /// Returns the number of remaining runs.
     pub fn len(&self) -> usize
         ensures { result ≡ length self.now }
     {
@@ -254,7 +254,7 @@ impl<'a> Runs<'a> {
         }
     }
 
-    // Over the runs of cells kept as bytes.
+    // Iterates over the runs of cells stored as bytes.
     pub(crate) fn of_bytes(bytes: &'a [u8]) -> Runs<'a>
         requires { length bytes.now < 2 ^ 32 }
         ensures { result ≡ runs_in (cells_of_bytes bytes.now) }
@@ -264,7 +264,7 @@ impl<'a> Runs<'a> {
         }
     }
 
-    // Over the runs of cells.
+    // Iterates over the runs of cells.
     pub(crate) fn of_cells(cells: &'a [Cell]) -> Runs<'a>
         requires { length cells.now < 2 ^ 32 }
         ensures { result ≡ runs_in cells.now }

@@ -1,4 +1,4 @@
-//! The cells of a row in stretches, as they are kept.
+//! Reads a row in the form in which it is stored.
 
 ghost use Rattle.std.specs.Prelude.{◌≡◌};
 ghost use Rattle.std.specs.Iterator.{YieldsFirst, item_count};
@@ -9,15 +9,16 @@ use cell_core_values::cell::Cell;
 use cell_core_values::small_cells::cell_of_byte;
 use std::marker::Model;
 
-/// The cells of a row in stretches, from left to right: a cell and its number of repeats. For a row kept as runs these
-/// are its runs, for others its cells one by one, so neighbours may have equal cells: if most runs are short, this is
-/// faster than finding where each ends. In contracts it is the list of the stretches still to come.
+/// Iterates over the cells of a row, from left to right, as stretches: a cell and the number of times it is repeated.
+/// The stretches of a row stored as runs are its runs. Other rows have one stretch per cell, so adjacent stretches may
+/// have equal cells: if most runs are short, this is faster than finding their ends. In contracts, its value is the
+/// list of remaining stretches.
 #[derive(Drop)]
 pub struct Stretches<'a> {
     rest: Unread<'a>,
 }
 
-// The form from which the stretches are read.
+// The form in which the remaining stretches are stored.
 #[derive(Drop)]
 enum Unread<'a> {
     Runs(&'a [(Cell, u32)]),
@@ -36,7 +37,7 @@ impl<'a> Model for Stretches<'a> {
 }
 
 impl<'a> Stretches<'a> {
-    // Over given runs.
+    // Iterates over given runs.
     pub(crate) fn of_runs(runs: &'a [(Cell, u32)]) -> Stretches<'a>
         ensures { result ≡ runs.now }
     {
@@ -45,7 +46,7 @@ impl<'a> Stretches<'a> {
         }
     }
 
-    // Over cells kept as bytes.
+    // Iterates over cells stored as bytes.
     pub(crate) fn of_bytes(bytes: &'a [u8]) -> Stretches<'a>
         ensures { result ≡ one_by_one (cells_of_bytes bytes.now) }
     {
@@ -54,7 +55,7 @@ impl<'a> Stretches<'a> {
         }
     }
 
-    // Over cells.
+    // Iterates over cells.
     pub(crate) fn of_cells(cells: &'a [Cell]) -> Stretches<'a>
         ensures { result ≡ one_by_one cells.now }
     {

@@ -3,7 +3,7 @@ use Rattle.std.specs.Prelude.{ℕ, ◌==◌, Bool, true, false, Result, Ok, Err,
 use Rattle.cell_core_devices.specs.declared.source.Asked.{Asked}
 use Rattle.cell_core_devices.specs.declared.source.Asked.TheVariants.{Going, Ended, Failed, Again}
 
--- after one more call, with this result
+-- the state after one more call with this result
 abbrev pub after_take : {E : Type 0} → Asked → Result ℕ E → Asked
 after_take Going (Ok n) = if n == 0 then Ended else Going
 after_take Going (Err e) = Failed
@@ -11,23 +11,23 @@ after_take Ended answer = Again
 after_take Failed answer = Again
 after_take Again answer = Again
 
--- whether a source is in the state that its reader assumes: continuing, at an end that was reported, or failed
+-- the source is in the state that its reader assumes: not ended, at a reported end, or failed
 abbrev pub is_at : Asked → (ended failed : Bool) → Bool
 is_at Going false false = true
 is_at Ended true false = true
 is_at Failed false true = true
 is_at asked ended failed = false
 
--- what a reader knows about its source: whether the source is in the state that the reader assumes, so that it was
--- never asked after its end or an `Err`; and whether it returned an `Err`
+-- a reader's knowledge about its source: whether the source is in the assumed state, so that it was never asked after
+-- its end or an `Err`; and whether it returned an `Err`
 pub record Heard : Type 0 where
   pub sure : Bool
   pub failed : Bool
 
--- after calls of which the last one returned an `Err`, or none did
+-- the knowledge after more calls, the last of which may have failed
 abbrev pub hears : Bool → Heard → Heard
 hears fails heard = record { sure = heard.sure; failed = fails }
 
--- a source that a reader was just given
+-- the knowledge about a source that a reader was just given
 abbrev pub heard_first : Asked → Heard
 heard_first asked = record { sure = is_at asked false false; failed = false }

@@ -1,4 +1,4 @@
--- Sources and sinks, output in blocks.
+-- Sources, sinks and output blocks.
 pub mod Asking
 pub mod Blocks
 pub mod Device

@@ -1,5 +1,5 @@
-//! Output gathered in a block, so that each put carries a few KiB. The block remembers a failed put, so that its users
-//! ask for the error only once.
+//! Gathers output in a block, so that each put passes a few KiB to the sink. The block remembers a failed put, so that
+//! callers check for the error only once.
 
 ghost use Rattle.std.specs.Prelude.{◌≡◌, ℕ, ◌+◌, ◌≤◌, List, [], ◌++◌, length, take, Option, false};
 ghost use Rattle.cell_core_devices.specs.Device.{Faults};
@@ -8,15 +8,16 @@ ghost use Rattle.cell_core_devices.specs.Blocks.{BlockValue, room, Appended, App
 use crate::sink::{Sink, WriteFault, put_bytes};
 use std::marker::Model;
 
-// The capacity of a block in bytes.
+// Capacity of a block in bytes.
 const ROOM: usize = 4096;
 
-/// Bytes that are held until they fill a block, the number of bytes that the sink took, and whether a put failed.
+/// Holds bytes until they fill a block, the number of bytes that the sink accepted, and whether a put failed.
 ///
-/// It takes no memory. After a failed put nothing more is put.
+/// It does not allocate. After a failed put, nothing more is written.
 ///
-/// Functions that write through it return nothing. When each of them returned a failed put, it had four to six more
-/// clauses, and its proof was three times as long. A buffered writer of std would count bytes that it only holds.
+/// Functions that write through a block return nothing. When each of them returned a failed put, it needed four to six
+/// more clauses, and its proof was three times as long. A buffered writer of std would also count bytes that it still
+/// holds.
 #[derive(Drop)]
 pub struct OutputBlock {
     bytes: [u8; ROOM],
@@ -37,7 +38,7 @@ impl Model for OutputBlock {
 }
 
 impl OutputBlock {
-    /// A block through which nothing has been written.
+    /// Returns an empty block.
     pub fn new() -> OutputBlock
         ensures value { result ≡ empty_block }
         ensures nothing { (before : Option (List ℕ)) (start : Faults)
@@ -51,25 +52,25 @@ impl OutputBlock {
         }
     }
 
-    /// The number of bytes that the sink took, or the largest `u64` if there were more.
+    /// Returns the number of bytes that the sink accepted, capped at the largest `u64`.
     pub fn written(&self) -> u64
         ensures { result ≡ self.now.written }
     {
         self.written
     }
 
-    /// Whether a put failed.
+    /// Returns whether a put failed.
     pub fn has_failed(&self) -> bool
         ensures { result ≡ self.now.failed }
     {
         self.failed
     }
 
-    /// Whether everything was written.
+    /// Returns `Ok` if no put failed.
     ///
     /// # Errors
     ///
-    /// `WriteFault` with the number of bytes that the sink took in all, if a put failed.
+    /// `WriteFault` with the total number of bytes that the sink accepted, if a put failed.
     pub fn outcome(&self) -> Result<(), WriteFault>
         ensures { result ≡ fault_if self.now.failed self.now.written }
     {
@@ -81,7 +82,7 @@ impl OutputBlock {
         Ok(())
     }
 
-    // The number of bytes held.
+    // Returns the number of bytes held.
     fn len(&self) -> usize
         ensures value { result ≡ length self.now.held }
         ensures within { result ≤ room }
@@ -89,14 +90,14 @@ impl OutputBlock {
         self.len
     }
 
-    // The bytes held.
+    // Returns the bytes held.
     fn bytes(&self) -> &[u8]
         ensures { result.now ≡ self.now.held }
     {
         &self.bytes[..self.len]
     }
 
-    // Adds the bytes to those held.
+    // Appends bytes to those held.
     fn hold_bytes(&mut self, bytes: &[u8])
         requires { length self.old.held + length bytes.now ≤ room }
         ensures { self.new ≡ record {
@@ -110,7 +111,7 @@ impl OutputBlock {
         self.len = end;
     }
 
-    // Empties the block after a put: `all` bytes are written by now, or the put failed.
+    // Empties the block after a put, which either wrote `all` bytes or failed.
     fn settle(&mut self, put: Result<(), WriteFault>, all: u64)
         requires { self.old.failed ≡ false }
         ensures { self.new ≡ settled_block self.old put all }
@@ -126,7 +127,7 @@ impl OutputBlock {
         self.len = 0;
     }
 
-    /// Puts the held bytes into the sink, unless a put failed.
+    /// Passes the held bytes to the sink, unless a put failed before.
     pub fn empty<W: Sink>(&mut self, out: &mut W)
         ensures appends { Appends W.taken W.faults out.old self.old [] out.new self.new }
         ensures held { self.new.failed ≡ false → self.new.held ≡ [] }
@@ -139,7 +140,7 @@ impl OutputBlock {
         self.settle(put, all);
     }
 
-    // Puts the bytes directly into the sink; the block holds nothing.
+    // Passes bytes directly to the sink. The block must be empty.
     fn put_long<W: Sink>(&mut self, out: &mut W, bytes: &[u8])
         requires failed { self.old.failed ≡ false }
         requires held { self.old.held ≡ [] }
@@ -149,7 +150,7 @@ impl OutputBlock {
         self.settle(put, bytes.len() as u64);
     }
 
-    // Puts the held bytes into the sink, and then gathers the bytes, or puts them too if they exceed a block.
+    // Passes the held bytes to the sink, then holds the new bytes, or passes them on as well if they exceed a block.
     #[cold]
     fn push_past<W: Sink>(&mut self, out: &mut W, bytes: &[u8])
         ensures { Appends W.taken W.faults out.old self.old bytes.now out.new self.new }
@@ -165,7 +166,8 @@ impl OutputBlock {
         self.hold_bytes(bytes);
     }
 
-    /// Gathers any number of bytes, and puts into the sink what does not fit into the block, unless a put failed.
+    /// Appends any number of bytes. Passes bytes that do not fit into the block to the sink, unless a put failed
+    /// before.
     #[inline]
     pub fn push<W: Sink>(&mut self, out: &mut W, bytes: &[u8])
         ensures { Appends W.taken W.faults out.old self.old bytes.now out.new self.new }

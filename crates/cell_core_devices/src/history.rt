@@ -1,11 +1,11 @@
-//! Bytes that system calls took or gave. Only contracts read them: they take no memory.
+//! Records the bytes that system calls read or wrote. Only contracts use the record, and it takes no memory.
 
 ghost use Rattle.std.specs.Prelude.{◌≡◌, ℕ, List, [], ◌++◌};
 ghost use Rattle.std.specs.Borrow.{ftrue};
 
 use std::marker::{Model, PhantomData};
 
-/// The bytes so far, in order. At run time it holds nothing.
+/// The bytes recorded so far, in order. It is empty at run time.
 #[derive(Drop)]
 pub struct History {
     marker: PhantomData<u8>,
@@ -17,7 +17,7 @@ impl Model for History {
 }
 
 impl History {
-    /// No bytes yet.
+    /// Returns an empty record.
     pub(crate) fn new() -> History
         ensures { result.bytes ≡ [] }
     {
@@ -26,7 +26,7 @@ impl History {
         }
     }
 
-    /// Adds these bytes.
+    /// Records more bytes.
     pub(crate) fn note(&mut self, _bytes: &[u8])
         ensures { self.new.bytes ≡ self.old.bytes ++ _bytes.now }
     {}

@@ -1,11 +1,11 @@
-//! Sources and sinks of bytes, and the block that gathers output.
+//! Reads bytes from sources, writes bytes to sinks, and gathers output in blocks.
 //!
-//! - `source`: the trait `Source`; `ReadSource` over a reader of std, `MemorySource` over memory
-//! - `sink`: the trait `Sink`; `WriteSink` over a writer of std, `MemorySink` over memory;
-//!   `put_bytes`, which puts a full slice, or returns how many bytes went out as a `WriteFault`
-//! - `block`: `OutputBlock`, which gathers up to 4096 bytes for a put and remembers a failed one,
-//!   so that functions that write return nothing
-//! - `device`: `DeviceFault`, the error of a source or sink
+//! - `source`: the trait `Source`; `ReadSource` wraps a reader of std, `MemorySource` reads from memory
+//! - `sink`: the trait `Sink`; `WriteSink` wraps a writer of std, `MemorySink` writes to memory;
+//!   `put_bytes` writes a full slice, or returns how many bytes were written as a `WriteFault`
+//! - `block`: `OutputBlock` gathers up to 4096 bytes per put and remembers a failed put, so that
+//!   functions that write return nothing
+//! - `device`: `DeviceFault`, the error of sources and sinks
 //!
 //! A sink with room for five bytes:
 //!

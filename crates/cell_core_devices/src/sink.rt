@@ -1,4 +1,4 @@
-//! Where bytes go: a trait, a loop over it, a sink over std's writers and one over memory.
+//! Sinks, which accept bytes: a trait, a loop that writes a full slice, and sinks over std's writers and over memory.
 
 ghost use Rattle.std.specs.Prelude.{◌≡◌, ℕ, ◌+◌, ◌<◌, ◌≤◌, List, [], ◌++◌, length, take, Option, None, IfOk, OnOk, IfErr, OnErr, MatchResult, is_err, true, ◌-◌};
 ghost use Rattle.cell_core_devices.specs.Device.{append_known, Faults, no_faults, after_put, after_flush, flushed_again, Taken, moved_count};
@@ -8,10 +8,10 @@ use crate::history::History;
 use std::io::Write;
 use std::marker::Model;
 
-/// How often a sink was flushed. A number would need a clause that nobody flushes it 2^64 times.
+/// How often a sink was flushed. An integer would need a clause that it cannot overflow.
 #[derive(Clone, Copy, Debug, PartialEq, Eq)]
 pub enum Flushes {
-    /// Not yet.
+    /// Never.
     Never,
     /// Once.
     Once,
@@ -20,7 +20,7 @@ pub enum Flushes {
 }
 
 impl Flushes {
-    /// The same after one more flush.
+    /// Returns the count after one more flush.
     pub fn again(self) -> Flushes
         ensures { result ≡ flushed_again self }
     {
@@ -31,19 +31,19 @@ impl Flushes {
     }
 }
 
-/// Where bytes go.
+/// A destination for bytes.
 pub trait Sink {
-    /// The bytes taken, or None if they are unknown.
+    /// The bytes accepted so far, or `None` if they are unknown.
     ghost taken: { Self → Option (List ℕ) };
 
-    /// Which calls returned an `Err`: whether a put, and whether a flush; and how often it was flushed.
+    /// Whether a put failed, whether a flush failed, and how often the sink was flushed.
     ghost faults: { Self → Faults };
 
-    /// Takes the first bytes of a slice that is not empty, and returns their number, at least 1.
+    /// Accepts the first bytes of a non-empty slice and returns their number, at least 1.
     ///
     /// # Errors
     ///
-    /// [`DeviceFault`] if it takes none. From then on, a put has failed.
+    /// [`DeviceFault`] if the sink accepts none. The sink then counts as failed.
     fn put(&mut self, bytes: &[u8]) -> Result<usize, DeviceFault>
         requires { 0 < length bytes.now }
         ensures count { IfOk result (λ n. (0 < n) × (n ≤ length bytes.now)) }
@@ -52,29 +52,29 @@ pub trait Sink {
         ensures err { OnErr result (taken self.new ≡ taken self.old) }
         ensures faults { faults self.new ≡ after_put (faults self.old) (is_err result) };
 
-    /// Passes on what it holds. It takes no bytes, and counts one more flush.
+    /// Flushes the sink. Accepts no bytes, and counts one more flush.
     ///
     /// # Errors
     ///
-    /// [`DeviceFault`] if that fails. It has failed to flush from then on.
+    /// [`DeviceFault`] if the flush fails. The sink then counts as failed to flush.
     fn flush(&mut self) -> Result<(), DeviceFault>
         ensures taken { taken self.new ≡ taken self.old }
         ensures faults { faults self.new ≡ after_flush (faults self.old) (is_err result) };
 }
 
-/// How many bytes went out before the sink failed.
+/// How many bytes were written before the sink failed.
 #[derive(Clone, Copy, Debug, PartialEq, Eq)]
 pub struct WriteFault {
-    /// The number of bytes that the sink took: from the slice or the text that was put, or, if a block gathers the
-    /// output, from all that was put through the block.
+    /// The number of bytes that the sink accepted: of the slice or text that was put or, for an output block, of all
+    /// output through the block.
     pub written: u64,
 }
 
-/// Puts all the bytes of a slice. An empty slice makes no call.
+/// Writes all bytes of a slice. An empty slice makes no call.
 ///
 /// # Errors
 ///
-/// [`WriteFault`] if the sink fails: exactly the first `written` bytes went out.
+/// [`WriteFault`] if the sink fails; exactly the first `written` bytes were written.
 pub fn put_bytes<W: Sink>(out: &mut W, bytes: &[u8]) -> Result<(), WriteFault>
     ensures ok { OnOk result (W.taken out.new ≡ append_known (W.taken out.old) bytes.now) }
     ensures within { IfErr result (λ fault. fault.written < length bytes.now) }
@@ -93,8 +93,8 @@ pub fn put_bytes<W: Sink>(out: &mut W, bytes: &[u8]) -> Result<(), WriteFault>
     Ok(())
 }
 
-/// A sink over std's writers. Its bytes are those that calls of the writer took. Each `Err` of the writer, of any kind,
-/// is returned as [`DeviceFault`], and so is a write of 0 bytes.
+/// A sink over a writer of std. Its bytes are the bytes that the writer accepted. Every `Err` of the writer, and every
+/// write of 0 bytes, is returned as [`DeviceFault`].
 #[derive(Drop)]
 pub struct WriteSink<W> {
     writer: W,
@@ -114,7 +114,7 @@ impl<W> Model for WriteSink<W> {
 }
 
 impl<W: Write + Drop> WriteSink<W> {
-    /// A sink that passes its bytes to the writer. Takes no memory.
+    /// Returns a sink that passes its bytes to a writer. Does not allocate.
     pub fn new(writer: W) -> WriteSink<W>
         ensures value { result ≡ ((writer, []), no_faults) }
         ensures taken { ⟦<WriteSink<W> as Sink>⟧.taken result ≡ Some [] }
@@ -145,7 +145,7 @@ impl<W: Write> Sink for WriteSink<W> {
         ensures ok { IfOk result (λ n. self.new.0.1 ≡ self.old.0.1 ++ take n bytes.now) }
         ensures err { OnErr result (self.new.0.1 ≡ self.old.0.1) }
         ensures faults { self.new.1 ≡ after_put self.old.1 (is_err result) }
-        // What the writer holds, if that is known, has grown by the bytes taken.
+        // If the writer's contents are known, they grow by the accepted bytes.
         ensures written { WriteAppends (W.contents self.old.0.0) (W.contents self.new.0.0)
             result bytes.now }
     {
@@ -177,7 +177,7 @@ impl<W: Write> Sink for WriteSink<W> {
     }
 }
 
-/// A sink that writes into memory of a fixed size, and fails when it is full.
+/// A sink that writes to memory of a fixed size and fails when it is full.
 #[derive(Debug, Drop)]
 pub struct MemorySink {
     room: Vec<u8>,
@@ -201,8 +201,8 @@ impl Model for MemorySink {
 }
 
 impl MemorySink {
-    /// A sink that writes into `room`. One call takes at most `piece` bytes, and its flush fails if `flush_fails` is
-    /// set. Takes no memory.
+    /// Returns a sink that writes to `room`. Each call accepts at most `piece` bytes, and flushing fails if
+    /// `flush_fails` is set. Does not allocate.
     pub fn new(room: Vec<u8>, piece: usize, flush_fails: bool) -> MemorySink
         requires { 0 < piece }
         ensures { result ≡ record {
@@ -224,7 +224,7 @@ impl MemorySink {
         }
     }
 
-    /// The bytes that it took.
+    /// Returns the bytes accepted so far.
     pub fn bytes(&self) -> &[u8]
         ensures { result.now ≡ self.now.bytes }
     {
@@ -232,7 +232,7 @@ impl MemorySink {
     }
 }
 
-// Writes the bytes into the room from a place on.
+// Writes bytes into the room, starting at index `at`.
 fn write_at(room: &mut [u8], at: usize, bytes: &[u8])
     requires { at + length bytes.now ≤ length room.old }
     ensures front { take (at + length bytes.now) room.new ≡ take at room.old ++ bytes.now }

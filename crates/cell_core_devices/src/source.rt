@@ -1,4 +1,4 @@
-//! Where bytes come from: a trait, a source over std's readers and one over memory.
+//! Sources, which return bytes: a trait, and sources over std's readers and over memory.
 
 ghost use Rattle.std.specs.Prelude.{◌≡◌, ◌<◌, ◌≤◌, Option, None, [], length, drop, IfOk, MatchResult};
 ghost use Rattle.cell_core_devices.specs.Asking.{after_take};
@@ -11,22 +11,22 @@ use std::marker::Model;
 
 /// How far a source was read.
 ///
-/// No `requires` forbids asking a source again after its end, since a caller may have reasons to. It is not an
-/// invariant of a reader, since a reader may be given a source that has ended.
+/// No `requires` forbids asking a source after its end, because callers may have reasons to. It is not an invariant of
+/// readers either, because a reader may be given a source that has ended.
 #[derive(Clone, Copy, Debug, PartialEq, Eq)]
 pub enum Asked {
-    /// Each call gave bytes, or there was no call yet.
+    /// Each call returned bytes, or there was no call yet.
     Going,
-    /// The last call reported the end, and was the first that gave no bytes.
+    /// The last call reported the end, and all earlier calls returned bytes.
     Ended,
-    /// The last call returned an `Err`, and was the first that gave no bytes.
+    /// The last call returned an `Err`, and all earlier calls returned bytes.
     Failed,
-    /// It was asked again after its end or an `Err`.
+    /// The source was asked again after its end or an `Err`.
     Again,
 }
 
 impl Asked {
-    /// How far it was read after one more call, with this result.
+    /// Returns the state after one more call with this result.
     pub fn after_answer(self, answer: Result<usize, DeviceFault>) -> Asked
         ensures { result ≡ after_take self answer }
     {
@@ -39,17 +39,17 @@ impl Asked {
     }
 }
 
-/// Where bytes come from.
+/// An origin of bytes.
 pub trait Source {
     ghost use Rattle.cell_core_devices.specs.declared.source.Asked.{Asked};
 
-    /// The bytes to come, and whether it then fails; None if they are unknown.
+    /// The bytes to come, and whether the source fails after them; `None` if they are unknown.
     ghost coming: { Self → Option Coming };
 
-    /// How far it was read: whether it has reported its end or failed, and whether it was asked after that.
+    /// How far the source was read: whether it reported its end or failed, and whether it was asked after that.
     ghost asked: { Self → Asked };
 
-    /// Puts the next bytes at the start of a slice that is not empty, and returns how many: 0
+    /// Writes the next bytes to the start of a non-empty slice and returns their number, which is 0
     /// only at the end.
     ///
     /// # Errors
@@ -62,8 +62,8 @@ pub trait Source {
         ensures asked { asked self.new ≡ after_take (asked self.old) result };
 }
 
-/// A source over std's readers. Nothing is known about its bytes to come, and each `Err` of the reader, of any kind, is
-/// returned as [`DeviceFault`]. Proofs remember the bytes that calls of the reader gave.
+/// A source over a reader of std. Nothing is known about the bytes to come. Every `Err` of the reader is returned as
+/// [`DeviceFault`]. Proofs record the bytes that the reader returned.
 #[derive(Drop)]
 pub struct ReadSource<R> {
     reader: R,
@@ -81,7 +81,7 @@ impl<R> Model for ReadSource<R> {
 }
 
 impl<R: Read + Drop> ReadSource<R> {
-    /// A source of the reader's bytes. Takes no memory.
+    /// Returns a source of a reader's bytes. Does not allocate.
     pub fn new(reader: R) -> ReadSource<R>
         ensures value { result ≡ ((reader, []), Asked.Going) }
         ensures coming { ⟦<ReadSource<R> as Source>⟧.coming result ≡ None }
@@ -107,7 +107,7 @@ impl<R: Read> Source for ReadSource<R> {
     fn take(&mut self, buf: &mut [u8]) -> Result<usize, DeviceFault>
         requires { 0 < length buf.old }
         ensures count { IfOk result (λ n. n ≤ length buf.new) }
-        // What the reader has left, if that is known, has shrunk by the bytes taken.
+        // If the reader's remaining bytes are known, the returned bytes are removed from them.
         ensures read { ReadConsumes (R.remaining self.old.0.0) (R.remaining self.new.0.0)
             result buf.new }
         ensures gave { IfOk result (λ n. self.new.0.1 ≡ self.old.0.1 ++ take n buf.new) }
@@ -128,7 +128,7 @@ impl<R: Read> Source for ReadSource<R> {
     }
 }
 
-/// A source of bytes in memory, which then ends or fails.
+/// A source of bytes in memory, which ends or fails after them.
 #[derive(Debug, Drop)]
 pub struct MemorySource {
     bytes: Vec<u8>,
@@ -150,8 +150,8 @@ impl Model for MemorySource {
 }
 
 impl MemorySource {
-    /// A source of these bytes. One call gives at most `piece` bytes, and the source then fails or ends. Takes no
-    /// memory.
+    /// Returns a source of these bytes. Each call returns at most `piece` bytes. After the last byte the source fails
+    /// if `fails` is set, and otherwise ends. Does not allocate.
     pub fn new(bytes: Vec<u8>, piece: usize, fails: bool) -> MemorySource
         requires { 0 < piece }
         ensures { result
@@ -183,7 +183,7 @@ impl Source for MemorySource {
             result buf.new }
         ensures moved { IfOk result (λ n. n
             ≡ moved_count (length self.old.bytes) self.old.piece (length buf.old)) }
-        // After these bytes the slice is unchanged.
+        // The slice is unchanged after the returned bytes.
         ensures slice { IfOk result (λ n. buf.new ≡ take n self.old.bytes ++ drop n buf.old) }
         ensures unchanged { OnErr result (buf.new ≡ buf.old) }
         ensures rest { MatchResult result

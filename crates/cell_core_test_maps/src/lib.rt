@@ -1,4 +1,4 @@
-//! Maps from lists of categories, for the tests of the crates.
+//! Builds maps from lists of categories, for tests of other crates.
 #![tactic(auto)]
 
 pub mod maps;

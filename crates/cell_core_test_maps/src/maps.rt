@@ -8,7 +8,7 @@ use cell_core::memory::Memory;
 use cell_core::region::Region;
 use std::alloc::Global;
 
-/// The number that stands for null in a list; it is not a category.
+/// Stands for null in a list of categories. It is not a category itself.
 pub const NULL: i32 = i32::MIN;
 
 fn cells_of(alloc: Global, categories: &[i32]) -> Result<Vec<Cell>, Memory> {
@@ -19,7 +19,7 @@ fn cells_of(alloc: Global, categories: &[i32]) -> Result<Vec<Cell>, Memory> {
     Ok(cells)
 }
 
-/// The map of these categories in rows of `cols` columns, or None if they do not fill whole rows.
+/// Returns the map of these categories in rows of `cols` columns, or `None` if the last row is not full.
 pub fn map_of(alloc: Global, categories: &[i32], cols: u32) -> Result<Option<CellMap>, Memory>
     requires { 0 < cols }
 {
@@ -41,7 +41,7 @@ pub fn map_of(alloc: Global, categories: &[i32], cols: u32) -> Result<Option<Cel
     Ok(Some(builder.finish()))
 }
 
-/// The categories of a map.
+/// Returns the categories of a map.
 pub fn categories_of(alloc: Global, map: &CellMap) -> Result<Vec<i32>, Memory> {
     let region = map.region();
     let mut buffer = vec![in alloc; Cell::null(); region.cols() as usize]?;

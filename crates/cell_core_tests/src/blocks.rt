@@ -1,4 +1,4 @@
-//! Blocks: when the gathered bytes are written, and what a full sink leaves of them.
+//! Tests of blocks: when gathered bytes are written, and which of them a full sink accepts.
 
 use crate::assertions::{assert_holds, assert_same};
 use cell_core::block::OutputBlock;
@@ -7,7 +7,7 @@ use cell_core::sink::{Flushes, MemorySink, Sink, WriteFault};
 use std::alloc::Global;
 use std::test::Fail;
 
-// Pushes `count` equal bytes. Returns how many bytes the block has counted, and how many the sink has received.
+// Pushes `count` equal bytes. Returns how many bytes the block has counted, and how many the sink has accepted.
 fn pushed(
     alloc: Global,
     block: &mut OutputBlock,
@@ -20,7 +20,7 @@ fn pushed(
     Ok((block.written(), sink.bytes().len()))
 }
 
-// A sink that rejects one put and accepts all others. It counts its puts.
+// A sink that rejects the first put and accepts all others. It counts the puts.
 #[derive(Drop)]
 struct RefusesOnce {
     calls: u32,
@@ -50,7 +50,7 @@ impl Sink for RefusesOnce {
     }
 }
 
-// Numbers of bytes that are pushed, and how many bytes are written then.
+// A byte and how often it is pushed, and the number of bytes that the sink has accepted afterwards.
 const PUSHES: [(u8, usize, usize); 5] = [
     (b'a', 4000, 0),
     (b'b', 96, 0),
@@ -59,7 +59,7 @@ const PUSHES: [(u8, usize, usize); 5] = [
     (b'e', 1, 9097),
 ];
 
-// The first and the last of the pushed bytes.
+// The first and the last index of each pushed byte in the output.
 const ENDS: [(usize, u8); 8] = [
     (0, b'a'),
     (3999, b'a'),

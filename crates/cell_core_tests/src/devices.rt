@@ -1,20 +1,20 @@
-//! A reader and a writer that follow a list of steps.
+//! A reader and writer that follows a list of steps.
 
 ghost use Rattle.std.specs.Prelude.{◌≤◌, IfOk};
 
 use std::io::{self, ErrorKind, Read, Write};
 
-/// The behaviour of a device at a call.
+/// What a device does at one call.
 #[derive(Clone, Copy)]
 pub enum Step {
-    /// It fails.
+    /// Fails.
     Refuses(ErrorKind),
-    /// It moves this many bytes, or fewer if there is less room.
+    /// Moves this many bytes, or fewer if there is less room.
     Moves(usize),
 }
 
-/// A device that follows the steps in turn, and then moves all that it is given. Each byte that it gives is an `x`, and
-/// it accepts no other.
+/// A device that follows the steps in turn, and then moves everything. As a reader it returns only bytes `x`; as a
+/// writer it accepts only these.
 #[derive(Drop)]
 pub struct Device {
     steps: &'static [Step],

@@ -1,4 +1,4 @@
-//! Small maps, written as their categories row by row.
+//! Builds small maps from their categories, row by row.
 
 ghost use Rattle.std.specs.Prelude.{◌≡◌};
 
@@ -8,20 +8,20 @@ use cell_core::region::Region;
 use std::alloc::{AllocError, Global};
 use std::test::Fail;
 
-/// The number that stands for null in a list of categories.
+/// Stands for null in a list of categories.
 pub const NULL: i32 = i32::MIN;
 
-/// The cell of a category, or null.
+/// Returns the cell of a category, or null.
 pub fn cell(number: i32) -> Cell {
     Cell::value(number).unwrap_or(Cell::null())
 }
 
-/// The cells of a list of categories.
+/// Returns the cells of a list of categories.
 pub fn cells(alloc: Global, numbers: &[i32]) -> Result<Vec<Cell>, AllocError> {
     numbers.iter().map(|number| cell(*number)).collect(alloc)
 }
 
-/// The map of these categories, from the top left; an `Err` if they do not fill its rows.
+/// Returns the map of these categories, from the top left, or an `Err` if they do not fill its rows.
 pub fn map_of(alloc: Global, rows: u32, cols: u32, numbers: &[i32]) -> Result<CellMap, Fail> {
     let region = Region::new(1, 0, 1, 0, rows, cols)?;
     let cells = cells(alloc, numbers)?;

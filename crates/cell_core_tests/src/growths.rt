@@ -1,6 +1,6 @@
-//! Calls that run out of memory leave their object unchanged, and succeed when they are repeated.
+//! Tests that calls that run out of memory leave their object unchanged and succeed when repeated.
 //!
-//! In a normal run every allocation succeeds. tools/hostile makes allocations fail in turn, one in each run, and checks
+//! In a normal run every allocation succeeds. tools/hostile makes allocations fail in turn, one per run, and checks
 //! that each call is repeated in some of the runs.
 
 ghost use Rattle.std.specs.Prelude.{◌≡◌, length};
@@ -45,7 +45,7 @@ fn push_row<R: Abort + AllocGlobal + Eprint>(
     Ok(())
 }
 
-// Five of them.
+// Pushes five rows.
 fn push_rows<R: Abort + AllocGlobal + Eprint>(
     rt: &R,
     builder: &mut MapBuilder,
@@ -160,7 +160,7 @@ fn a_refused_name_is_pushed_again(rt: HostRuntime) -> Result<(), Fail> {
     Ok(())
 }
 
-// The shelf is unchanged after a map that it could not store, and stores it now.
+// Checks that the shelf is unchanged after it rejected a map for lack of memory, then adds the map again.
 fn add_again<R: Abort + Eprint>(
     rt: &R,
     shelf: &mut Shelf,

@@ -1,5 +1,5 @@
-//! Worked results of the calls of cell_core and cell_core_values, and what no clause says about an `Err` of a reader or
-//! writer.
+//! Tests cell_core and cell_core_values with worked results, and with an `Err` of a reader or writer, which no clause
+//! describes.
 #![tactic(auto)]
 
 #[cfg(test)]

@@ -1,4 +1,4 @@
-//! Maps: their cells, their runs and their labels.
+//! Tests of maps: cells, runs and labels.
 
 use crate::assertions::{assert_holds, assert_same};
 use crate::fixture::{NULL, cell, map_of};
@@ -15,7 +15,7 @@ const COLS: u32 = 4;
 
 const GRID: [i32; 12] = [1, 1, 2, NULL, 1, 2, 2, 2, 3, 3, 1, 1];
 
-// The runs of a row are these, given as categories and their numbers of cells.
+// Checks the runs of a row, given as categories and lengths.
 fn expect_runs<R: Abort + AllocGlobal>(
     rt: &R,
     map: &CellMap,
@@ -32,7 +32,7 @@ fn expect_runs<R: Abort + AllocGlobal>(
     Ok(())
 }
 
-// The runs of some rows.
+// Checks the runs of several rows.
 fn expect_runs_of_rows<R: Abort + AllocGlobal>(
     rt: &R,
     map: &CellMap,
@@ -70,7 +70,7 @@ fn gives_its_runs(rt: HostRuntime) -> Result<(), Fail> {
     )
 }
 
-// The cell at a place; None outside the map.
+// Returns the cell at a row and a column, or `None` outside the map.
 fn cell_at(map: &CellMap, row: u32, col: u32) -> Option<Cell> {
     let region = map.region();
     if row < region.rows() && col < region.cols() {
@@ -130,7 +130,7 @@ fn keeps_a_long_row_as_one_run(rt: HostRuntime) -> Result<(), Fail> {
     expect_runs(&rt, &map, 0, &[(5, 32767)])
 }
 
-// The stretches of a row are these, given as categories and their numbers of cells.
+// Checks the stretches of a row, given as categories and lengths.
 fn expect_stretches<R: Abort + AllocGlobal>(
     rt: &R,
     map: &CellMap,
@@ -155,7 +155,7 @@ const MANY_RUNS: [i32; 18] = [
     501, 502, 501, 502, 501, 502, 501, 502, 501, 502, 501, 502, 501, 502, 501, 502, 501, 502,
 ];
 
-// The stretches of a row with few runs are its runs; of another row they are its cells.
+// Checks that the stretches of a row with few runs are its runs, and those of another row its cells.
 #[test]
 fn gives_its_stretches(rt: HostRuntime) -> Result<(), Fail> {
     let map = map_of(rt.alloc(), 1, 18, &FEW_RUNS)?;

@@ -1,4 +1,4 @@
-//! Names, lists of names and the shelf.
+//! Tests of names, lists of names and the shelf.
 
 use crate::assertions::{assert_holds, assert_same};
 use crate::fixture::{NULL, map_of};
@@ -9,7 +9,7 @@ use std::alloc::{AllocGlobal, Global};
 use std::process::Abort;
 use std::test::Fail;
 
-// Short texts that are names, and some that are not.
+// Short texts, some of which are names.
 const TEXTS: [(&[u8], Option<NameFault>); 6] = [
     (b"1a", Some(NameFault::BadName)),
     (b"", Some(NameFault::BadName)),
@@ -55,7 +55,7 @@ fn finds_names(rt: HostRuntime) -> Result<(), Fail> {
     Ok(())
 }
 
-// A shelf with one map, under the name g.
+// Returns a shelf with one map named g.
 fn shelf_of_one(alloc: Global) -> Result<Shelf, Fail> {
     let map = map_of(alloc, 1, 3, &[7, NULL, 1])?;
     let mut shelf = Shelf::new(alloc, map.region());
@@ -78,7 +78,7 @@ fn finds_maps(rt: HostRuntime) -> Result<(), Fail> {
     Ok(())
 }
 
-// Checks why a shelf with one map rejects another, and that the name is returned.
+// Checks why a shelf with one map rejects another, and that it returns the name.
 fn expect_refused<R: Abort + AllocGlobal>(
     rt: &R,
     name: &[u8],

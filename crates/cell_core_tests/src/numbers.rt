@@ -1,4 +1,4 @@
-//! Digits and whole numbers.
+//! Tests of digits and whole numbers.
 
 use crate::assertions::{assert_holds, assert_same};
 use cell_core_values::whole_numbers::{

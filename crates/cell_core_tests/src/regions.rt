@@ -1,4 +1,4 @@
-//! The four errors of a region, in their order.
+//! Tests of the four errors of a region, in their order.
 
 use crate::assertions::assert_same;
 use cell_core::region::{Region, RegionFault};

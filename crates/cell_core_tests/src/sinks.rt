@@ -1,4 +1,4 @@
-//! Sinks: how many bytes a call takes, and that an `Err` is reported once.
+//! Tests of sinks: how many bytes a call accepts, and that an `Err` is reported once.
 
 use crate::assertions::assert_same;
 use crate::devices::{Device, Step};

@@ -1,4 +1,4 @@
-//! Sources: what a call gives, and that an `Err` is reported once and leaves the slice unchanged.
+//! Tests of sources: the bytes that a call returns, and that an `Err` is reported once and leaves the slice unchanged.
 
 use crate::assertions::assert_same;
 use crate::devices::{Device, Step};

@@ -1,4 +1,4 @@
-//! Blanks, words, parts and pairs.
+//! Tests of blanks, words, parts and pairs.
 
 use crate::assertions::{assert_holds, assert_same};
 use cell_core_values::blanks::{after_blanks, around_blank, is_blank, trimmed_text};

@@ -1,13 +1,13 @@
 -- Results of functions that read a text and may run out of memory.
 use Rattle.std.specs.Prelude.{Result, Ok, Err, ◌≡◌, ◌≢◌}
 
--- the result, seen through `view`, is what the reading gives, and an error is the reading's, unless memory ran out
+-- the result, mapped with `view`, equals the specified reading, unless memory ran out
 abbrev pub Answers : {A B F : Type 0} → F → (A → B) → Result A F → Result B F → Type 0
 Answers memory view (Ok x) reading = reading ≡ Ok (view x)
 Answers memory view (Err fault) reading = fault ≢ memory → reading ≡ Err fault
 
 infixl 10 ◌>>=◌
--- what comes next, unless there was an error
+-- the next step, unless there was an error
 abbrev pub ◌>>=◌ : {A B F : Type 0} → Result A F → (A → Result B F) → Result B F
 (Ok x) >>= next = next x
 (Err fault) >>= next = Err fault

@@ -2,11 +2,11 @@
 use Rattle.std.specs.Prelude.{ℕ, Bool, ◌==◌, List, [], ◌∷◌}
 use Rattle.std.specs.List.{list_any}
 
--- the byte of a text of one byte
+-- the only byte of a text
 abbrev pub byte : List ℕ → ℕ
 byte [] = 0
 byte (b ∷ bs) = b
 
--- a byte occurs in a text
+-- the byte occurs in the text
 abbrev pub is_one_of : List ℕ → ℕ → Bool
 is_one_of letters b = list_any (λ letter. letter == b) letters

@@ -1,4 +1,4 @@
--- Cells, cells in one byte each, regions, names. Blanks, whole numbers and words of texts.
+-- Cells, cells stored as bytes, regions and names; blanks, whole numbers and words of texts.
 pub mod Cell
 pub mod Name
 pub mod Region

@@ -1,4 +1,4 @@
--- The texts that may name a map (profile), and lists of names.
+-- Names of maps (profile), and lists of names.
 use Rattle.std.specs.Prelude.{ℕ, Bool, false, ◌&&◌, ◌||◌, ◌==◌, ◌≢◌, nat_le, List, [], ◌∷◌, length, Option, AllPairs, bytes_eq, codes}
 use Rattle.std.specs.List.{list_all, position_from}
 use Rattle.cell_core_values.specs.Letters.{byte}
@@ -7,28 +7,28 @@ use Rattle.cell_core_values.specs.Letters.{byte}
 abbrev pub most_bytes : ℕ
 most_bytes = 64
 
--- a byte from low to high
+-- the byte is between low and high
 abbrev pub is_from_to : ℕ → ℕ → ℕ → Bool
 is_from_to low high b = nat_le low b && nat_le b high
 
--- an ASCII letter or an underscore
+-- the byte is an ASCII letter or an underscore
 abbrev pub is_name_start : ℕ → Bool
 is_name_start b = (is_from_to (byte (codes "A")) (byte (codes "Z")) b || is_from_to (byte (codes "a")) (byte (codes "z")) b) || b == byte (codes "_")
 
--- an ASCII letter, a digit, an underscore or a point
+-- the byte is an ASCII letter, a digit, an underscore or a point
 abbrev pub is_name_byte : ℕ → Bool
 is_name_byte b = (is_name_start b || is_from_to (byte (codes "0")) (byte (codes "9")) b) || b == byte (codes ".")
 
--- a first byte that may begin a name
+-- the first byte may start a name
 abbrev pub starts_name : List ℕ → Bool
 starts_name [] = false
 starts_name (b ∷ bs) = is_name_start b
 
--- 1 to 64 bytes: a letter or an underscore, then letters, underscores, digits and points
+-- the text is a name: 1 to 64 bytes, first a letter or an underscore, then letters, digits, underscores and points
 abbrev pub is_name : List ℕ → Bool
 is_name bs = starts_name bs && (list_all is_name_byte bs && nat_le (length bs) most_bytes)
 
--- the first place of a name in a list of names, from 0
+-- the first index of a name in a list of names
 abbrev pub place_of : List ℕ → List (List ℕ) → Option ℕ
 place_of name names = position_from (λ n. bytes_eq n name) 0 names
 

@@ -3,7 +3,7 @@ use Rattle.std.specs.Prelude.{ℕ, ℤ, pos, negsuc, ◌≡◌, ◌≤◌, ◌<�
 use Rattle.cell_core_values.specs.declared.region.RegionFault.{RegionFault}
 use Rattle.cell_core_values.specs.declared.region.RegionFault.TheVariants.{BadExtent, BadRows, BadCols, TooManyCells}
 
--- four edges and two numbers
+-- a region: its four edges and its numbers of rows and columns
 pub record RegionValue : Type 0 where
   pub north : ℤ
   pub south : ℤ
@@ -16,7 +16,7 @@ pub record RegionValue : Type 0 where
 abbrev pub most_side : ℕ
 most_side = 65535
 
--- the largest number of cells: the largest category (profile)
+-- the largest number of cells, which is the largest category (profile)
 abbrev pub most_cells : ℕ
 most_cells = 2147483647
 
@@ -24,23 +24,23 @@ most_cells = 2147483647
 abbrev pub is_above : ℤ → ℤ → Bool
 is_above high low = int_lt low high && (int_le (negsuc 999999999999999998) low && int_le high (pos 999999999999999999))
 
--- a number that is allowed as a number of rows or columns (profile)
+-- the number is valid as a number of rows or columns (profile)
 abbrev pub is_side : ℕ → Bool
 is_side n = nat_le 1 n && nat_le n most_side
 
--- whether the number of cells is within the limit
+-- the number of cells is within the limit
 abbrev pub is_countable : RegionValue → Bool
 is_countable e = nat_le (e.rows * e.cols) most_cells
 
--- north above south, and east above west
+-- north is above south, and east above west
 abbrev pub is_rectangle : RegionValue → Bool
 is_rectangle e = is_above e.north e.south && is_above e.east e.west
 
--- the first error of six numbers, in the order of the checks
+-- the region, or the first error of its six numbers, in the order of the checks
 abbrev pub region_fault : RegionValue → Result RegionValue RegionFault
 region_fault e = if not (is_rectangle e) then Err BadExtent else (if not (is_side e.rows) then Err BadRows else (if not (is_side e.cols) then Err BadCols else (if not (is_countable e) then Err TooManyCells else Ok e)))
 
--- what every region satisfies: its numbers are accepted, so its sides are 1 to 65535
+-- the properties of every region: its numbers are accepted, so it has 1 to 65535 rows and columns
 pub record IsRegion (e : RegionValue) : Type 0 where
   pub rows_least : 0 < e.rows
   pub rows_most : e.rows ≤ most_side

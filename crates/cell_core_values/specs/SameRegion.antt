@@ -1,4 +1,4 @@
--- When two regions are equal: all six numbers are (profile).
+-- Equality of regions: all six numbers are equal (profile).
 use Rattle.std.specs.Prelude.{◌≡◌, Bool, ◌&&◌, ◌==◌}
 use Rattle.std.proofs.Common.{ap, int_eq}
 use Rattle.std.specs.Bool.{Decides}
@@ -10,7 +10,7 @@ use Rattle.cell_core_values.specs.Region.{RegionValue}
 abbrev pub is_same_region : RegionValue → RegionValue → Bool
 is_same_region a b = int_eq a.north b.north && (int_eq a.south b.south && (int_eq a.east b.east && (int_eq a.west b.west && (a.rows == b.rows && a.cols == b.cols))))
 
--- the test by number decides whether two regions are equal
+-- the numeric test decides whether two regions are equal
 pub is_same_region-Decides : (a b : RegionValue) → Decides (is_same_region a b) (a ≡ b)
 is_same_region-Decides a b =
     let sides = Decides-and _ _ (unsigned_Decides a.rows b.rows) (unsigned_Decides a.cols b.cols) in

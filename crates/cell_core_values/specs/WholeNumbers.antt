@@ -1,4 +1,5 @@
--- Whole numbers, and those in the range of categories (GRASS: CELL values; leading zeros and a plus sign are the profile's).
+-- Whole numbers, and those in the range of categories (GRASS: CELL values; accepting leading zeros and a plus sign is
+-- our own choice).
 use Rattle.std.specs.Prelude.{ℕ, ℤ, pos, neg_ℤ, int_le, Bool, ◌&&◌, ◌==◌, List, [], ◌∷◌, Option, Some, None, Result, Ok, Err, if◌then◌else◌, codes}
 use Rattle.std.specs.Option.{option_map}
 use Rattle.cell_core_values.specs.Letters.{byte}
@@ -7,22 +8,22 @@ use Rattle.cell_core_values.specs.declared.whole_numbers.TheConstants.{LEAST, GR
 use Rattle.cell_core_values.specs.declared.whole_numbers.WholeFault.{WholeFault}
 use Rattle.cell_core_values.specs.declared.whole_numbers.WholeFault.TheVariants.{NotWhole, OutOfRange}
 
--- what comes after an optional sign, read by `unsigned`
+-- an optional sign followed by a number that `unsigned` reads
 abbrev pub signed_number : (List ℕ → Option ℕ) → List ℕ → Option ℤ
 signed_number unsigned [] = None
 signed_number unsigned (b ∷ bs) =
     if b == byte (codes "-") then option_map (λ n. neg_ℤ (pos n)) (unsigned bs)
     else (if b == byte (codes "+") then option_map pos (unsigned bs) else option_map pos (unsigned (b ∷ bs)))
 
--- an optional sign and one or more digits
+-- the number spelled by an optional sign and one or more digits
 abbrev pub whole_number : List ℕ → Option ℤ
 whole_number bs = signed_number digits_of bs
 
--- from -2147483647 to 2147483647
+-- the number is from -2147483647 to 2147483647
 abbrev pub is_in_range : ℤ → Bool
 is_in_range n = int_le LEAST n && int_le n GREATEST
 
--- a whole number in range, or why the text is not one
+-- the whole number in range that a text spells, or why there is none
 abbrev pub read_whole : List ℕ → Result ℤ WholeFault
 read_whole bs = within (whole_number bs)
   where
@@ -30,7 +31,7 @@ read_whole bs = within (whole_number bs)
     within None = Err NotWhole
     within (Some n) = if is_in_range n then Ok n else Err OutOfRange
 
--- a whole number in range
+-- the whole number in range that a text spells
 abbrev pub whole_in_range : List ℕ → Option ℤ
 whole_in_range bs = within (whole_number bs)
   where

@@ -1,10 +1,11 @@
--- The words of a line (profile), the parts of a value between commas (r.stats manual) and a key with its value (r.stats manual).
+-- The words of a line (profile), the parts of a value between commas (r.stats manual), and a key with its value
+-- (r.stats manual).
 use Rattle.std.specs.Prelude.{ℕ, Bool, true, false, ◌||◌, ◌==◌, nat_lt, List, [], ◌∷◌, length, Option, Some, None, if◌then◌else◌, codes}
 use Rattle.std.specs.List.{filter, slice_split, position_or_len, before_first, after_first}
 use Rattle.cell_core_values.specs.Letters.{byte}
 use Rattle.cell_core_values.specs.Blanks.{is_blank}
 
--- a word has at least one byte
+-- the word has at least one byte
 abbrev pub is_word : List ℕ → Bool
 is_word [] = false
 is_word (b ∷ bs) = true
@@ -13,7 +14,7 @@ is_word (b ∷ bs) = true
 abbrev pub words_of : List ℕ → List (List ℕ)
 words_of line = filter is_word (slice_split is_blank line)
 
--- a blank or a comma
+-- the byte is a blank or a comma
 abbrev pub is_list_gap : ℕ → Bool
 is_list_gap b = is_blank b || b == byte (codes ",")
 
@@ -25,7 +26,7 @@ list_words_of line = filter is_word (slice_split is_list_gap line)
 abbrev pub parts_of : List ℕ → List (List ℕ)
 parts_of text = slice_split (λ b. b == byte (codes ",")) text
 
--- an equals sign
+-- the byte is an equals sign
 abbrev pub is_equals : ℕ → Bool
 is_equals b = b == byte (codes "=")
 

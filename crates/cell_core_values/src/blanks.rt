@@ -1,17 +1,17 @@
-//! Blanks, and texts without the blanks at their ends.
+//! Finds blanks, and removes them from the ends of texts.
 
 ghost use Rattle.std.specs.Prelude.{◌≡◌, ◌≤◌, length};
 ghost use Rattle.std.specs.List.{before_first, after_first};
 ghost use Rattle.cell_core_values.specs.Blanks.{is_blank, after_blanks, before_blanks, trimmed_text};
 
-/// Whether a byte is a space, a tab or a carriage return. Takes no memory.
+/// Returns whether a byte is a space, a tab or a carriage return. Does not allocate.
 pub fn is_blank(b: u8) -> bool
     ensures { result ≡ is_blank b }
 {
     b == b' ' || b == b'\t' || b == b'\r'
 }
 
-/// The text without the blanks at its start. Takes no memory.
+/// Returns the text without leading blanks. Does not allocate.
 pub fn after_blanks<'a>(text: &'a [u8]) -> &'a [u8]
     ensures text { result.now ≡ after_blanks text.now }
     ensures shorter { length result.now ≤ length text.now }
@@ -36,15 +36,14 @@ fn before_blanks<'a>(text: &'a [u8]) -> &'a [u8]
     &text[..0]
 }
 
-/// The text without the blanks at its ends. Takes no memory.
+/// Returns the text without leading and trailing blanks. Does not allocate.
 pub fn trimmed_text<'a>(text: &'a [u8]) -> &'a [u8]
     ensures { result.now ≡ trimmed_text text.now }
 {
     before_blanks(after_blanks(text))
 }
 
-/// The text before the first blank, and the text after it: the full text and nothing if it has no blank. Takes no
-/// memory.
+/// Splits a text at its first blank. If there is none, the second part is empty. Does not allocate.
 pub fn around_blank<'a>(text: &'a [u8]) -> (&'a [u8], &'a [u8])
     ensures before { result.0.now ≡ before_first is_blank text.now }
     ensures after { result.1.now ≡ after_first is_blank text.now }

@@ -1,4 +1,4 @@
-//! One cell of a map.
+//! Cells of a map.
 
 ghost use Rattle.std.specs.Prelude.{◌≡◌, ℤ, negsuc, ◌≤ℤ◌, Option, MatchOption, IfSome};
 ghost use Rattle.cell_core_values.specs.Cell.{cell_eq};
@@ -6,10 +6,9 @@ ghost use Rattle.cell_core_values.specs.Cell.{cell_eq};
 use std::cmp::Ordering;
 use std::marker::Model;
 
-/// A category from -2147483647 to 2147483647, or null (GRASS: a CELL value, whose pattern
-/// -2147483648 stands for null).
+/// A category from -2147483647 to 2147483647, or null (GRASS: a CELL value, where -2147483648 stands for null).
 ///
-/// Cells are ordered by category, null last (profile).
+/// Cells are ordered by category, with null last (profile).
 #[derive(Clone, Copy, Debug)]
 pub struct Cell {
     pattern: i32,
@@ -27,14 +26,14 @@ impl Model for Cell {
 }
 
 impl Cell {
-    /// The cell without a category.
+    /// Returns the null cell.
     pub fn null() -> Cell
         ensures { result ≡ None }
     {
         Cell { pattern: i32::MIN }
     }
 
-    /// The cell of a category, or None exactly for -2147483648, which is not a category.
+    /// Returns the cell of a category, or `None` for -2147483648, which is not a category.
     pub fn value(v: i32) -> Option<Cell>
         ensures { MatchOption result (v ≡ i32.MIN) (λ c. c ≡ Some v) }
     {
@@ -45,7 +44,7 @@ impl Cell {
         }
     }
 
-    /// Its category, or None for null.
+    /// Returns the category, or `None` for null.
     pub fn get(self) -> Option<i32>
         ensures value { result ≡ self }
         ensures range { IfSome result (λ category. negsuc 2147483646 ≤ℤ category) }
@@ -58,7 +57,7 @@ impl Cell {
     }
 }
 
-// Whether both are null, or both are the same category.
+// Returns whether both cells are null or have the same category.
 fn is_same_cell(a: &Cell, b: &Cell) -> bool
     ensures { result ≡ cell_eq a.now b.now }
 {

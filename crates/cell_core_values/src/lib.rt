@@ -1,4 +1,4 @@
-//! The values that maps are made of, and the words and numbers of a line of text.
+//! Defines the values that maps are made of, and reads words and numbers from lines of text.
 //!
 //! Cells and regions follow the GRASS manual (r.in.ascii, g.region). Names, blanks and the
 //! limits of regions are our own choice (profile).
@@ -8,8 +8,8 @@
 //! - `name`: `Name`, 1 to 64 bytes; `Names`, distinct names, each with its index
 //! - `memory`: `Memory`, the error of a call that ran out of memory
 //! - `blanks`, `words`: blanks, words, parts between commas, `KEY=VALUE`
-//! - `whole_numbers`: integers in decimal, and those in the range of categories
-//! - `small_cells`: rows of null and categories 0 to 254, kept in a byte a cell
+//! - `whole_numbers`: whole numbers in decimal, and those in the range of categories
+//! - `small_cells`: rows of nulls and categories from 0 to 254, stored in one byte per cell
 //!
 //! Edges 4, 3, 2 and 1, six rows and five columns:
 //!

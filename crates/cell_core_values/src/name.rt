@@ -12,17 +12,17 @@ use std::marker::Model;
 // Maximum length of a name in bytes.
 const MOST_BYTES: usize = 64;
 
-/// Why bytes were not read as a name.
+/// Why bytes could not be read as a name.
 #[derive(Clone, Copy, Debug, PartialEq, Eq)]
 pub enum NameFault {
-    /// The bytes are not a name.
+    /// The bytes do not form a name.
     BadName,
     /// Memory ran out.
     Memory,
 }
 
-/// The name of a map: 1 to 64 bytes, an ASCII letter or `_` first, then ASCII letters, digits,
-/// `_` and `.` (profile).
+/// The name of a map: 1 to 64 bytes, starting with an ASCII letter or `_`, followed by ASCII letters, digits, `_` and
+/// `.` (profile).
 #[derive(Debug, Drop)]
 pub struct Name {
     text: Vec<u8>,
@@ -45,14 +45,14 @@ fn is_name_start(b: u8) -> bool
     (b'A' <= b && b <= b'Z') || (b'a' <= b && b <= b'z') || b == b'_'
 }
 
-/// Whether a byte may occur in a name: an ASCII letter, a digit, `_` or `.`. Takes no memory.
+/// Returns whether a byte may occur in a name: an ASCII letter, a digit, `_` or `.`. Does not allocate.
 pub fn is_name_byte(b: u8) -> bool
     ensures { result ≡ is_name_byte b }
 {
     is_name_start(b) || (b'0' <= b && b <= b'9') || b == b'.'
 }
 
-/// Whether a name may begin with the first byte: an ASCII letter or `_`. Takes no memory.
+/// Returns whether a name may start with the first byte: an ASCII letter or `_`. Does not allocate.
 pub fn starts_name(text: &[u8]) -> bool
     ensures { result ≡ starts_name text.now }
 {
@@ -75,11 +75,11 @@ fn has_name_bytes(text: &[u8]) -> bool
 }
 
 impl Name {
-    /// The name that these bytes are.
+    /// Reads bytes as a name.
     ///
     /// # Errors
     ///
-    /// [`NameFault::BadName`] exactly if they are not a name, else [`NameFault::Memory`] if
+    /// [`NameFault::BadName`] if and only if the bytes do not form a name, otherwise [`NameFault::Memory`] if
     /// memory for a copy runs out.
     pub fn read(alloc: Global, text: &[u8]) -> Result<Name, NameFault>
         ensures text { IfOk result (λ name. name ≡ text.now) }
@@ -95,7 +95,7 @@ impl Name {
         }
     }
 
-    /// Its bytes.
+    /// Returns the bytes of the name.
     pub fn bytes(&self) -> &[u8]
         ensures value { result.now ≡ self.now }
         ensures name { is_name self.now ≡ true }
@@ -103,7 +103,7 @@ impl Name {
         &self.text
     }
 
-    /// A copy of the name.
+    /// Returns a copy of the name.
     ///
     /// # Errors
     ///
@@ -116,14 +116,14 @@ impl Name {
     }
 }
 
-/// Distinct names in the order in which they were pushed. A name is found in a time that grows
-/// with the logarithm of their number.
+/// Distinct names, in the order in which they were pushed. The time to find a name grows with the logarithm of their
+/// number.
 #[derive(Debug, Drop)]
 pub struct Names {
     alloc: Global,
     names: Vec<Name>,
-    // Maps a copy of each name's bytes to its place. A script may make tens of thousands of maps, so the list is not
-    // searched.
+    // Maps a copy of each name's bytes to its index. A script may create tens of thousands of maps, so a linear search
+    // would be slow.
     places: BTreeMap<Vec<u8>, usize>,
 }
 
@@ -140,7 +140,7 @@ impl Model for Names {
 }
 
 impl Names {
-    /// No names yet. Takes no memory.
+    /// Returns an empty list of names. Does not allocate.
     pub fn new(alloc: Global) -> Names
         ensures { result ≡ [] }
     {
@@ -151,7 +151,7 @@ impl Names {
         }
     }
 
-    /// The number of names.
+    /// Returns the number of names.
     pub fn len(&self) -> usize
         ensures count { result ≡ length self.now }
         ensures distinct { AreDistinct self.now }
@@ -159,7 +159,7 @@ impl Names {
         self.names.len()
     }
 
-    /// The place of a name, from 0, or None if it is not among them.
+    /// Returns the index of a name, or `None` if it is not in the list.
     pub fn find(&self, text: &[u8]) -> Option<usize>
         ensures place { result ≡ place_of text.now self.now }
         ensures within { IfSome result (λ i. i < length self.now) }
@@ -167,7 +167,7 @@ impl Names {
         self.places.get(text).copied()
     }
 
-    /// The name at a place, from 0.
+    /// Returns the name at index `i`.
     pub fn name(&self, i: usize) -> &Name
         requires { i < length self.now }
         ensures value { slice_get self.now i ≡ Some result.now }
@@ -176,11 +176,11 @@ impl Names {
         &self.names[i]
     }
 
-    /// Adds a new name at the end.
+    /// Appends a new name.
     ///
     /// # Errors
     ///
-    /// [`Memory`] if memory runs out: the names are unchanged, and the one given is dropped.
+    /// [`Memory`] if memory runs out; the list is then unchanged, and the new name is dropped.
     pub fn push(&mut self, name: Name) -> Result<(), Memory>
         requires { place_of name self.old ≡ None }
         ensures ok { OnOk result (self.new ≡ self.old ++ name ∷ []) }
@@ -192,7 +192,7 @@ impl Names {
         }
     }
 
-    /// Adds a new name at the end, or returns it if memory runs out.
+    /// Appends a new name, or returns it if memory runs out.
     pub fn push_or_return(&mut self, name: Name) -> Result<(), Name>
         requires { place_of name self.old ≡ None }
         ensures ok { OnOk result (self.new ≡ self.old ++ name ∷ []) }

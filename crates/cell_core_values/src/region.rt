@@ -1,4 +1,4 @@
-//! The rectangle that a map covers, cut into rows and columns.
+//! The rectangle that a map covers, divided into rows and columns.
 
 ghost use Rattle.std.specs.Prelude.{◌≡◌, ◌<◌, ◌≤◌, ◌*◌, ◌↔◌, IsTrue, nat_le};
 ghost use Rattle.cell_core_values.specs.Region.{RegionValue, IsRegion, most_side, most_cells, region_fault, is_above, is_side};
@@ -6,7 +6,7 @@ ghost use Rattle.cell_core_values.specs.SameRegion.{is_same_region};
 
 use std::marker::Model;
 
-/// Why six numbers are not a region: the first reason in this order (profile).
+/// Why six numbers do not form a region. If several reasons apply, the first in this order is reported (profile).
 #[derive(Clone, Copy, Debug, PartialEq, Eq)]
 pub enum RegionFault {
     /// The north edge is not above the south edge, the east edge is not above the west edge, or an edge is beyond
@@ -16,11 +16,11 @@ pub enum RegionFault {
     BadRows,
     /// The number of columns is not from 1 to 65535.
     BadCols,
-    /// There are more than 2147483647 cells.
+    /// The region has more than 2147483647 cells.
     TooManyCells,
 }
 
-// The largest edge, in units of 10^-8; its opposite is the smallest.
+// The largest edge, in units of 10^-8. Its negative is the smallest.
 const MOST_EDGE: i64 = 999999999999999999;
 
 // The largest number of rows, and of columns.
@@ -29,10 +29,9 @@ const MOST_SIDE: u32 = 65535;
 // The largest number of cells.
 const MOST_CELLS: u32 = 2147483647;
 
-/// A rectangle with its numbers of rows and columns (g.region manual).
+/// A rectangle and its numbers of rows and columns (g.region manual).
 ///
-/// The four edges are whole numbers of 10^-8 map units. Two regions are equal exactly if all
-/// six numbers are.
+/// The four edges are in units of 10^-8 map units. Two regions are equal if and only if all six numbers are.
 #[derive(Clone, Copy, Debug)]
 pub struct Region {
     north: i64,
@@ -55,21 +54,21 @@ impl Model for Region {
     ghost inverse = { λ e. record { north = e.north; south = e.south; east = e.east; west = e.west; rows = e.rows; cols = e.cols } };
 }
 
-// Whether the first edge is above the second, both within the limits.
+// Returns whether the first edge is above the second, with both within the limits.
 fn is_above(high: i64, low: i64) -> bool
     ensures { result ≡ is_above high low }
 {
     low < high && -MOST_EDGE <= low && high <= MOST_EDGE
 }
 
-// Whether a number is allowed as a number of rows or columns.
+// Returns whether a number is valid as a number of rows or columns.
 fn is_side(count: u32) -> bool
     ensures { result ≡ is_side count }
 {
     1 <= count && count <= MOST_SIDE
 }
 
-// Whether a map of this size has no more cells than there are categories above 0.
+// Returns whether a map of this size has no more cells than there are categories above 0.
 fn is_countable(rows: u32, cols: u32) -> bool
     requires { (rows ≤ most_side) × (cols ≤ most_side) }
     ensures { result ≡ nat_le (rows * cols) most_cells }
@@ -77,7 +76,7 @@ fn is_countable(rows: u32, cols: u32) -> bool
     rows * cols <= MOST_CELLS
 }
 
-// Whether all six numbers are equal.
+// Returns whether all six numbers are equal.
 fn is_same_region(a: &Region, b: &Region) -> bool
     ensures { result ≡ is_same_region a.now b.now }
 {
@@ -86,11 +85,11 @@ fn is_same_region(a: &Region, b: &Region) -> bool
 }
 
 impl Region {
-    /// The region of these edges, in units of 10^-8, with these numbers of rows and columns.
+    /// Returns the region with these edges, in units of 10^-8, and these numbers of rows and columns.
     ///
     /// # Errors
     ///
-    /// The first [`RegionFault`] in the order of its variants.
+    /// The first [`RegionFault`] that applies, in the order of its variants.
     pub fn new(
         north: i64,
         south: i64,
@@ -131,7 +130,7 @@ impl Region {
         })
     }
 
-    /// The upper edge, in units of 10^-8.
+    /// Returns the upper edge, in units of 10^-8.
     pub fn north(&self) -> i64
         ensures value { result ≡ self.now.north }
         ensures region { IsRegion self.now }
@@ -139,7 +138,7 @@ impl Region {
         self.north
     }
 
-    /// The lower edge, in units of 10^-8.
+    /// Returns the lower edge, in units of 10^-8.
     pub fn south(&self) -> i64
         ensures value { result ≡ self.now.south }
         ensures region { IsRegion self.now }
@@ -147,7 +146,7 @@ impl Region {
         self.south
     }
 
-    /// The right edge, in units of 10^-8.
+    /// Returns the right edge, in units of 10^-8.
     pub fn east(&self) -> i64
         ensures value { result ≡ self.now.east }
         ensures region { IsRegion self.now }
@@ -155,7 +154,7 @@ impl Region {
         self.east
     }
 
-    /// The left edge, in units of 10^-8.
+    /// Returns the left edge, in units of 10^-8.
     pub fn west(&self) -> i64
         ensures value { result ≡ self.now.west }
         ensures region { IsRegion self.now }
@@ -163,7 +162,7 @@ impl Region {
         self.west
     }
 
-    /// The number of rows, 1 to 65535.
+    /// Returns the number of rows, 1 to 65535.
     pub fn rows(&self) -> u32
         ensures value { result ≡ self.now.rows }
         ensures region { IsRegion self.now }
@@ -171,7 +170,7 @@ impl Region {
         self.rows
     }
 
-    /// The number of columns, 1 to 65535.
+    /// Returns the number of columns, 1 to 65535.
     pub fn cols(&self) -> u32
         ensures value { result ≡ self.now.cols }
         ensures region { IsRegion self.now }

@@ -1,4 +1,4 @@
-//! Cells that are null or small categories, in one byte each.
+//! Stores nulls and small categories in one byte per cell.
 
 ghost use Rattle.std.specs.Prelude.{◌≡◌, length, All, IfOk, true};
 ghost use Rattle.cell_core_values.specs.SmallCells.{byte_cell, cells_of_bytes, IsSmall};
@@ -7,13 +7,13 @@ use crate::cell::Cell;
 use crate::memory::Memory;
 use std::alloc::Global;
 
-// The byte that stands for null. Any other byte stands for the category of its number.
+// The byte that stands for null. Any other byte stands for the category with its value.
 const NULL: u8 = 255;
 
-// The largest category that a byte stands for.
+// The largest category that has a byte.
 const GREATEST: i32 = 254;
 
-/// The cell that a byte stands for: null for 255, otherwise the category of its number.
+/// Returns the cell that a byte stands for: null for 255, otherwise the category with its value.
 #[inline(always)]
 pub fn cell_of_byte(byte: u8) -> Cell
     ensures { result ≡ byte_cell byte }
@@ -27,7 +27,7 @@ pub fn cell_of_byte(byte: u8) -> Cell
     }
 }
 
-// Whether a byte stands for the cell.
+// Returns whether a byte stands for the cell.
 #[inline(always)]
 fn is_small(cell: Cell) -> bool
     ensures { result ≡ true → IsSmall cell }
@@ -38,31 +38,31 @@ fn is_small(cell: Cell) -> bool
     }
 }
 
-// The byte that stands for the cell.
+// Returns the byte that stands for the cell.
 #[inline(always)]
 fn byte_of_cell(cell: Cell) -> u8
     requires { IsSmall cell }
     ensures { byte_cell result ≡ cell }
 {
     match cell.get() {
-        // No category is below 0 here. Stating this again saves a case for null when a vector converts several cells at
-        // a time.
+        // No category is below 0 here. Repeating this bound avoids a special case for null when a vector converts
+        // several cells at a time.
         Some(category) => category.max(-1) as u8,
         None => NULL,
     }
 }
 
-/// Whether all of the cells have bytes.
+/// Returns whether every cell has a byte.
 pub fn are_small(cells: &[Cell]) -> bool
     ensures { result ≡ true → All IsSmall cells.now }
 {
-    // If a row has larger categories, its first cell usually has one.
+    // In a row with larger categories, the first cell usually has one.
     if let Some(first) = cells.first() {
         if !is_small(*first) {
             return false;
         }
     }
-    // It looks at every cell, so that a vector looks at several at a time.
+    // Checks every cell without stopping early, so that a vector can check several at a time.
     let mut all = true;
     for cell in cells {
         all = all & is_small(*cell);
@@ -70,7 +70,7 @@ pub fn are_small(cells: &[Cell]) -> bool
     all
 }
 
-/// The bytes that stand for cells. Allocates once.
+/// Returns the bytes that stand for cells. Allocates once.
 ///
 /// # Errors
 ///

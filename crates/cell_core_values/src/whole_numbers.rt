@@ -1,4 +1,4 @@
-//! Whole numbers in decimal.
+//! Reads whole numbers in decimal.
 
 ghost use Rattle.std.specs.Prelude.{◌≡◌, ◌≤◌, IfSome};
 ghost use Rattle.std.specs.List.{list_all};
@@ -12,33 +12,33 @@ pub const LEAST: i32 = -2147483647;
 /// The largest whole number in range (GRASS: the largest category).
 pub const GREATEST: i32 = 2147483647;
 
-// Larger numbers count as this one. It is out of every range.
+// Larger numbers are capped at this number, which is out of every range.
 const CAP: u64 = 1000000000000000000;
 
 /// Why a text is not a whole number in range.
 #[derive(Clone, Copy, Debug, PartialEq, Eq)]
 pub enum WholeFault {
-    /// It is not an optional sign and one or more digits.
+    /// The text is not an optional sign followed by one or more digits.
     NotWhole,
-    /// It is a whole number below [`LEAST`] or above [`GREATEST`].
+    /// The text is a whole number below [`LEAST`] or above [`GREATEST`].
     OutOfRange,
 }
 
-/// Whether a byte is a decimal digit. Takes no memory.
+/// Returns whether a byte is a decimal digit. Does not allocate.
 pub fn is_digit(b: u8) -> bool
     ensures { result ≡ is_digit b }
 {
     b'0' <= b && b <= b'9'
 }
 
-/// Whether each byte is a decimal digit. Takes no memory.
+/// Returns whether all bytes are decimal digits. Does not allocate.
 pub fn are_digits(text: &[u8]) -> bool
     ensures { result ≡ list_all is_digit text.now }
 {
     text.iter().all(|b| is_digit(*b))
 }
 
-/// The value of decimal digits, or 10^18 if it is larger. Takes no memory.
+/// Returns the value of decimal digits, capped at 10^18. Does not allocate.
 pub fn value_of_digits(text: &[u8]) -> u64
     ensures value { result ≡ at_most (value_of_digits text.now) }
     ensures most { result ≤ 1000000000000000000 }
@@ -50,7 +50,7 @@ pub fn value_of_digits(text: &[u8]) -> u64
     value
 }
 
-// The value of one or more digits, capped.
+// Returns the value of one or more digits, capped at 10^18.
 fn digits_of(text: &[u8]) -> Option<u64>
     ensures value { result ≡ capped_digits text.now }
     ensures most { IfSome result (λ n. n ≤ CAP) }
@@ -61,8 +61,8 @@ fn digits_of(text: &[u8]) -> Option<u64>
     Some(value_of_digits(text))
 }
 
-/// The whole number that a text spells: an optional sign and one or more digits. Numbers beyond -10^18 or 10^18 are
-/// returned as that bound. Takes no memory.
+/// Returns the whole number that a text spells with an optional sign and one or more digits, capped at -10^18 and
+/// 10^18. Does not allocate.
 pub fn whole_number(text: &[u8]) -> Option<i64>
     ensures { result ≡ capped_number text.now }
 {
@@ -73,18 +73,20 @@ pub fn whole_number(text: &[u8]) -> Option<i64>
     }
 }
 
-/// Whether a number is from [`LEAST`] to [`GREATEST`]. Takes no memory.
+/// Returns whether a number is from [`LEAST`] to [`GREATEST`]. Does not allocate.
 pub fn is_in_range(n: i64) -> bool
     ensures { result ≡ is_in_range n }
 {
     LEAST as i64 <= n && n <= GREATEST as i64
 }
 
-/// The whole number in range that a text spells: an optional sign and one or more digits. Takes no memory.
+/// Returns the whole number in range that a text spells with an optional sign and one or more digits. Does not
+/// allocate.
 ///
 /// # Errors
 ///
-/// [`WholeFault::NotWhole`] if it spells none, [`WholeFault::OutOfRange`] if it spells one out of range.
+/// [`WholeFault::NotWhole`] if the text does not spell a whole number, [`WholeFault::OutOfRange`] if the number is out
+/// of range.
 pub fn read_whole(text: &[u8]) -> Result<i32, WholeFault>
     ensures { result ≡ read_whole text.now }
 {
@@ -95,7 +97,7 @@ pub fn read_whole(text: &[u8]) -> Result<i32, WholeFault>
     }
 }
 
-/// The whole number in range that a text spells, or None if it spells none. Takes no memory.
+/// Returns the whole number in range that a text spells, or `None` if there is none. Does not allocate.
 pub fn whole_in_range(text: &[u8]) -> Option<i32>
     ensures { result ≡ whole_in_range text.now }
 {

@@ -1,4 +1,4 @@
-//! The words of a line, and the parts of a word.
+//! Splits lines into words, and words into parts.
 
 ghost use Rattle.std.specs.Prelude.{◌≡◌, IfOk, map};
 ghost use Rattle.std.specs.List.{filter, slice_split};
@@ -10,7 +10,7 @@ use crate::blanks::is_blank;
 use crate::memory::Memory;
 use std::alloc::{AllocError, Global};
 
-// The pieces between blanks, including empty ones.
+// Returns the pieces between blanks, including empty ones.
 fn pieces_of<'a>(alloc: Global, line: &'a [u8]) -> Result<Vec<&'a [u8]>, AllocError>
     ensures { IfOk result (λ pieces. map (λ w. w.now) pieces.items
         ≡ slice_split is_blank line.now) }
@@ -24,7 +24,7 @@ fn is_list_gap(b: u8) -> bool
     is_blank(b) || b == b','
 }
 
-// The pieces between blanks and commas, including empty ones.
+// Returns the pieces between blanks and commas, including empty ones.
 fn list_pieces_of<'a>(alloc: Global, line: &'a [u8]) -> Result<Vec<&'a [u8]>, AllocError>
     ensures { IfOk result (λ pieces. map (λ w. w.now) pieces.items
         ≡ slice_split is_list_gap line.now) }
@@ -32,7 +32,7 @@ fn list_pieces_of<'a>(alloc: Global, line: &'a [u8]) -> Result<Vec<&'a [u8]>, Al
     line.split(|b| is_list_gap(*b)).collect(alloc)
 }
 
-// The pieces that are not empty.
+// Returns the non-empty pieces.
 fn words_among<'a>(alloc: Global, pieces: &[&'a [u8]]) -> Result<Vec<&'a [u8]>, Memory>
     ensures { IfOk result (λ words. map (λ w. w.now) words.items
         ≡ filter is_word (map (λ w. w.now) pieces.now)) }
@@ -46,7 +46,7 @@ fn words_among<'a>(alloc: Global, pieces: &[&'a [u8]]) -> Result<Vec<&'a [u8]>, 
     Ok(words)
 }
 
-/// The words of a line: the longest runs of bytes that are not blanks, in order.
+/// Returns the words of a line, in order: the longest runs of bytes that are not blanks.
 ///
 /// # Errors
 ///
@@ -58,7 +58,7 @@ pub fn words_of<'a>(alloc: Global, line: &'a [u8]) -> Result<Vec<&'a [u8]>, Memo
     words_among(alloc, &pieces)
 }
 
-/// The words of a list in which commas count as blanks, in order.
+/// Returns the words of a list, in order. Commas count as blanks.
 ///
 /// # Errors
 ///
@@ -70,14 +70,14 @@ pub fn list_words_of<'a>(alloc: Global, line: &'a [u8]) -> Result<Vec<&'a [u8]>,
     words_among(alloc, &pieces)
 }
 
-// The parts between commas, with std's error type.
+// Returns the parts between commas, with std's error type.
 fn comma_parts_of<'a>(alloc: Global, text: &'a [u8]) -> Result<Vec<&'a [u8]>, AllocError>
     ensures { IfOk result (λ parts. map (λ w. w.now) parts.items ≡ parts_of text.now) }
 {
     text.split(|b| *b == b',').collect(alloc)
 }
 
-/// The parts of a text between commas, including empty ones, in order.
+/// Returns the parts of a text between commas, in order, including empty ones.
 ///
 /// # Errors
 ///
@@ -89,7 +89,7 @@ pub fn parts_of<'a>(alloc: Global, text: &'a [u8]) -> Result<Vec<&'a [u8]>, Memo
     Ok(parts)
 }
 
-/// The texts before and after the first equals sign, or None if there is none. Takes no memory.
+/// Returns the texts before and after the first equals sign, or `None` if there is none. Does not allocate.
 pub fn pair_of<'a>(text: &'a [u8]) -> Option<(&'a [u8], &'a [u8])>
     ensures { option_map (λ pair. (pair.0.now, pair.1.now)) result ≡ pair_of text.now }
 {
