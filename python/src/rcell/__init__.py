@@ -1,8 +1,8 @@
 # SPDX-License-Identifier: Apache-2.0 OR GPL-2.0-or-later
-"""rcell for Python: tables, maps and patches of rasters of whole numbers, counted by the proved program.
+"""Count cells, classes and patches of integer rasters with the proved program `rcell`.
 
-Scripts run over maps of one region, which are passed by name: paths of GeoTIFFs, arrays,
-DataArrays.
+Scripts run over maps of one region. Pass each map by name: as the path of a GeoTIFF, as an array,
+or as a DataArray.
 
 >>> import numpy as np, rcell
 >>> land = np.array([[1, 1, 2], [3, 2, 2]])
@@ -17,7 +17,7 @@ from __future__ import annotations
 
 
 def _modules() -> dict[str, str]:
-    """Return the module of each name. Type checkers read both from the stub of this module."""
+    """Return the module of each public name, from the stub that type checkers also read."""
     import re
 
     with open(__file__.rpartition(".")[0] + ".pyi", encoding="utf-8") as file:
@@ -26,7 +26,7 @@ def _modules() -> dict[str, str]:
 
 
 def __getattr__(name: str) -> object:
-    """Import a name when it is first used: the command line reads and explains files without numpy."""
+    """Import a name when it is first used, because parts of the command line run without numpy."""
     import importlib
 
     if name == "__all__":

@@ -1,5 +1,5 @@
 # SPDX-License-Identifier: Apache-2.0 OR GPL-2.0-or-later
-"""`python3 -m rcell`, the same as `rcell-gis`."""
+"""Run `python3 -m rcell`, which is the same as `rcell-gis`."""
 
 from __future__ import annotations
 

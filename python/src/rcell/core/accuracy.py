@@ -1,5 +1,5 @@
 # SPDX-License-Identifier: Apache-2.0 OR GPL-2.0-or-later
-"""The accuracy of a map, and the areas of its classes corrected with a reference sample."""
+"""Estimate the accuracy of a map, and correct the areas of its classes, from a reference sample."""
 
 from __future__ import annotations
 
@@ -26,7 +26,8 @@ from .sources import MapLike, source_of
 __all__ = ["Accuracy", "accuracy", "summary_of"]
 
 _TABLES = (".csv", ".tsv")
-# A test of whether a sample is random: the normal deviate of one in a thousand, and the fewest cells expected of a class.
+# For the test of whether a sample is random: the normal deviate at p = 0.001, and the smallest
+# expected count per class.
 _DEVIATE = 3.09
 _FEWEST = 5
 
@@ -40,16 +41,16 @@ class Accuracy(NamedTuple):
     Parameters
     ----------
     matrix : pandas.DataFrame
-        The cells of the sample: a row for each class of the map, a column for each class of the reference.
+        The number of sample cells, with a row for each class of the map and a column for each class
+        of the reference.
     classes : pandas.DataFrame
-        A row for each class: its accuracies and its area, with standard errors.
+        The accuracies and the area of each class, with standard errors.
     overall, overall_se : float
         The share of the area that is mapped correctly, and its standard error.
     kappa : float
         Cohen's kappa of the estimated shares; NaN if there is one class.
     quantity, allocation : float
-        The disagreement in the quantities of classes, and in their allocation. With `overall` they
-        add up to 1.
+        Quantity disagreement and allocation disagreement. With `overall` they add up to 1.
     cells : int
         The size of the sample.
 
@@ -82,23 +83,25 @@ def accuracy(
     labels: Any = None,
     crs: Any = None,
 ) -> Accuracy:
-    """Compare a map with a reference, and estimate the areas of its classes from it.
+    """Compare a map with a reference, and estimate the accuracy and area of each class.
 
     Parameters
     ----------
     map : path, array, or any map that `run` accepts, or None
         None if the reference is a table.
     reference : map, points or table
-        A map, whose null cells are not in the sample; points, as a path, a GeoDataFrame or GeoJSON; or a table, as a CSV or a
-        DataFrame, with the columns `map`, `reference` and optionally `cells`.
+        A map, whose null cells are not in the sample; points, as a path, a GeoDataFrame or GeoJSON;
+        or a table, as a CSV or a DataFrame, with the columns `map`, `reference` and optionally
+        `cells`.
     areas : "map", dict, Series, DataFrame or path, optional
-        The areas of the map's classes, from which the sample was drawn class by class: "map" counts them in the map; or areas by
-        class, as a dict, or as a CSV or a DataFrame with the columns `value` and `area`. Without areas the sample counts as a simple
-        random one, with a warning if points are not.
+        The areas of the map's classes, for a sample that was drawn class by class: "map" computes
+        them from the map; otherwise areas by class, as a dict, a CSV or a DataFrame with the
+        columns `value` and `area`. Without areas, the sample is treated as a simple random sample,
+        with a warning if points do not look like one.
     area : {"ha", "km2", "m2"} or None
-        The unit of areas, as in `composition`; hectares for areas that are given.
+        The unit of areas, as in `composition`; hectares if `areas` contains areas by class.
     field : str, optional
-        The field that has the class of each point; by default `class`, or `reference`.
+        The field with the class of each point; by default `class`, or `reference`.
     layer : str, optional
         The layer, if the file of points has several.
     labels : path, dict, Series or DataFrame, optional
@@ -109,16 +112,18 @@ def accuracy(
     Returns
     -------
     Accuracy
-        A named tuple: `matrix`, `classes`, `overall`, `overall_se`, `kappa`, `quantity`, `allocation`, `cells`. The columns of
-        `classes` are `class`, `label`, `cells_map`, `cells_reference`, `users`, `users_se`, `producers`, `producers_se`, and with areas
-        `mapped_ha`, `area_ha`, `area_se_ha`. Accuracies are shares from 0 to 1, by equations 1 to
-        11 of Olofsson et al. 2014. Undefined values are NaN. Without areas, standard errors are
-        right for a random sample, and mean nothing for a complete reference.
+        A named tuple: `matrix`, `classes`, `overall`, `overall_se`, `kappa`, `quantity`,
+        `allocation`, `cells`. The columns of `classes` are `class`, `label`, `cells_map`,
+        `cells_reference`, `users`, `users_se`, `producers`, `producers_se`, and with areas
+        `mapped_ha`, `area_ha`, `area_se_ha`. Accuracies are shares from 0 to 1, computed with
+        equations 1 to 11 of Olofsson et al. 2014. Undefined values are NaN. Without areas, standard
+        errors are correct for a random sample, but meaningless for a complete reference.
 
     Raises
     ------
     Refused
-        The sample is empty, a class with an area has no cell in the sample, or the class of a point is not a whole number.
+        The sample is empty, a class with an area has no sample cells, or the class of a point is
+        not a whole number.
     BadArgument
         A class of the sample has no area.
 
@@ -158,7 +163,7 @@ def accuracy(
 
 
 def summary_of(result: Accuracy) -> Table:
-    """Return the figures of an accuracy that are not in its tables, as a table of one row."""
+    """Return the overall figures of an accuracy assessment as a table with one row."""
     names = result._fields[2:]
     parts = ((name, np.array([value])) for name, value in zip(names, result[2:]))
     return Table(
@@ -173,10 +178,11 @@ def _matrix_of(classes: Integers, counts: Integers, legend: Mapping[int, str]) -
 
 
 class _Estimate:
-    """Shares of area by class of the map (rows) and of the reference (columns), from a sample that is stratified by the map.
+    """Area shares by map class (rows) and reference class (columns), from a stratified sample.
 
-    Equations are numbered as in Olofsson et al. 2014, Remote Sensing of Environment 148. A stratum of one cell has no variance (NaN), and a
-    stratum without area needs none.
+    The strata are the map's classes. Equations are numbered as in Olofsson et al. 2014, Remote
+    Sensing of Environment 148. The variance is NaN for a stratum with one cell, and not needed for
+    a stratum without area.
 
     Parameters
     ----------
@@ -197,7 +203,7 @@ class _Estimate:
         self.shares_se = np.sqrt(self._squares.sum(axis=0))  # equation 10
 
     def columns(self) -> list[Column]:
-        """Return the cells and the accuracies of each class, with their standard errors."""
+        """Return the number of cells and the accuracies of each class, with standard errors."""
         has_rows, own = self._rows > 0, np.diag(self._squares)
         producers = _ratio(np.diag(self._joint), self.shares)  # equation 3
         # Equation 7, with shares in place of numbers of cells.
@@ -216,13 +222,14 @@ class _Estimate:
         ]
 
     def summary(self) -> tuple[float, float, float, float, float]:
-        """Return the overall accuracy with its standard error, kappa, and the disagreement in quantity and in allocation."""
+        """Return overall accuracy, kappa, and quantity and allocation disagreement."""
         overall = float(np.trace(self._joint))  # equation 1
         overall_se = math.sqrt(np.trace(self._squares))  # equation 5
         marginal = self._joint.sum(axis=1)
         chance = float(marginal @ self.shares)
         kappa = (overall - chance) / (1 - chance) if len(marginal) > 1 and chance < 1 else math.nan
-        # Pontius and Millones 2011, International Journal of Remote Sensing 32. Sums of what is wrong, which are exactly 0 if nothing is.
+        # Pontius and Millones 2011, International Journal of Remote Sensing 32. Sums of the
+        # disagreements, which are exactly 0 for a perfect map.
         wrong = self._joint * (1 - np.eye(len(marginal)))
         too_much, missed = wrong.sum(axis=1), wrong.sum(axis=0)
         quantity = float(np.abs(too_much - missed).sum() / 2)
@@ -231,12 +238,12 @@ class _Estimate:
 
 
 def _ratio(above: Any, below: Any) -> Floats:
-    """Return a quotient; NaN if the divisor is not above 0."""
+    """Return the quotient, or NaN if the divisor is not positive."""
     return np.asarray(above / np.where(np.asarray(below) > 0, below, np.nan))
 
 
 def _check_strata(classes: Integers, mapped: Floats, rows: Integers) -> None:
-    """Raise an error if a class has an area and no cell in the sample, or cells and no area."""
+    """Raise an error if a class has an area but no sample cells, or sample cells but no area."""
     lacking = classes[(mapped > 0) & (rows == 0)].tolist()
     if lacking:
         problem = f"no cell of the sample is in the class {first_of(lacking)} of the map, which has an area"
@@ -258,9 +265,9 @@ def _pairs_of(
     crs: Any,
     is_random: bool,
 ) -> tuple[Integers, Optional[Maps]]:
-    """Return how often each class of the map and of the reference occur together, and the maps, if there is one.
+    """Return the counts of class pairs in map and reference, and the maps if the map is given.
 
-    Warn if points that are said to be a random sample are not.
+    Warns if points are treated as a random sample but do not look like one.
     """
     points = open_features("reference", reference, layer)
     if points is None:
@@ -286,9 +293,9 @@ def _pairs_of(
 
 
 def _warn_of_strata(pairs: Integers, counts: Integers) -> None:
-    """Warn if a sample has the map's classes in shares that a random sample hardly ever has, by a test of chi squared.
+    """Warn if a sample's class shares are implausible for a random sample, with a chi-squared test.
 
-    The rarest classes count as one, and the limit is Wilson and Hilferty's.
+    The rarest classes are pooled, and the limit uses the Wilson-Hilferty approximation.
     """
     drawn = np.zeros(len(counts))
     np.add.at(drawn, np.searchsorted(counts[:, 0], pairs[:, 0]), pairs[:, 2])
@@ -311,9 +318,9 @@ def _warn_of_strata(pairs: Integers, counts: Integers) -> None:
 
 
 def _pairs_of_table(reference: Any) -> Optional[Integers]:
-    """Return how often pairs of classes occur in a CSV or a DataFrame; None for anything else.
+    """Return the counts of class pairs in a CSV or a DataFrame; None for any other reference.
 
-    Rows without a class in the map or in the reference are left out.
+    Rows without a map class or a reference class are left out.
     """
     is_path = isinstance(reference, (str, os.PathLike))
     is_file = is_path and os.path.splitext(os.fspath(reference))[1].lower() in _TABLES
@@ -343,7 +350,7 @@ def _pairs_of_table(reference: Any) -> Optional[Integers]:
 def _sizes_of(
     areas: Any, area: Any, maps: Optional[Maps], crs: Any
 ) -> tuple[Optional[dict[int, float]], Optional[str]]:
-    """Return the areas of the map's classes, or None, and the unit of areas in the result."""
+    """Return the areas of the map's classes (or None) and the unit of areas in the result."""
     if areas is None:
         return None, None
     if isinstance(areas, str) and areas == "map":
@@ -360,7 +367,7 @@ def _sizes_of(
 
 
 def _sizes_given(areas: Any) -> Any:
-    """Yield the area of each class of a dict, a Series, a CSV or a DataFrame."""
+    """Yield the classes and areas in a dict, a Series, a CSV or a DataFrame."""
     if isinstance(areas, (str, os.PathLike)) or hasattr(areas, "columns"):
         rows = rows_of("areas", areas, ("value", "area"))
         listed = [(f"{place}: ", row["value"], row["area"]) for place, row in rows]

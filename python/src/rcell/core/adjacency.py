@@ -1,5 +1,5 @@
 # SPDX-License-Identifier: Apache-2.0 OR GPL-2.0-or-later
-"""Which classes share sides of cells, and how long their common border is."""
+"""Count the cell sides that classes share, and measure the length of their borders."""
 
 from __future__ import annotations
 
@@ -14,7 +14,7 @@ from .sources import MapLike
 
 __all__ = ["adjacency", "sides_of"]
 
-# Its tables have the pairs of cells side by side, and one above the other.
+# The first table counts pairs of cells next to each other in a row, the second in a column.
 _SCRIPT = """r.mapcalc right = map[0,1]
 r.mapcalc below = map[1,0]
 r.stats -c -n input=map,right
@@ -22,7 +22,7 @@ r.stats -c -n input=map,below"""
 
 
 def adjacency(map: MapLike, *, labels: Any = None, crs: Any = None) -> Table:
-    """Count the sides that the cells of each pair of classes share.
+    """Count the cell sides that each pair of classes shares.
 
     Parameters
     ----------
@@ -35,10 +35,10 @@ def adjacency(map: MapLike, *, labels: Any = None, crs: Any = None) -> Table:
     Returns
     -------
     pandas.DataFrame
-        Columns `class`, `label`, `neighbour`, `neighbour_label`, `sides`, `border_m`. Each pair is listed once, the smaller class
-        first; a class with itself counts the sides between its own cells. Sides to null and along
-        the map's edge are left out. `border_m` is NaN without a reference system and, with a
-        warning, in degrees.
+        Columns `class`, `label`, `neighbour`, `neighbour_label`, `sides`, `border_m`. Each pair is
+        listed once, with the smaller class first; the pair of a class with itself counts the sides
+        between its own cells. Sides next to null and along the map's edge are left out. `border_m`
+        is NaN without a reference system and, with a warning, in degrees.
 
     Raises
     ------
@@ -68,7 +68,10 @@ def adjacency(map: MapLike, *, labels: Any = None, crs: Any = None) -> Table:
 def sides_of(
     right: NDArray[np.int64], below: NDArray[np.int64]
 ) -> tuple[NDArray[np.int64], NDArray[np.int64], NDArray[np.int64]]:
-    """Return each pair of classes once, and how many sides they share from west to east, and from north to south."""
+    """Return each class pair once, and its shared sides in both directions.
+
+    The last two columns count sides from west to east, and from north to south.
+    """
     pairs = np.sort(np.concatenate([right[:, :2], below[:, :2]]), axis=1)
     kinds, pair_of = np.unique(pairs, axis=0, return_inverse=True)
     pair_of = pair_of.reshape(-1)

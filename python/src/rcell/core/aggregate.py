@@ -1,5 +1,5 @@
 # SPDX-License-Identifier: Apache-2.0 OR GPL-2.0-or-later
-"""Coarser maps: the most frequent class of blocks of cells, and the share of each class."""
+"""Make coarser maps from blocks of cells: the most frequent class, and the share of each class."""
 
 from __future__ import annotations
 
@@ -54,16 +54,17 @@ class Aggregate(NamedTuple):
 
 @dataclass(frozen=True)
 class BlockShares:
-    """The percentages of classes in blocks; blocks count row by row from 0.
+    """The percentage of each class in each block. Blocks are numbered row by row from 0.
 
     Attributes
     ----------
     blocks : ArrayMap
-        The majority of each block, which is null if the block is.
+        The most frequent class of each block; null for a null block.
     classes : list of int
         Ascending.
     entries : array of int64
-        The block, the index of the class, and the cells of each class of each block.
+        A row for each class of each block: the block, the index of the class, and the number of
+        cells.
     cells : array of int64
         For each block.
     """
@@ -75,7 +76,10 @@ class BlockShares:
 
     @property
     def names(self) -> list[str]:
-        """The label of each class, or its number; a label of two classes is followed by the number."""
+        """The label of each class, or its number.
+
+        The number is appended to a label of two classes.
+        """
         [names] = distinct_names([(np.array(self.classes, np.int64), self.blocks.labels)])
         return names
 
@@ -90,24 +94,26 @@ class BlockShares:
 
 
 def aggregate(map: MapLike, factor: int, min_percent: float = 0, *, crs: Any = None) -> Aggregate:
-    """Make a coarser map of blocks of `factor` by `factor` cells, from the north-western corner.
+    """Make a coarser map from blocks of `factor` by `factor` cells, starting in the north-west.
 
     Parameters
     ----------
     map : path, array, or any map that `run` accepts
     factor : int
-        Rows and columns of a block. Blocks at the southern and eastern edge may reach beyond the map.
+        The number of rows and of columns of a block. Blocks at the southern and eastern edges may
+        extend beyond the map.
     min_percent : float
-        A block is null if a smaller percentage of its cells is in the map and not null. A block
-        without such cells is always null.
+        The smallest percentage of a block's cells that must be inside the map and not null;
+        otherwise the block is null. A block with only null cells is always null.
     crs : any, optional
         The reference system to assume for a map that has none.
 
     Returns
     -------
     Aggregate
-        `.majority` has the most frequent class of each block, ties go to the smallest; `.shares` the percentages of each class among
-        the cells that are not null; `.cells` the number of these cells.
+        A named tuple. `majority` contains the most frequent class of each block (in a tie, the
+        smallest), `shares` the percentage of each class among the cells that are not null, and
+        `cells` the number of cells that are not null.
 
     Raises
     ------
@@ -164,12 +170,15 @@ def aggregate(map: MapLike, factor: int, min_percent: float = 0, *, crs: Any = N
 
 
 def _counted(entries: Integers, classes: Integers, blocks: int) -> tuple[Integers, Integers]:
-    """Return the most frequent class of each block, null without cells, and its cells; classes are indices, in order by block."""
+    """Return each block's most frequent class (null if it has no cells) and cell count.
+
+    The classes are indices, and the entries are sorted by block.
+    """
     block, index, count = entries.T
     first = places_of(block)
     most, cells = np.full(blocks, NULL, np.int64), np.zeros(blocks, np.int64)
     if first.size:
-        # Of the largest counts, the largest number has the smallest class.
+        # In a tie, the smallest class has the largest key.
         ranks = count * classes.size + (classes.size - 1 - index)
         best = np.maximum.reduceat(ranks, first) % classes.size
         most[block[first]] = classes[classes.size - 1 - best]

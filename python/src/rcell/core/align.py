@@ -28,21 +28,24 @@ from .sources import (
 
 __all__ = ["Aligned", "align"]
 
-# A centre so close to the northern or western border of a cell, in cells, still lies in it.
+# How far, in cells, a centre may be outside a cell's northern or western border and still count as
+# inside.
 _ON_BORDER = 1e-6
-# Cells between two reference systems are looked up in squares of this side.
+# The side of the squares in which cells are looked up if the reference systems differ.
 _SIDE = 1024
 
 
 class Aligned(NamedTuple):
-    """What `rcell.align` did to a map.
+    """The effect of `rcell.align` on a map.
 
     Parameters
     ----------
     shift_rows, shift_columns : float or None
-        The row and column of the map at which the new grid begins, from 0; None between two reference systems.
+        The map's row and column, from 0, at which the new grid begins; None if the reference
+        systems differ.
     cells_used, cells_repeated, cells_lost : int
-        How many of its cells with a value are in the result, are there more than once, and are not there.
+        The number of the map's non-null cells that are in the result, are in it more than once, and
+        are not in it.
 
     Examples
     --------
@@ -62,28 +65,30 @@ class Aligned(NamedTuple):
 def align(
     map: MapLike, to: MapLike, resample: Optional[str] = None, *, crs: Any = None
 ) -> tuple[ArrayMap, Aligned]:
-    """Bring a map onto the grid of another map: by whole cells, or on request with the nearest cell.
+    """Align a map with the grid of another map, by whole cells or with the nearest cells.
 
     Parameters
     ----------
-    map, to : path, array, .. as maps of `run`
+    map, to : path, array, or any map that `run` accepts
         The map to align, and the map with the grid.
     resample : {"nearest"}, optional
-        Each new cell gets the cell in which its centre lies; on a border, the southern or eastern one. By default, only whole rows and
-        columns are cut off, or added as null.
+        Each new cell gets the value of the cell that contains its centre; on a border, of the
+        southern or eastern cell. By default, only whole rows and columns are removed, or added as
+        null.
     crs : any, optional
         The reference system to assume for maps that have none.
 
     Returns
     -------
     Raster
-        Its attribute `aligned` has `shift_rows` and `shift_columns` (the row and column of the map at which the new grid begins),
-        and the cells with a value that are used, used more than once (repeated), and not used (lost).
+        The map on the new grid. Its attribute `aligned` is an `Aligned`, which counts the cells
+        that were used, repeated and lost.
 
     Raises
     ------
     OtherRegion
-        The grids differ by part of a cell, or their cells differ in size, and `resample` is not given.
+        The grids are shifted by part of a cell or have cells of different sizes, and `resample` is
+        not given.
     OtherCrs
         The reference systems differ, and `resample` is not given.
 
@@ -129,13 +134,13 @@ def align(
 
 
 class _Target:
-    """The cells of a map on another grid, all null at first: in memory, or in a file if they are too many.
+    """The map on the new grid, all null at first; kept in a file if it is too large for memory.
 
     Parameters
     ----------
     source : Source
     shape : tuple of two ints
-        Of the grid.
+        The rows and columns of the grid.
     """
 
     def __init__(self, source: Source, shape: tuple[int, int]) -> None:
@@ -148,7 +153,7 @@ class _Target:
             self.null[...] = True
 
     def put(self, part: Any, cells: Cells, null: Mask, where: Any = True) -> None:
-        """Put cells into a part of the grid, as its index, or into some places of it."""
+        """Write cells into a part of the grid, or only where a mask of the part is true."""
         if self.null is not None:
             _copy(self.null[part], null, where)
         elif null.any():
@@ -157,7 +162,7 @@ class _Target:
 
 
 def _copy(target: NDArray[Any], values: NDArray[Any], where: Any) -> None:
-    """Put values into an array, or only where a mask is true."""
+    """Write values into an array, or only where a mask is true."""
     if where is True:
         target[...] = values
     else:
@@ -170,7 +175,11 @@ def _null_of(source: Source, block: Block) -> Mask:
 
 
 class _Axis(NamedTuple):
-    """The rows (or columns) of a map that a grid uses: their ascending indices, the first row of the grid inside the map, and how often each is used."""
+    """The rows (or columns) of a map that a grid uses.
+
+    `taken` lists their indices in ascending order, `first` is the first row of the grid inside the
+    map, and `often` counts how often the grid uses each row of the map.
+    """
 
     taken: NDArray[np.int64]
     first: int
@@ -178,7 +187,10 @@ class _Axis(NamedTuple):
 
     @classmethod
     def of(cls, centres: NDArray[np.float64], size: int) -> _Axis:
-        """Return what a grid uses, from the centres of its rows in cells of the map."""
+        """Return the rows that a grid uses.
+
+        `centres` contains the centres of the grid's rows, in units of the map's cells.
+        """
         indices = np.floor(centres + _ON_BORDER).astype(np.int64)
         inside = np.flatnonzero((indices >= 0) & (indices < size))
         taken = indices[inside]
@@ -187,13 +199,13 @@ class _Axis(NamedTuple):
         return cls(taken, first, often)
 
     def part(self, begin: int, end: int) -> tuple[slice, Any]:
-        """Return which rows of the grid use rows from `begin` to `end`, and which of these each one uses."""
+        """Return the grid rows that use map rows in a range, and the row that each uses."""
         low, high = (int(place) for place in np.searchsorted(self.taken, (begin, end)))
         return slice(self.first + low, self.first + high), _run(self.taken[low:high] - begin)
 
 
 def _shifted(source: Source, like: Source, target: _Target, resample: Optional[str]) -> Aligned:
-    """Put a map on the grid of another one: moved by whole rows and columns, or with the nearest cells."""
+    """Put a map on another map's grid, shifted by whole rows and columns or with nearest cells."""
     shift = Shift.between(source.transform, like.transform, like.region.shape)
     if resample is None and not shift.is_whole:
         cure = f"{option('resample', 'nearest')} takes the nearest cell"
@@ -215,7 +227,7 @@ def _shifted(source: Source, like: Source, target: _Target, resample: Optional[s
 
 
 def _run(places: NDArray[np.int64]) -> Any:
-    """Return consecutive indices as a slice, which indexes many times faster; other indices unchanged."""
+    """Return consecutive indices as a slice, for speed; other indices unchanged."""
     if not places.size:
         return slice(0, 0)
     if places[-1] - places[0] + 1 != places.size:
@@ -224,13 +236,13 @@ def _run(places: NDArray[np.int64]) -> Any:
 
 
 def _projected(source: Source, like: Source, target: _Target) -> Aligned:
-    """Put a map on a grid with another reference system, with the nearest cells, of which a window is read at a time."""
+    """Put a map on a grid with another reference system, with the nearest cells."""
     system, source_system = known(like.crs), known(source.crs)
     assert system is not None and source_system is not None
     width, _, west, _, height, north = source.transform
     rows, cols = shape = source.region.shape
     windows: Any = source if has_windows(source) else _held(source)
-    often = cells_for(shape, np.uint8)  # 0, 1, and 2 for more
+    often = cells_for(shape, np.uint8)  # 2 means two or more
     often[...] = 0
     is_met = False
     for place in rectangles_of(like.region.shape, (_SIDE, _SIDE)):
@@ -255,14 +267,14 @@ def _projected(source: Source, like: Source, target: _Target) -> Aligned:
 
 
 class _Window(NamedTuple):
-    """The window of a map that has some cells, and where these are in it, as an index of all its cells."""
+    """The smallest window that contains given cells, and the index of each cell in it."""
 
     place: Rectangle
     flat: NDArray[np.int64]
 
     @classmethod
     def of(cls, down: NDArray[np.float64], across: NDArray[np.float64]) -> _Window:
-        """Return the window of cells that are given by their rows and columns."""
+        """Return the window of the cells in these rows and columns."""
         top, left = int(down.min()), int(across.min())
         rows, cols = int(down.max()) + 1 - top, int(across.max()) + 1 - left
         down_in_window = down.astype(np.int64) - top
@@ -270,14 +282,14 @@ class _Window(NamedTuple):
         return cls(Rectangle(top, left, rows, cols), down_in_window * cols + across_in_window)
 
     def note(self, often: NDArray[np.uint8], null: Mask) -> None:
-        """Note how often each cell is taken, unless it is null."""
+        """Count how often each cell that is not null is used, up to 2."""
         part = often[self.place.slices]
         times = np.bincount(self.flat[~null], minlength=self.place.cells)
         part[...] = np.minimum(times.reshape(part.shape) + part, 2)
 
 
 def _held(source: Source) -> ArrayMap:
-    """Return a map that cannot be read in parts, such as a text grid, as a map in memory."""
+    """Read a map that cannot be read in windows, such as a text grid, into memory."""
     blocks = list(source.blocks())
     cells = np.concatenate([block.cells for block in blocks])
     nulls = [block.null for block in blocks if block.null is not None]
@@ -286,7 +298,7 @@ def _held(source: Source) -> ArrayMap:
 
 
 def _centres(like: Source, place: Rectangle) -> list[NDArray[np.float64]]:
-    """Return the coordinates of the centres of some cells."""
+    """Return the x and y coordinates of the cell centres in a rectangle."""
     width, _, west, _, height, north = like.transform
     x = west + width * (np.arange(place.left, place.left + place.cols) + 0.5)
     y = north + height * (np.arange(place.top, place.top + place.rows) + 0.5)

@@ -1,5 +1,5 @@
 # SPDX-License-Identifier: Apache-2.0 OR GPL-2.0-or-later
-"""The areas of cells: one area for all cells of a projected map, one for each row of a map in degrees."""
+"""Compute cell areas: one for all cells of a projected map, one per row of a map in degrees."""
 
 from __future__ import annotations
 
@@ -20,14 +20,14 @@ __all__ = ["AUTO", "Measure", "flat_measure", "measure_of", "metres_of", "row_ar
 
 AUTO = "auto"
 
-# The most that a row may reach beyond a pole, in cells: a half, and what rounding adds.
+# How far a row may extend beyond a pole, in cells: half a cell, and a margin for rounding.
 _MOST_BEYOND = 0.5 + 1e-6
 
 
 def row_areas(
     north: float, height: float, width: float, rows: int, ellipsoid: tuple[float, float]
 ) -> NDArray[np.float64]:
-    """Return the area of a cell of each row in square metres: a part of the ellipsoid between two parallels.
+    """Return the area of a cell of each row in square metres, on the ellipsoid.
 
     Parameters
     ----------
@@ -35,22 +35,23 @@ def row_areas(
         The northern edge, and the size of a cell, in radians.
     rows : int
     ellipsoid : tuple of float
-        Its semi-major axis in metres, and its flattening.
+        The semi-major axis in metres, and the flattening.
 
     Examples
     --------
     >>> float(row_areas(math.pi / 2, math.pi, 2 * math.pi, 1, (1.0, 0.0))[0] / math.pi)
     4.0
     """
-    # The area between two parallels: Snyder, Map Projections: A Working Manual (1987), equation 3-12, and its authalic radius.
+    # The area between two parallels: equation 3-12 and the authalic radius in Snyder, Map
+    # Projections: A Working Manual (1987).
     axis, flattening = ellipsoid
     edges = north - height * np.arange(rows + 1)
-    # Cells may be centred on a pole: half of them then lies beyond it, and has no area.
+    # Cells may be centred on a pole. Their half beyond the pole has no area.
     if rows and max(edges[0], -edges[-1]) > math.pi / 2 + height * _MOST_BEYOND:
         side, edge = ("north", edges[0]) if edges[0] > math.pi / 2 else ("south", edges[-1])
         raise Refused(f"rows beyond the pole: {side} is {math.degrees(edge):.10g}", "map")
     upper, lower = np.minimum(edges[:-1], math.pi / 2), np.maximum(edges[1:], -math.pi / 2)
-    # The difference of the sines, computed without subtracting them: that would lose digits for thin rows.
+    # The difference of the sines, from a product: a subtraction would lose digits for thin rows.
     step = np.where((upper < edges[:-1]) | (lower > edges[1:]), upper - lower, height)
     risen = 2 * np.cos((upper + lower) / 2) * np.sin(step / 2)
     if flattening == 0:
@@ -75,13 +76,14 @@ class Measure:
     unit : str or None
         The unit of areas; None for no areas.
     divisor : float
-        The unit in square metres.
+        The number of square metres in the unit.
     cell : float
         The area of a cell of a projected map in square metres.
     by_row : array of float64 or None
-        The area of a cell of each row of a map in degrees, in square metres, if there are areas.
+        The area in square metres of a cell of each row, if the map is in degrees and areas are
+        wanted.
     metres : float or None
-        The length of the map's unit: NaN in degrees, None if it is not known.
+        The length of the map's unit in metres; NaN in degrees, None if it is unknown.
     """
 
     unit: str | None
@@ -91,7 +93,7 @@ class Measure:
     metres: float | None
 
     def length(self) -> float:
-        """Return the length of the map's unit in metres; NaN if it is not known, and with a warning in degrees."""
+        """Return the unit in metres; NaN if it is unknown and, with a warning, in degrees."""
         if self.metres is None:
             return math.nan
         if math.isnan(self.metres):
@@ -100,11 +102,11 @@ class Measure:
 
     @property
     def column(self) -> str:
-        """The ending of the names of columns in this unit."""
+        """The suffix of column names in this unit."""
         return self.unit or "cells"
 
     def area(self, weights: NDArray[Any]) -> NDArray[np.float64]:
-        """Return the area of each number of cells of a projected map, or of square metres of a map in degrees."""
+        """Convert numbers of cells (projected maps) or square metres (in degrees) to areas."""
         return weights * self.cell / self.divisor
 
 
@@ -114,14 +116,14 @@ def measure_of(area: Any, source: Source, crs: Any) -> Measure:
     Parameters
     ----------
     area : {"auto", "ha", "km2", "m2"} or None
-        The unit; auto is hectares if there is a reference system, else no areas.
+        The unit; "auto" means hectares if there is a reference system, otherwise no areas.
     source : Source
     crs : any
 
     Raises
     ------
     BadArgument
-        There is no such unit, or no reference system.
+        The unit is unknown, or the map has no reference system.
     Refused
         The reference system's unit of length or angle is unknown.
     """
@@ -136,12 +138,12 @@ def measure_of(area: Any, source: Source, crs: Any) -> Measure:
 
 
 def flat_measure(area: str, transform: Transform, crs: Any) -> Measure:
-    """Return the sizes of the cells of a map if all have one area, which tables of scripts need.
+    """Return the sizes of the cells of a map whose cells all have the same area.
 
     Raises
     ------
     BadArgument
-        The map is in degrees, or as in `measure_of`.
+        The map is in degrees; also raised as in `measure_of`.
     """
     unit = unit_of(area, crs)
     metres = _metres(crs, True)
@@ -155,7 +157,7 @@ def flat_measure(area: str, transform: Transform, crs: Any) -> Measure:
 
 
 def metres_of(name: str, crs: Any, advice: str = "") -> float:
-    """Return the length of a map's unit in metres; if it has none, the error names the argument that needs it."""
+    """Return the length of a map's unit in metres, or raise an error that names the argument."""
     if crs is None:
         rule = "must be for a map with a coordinate reference system, and this one has none"
         raise BadArgument(name, f"{rule}: state it, for example {option('crs', 'EPSG:25832')}")
@@ -172,7 +174,7 @@ def _cell(transform: Transform, metres: float) -> float:
 
 
 def unit_of(area: Any, crs: Any) -> str | None:
-    """Return the unit of areas that a call asks for, None for no areas.
+    """Return the requested unit of areas; None for no areas.
 
     Examples
     --------
@@ -191,7 +193,7 @@ def unit_of(area: Any, crs: Any) -> str | None:
 
 
 def _metres(crs: Any, is_needed: bool) -> float | None:
-    """Return the length of a reference system's unit: NaN in degrees, None if it is not known and not needed."""
+    """Return the unit's length in metres; NaN in degrees, None if it is unknown and not needed."""
     system = known(crs) if is_needed or crs is None else _understood(crs)
     if system is None:
         return None
@@ -201,7 +203,7 @@ def _metres(crs: Any, is_needed: bool) -> float | None:
 
 
 def _understood(crs: Any) -> Crs | None:
-    """Return a reference system that is useful but not needed; None without a library that understands it."""
+    """Return a reference system that is optional here; None if no library can read it."""
     try:
         return known(crs)
     except MissingLibrary:

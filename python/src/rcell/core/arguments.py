@@ -1,5 +1,5 @@
 # SPDX-License-Identifier: Apache-2.0 OR GPL-2.0-or-later
-"""Checks of arguments that several calls share."""
+"""Check arguments that several calls have in common."""
 
 from __future__ import annotations
 
@@ -28,14 +28,14 @@ _SHOWN = 5
 
 
 def check_connectivity(connectivity: Any) -> None:
-    """Raise BadArgument unless a connectivity is 4 or 8."""
+    """Raise BadArgument unless the connectivity is 4 or 8."""
     is_whole = isinstance(connectivity, numbers.Integral) and not isinstance(connectivity, bool)
     if not is_whole or connectivity not in (4, 8):
         raise BadArgument("connectivity", f"must be 4 or 8; got {connectivity!r}")
 
 
 def whole_number_of(name: str, value: Any, least: int, most: Optional[int] = None) -> int:
-    """Return an argument that must be a whole number in a range.
+    """Return an argument as an int, or raise BadArgument unless it is in a range.
 
     Examples
     --------
@@ -52,7 +52,7 @@ def whole_number_of(name: str, value: Any, least: int, most: Optional[int] = Non
 
 
 def classes_of(classes: Any) -> Optional[List[int]]:
-    """Return the classes that a call is limited to; None for all.
+    """Return the classes to which a call is limited; None for all classes.
 
     Examples
     --------
@@ -78,7 +78,7 @@ def classes_of(classes: Any) -> Optional[List[int]]:
 
 
 def first_of(values: Iterable[Any], most: int = _SHOWN) -> str:
-    """Return the first of some values as a text, and how many more there are.
+    """Return a text with the first values and the number of further ones.
 
     Examples
     --------
@@ -91,7 +91,7 @@ def first_of(values: Iterable[Any], most: int = _SHOWN) -> str:
 
 
 def known_names(noun: str, names: Iterable[str]) -> str:
-    """Return the names that could be meant, for a message about an unknown one.
+    """Return the part of a message about an unknown name that lists the known names.
 
     Examples
     --------
@@ -105,7 +105,7 @@ def known_names(noun: str, names: Iterable[str]) -> str:
 
 
 def check_arguments(call: Callable[..., Any], named: Iterable[str]) -> None:
-    """Raise BadArgument if a call does not have an argument of a name.
+    """Raise BadArgument if a name is not an argument of a call.
 
     Examples
     --------
@@ -124,18 +124,18 @@ def check_arguments(call: Callable[..., Any], named: Iterable[str]) -> None:
 
 
 def check_script(script: Any) -> None:
-    """Raise BadArgument unless a script is a text."""
+    """Raise BadArgument unless the script is a string."""
     if not isinstance(script, str):
         raise BadArgument("script", f"must be a text; got {script!r}")
 
 
 def check_named_maps(maps: Any, named: Mapping[str, Any], words: Iterable[str]) -> None:
-    """Raise BadArgument unless maps are given by name, and no name is a misspelt parameter of the call.
+    """Raise BadArgument if maps are not given by name, or a name is a misspelt parameter.
 
     Parameters
     ----------
     maps : any
-        The argument without a name: a mapping of maps, a Dataset, or None.
+        The positional argument: a mapping of maps, a Dataset, or None.
     named : mapping of str to any
         The keyword arguments that the call treats as maps.
     words : iterable of str
@@ -158,7 +158,7 @@ def check_named_maps(maps: Any, named: Mapping[str, Any], words: Iterable[str]) 
 
 
 def _may_be_map(value: Any) -> bool:
-    """Return whether something may be meant as a map: a name with a dot, a path, or anything but a plain value."""
+    """Return whether a value may be a map: a text with a dot, a path, or not a plain value."""
     if isinstance(value, str):
         return "." in value or os.sep in value or os.path.exists(value)
     return not (value is None or isinstance(value, (bool, int, float)))

@@ -1,5 +1,5 @@
 # SPDX-License-Identifier: Apache-2.0 OR GPL-2.0-or-later
-"""Types of arrays, only for annotations: a run does not import numpy.typing."""
+"""Define array types for annotations, without importing numpy.typing at run time."""
 
 from __future__ import annotations
 

@@ -1,5 +1,5 @@
 # SPDX-License-Identifier: Apache-2.0 OR GPL-2.0-or-later
-"""Values along the border of a map that may be nodata, although the map does not say so."""
+"""Warn about undeclared nodata: a usual nodata value along most of a map's border."""
 
 from __future__ import annotations
 
@@ -15,12 +15,14 @@ from .sources import Block, Source
 
 __all__ = ["Watch", "watched"]
 
-# What programs write for nodata: the end of the type of bytes and of 16 bits, and a number that people agree on.
+# Common nodata values: the extremes of 8 and 16 bits, and a conventional number.
 _USUAL = (255, -9999, -32768)
 
 
 class Watch:
-    """Counts usual nodata values along the border of a map. Its blocks or windows may come in any order.
+    """Counts usual nodata values along the border of a map.
+
+    Blocks or windows may be added in any order.
 
     Parameters
     ----------
@@ -68,7 +70,7 @@ class Watch:
 
 
 def watched(name: str, source: Source) -> Iterator[Block]:
-    """Yield the blocks of a map; after the last one, warn if a usual nodata value fills more than half of its border."""
+    """Yield a map's blocks, then warn if a nodata value fills over half of its border."""
     watch, row = Watch(name, source, source.region.shape), 0
     for block in source.blocks():
         watch.add(block, row, 0)
@@ -78,7 +80,7 @@ def watched(name: str, source: Source) -> Iterator[Block]:
 
 
 def _may_be_undeclared(source: Any, value: int) -> bool:
-    """Return whether a value can be a non-null value of a map; 255 is the end of the type only in bytes."""
+    """Return whether a value may be an undeclared nodata value; 255 may be only in bytes."""
     if source.nodata == value:
         return False
     limits = np.iinfo(source.dtype)
@@ -88,11 +90,14 @@ def _may_be_undeclared(source: Any, value: int) -> bool:
 def _border(
     block: Block, row: int, col: int, shape: tuple[int, int]
 ) -> tuple[NDArray[Any], NDArray[np.bool_]]:
-    """Return the cells of a block on the border of a map, and which of them are null; the block begins at a row and a column."""
+    """Return a block's cells on the border of the map, and which of them are null.
+
+    The block begins at a row and a column of the map.
+    """
     (rows, cols), (high, wide) = shape, block.cells.shape
     is_last = row + high == rows and rows > 1
     inner = slice(int(row == 0), high - is_last)
-    parts: list[Any] = [np.s_[:0, 0]]  # no cell, for a block without a border
+    parts: list[Any] = [np.s_[:0, 0]]  # no cells, if the block does not touch the border
     if row == 0:
         parts.append(np.s_[0, :])
     if is_last:

@@ -1,5 +1,5 @@
 # SPDX-License-Identifier: Apache-2.0 OR GPL-2.0-or-later
-"""The calls that return tables, by their names, as records have them."""
+"""Find the calls that return tables by the names that records contain."""
 
 from __future__ import annotations
 
@@ -29,12 +29,12 @@ CALLS = {call.__name__: call for call in _CALLS}
 
 
 def call_named(name: str) -> Callable[..., Any]:
-    """Return a call by its name.
+    """Return the call with this name.
 
     Raises
     ------
     Refused
-        There is no such call.
+        The name is unknown.
     """
     if name not in CALLS:
         raise Refused(f"there is no call {name}", "record")

@@ -1,5 +1,5 @@
 # SPDX-License-Identifier: Apache-2.0 OR GPL-2.0-or-later
-"""Change between maps of two or more years."""
+"""Count changes between maps of two or more years."""
 
 from __future__ import annotations
 
@@ -31,14 +31,16 @@ class Change(NamedTuple):
     Parameters
     ----------
     table : pandas.DataFrame
-        A row for each change that occurs: `from`, `from_label`, `to`, `to_label`, `cells`, `area_ha`, and `percent` of what is null in
-        neither year.
+        A row for each change that occurs: `from`, `from_label`, `to`, `to_label`, `cells`,
+        `area_ha`, and `percent` of the cells that are null in neither year.
     matrix : pandas.DataFrame
-        The areas, or without areas the cells: a row for each class before, a column for each class after. Classes with the same label
-        have their numbers in their names, for example `wood (31)`.
+        The areas (or without areas, the cells), with a row for each class before and a column for
+        each class after. If several classes have the same label, their names include their numbers,
+        for example `wood (31)`.
     summary : pandas.DataFrame
-        A row for each class: its area before and after, gain, loss, net change, swap and persistence. Swap is twice the smaller of gain
-        and loss: what a class lost in one place and gained in another.
+        A row for each class: its area before and after, gain, loss, net change, swap and
+        persistence. Swap is twice the smaller of gain and loss: the area that a class lost in one
+        place and gained in another.
 
     Examples
     --------
@@ -65,20 +67,20 @@ def change(
     labels: Any = None,
     crs: Any = None,
 ) -> Change:
-    """Compare maps of two or more years class by class, over the cells that are null in neither year.
+    """Compare maps of two or more years class by class, where neither map is null.
 
     Parameters
     ----------
     before, after : path, array, or any map that `run` accepts
-        Two maps; or as `before` a list of maps in the order of their years, or a DataArray with the dimension `time`. Each map is
-        compared with the next one.
+        Two maps. Alternatively, `before` is a list of maps in the order of their years, or a
+        DataArray with the dimension `time`; each map is then compared with the next one.
     years : iterable of int, optional
         The year of each map; required for a list of more than two maps.
     area : {"ha", "km2", "m2"} or None
         The unit of areas, as in `composition`.
     labels : path, dict, Series or DataFrame, optional
-        The legend of all maps, which replaces their own labels, as in `composition`. By default, maps without labels get the labels of
-        the first map that has some.
+        The legend of all maps, which replaces their own labels, as in `composition`. By default,
+        maps without labels get the labels of the first map with labels.
     crs : any, optional
         The reference system to assume for maps that have none.
 
@@ -92,7 +94,7 @@ def change(
     Refused
         See `run`.
     BadArgument
-        There is not one year for each map.
+        The number of years differs from the number of maps.
 
     Examples
     --------
@@ -117,7 +119,7 @@ def change(
 
 
 def _maps_of(before: Any, after: Any, years: Any) -> tuple[dict[str, Any], Any]:
-    """Return the maps of a call by their names, and the years."""
+    """Return the maps of a call by name, and the years."""
     if after is not None:
         return {"before": before, "after": after}, years
     maps, years = maps_in_time(before, years)
@@ -129,7 +131,7 @@ def _maps_of(before: Any, after: Any, years: Any) -> tuple[dict[str, Any], Any]:
 
 
 def maps_in_time(maps: Any, years: Any) -> tuple[list[Any], Any]:
-    """Return the maps of a list, or of a DataArray with the dimension `time`, and their years."""
+    """Return the maps in a list or in a DataArray with the dimension `time`, and their years."""
     if "time" in getattr(maps, "dims", ()):
         from ..readers.xarray import series_of
 
@@ -139,7 +141,7 @@ def maps_in_time(maps: Any, years: Any) -> tuple[list[Any], Any]:
 
 
 def checked_years(years: Any, maps: int) -> Optional[list[int]]:
-    """Return the years, after checking that there is one for each map."""
+    """Return the years as a list, or raise BadArgument unless there is one per map."""
     if years is None and maps == 2:
         return None
     if isinstance(years, str) or not (years is None or isinstance(years, Iterable)):
@@ -158,12 +160,12 @@ def checked_years(years: Any, maps: int) -> Optional[list[int]]:
 
 
 def _classes_of(pairs: Sequence[Counts], index: int) -> NDArray[np.int64]:
-    """Return the classes that occur in a map of a series; each pair of years has two maps."""
+    """Return the classes that occur in one map of a series, from the counts of pairs of years."""
     parts = []
     if index < len(pairs):
-        parts.append(pairs[index].classes[:, 0])  # it is the map before
+        parts.append(pairs[index].classes[:, 0])  # the map is the earlier of this pair
     if index > 0:
-        parts.append(pairs[index - 1].classes[:, 1])  # it is the map after
+        parts.append(pairs[index - 1].classes[:, 1])  # the map is the later of this pair
     return np.concatenate(parts)
 
 
@@ -232,7 +234,7 @@ class _Changes:
         return Table(columns)
 
     def _years_of(self, rows: list[int]) -> list[Column]:
-        """Return the columns of years; `rows` has the number of rows of each pair."""
+        """Return the columns of years; `rows` contains each pair's number of rows."""
         if self.years is None:
             return []
         years = np.array(self.years, np.int64)
@@ -246,7 +248,7 @@ class _Changes:
         classes: Sequence[NDArray[np.int64]],
         labels: Sequence[Labels],
     ) -> list[Column]:
-        """Return the column of classes of all pairs, and the column of labels if any map has labels."""
+        """Return the class column of all pairs and, if there are labels, the label column."""
         columns = [Column(name, "class", np.concatenate(classes))]
         if any(self.labels):
             pairs = zip(classes, labels)
@@ -258,7 +260,7 @@ class _Changes:
 def _matrix_of(
     pair: Counts, measured: NDArray[Any], after: NDArray[np.int64]
 ) -> tuple[NDArray[np.int64], NDArray[Any]]:
-    """Return the classes before, and the classes they changed into: a row per class before, a column per class after."""
+    """Return the classes before, and the values by class before (rows) and after (columns)."""
     before, down = np.unique(pair.classes[:, 0], return_inverse=True)
     values = np.zeros((before.size, after.size), measured.dtype)
     values[down, np.searchsorted(after, pair.classes[:, 1])] = measured
@@ -266,7 +268,7 @@ def _matrix_of(
 
 
 def _summary_of(pair: Counts, measured: NDArray[Any]) -> tuple[NDArray[np.int64], NDArray[Any]]:
-    """Return the classes of two years, and for each of them the seven measures of a summary."""
+    """Return the classes of two years, and the seven measures of a summary for each class."""
     classes, indices = np.unique(pair.classes, return_inverse=True)
     before, after = indices.reshape(-1, 2).T
     persists = before == after

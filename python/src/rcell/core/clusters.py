@@ -1,5 +1,5 @@
 # SPDX-License-Identifier: Apache-2.0 OR GPL-2.0-or-later
-"""Dask clusters whose workers process tiles: the given client's, or the current client's."""
+"""Process tiles on the workers of a Dask cluster: the given client's or the current client's."""
 
 from __future__ import annotations
 
@@ -27,16 +27,16 @@ __all__ = ["Cluster", "client_of", "current_client", "result_of", "run_on_worker
 
 Made = TypeVar("Made")
 
-# If a worker has no limit, and if there is no worker yet.
+# The assumed memory per thread if a worker has no limit, or if there is no worker yet.
 _UNKNOWN = 2 << 30
 _LARGE = "(?s).*[Ll]arge (object|graph)"
 _ITS_SCHEDULERS = ("dask.distributed", "distributed")
-# How long to wait for the first worker before saying so.
+# How long to wait for the first worker before warning.
 PATIENCE_SECONDS = 30.0
 
 
 def client_of(workers: Any) -> Any:
-    """Return the client that is given as `workers`, None if it is something else."""
+    """Return the client that is given as `workers`; None if it is not a client."""
     if not (hasattr(workers, "scheduler_info") and hasattr(workers, "get_executor")):
         return None
     if getattr(workers, "asynchronous", False):
@@ -45,7 +45,10 @@ def client_of(workers: Any) -> Any:
 
 
 def current_client() -> Any:
-    """Return the client that Dask would use now, or None: a task that a worker runs has none, so its tiles need no other worker."""
+    """Return the client that Dask would use now, or None.
+
+    Inside a task on a worker the result is None, so that the task does not wait for other workers.
+    """
     distributed, dask = sys.modules.get("distributed"), sys.modules.get("dask")
     if distributed is None or dask is None or _is_in_task():
         return None
@@ -59,7 +62,7 @@ def current_client() -> Any:
 
 
 def _is_in_task() -> bool:
-    """Return whether a worker of a cluster runs this thread."""
+    """Return whether this thread runs a task of a cluster's worker."""
     worker = sys.modules.get("distributed.worker")
     return hasattr(getattr(worker, "thread_state", None), "execution_state")
 
@@ -85,12 +88,12 @@ class Cluster:
 
     @property
     def threads(self) -> int:
-        """How many tiles all workers can work on at a time; 1 if there is no worker yet."""
+        """The number of tiles that the workers can process at a time, at least 1."""
         return max(sum(int(worker["nthreads"]) for worker in self._workers), 1)
 
     @property
     def memory(self) -> int:
-        """The bytes that each thread of a worker has at least."""
+        """The smallest memory per thread of any worker, in bytes."""
         limits = [
             (worker["memory_limit"] or _UNKNOWN * worker["nthreads"]) // worker["nthreads"]
             for worker in self._workers
@@ -98,11 +101,14 @@ class Cluster:
         return min(limits, default=_UNKNOWN)
 
     def submit(self, work: TileWork) -> Future[TileDone]:
-        """Return the future of a tile; if a worker is lost, another one takes its place."""
+        """Submit a tile and return its future.
+
+        If a worker is lost, another worker processes the tile.
+        """
         work, states, version, arrays = sent_parts(work)
         cells = {name: self._client.compute(array) for name, array in arrays.items()}
         with warnings.catch_warnings():
-            # The cells of a tile are sent once, and not again.
+            # Dask warns about large arguments, but a tile's cells are sent only once.
             warnings.filterwarnings("ignore", _LARGE)
             future: Future[TileDone] = self._executor.submit(
                 run_on_worker, work, states, version, cells
@@ -110,17 +116,17 @@ class Cluster:
         return future
 
     def warn_if_empty(self) -> None:
-        """Warn that nothing can be done yet."""
+        """Warn if the cluster has no workers yet."""
         if not self._workers:
             warn(f"the cluster of {self._client.scheduler.address} has no workers: waiting for one")
 
     def cancel(self) -> None:
-        """Cancel the work that has not begun."""
+        """Cancel tiles that no worker has begun."""
         self._executor.shutdown(wait=False)
 
 
 def result_of(future: Future[Made]) -> Made:
-    """Return the result of the work on a tile, with errors of the cluster as errors of this package."""
+    """Return a tile's result, or raise the cluster's error as an error of this package."""
     try:
         return future.result()
     except CancelledError:
@@ -137,7 +143,7 @@ def result_of(future: Future[Made]) -> Made:
 
 
 def sent_parts(work: TileWork) -> tuple[TileWork, dict[str, State], str, dict[str, Any]]:
-    """Return the arguments of `run_on_worker`, of which the last has arrays of Dask that have to be computed."""
+    """Return the arguments of `run_on_worker`; the last one holds Dask arrays to compute."""
     maps, arrays = {}, {}
     for name, source in work.maps.items():
         maps[name] = sendable(source, work.outer)
@@ -158,13 +164,13 @@ def run_on_worker(
     version: str,
     cells: Optional[Mapping[str, Any]] = None,
 ) -> TileDone:
-    """Run the work on a tile in another process.
+    """Process a tile in a worker process.
 
     Parameters
     ----------
     work : TileWork
     states : mapping of str to states
-        The files that are read, with their states on the machine of the call.
+        The files to read, with their states on the machine of the call.
     version : str
         The version of this package on the machine of the call.
     cells : mapping of str to array
@@ -173,9 +179,9 @@ def run_on_worker(
     Raises
     ------
     WrongProgram
-        The package has another version here.
+        The worker has a different version of this package.
     ReadFailed
-        A file differs here.
+        A file on the worker's machine differs.
     """
     if version != _version():
         problem = (
@@ -196,14 +202,17 @@ def run_on_worker(
 
 
 def _version() -> str:
-    """Return the version of this package; not every copy of the core has one."""
+    """Return the version of this package.
+
+    The import is local because some copies of the core have no version.
+    """
     from .._version import __version__
 
     return __version__
 
 
 def _where() -> str:
-    """Return where this process is, for messages."""
+    """Return the address of this worker, for messages; empty outside a worker."""
     if not _is_in_task():
         return ""
     return f" on the worker {sys.modules['distributed'].get_worker().address}"

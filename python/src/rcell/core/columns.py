@@ -1,5 +1,5 @@
 # SPDX-License-Identifier: Apache-2.0 OR GPL-2.0-or-later
-"""Tables of the core: named columns, which packages turn into DataFrames, layers and texts."""
+"""Define the core's tables, which packages convert to DataFrames, layers and texts."""
 
 from __future__ import annotations
 
@@ -25,7 +25,8 @@ class Column:
     ----------
     name : str
     kind : {"class", "label", "count", "measure"}
-        Integers, with -2147483648 for null; texts, with None for missing; integers; floats, with NaN for missing.
+        A class is an integer, with -2147483648 for null; a label is a text, or None if it is
+        missing; a count is an integer; a measure is a float, or NaN if it is missing.
     values : array, or list of str or None
     """
 
@@ -34,7 +35,7 @@ class Column:
     values: Any
 
     def listed(self) -> list[Value]:
-        """Return the values, with None for missing ones."""
+        """Return the values as a list, with None for missing values."""
         if self.kind == "label":
             return list(self.values)
         values: list[Value] = self.values.tolist()
@@ -46,7 +47,9 @@ class Column:
 
 
 class Table:
-    """Columns of one length; a name that occurs twice gets the first number that makes it unique.
+    """Columns of equal length.
+
+    A repeated name gets the first number that makes it unique.
 
     Parameters
     ----------
@@ -85,13 +88,13 @@ class Matrix(Table):
     Parameters
     ----------
     keys : list of Column
-        The columns that say what a row is.
+        The columns that identify a row.
     across : str
-        What the other columns are.
+        The variable whose classes are the other columns.
     titles : list of str
     values : array, a row for each row of the keys, a column for each title
     is_numbered : bool
-        Whether the titles are numbers of classes.
+        Whether the titles are class numbers.
     """
 
     def __init__(
@@ -119,7 +122,7 @@ class Matrix(Table):
         values: NDArray[Any],
         labels: Sequence[Mapping[int, str]],
     ) -> Matrix:
-        """Return the values of pairs of classes of two maps; 0 if a pair does not occur.
+        """Arrange the values of class pairs in a matrix, with 0 for pairs that do not occur.
 
         Examples
         --------
@@ -140,7 +143,7 @@ class Matrix(Table):
 
 
 def _codes(classes: NDArray[np.int64]) -> tuple[NDArray[np.int64], NDArray[np.intp]]:
-    """Return the classes that occur, null last, and the index of each among them."""
+    """Return the distinct classes, null last, and each entry's index among them."""
     last = np.iinfo(np.int64).max
     codes, indices = np.unique(np.where(classes == NULL, last, classes), return_inverse=True)
     return np.where(codes == last, NULL, codes), indices
@@ -149,14 +152,16 @@ def _codes(classes: NDArray[np.int64]) -> tuple[NDArray[np.int64], NDArray[np.in
 def distinct_names(
     axes: Sequence[tuple[NDArray[np.int64], Mapping[int, str]]], taken: Sequence[str] = ()
 ) -> list[list[str]]:
-    """Return names of the classes of some axes: their labels, or their numbers; a label of two classes is followed by the number.
+    """Return a unique name for each class on each axis: its label or its number.
+
+    The number is appended to a label of two classes.
 
     Parameters
     ----------
     axes : sequence of (array, mapping)
         Classes and their labels.
     taken : sequence of str
-        Names of other columns.
+        The names of other columns.
 
     Examples
     --------
@@ -186,7 +191,7 @@ def _number(code: int) -> str:
 
 
 def unique_names(names: Iterable[str]) -> list[str]:
-    """Return names in which a repeated one has the first number that makes it unique.
+    """Return the names, with the first number that makes it unique appended to a repeated name.
 
     Examples
     --------

@@ -1,5 +1,5 @@
 # SPDX-License-Identifier: Apache-2.0 OR GPL-2.0-or-later
-"""The classes of a map, by zone, and the classes of several maps together."""
+"""Count the classes of a map, by zone or in combination with other maps."""
 
 from __future__ import annotations
 
@@ -35,30 +35,34 @@ def composition(
     ----------
     map : path, array, or any map that `run` accepts
     zones : map, or path of polygons, GeoDataFrame or GeoSeries, optional
-        A cell belongs to the polygon that contains its centre. A feature without geometry, or without a value, has no zone.
+        A cell belongs to the polygon that contains its centre. A feature without geometry, or
+        without a value, has no zone.
     area : {"ha", "km2", "m2"} or None
-        The unit of areas; None leaves them out. If it is not given, areas are in hectares if the map's reference system says how long a
-        unit is, and left out if the map has none. In degrees, areas are on the ellipsoid of the reference system.
+        The unit of areas; None leaves them out. By default, areas are in hectares if the map has a
+        reference system with a known unit, and left out if it has none. In degrees, areas are on
+        the ellipsoid of the reference system.
     labels, zone_labels : path, dict, Series or DataFrame, optional
-        A legend that replaces the labels of the map, or of the zones: a CSV or TSV with `value` and `label`, a QML, or labels by value.
+        A legend that replaces the labels of the map, or of the zones: a CSV or TSV with `value` and
+        `label`, a QML, or labels by value.
     zone_field : str, optional
-        The field of the polygons with the ids or names of the zones; by default the zone is the feature's own id (the index of a
-        GeoDataFrame).
+        The field of the polygons with the ids or names of the zones; by default the zone is the
+        feature's own id (the index of a GeoDataFrame).
     layer : str, optional
         The layer, if the file of polygons has several.
     each : bool
-        Whether to process overlapping polygons one after another. By default the later one gets the
-        cells, with a warning.
+        Whether to process overlapping polygons one after another. By default, the later polygon
+        gets the cells, with a warning.
     include_null : bool
-        Whether to add the cells that are null.
+        Whether to also count null cells.
     crs : any, optional
         The reference system to assume for maps that have none.
 
     Returns
     -------
     pandas.DataFrame
-        Columns `zone` and `zone_label` (with zones), `class`, `label` (if there are labels), `cells`, `area_ha`, and `percent` of the
-        non-null part of the zone: of its area, or of its cells if there are no areas.
+        Columns `zone` and `zone_label` (with zones), `class`, `label` (if there are labels),
+        `cells`, `area_ha`, and `percent` of the non-null part of the zone: of its area, or of its
+        cells if there are no areas.
 
     Raises
     ------
@@ -102,23 +106,23 @@ def cross(
     Parameters
     ----------
     maps : mapping, optional
-        Maps by name, as in `named`; for names that are parameters of this call.
+        Maps by name, for names that are also parameters of this call.
     area : {"ha", "km2", "m2"} or None
         The unit of areas, as in `composition`.
     labels : mapping, optional
         Legends, keyed by the names of the maps; each as in `composition`.
     include_null : bool
-        Whether to add combinations with null.
+        Whether to also count combinations with null.
     crs : any, optional
         The reference system to assume for maps that have none.
     **named
-        Maps by name, up to 16, in degrees up to 15.
+        Maps by name: at most 16, or 15 in degrees.
 
     Returns
     -------
     pandas.DataFrame
-        For each map a column `NAME`, and `NAME_label` if it has labels; then `cells`, `area_ha`, and `percent` of the area, or
-        without areas of the cells, that is null in no map.
+        For each map a column `NAME`, and `NAME_label` if it has labels; then `cells`, `area_ha`,
+        and `percent` of the area, or without areas of the cells, that is null in no map.
 
     Raises
     ------

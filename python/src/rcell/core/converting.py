@@ -1,5 +1,8 @@
 # SPDX-License-Identifier: Apache-2.0 OR GPL-2.0-or-later
-"""Maps from one format to another: `rcell-gis convert`. Texts need only the standard library."""
+"""Convert maps between formats for `rcell-gis convert`.
+
+Conversions between text formats need only the standard library.
+"""
 
 from __future__ import annotations
 
@@ -19,12 +22,12 @@ _STATUS = 2
 
 
 def converted(path: str, to_esri: bool) -> Optional[Iterator[bytes]]:
-    """Return the text of an rcell grid, or of an ESRI ASCII grid, in one of the two formats; None if the file is neither."""
+    """Return a text grid in ESRI ASCII or rcell format; None if the file is not a text grid."""
     try:
         with open(path, "rb") as file:
             start = read_some(file.fileno(), HEAD_BYTES)
     except OSError:
-        return None  # GDAL may know the path
+        return None  # a path that only GDAL can open
     if is_esri(start) and not to_esri:
         opened(path)
         return grid_of_esri(path)
@@ -35,7 +38,7 @@ def converted(path: str, to_esri: bool) -> Optional[Iterator[bytes]]:
 
 
 def _printed(path: str) -> Iterator[bytes]:
-    """Yield a grid as rcell prints it."""
+    """Yield the text of a grid in the layout that rcell prints."""
     program = find_program()
     with program_errors("", ["map"], program), printed(program, path) as pieces:
         yield from pieces
@@ -48,12 +51,14 @@ def printed_map(raster: Any, to_esri: bool) -> Iterator[bytes]:
 
 
 def like(raster: Any, path: str) -> Any:
-    """Return a map with the reference system and the exact extent of another map, from which it may differ by half a cell.
+    """Return a map with the reference system and exact extent of another map.
+
+    The extents may differ by up to half a cell.
 
     Raises
     ------
     Refused
-        Its size differs, or an edge differs by more.
+        The sizes differ, or an edge differs by more than half a cell.
     """
     from .sources import source_of
 

@@ -1,5 +1,5 @@
 # SPDX-License-Identifier: Apache-2.0 OR GPL-2.0-or-later
-"""The maps of a call, and the counts and areas of combinations of their classes."""
+"""Read the maps of a call, and count the combinations of their classes."""
 
 from __future__ import annotations
 
@@ -25,7 +25,7 @@ from .zones import Zones, zones_of
 
 __all__ = ["Counts", "Maps", "coded", "legend_for", "places_of"]
 
-# The most maps of an r.stats; in degrees the number of the row is one of them.
+# The largest number of maps in one r.stats; in degrees, one of them holds row numbers.
 MOST_MAPS = 16
 
 Integers = NDArray[np.int64]
@@ -41,7 +41,8 @@ class Counts:
         Ascending, -2147483648 for null, which comes last.
     cells : array of int64
     area : array of float64 or None
-        In degrees, in the unit of the call; elsewhere it follows from the cells.
+        In the unit of the call, for maps in degrees; None for other maps, whose areas follow from
+        the cells.
     """
 
     classes: Integers
@@ -49,32 +50,35 @@ class Counts:
     area: Optional[NDArray[np.float64]]
 
     def where(self, kept: NDArray[Any]) -> Counts:
-        """Return the entries that are kept, or the entries of some places in their order."""
+        """Return the entries that a mask or a list of indices selects."""
         area = None if self.area is None else self.area[kept]
         return Counts(self.classes[kept], self.cells[kept], area)
 
     def summed(self, first: NDArray[np.intp]) -> Counts:
-        """Return the sums of the entries from each of some places to the next one, with the classes of the first."""
+        """Return sums of consecutive entries.
+
+        Each group begins at an index in `first` and keeps the classes of its first entry.
+        """
         if not first.size:
             return self
         area = None if self.area is None else np.add.reduceat(self.area, first)
         return Counts(self.classes[first], np.add.reduceat(self.cells, first), area)
 
     def weights(self) -> NDArray[Any]:
-        """Return what shares are computed from: the areas in degrees, else the cells, whose sums are exact."""
+        """Return the weights for shares: areas in degrees, otherwise exact cell counts."""
         return self.cells if self.area is None else self.area
 
     def areas(self, measure: Measure) -> NDArray[np.float64]:
-        """Return the areas; the cells if there is no unit."""
+        """Return the areas, or the cells if there is no unit."""
         return measure.area(self.cells) if self.area is None else self.area
 
     def percent(self, groups: int = 0) -> NDArray[np.float64]:
-        """Return each entry's share of the non-null entries with the same first classes; NaN for null.
+        """Return each entry's percentage of its group's non-null entries; NaN for null.
 
         Parameters
         ----------
         groups : int
-            The number of classes, from the first on, that make a group.
+            The number of leading classes that entries of a group have in common.
         """
         is_null = (self.classes == NULL).any(axis=1)
         counted = np.where(is_null, 0, self.weights())
@@ -88,7 +92,7 @@ class Counts:
     def columns(
         self, measure: Measure, percent: Optional[NDArray[np.float64]] = None
     ) -> list[Column]:
-        """Return the last columns of a table: cells, area and percent."""
+        """Return the columns cells, area and percent of a table."""
         columns = [Column("cells", "count", self.cells)]
         if measure.unit is not None:
             columns.append(Column(f"area_{measure.unit}", "measure", self.areas(measure)))
@@ -106,7 +110,7 @@ class Maps:
     zones : any, optional
         A map, or polygons, which become the map `zones`.
     zone_field, layer : str, optional
-        The field of the polygons with their ids or names, and the layer of their file.
+        The polygon field with ids or names, and the layer of the polygon file.
     each : bool
         Whether to process overlapping polygons one after another.
     """
@@ -139,17 +143,19 @@ class Maps:
         self.first = next(iter(self.sources.values()))
 
     def measure(self, area: Any) -> Measure:
-        """Return the sizes of their cells."""
+        """Return the cell sizes of the maps."""
         return measure_of(area, self.first, self.crs)
 
     def tables(self, script: str, once: int = 0) -> list[Integers]:
-        """Return the tables of a script as they are; with polygons one after another, the rows of all parts in order.
+        """Return a script's tables.
+
+        If polygons are processed one after another, their rows are merged and sorted.
 
         Parameters
         ----------
         script : str
         once : int
-            How many of the first tables do not depend on zones.
+            The number of leading tables that do not depend on zones.
         """
         if self._zones is None or len(self._zones.maps) == 1:
             return [output.values for output in execute(script, self.sources)]
@@ -161,7 +167,10 @@ class Maps:
         return runs[0][:once] + merged
 
     def ask(self, question: Question, clump: str, fold: PatchFold) -> bool:
-        """Give the patches of a map to a fold, as `runs.ask` does; not if polygons are taken one after another."""
+        """Give the patches of a map to a fold, as `runs.ask` does.
+
+        Returns False if polygons are processed one after another.
+        """
         if self._zones is not None and len(self._zones.maps) > 1:
             return False
         return ask(question, clump, self.sources, fold)
@@ -169,7 +178,7 @@ class Maps:
     def counts(
         self, tables: Sequence[Sequence[str]], measure: Measure, include_null: bool = False
     ) -> list[Counts]:
-        """Return how often classes of some maps occur together, for each list of maps."""
+        """Count the combinations of classes of each list of maps."""
         flags = "-c" if include_null else "-c -n"
         rows = [] if measure.by_row is None else ["row"]
         lines = ["r.mapcalc row = row()"] if rows else []
@@ -183,7 +192,7 @@ class Maps:
     def columns(
         self, title: str, classes: Integers, name: str, legend: Any = None, label: str = "{}_label"
     ) -> list[Column]:
-        """Return a map's column of classes and, if a legend or the map has labels, the column of labels."""
+        """Return a map's class column and, if there are labels, its label column."""
         argument, own = "labels", self.sources[name].labels
         if name == "zones" and self._zones is not None:
             is_null = classes == NULL
@@ -194,7 +203,7 @@ class Maps:
 
 
 def counts_of(values: Integers, measure: Measure) -> Counts:
-    """Return the entries of a table; if it begins with rows, the sums over the rows."""
+    """Return the counts in a table, summed over rows if its first column is the row."""
     if measure.by_row is None:
         return Counts(values[:, :-1], values[:, -1].copy(), None)
     area = values[:, -1] * measure.by_row[values[:, 0] - 1]
@@ -205,7 +214,7 @@ def counts_of(values: Integers, measure: Measure) -> Counts:
 
 
 def places_of(ordered: Integers) -> NDArray[np.intp]:
-    """Return where a new combination begins among rows of numbers that are in order."""
+    """Return the indices at which a new combination begins in sorted rows."""
     if not len(ordered):
         return np.empty(0, np.intp)
     rows = ordered if ordered.ndim == 2 else ordered[:, None]
@@ -219,16 +228,18 @@ def legend_for(
     classes: Sequence[tuple[str, Integers]],
     argument: str = "labels",
 ) -> Mapping[int, str]:
-    """Return class labels: from a legend, with a warning about classes that it lacks, or else the map's own.
+    """Return class labels from a legend, or else the map's own labels.
+
+    Warns about classes that are not in the legend.
 
     Parameters
     ----------
     legend : any
     own : mapping of int to str
     classes : sequence of (str, array)
-        The classes that occur, by the names of maps.
+        The name and the classes of each map.
     argument : str
-        The name of the argument that gives the legend.
+        The name of the argument for the legend.
     """
     if legend is None:
         return own
@@ -247,7 +258,7 @@ def legend_for(
 def coded(
     title: str, classes: Integers, labels: Mapping[int, str], label: str = "{}_label"
 ) -> list[Column]:
-    """Return the column of classes, and the column of their labels if there are some."""
+    """Return the class column and, if there are labels, the label column."""
     columns = [Column(title, "class", classes)]
     if labels:
         texts = [labels.get(code) for code in classes.tolist()]

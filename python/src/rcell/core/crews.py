@@ -1,5 +1,5 @@
 # SPDX-License-Identifier: Apache-2.0 OR GPL-2.0-or-later
-"""Threads that process tiles, each with its own programs, or the workers of a cluster."""
+"""Process tiles in threads, each with its own programs, or on the workers of a cluster."""
 
 from __future__ import annotations
 
@@ -22,32 +22,32 @@ from .tile_work import TileDone, TileWork, run_work
 
 __all__ = ["Crew"]
 
-# How many finished tiles may wait, for each that is worked on: their results are in memory.
+# The number of tiles submitted per worker. It limits the finished results in memory.
 AHEAD = 2
 
 Made = TypeVar("Made")
 
 
 def _ready(done: TileDone) -> Future[TileDone]:
-    """Return the outcome of a tile whose results were kept, like any other outcome."""
+    """Return a finished future for a tile whose results were kept by an earlier run."""
     future: Future[TileDone] = Future()
     future.set_result(done)
     return future
 
 
 class _Stopped(Exception):
-    """The call has ended, so the programs of its other tiles are stopped."""
+    """Raised in the threads of other tiles after the call has ended, to stop their programs."""
 
 
 class Crew:
-    """Threads for the tiles of a call; leaving the block ends their programs.
+    """The threads for a call's tiles, as a context manager that stops their programs on exit.
 
     Parameters
     ----------
     workers : int
-        The number of tiles that are processed at a time.
+        The number of tiles to process at a time.
     steps : int
-        The number of steps for the progress: each tile counts as often as it is processed.
+        The number of progress steps: one for each time that a tile is processed.
     is_shown : bool
         Whether to report progress to the host.
     cluster : Cluster, optional
@@ -90,7 +90,7 @@ class Crew:
     def each(
         self, do: Callable[[Rectangle], Made], places: Sequence[Rectangle]
     ) -> Iterator[tuple[int, Made]]:
-        """Yield what a function returns for each place, with the index of the place, in the order of completion."""
+        """Call a function for each place and yield (index, result) pairs as calls complete."""
         yield from self._in_turn(lambda place: self._pool.submit(self._run, do, place), places)
 
     def run(
@@ -99,7 +99,7 @@ class Crew:
         finish: Callable[[TileWork, TileDone], Made],
         places: Sequence[Rectangle],
     ) -> Iterator[tuple[int, Made]]:
-        """Run the work of each place, and yield what `finish` returns, with the index of the place, in the order of completion."""
+        """Run the work of each place and yield (index, `finish` result) pairs as tiles complete."""
 
         def do(place: Rectangle) -> Made:
             work = prepare(place)
@@ -118,14 +118,14 @@ class Crew:
             yield index, finish(works.pop(places[index]), self._without_warnings(done))
 
     def _without_warnings(self, done: TileDone) -> TileDone:
-        """Keep the warnings of a tile for the end."""
+        """Collect a tile's warnings, which are issued at the end of the call."""
         self._warnings.update(dict.fromkeys(done.warnings))
         return done
 
     def _in_turn(
         self, submit: Callable[[Rectangle], Future[Made]], places: Sequence[Rectangle]
     ) -> Iterator[tuple[int, Made]]:
-        """Submit places, a few more than there are workers, and yield each result with its index as it is ready."""
+        """Submit places, a few ahead of the workers, and yield each result as it completes."""
         running: dict[Future[Any], int] = {}
         waiting = iter(enumerate(places))
         while True:
@@ -140,7 +140,7 @@ class Crew:
                 self._step()
 
     def _run(self, do: Callable[[Rectangle], Any], place: Rectangle) -> Any:
-        """Process a tile in a thread, with a host that collects warnings for the caller's host."""
+        """Process a tile in a thread, and collect its warnings for the caller's host."""
         caller = dataclasses.replace(
             self._caller,
             warn=lambda text: self._warnings.setdefault(text, None),
@@ -161,7 +161,7 @@ class Crew:
             raise _Stopped
 
     def _ended(self, running: dict[Future[Any], int]) -> set[Future[Any]]:
-        """Return the finished tiles; meanwhile, check whether the call was interrupted."""
+        """Wait for tiles to finish and return them, checking for interrupts meanwhile."""
         patience = time.monotonic() + PATIENCE_SECONDS
         while True:
             if self._caller.watch is not None:

@@ -1,5 +1,5 @@
 # SPDX-License-Identifier: Apache-2.0 OR GPL-2.0-or-later
-"""Coordinate reference systems: which one maps have, and the sizes of cells."""
+"""Compare coordinate reference systems, and find the units of maps."""
 
 from __future__ import annotations
 
@@ -25,14 +25,14 @@ __all__ = [
 ]
 
 UNITS_OF_AREA = {"m2": 1.0, "ha": 1e4, "km2": 1e6}
-# So sure a library must be that a text means a system of a register, in percent.
+# The smallest confidence, in percent, with which a library may match a text to a registered system.
 CONFIDENCE = 90
 _SHOWN = 60
 
 
 @dataclass(frozen=True, eq=False)
 class Crs:
-    """A reference system as a library knows it: pyproj in `readers.pyproj`, GDAL's osr in `readers.gdal`.
+    """A reference system of a library: pyproj in `readers.pyproj`, GDAL's osr in `readers.gdal`.
 
     Attributes
     ----------
@@ -44,9 +44,9 @@ class Crs:
         Its name.
     kind : {"geographic", "projected", "geocentric", "vertical", "local"}
     unit : float
-        Its unit in radians if it is geographic, else in metres.
+        The size of its unit: in radians if the system is geographic, otherwise in metres.
     ellipsoid : tuple of float
-        If it is geographic, the semi-major axis in metres and the flattening.
+        The semi-major axis in metres and the flattening, if the system is geographic.
     """
 
     wkt: str
@@ -58,7 +58,7 @@ class Crs:
 
     @property
     def name(self) -> str:
-        """Its name for people: the code and the title."""
+        """Its name for messages: the code and the title."""
         title = self.title or "a system without a name"
         return f"{self.codes[0]} ({title})" if self.codes else title
 
@@ -68,7 +68,7 @@ class Crs:
         return self.codes[0] if self.codes else "WKT"
 
     def same(self, other: Crs) -> bool:
-        """Return whether it differs, for coordinates in the order x, y."""
+        """Return whether both systems are the same for coordinates in the order x, y."""
         return (
             self.wkt == other.wkt
             or bool(set(self.codes) & set(other.codes))
@@ -76,18 +76,18 @@ class Crs:
         )
 
     def is_equal(self, other: Crs) -> bool:
-        """Return whether the library considers it equal to another one, whatever the order of their axes."""
+        """Return whether the library considers both systems equal, ignoring axis order."""
         raise NotImplementedError
 
     def points(
         self, to: Crs, x: NDArray[Any], y: NDArray[Any]
     ) -> tuple[NDArray[Any], NDArray[Any]]:
-        """Return points in another system; points outside it are not finite."""
+        """Transform points to another system; points outside it become infinite or NaN."""
         raise NotImplementedError
 
 
 def eastward(projjson: str) -> str:
-    """Return the PROJJSON of a system with its axes in the order x, y, and without its code.
+    """Return a system's PROJJSON with its axes in the order x, y, and without its code.
 
     Examples
     --------
@@ -102,7 +102,7 @@ def eastward(projjson: str) -> str:
 
 
 def known(crs: Any) -> Crs | None:
-    """Return a reference system of any library, its code or its text as a Crs; None for none.
+    """Convert a reference system of any library, a code or a text to a Crs; None stays None.
 
     Raises
     ------
@@ -125,7 +125,7 @@ def _known(text: str) -> Crs:
 
 
 def _text_of(crs: Any) -> str:
-    """Return the text of a reference system of any library, an empty text for none."""
+    """Return the text of a reference system of any library; empty for None."""
     if crs is None:
         return ""
     for method in ("to_wkt", "ExportToWkt"):
@@ -140,7 +140,7 @@ def _text_of(crs: Any) -> str:
 
 
 def wkt_of(crs: Any) -> str:
-    """Return the well-known text of a reference system, an empty text for none.
+    """Return the well-known text of a reference system; empty for None.
 
     Examples
     --------
@@ -152,7 +152,10 @@ def wkt_of(crs: Any) -> str:
 
 
 def _checked(name: str, crs: Any) -> Any:
-    """Return a reference system, or raise an error if it cannot be understood; without a library it is not checked."""
+    """Return a reference system, or raise BadMap if it is not understood.
+
+    Without a library, nothing is checked.
+    """
     try:
         return None if known(crs) is None else crs
     except MissingLibrary:
@@ -164,7 +167,7 @@ def _checked(name: str, crs: Any) -> Any:
 
 
 def _named(crs: Any) -> tuple[str, str]:
-    """Return the code and the name of a reference system, for people."""
+    """Return the code and the name of a reference system, for messages."""
     try:
         system = known(crs)
     except MissingLibrary:
@@ -178,23 +181,23 @@ def common_crs(
     warp: str = "gdalwarp",
     titles: Mapping[str, str] | None = None,
 ) -> Any:
-    """Return the reference system that maps have in common.
+    """Return the reference system that all maps have in common.
 
     Parameters
     ----------
     maps : mapping of str to any
-        The reference systems by the names of the maps; None for none.
+        The reference system of each map by name; None for a map without one.
     stated : any, optional
         The reference system to assume for maps that have none.
     warp : str
-        The program of GDAL that reprojects them.
+        The GDAL program that reprojects the maps.
     titles : mapping of str to str, optional
-        The names of the maps in messages, if they differ.
+        The names of maps in messages, if they differ from their names in `maps`.
 
     Raises
     ------
     OtherCrs
-        Two of them differ, or some maps have none and none is stated.
+        Two reference systems differ, or some maps have none and `stated` is not given.
     Refused
         The stated reference system cannot be understood.
 
@@ -229,7 +232,7 @@ def common_crs(
 
 
 def _warping(program: str, code: str) -> str:
-    """Return the command that reprojects a map or polygons, as the host calls it."""
+    """Return the command that reprojects a map or polygons, in the form for the host."""
     if host().words == "qgis":
         return "Warp (reproject)" if program == "gdalwarp" else "Reproject layer"
     return f"{program} -t_srs {code}"
@@ -244,7 +247,7 @@ def are_same_crs(crs: Any, other: Any) -> bool:
 
 
 def is_geographic(crs: Any) -> bool:
-    """Return whether a reference system is in degrees; False without one.
+    """Return whether a reference system is in degrees; False for None.
 
     Examples
     --------
@@ -256,12 +259,12 @@ def is_geographic(crs: Any) -> bool:
 
 
 def metres_of_unit(crs: Any) -> float:
-    """Return the length of a projected reference system's unit in metres; 1 without a reference system.
+    """Return the unit of a projected reference system in metres; 1 for None.
 
     Raises
     ------
     Refused
-        It is local, geocentric or vertical: its cells have no area.
+        The system is local, geocentric or vertical, so cells have no area.
     """
     system = known(crs)
     if system is None:

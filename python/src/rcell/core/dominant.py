@@ -1,5 +1,5 @@
 # SPDX-License-Identifier: Apache-2.0 OR GPL-2.0-or-later
-"""The most frequent class of each zone, and the rarest."""
+"""Find the most frequent and the rarest class of each zone."""
 
 from __future__ import annotations
 
@@ -26,7 +26,7 @@ def dominant(
     each: bool = False,
     crs: Any = None,
 ) -> Table:
-    """Find the most frequent class of each zone, the rarest one, and how many classes it has.
+    """Find each zone's most frequent and rarest class, and its number of classes.
 
     Parameters
     ----------
@@ -47,9 +47,11 @@ def dominant(
     Returns
     -------
     pandas.DataFrame
-        Columns `zone`, `zone_label`, `cells`, `area_ha`, `classes` (how many occur), `majority`, `majority_label`,
-        `majority_percent`, `minority`, `minority_label`, `minority_percent`. Frequencies and percentages are of the zone's cells that
-        are not null, also in degrees; of equally frequent classes the smallest counts. Zones without such a cell have no row.
+        Columns `zone`, `zone_label`, `cells`, `area_ha`, `classes` (the number of classes),
+        `majority`, `majority_label`, `majority_percent`, `minority`, `minority_label`,
+        `minority_percent`. Frequencies and percentages are of the zone's cells that are not null,
+        also in degrees; in a tie, the smallest class is used. Zones with only null cells have no
+        row.
 
     Raises
     ------
@@ -75,7 +77,8 @@ def dominant(
     columns.append(Column("classes", "count", np.diff([*first, len(zone)]).astype(np.int64)))
     legend = legend_for(labels, maps.sources["map"].labels, [(maps.first.name, classes)])
     for title, sign in (("majority", -1), ("minority", 1)):
-        # The entries of each zone stay together, so its first one is the one that is wanted.
+        # The sort keeps each zone's entries together, so the entry at its first index is the
+        # extreme one.
         entries = np.lexsort([classes, sign * counts.cells, zone])[first]
         columns += coded(title, classes[entries], legend)
         percent = counts.cells[entries] * 100.0 / sums.cells

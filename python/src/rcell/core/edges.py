@@ -1,5 +1,5 @@
 # SPDX-License-Identifier: Apache-2.0 OR GPL-2.0-or-later
-"""Edges of maps as the program keeps them: whole numbers of 10^-8."""
+"""Handle edges of maps as the program does, in whole units of 10^-8."""
 
 from __future__ import annotations
 
@@ -20,7 +20,9 @@ def edge_text(units: int) -> str:
 
 
 def differences_of(own: Iterable[int], others: Iterable[int]) -> list[str]:
-    """Return a text for each difference of two grids, each of four edges in units of 10^-8, rows and columns.
+    """Return a text for each difference between two grids.
+
+    A grid is given as its four edges in units of 10^-8, its rows and its columns.
 
     Examples
     --------

@@ -1,5 +1,5 @@
 # SPDX-License-Identifier: Apache-2.0 OR GPL-2.0-or-later
-"""The errors of the package, one class for each kind."""
+"""Define the errors of the package, one class for each kind."""
 
 from __future__ import annotations
 
@@ -32,7 +32,7 @@ _CAUSES = {
 
 
 class RcellError(Exception):
-    """The parent of all errors of this package.
+    """The base class of all errors in this package.
 
     Examples
     --------
@@ -43,14 +43,14 @@ class RcellError(Exception):
 
 
 class BadArgument(RcellError, ValueError):
-    """An argument of a call is invalid, and nothing was returned.
+    """Raised if an argument of a call is invalid.
 
     Parameters
     ----------
     argument : str
         Its name.
     reason : str
-        The error, with the value met.
+        What the argument must be, and the value met.
 
     Examples
     --------
@@ -75,24 +75,25 @@ class BadArgument(RcellError, ValueError):
 
 
 class Refused(Fault, RcellError):
-    """A map or a script is invalid, and nothing was returned.
+    """Raised if a map or a script is invalid.
 
     Parameters
     ----------
     text : str
-        The error; errors of the program have the program's own text.
+        The message; for an error of the program, the program's own text.
     source : str
         The name of the map, or `script`, `labels` or `output`.
     line : int
-        The line of the source, from 1; 0 if the error belongs to no line.
+        The line of the source, from 1; 0 if the error has no line.
     status : int
-        The exit status of the program: 1 for a grid or the script, 2 for the command line, 3 out of memory, 4 for files.
+        The exit status of the program: 1 for a grid or the script, 2 for the command line, 3 out of
+        memory, 4 for files.
     content : str, optional
-        The line of the script itself.
+        The text of that line of the script.
     advice : str, optional
         What to write instead.
     column : int, optional
-        The place in the line, in bytes from 1, unless `text` names it.
+        The position in the line, in bytes from 1, unless `text` names it.
 
     Examples
     --------
@@ -109,7 +110,7 @@ class Refused(Fault, RcellError):
 
 
 class OutOfMemory(Refused, MemoryError):
-    """The program ran out of memory; `source` and `line` say where.
+    """Raised if the program runs out of memory; `source` and `line` show where.
 
     Parameters
     ----------
@@ -125,16 +126,16 @@ class OutOfMemory(Refused, MemoryError):
 
 
 class BadMap(Refused, ValueError):
-    """A map that does not have whole numbers, or has no grid of its own.
+    """Raised if a map contains values that are not whole numbers, or has no regular grid.
 
     Parameters
     ----------
     name : str
         The name of the map; it is also the `source` of the error.
     text : str
-        What is wrong.
+        The error.
     row, col : int, optional
-        The first cell that is wrong, from 1 at the top left.
+        The row and column of the first invalid cell, from 1 at the top left.
     value : number, optional
         The value of that cell.
 
@@ -158,7 +159,7 @@ class BadMap(Refused, ValueError):
         value: Any = None,
     ) -> None:
         super().__init__(text, name)
-        self.args = (name, text, row, col, value)  # with which pickle makes the error again
+        self.args = (name, text, row, col, value)  # pickle recreates the error from them
         self.row = row
         self.col = col
         self.value = value
@@ -166,9 +167,10 @@ class BadMap(Refused, ValueError):
 
 
 class OtherRegion(BadMap):
-    """A map whose edges, rows or columns differ from the first; nothing is resampled.
+    """Raised if a map's edges, rows or columns differ from the first map's.
 
-    Its last line is the call of `rcell.align` that brings the map onto the grid of the first.
+    Nothing is resampled. The last line of the message is the call of `rcell.align` that aligns the
+    map with the first map.
 
     Parameters
     ----------
@@ -187,7 +189,7 @@ class OtherRegion(BadMap):
 
 
 class OtherCrs(BadMap):
-    """A map whose coordinate reference system differs from the others, or that has none if others have one.
+    """Raised if coordinate reference systems differ, or only some maps have one.
 
     Parameters
     ----------
@@ -207,7 +209,7 @@ class OtherCrs(BadMap):
 
 
 class ReadFailed(BadMap):
-    """A file that cannot be opened, or a part of it that cannot be read.
+    """Raised if a file cannot be opened, or a part of it cannot be read.
 
     Parameters
     ----------
@@ -231,7 +233,7 @@ class ReadFailed(BadMap):
 
 
 class MissingProgram(RcellError, FileNotFoundError):
-    """The program `rcell` was not found, or cannot be executed.
+    """Raised if the program `rcell` is not found or cannot be executed.
 
     Examples
     --------
@@ -246,7 +248,7 @@ class MissingProgram(RcellError, FileNotFoundError):
 
 
 class WrongProgram(RcellError):
-    """The file with the name of the program is not `rcell`, or is a version that this package does not support.
+    """Raised if a program is not `rcell`, or is a version that this package does not support.
 
     Examples
     --------
@@ -261,12 +263,12 @@ class WrongProgram(RcellError):
 
 
 class Killed(RcellError):
-    """The program was ended by a signal; if a machine has too little memory, the kernel does that.
+    """Raised if a signal ended the program, for example because memory ran out.
 
     Parameters
     ----------
     signal : int
-        The number of the signal.
+        The signal number.
 
     Examples
     --------
@@ -289,7 +291,9 @@ class Killed(RcellError):
 
 
 class WriteFailed(RcellError, OSError):
-    """A file could not be written completely, for example because the disk is full. Nothing is left of it.
+    """Raised if a file cannot be written completely, for example because the disk is full.
+
+    The incomplete file is removed.
 
     Examples
     --------
@@ -300,7 +304,7 @@ class WriteFailed(RcellError, OSError):
 
 
 class MissingLibrary(RcellError, ImportError):
-    """A library that this call needs is not installed, or cannot be loaded.
+    """Raised if a library that a call needs is not installed or cannot be loaded.
 
     Parameters
     ----------
@@ -311,7 +315,7 @@ class MissingLibrary(RcellError, ImportError):
     purpose : str
         The task that needs it.
     reason : str, optional
-        Why it cannot be loaded although it is installed, for example for lack of memory.
+        Why an installed library cannot be loaded, for example because memory ran out.
 
     Examples
     --------
@@ -334,6 +338,6 @@ class MissingLibrary(RcellError, ImportError):
         return f"{self.purpose} the library {self.library} is needed: pip install 'rcell[{self.extra}]', or {package}"
 
 
-# They are named as in the package, in messages as well.
+# Tracebacks show the public names.
 for _name in __all__:
     globals()[_name].__module__ = "rcell"

@@ -1,5 +1,8 @@
 # SPDX-License-Identifier: Apache-2.0 OR GPL-2.0-or-later
-"""ESRI ASCII grids (GDAL's AAIGrid) as rcell grids, and back, with exact edges. Needs only the standard library."""
+"""Convert ESRI ASCII grids (GDAL's AAIGrid) to rcell grids and back, with exact edges.
+
+Needs only the standard library.
+"""
 
 from __future__ import annotations
 
@@ -15,21 +18,19 @@ from .host import warn
 
 __all__ = ["esri_of_grid", "grid_of_esri", "is_esri"]
 
-NULL = b"-2147483648"  # no category has this value
+NULL = b"-2147483648"  # not a category, so it cannot occur in a map
 KEYS = b"ncols nrows xllcorner yllcorner xllcenter yllcenter cellsize dx dy nodata_value".split()
 HEADER_BYTES = 1 << 16
-MOST_WORDS = 1 << 16  # different cells whose conversion is remembered
-GDAL_DECIMALS = 12  # of a cell size, which GDAL cuts there
-ROUNDED_FROM = (
-    10**10
-)  # beyond it, programs write floats of 32 bits with different numbers of digits
+MOST_WORDS = 1 << 16  # the largest number of distinct cells whose conversion is cached
+GDAL_DECIMALS = 12  # GDAL truncates cell sizes to this many decimals
+ROUNDED_FROM = 10**10  # larger 32-bit floats are written with a varying number of digits
 FORGOTTEN = (b"-9999", b"-32768")
 _NUMBER = re.compile(rb"[+-]?(\d+\.?\d*|\.\d+)(e[+-]?\d{1,3})?", re.IGNORECASE)
-_LONGEST = 64  # bytes of a number
+_LONGEST = 64  # the longest number that messages show, in bytes
 
 
 def is_esri(start: bytes) -> bool:
-    """Return whether a file with this beginning is an ESRI ASCII grid.
+    """Return whether a file that begins with these bytes is an ESRI ASCII grid.
 
     Examples
     --------
@@ -50,7 +51,7 @@ def _shown(word: bytes) -> str:
 
 
 class _Header:
-    """The values of a header by key, the place and line where the cells begin, and the six lines for rcell."""
+    """The header of an ESRI ASCII grid: its values by key, and the start of the cells."""
 
     def __init__(self, start: bytes) -> None:
         self.values: dict[bytes, bytes] = {}
@@ -82,7 +83,7 @@ class _Header:
         return int(text)
 
     def value(self, *keys: bytes) -> tuple[Fraction, bytes]:
-        """Return the value of the first of these keys that is present, and its text."""
+        """Return the value and the text of the first of these keys that is present."""
         key = next((key for key in keys if key in self.values), None)
         if key is None:
             raise Refused(f"the header has no {keys[0].decode()}", "map")
@@ -92,7 +93,7 @@ class _Header:
         return number, self.values[key]
 
     def edges(self, axis: bytes, step: bytes, count: int, name: str) -> tuple[Fraction, Fraction]:
-        """Return the two edges of an axis; the upper one is corrected if the cell size was cut."""
+        """Return the two edges of an axis, correcting the upper edge for a truncated cell size."""
         size, text = self.value(step, b"cellsize")
         corner, centre = axis + b"llcorner", axis + b"llcenter"
         if corner in self.values or centre not in self.values:
@@ -117,7 +118,7 @@ class _Header:
 
 
 class _Cells(dict[bytes, bytes]):
-    """The text of each cell in the grid; each different word is converted once."""
+    """A cache of cell texts, which converts each distinct word once."""
 
     def __init__(self, null: Optional[bytes]) -> None:
         super().__init__()
@@ -153,7 +154,7 @@ def grid_of_esri(path: str) -> Iterator[bytes]:
     Raises
     ------
     Refused
-        The header or a cell is invalid; with its line.
+        The header or a cell is invalid; the error names the line.
     """
     with open(path, "rb") as file:
         pieces = iter(lambda: read_some(file.fileno(), PIECE), b"")
@@ -188,7 +189,7 @@ def _lines(start: bytes, pieces: Iterable[bytes]) -> Iterator[bytes]:
 
 
 def esri_of_grid(pieces: Iterator[bytes]) -> Iterator[bytes]:
-    """Yield a grid, as rcell prints it, as an ESRI ASCII grid."""
+    """Yield a grid that rcell printed as an ESRI ASCII grid."""
     start = b""
     while start.count(b"\n") < 6:
         start += next(pieces)

@@ -1,5 +1,8 @@
 # SPDX-License-Identifier: Apache-2.0 OR GPL-2.0-or-later
-"""Run rcell on text grids, and explain its message: `rcell-gis explain`. Needs only the standard library."""
+"""Run rcell on text grids and explain its message, for `rcell-gis explain`.
+
+Needs only the standard library.
+"""
 
 from __future__ import annotations
 
@@ -21,11 +24,11 @@ _COLUMN = re.compile(r" at column ([0-9]+)$")
 _EDGE = re.compile(rb"(?m)^[ \t]*(north|south|east|west|rows|cols):[ \t]*(\S+)")
 _WHOLE = re.compile(rb"[+-]?[0-9]{1,10}")
 HEAD_BYTES, SCRIPT_BYTES = 1 << 12, 1 << 20
-LONGEST_LINE = 1 << 20  # bytes of a line that is looked at
+LONGEST_LINE = 1 << 20  # the longest line that is examined, in bytes
 
 
 def explain(script: str, words: Sequence[str]) -> int:
-    """Run rcell on a script and NAME=PATH words, print advice after its message, and return its status.
+    """Run rcell on a script, print advice after its message, and return its status.
 
     Its output goes to standard output unchanged.
     """
@@ -46,7 +49,7 @@ def explain(script: str, words: Sequence[str]) -> int:
 def _explained(
     script: str, paths: dict[str, str], source: str, line: int, text: str
 ) -> Iterator[str]:
-    """Yield the line of an error with a mark, and what to do."""
+    """Yield the line of an error with a mark, and advice."""
     message = _COLUMN.sub("", text)
     if text.startswith(("cannot open", "read failed", "write failed")):
         known = "write failed after N bytes" if text.startswith("write") else text
@@ -89,7 +92,7 @@ def _of_script(script: str, names: list[str], line: int, text: str) -> Iterator[
 
 
 def _of_grid(paths: dict[str, str], name: str, line: int, text: str) -> Iterator[str]:
-    """Yield the line of a text grid with a mark, and what to do."""
+    """Yield the line of a text grid with a mark, and advice."""
     path = paths[name]
     if not os.path.isfile(path):
         yield f"try: {sentence('grid', text)}"
@@ -122,7 +125,7 @@ def _bad_word(raw: bytes, start: bytes) -> Optional[int]:
 
 
 def _other_region(paths: dict[str, str], name: str, start: bytes) -> Iterator[str]:
-    """Yield each line of the header that differs from the first grid."""
+    """Describe each header line that differs from the first grid's."""
     first = next(iter(paths))
     with open(paths[first], "rb") as file:
         wanted = dict(_EDGE.findall(file.read(HEAD_BYTES)))

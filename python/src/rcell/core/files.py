@@ -1,5 +1,5 @@
 # SPDX-License-Identifier: Apache-2.0 OR GPL-2.0-or-later
-"""Files: inputs of a call, outputs that are written completely or not at all, and the standard streams."""
+"""Track the inputs of a call, write outputs completely or not at all, and use standard streams."""
 
 from __future__ import annotations
 
@@ -36,7 +36,7 @@ __all__ = [
 ]
 
 SIDECARS = (".aux.xml", ".msk", ".ovr")
-"""The endings of GDAL's files next to a raster: a new raster must not get an old mask or old labels."""
+"""Endings of GDAL's files next to a raster. A new raster must not keep old masks or labels."""
 
 MOST_LINKS = 40
 PIECE = 1 << 20
@@ -60,16 +60,16 @@ def open_standard_streams() -> None:
 
 
 def end_on_signals() -> None:
-    """Make the signals that end a program raise SystemExit instead, so that unfinished files are removed."""
+    """Turn signals that end a program into SystemExit, so that unfinished files are removed."""
     import signal
 
     for name in ("SIGHUP", "SIGQUIT", "SIGTERM", "SIGXCPU"):
         number = getattr(signal, name)
-        if signal.getsignal(number) == signal.SIG_DFL:  # a signal that nohup ignores stays ignored
+        if signal.getsignal(number) == signal.SIG_DFL:  # keep signals ignored that nohup ignores
             signal.signal(number, lambda number, _: sys.exit(128 + number))
 
 
-# What a call reads
+# Inputs
 
 _PARTS = {
     ".shp": (".shx", ".dbf", ".prj", ".cpg", ".qix", ".sbn", ".sbx", ".shp.xml"),
@@ -83,7 +83,7 @@ _outputs: ContextVar[Sequence[str]] = ContextVar("outputs", default=())
 
 @contextlib.contextmanager
 def writing(*paths: str) -> Iterator[None]:
-    """While the block runs, raise Refused as soon as a file is read that is one of the outputs of the call.
+    """Raise Refused as soon as a call reads one of its own outputs in this block.
 
     Examples
     --------
@@ -107,19 +107,23 @@ def writing(*paths: str) -> Iterator[None]:
 
 
 def opened(*paths: str) -> None:
-    """Note files that the current call reads: whoever opens a file calls this, with all files of a raster that GDAL lists."""
+    """Record files that the current call reads.
+
+    Call this function whenever a file is opened, with all files of a raster that GDAL lists.
+    """
     for output in _outputs.get():
         check_output(output, paths)
 
 
 def check_output(output: str, inputs: Iterable[str]) -> None:
-    """Raise Refused if an output, or a file that GDAL may put next to it, is one of the inputs, or may be next to one.
+    """Raise Refused if writing an output, or GDAL's files next to it, would overwrite an input.
 
     Parameters
     ----------
     output : str
     inputs : iterable of str
-        A layer is `FILE|layername=NAME`. All files of a Shapefile and all sources of a VRT also count.
+        Paths, in which a layer is `FILE|layername=NAME`. All files of a Shapefile and all sources
+        of a VRT are also checked.
     """
     names = {os.path.realpath(output) + ending for ending in ("", *SIDECARS)}
     for path in _files_of(inputs):
@@ -134,7 +138,7 @@ def check_output(output: str, inputs: Iterable[str]) -> None:
 
 
 def _files_of(inputs: Iterable[str]) -> Iterator[str]:
-    """Yield the files that are read when paths are opened."""
+    """Yield all files that opening these paths reads."""
     yielded: dict[str, None] = {}
     waiting = list(inputs)
     while waiting:
@@ -165,7 +169,7 @@ def is_same_file(path: str, other: str) -> bool:
         return False
 
 
-# Reading and writing
+# Descriptors
 
 
 def _wait(descriptor: int, event: int) -> None:
@@ -175,7 +179,7 @@ def _wait(descriptor: int, event: int) -> None:
 
 
 def read_some(descriptor: int, most: int) -> bytes:
-    """Read from a descriptor, even if it is not ready; an empty result means the end."""
+    """Read from a descriptor, waiting until it is ready; an empty result means the end."""
     while True:
         try:
             return os.read(descriptor, most)
@@ -184,12 +188,12 @@ def read_some(descriptor: int, most: int) -> bytes:
 
 
 def read_all(descriptor: int) -> bytes:
-    """Read a descriptor to its end, even if it is not ready."""
+    """Read a descriptor to its end, waiting whenever it is not ready."""
     return b"".join(iter(lambda: read_some(descriptor, PIECE), b""))
 
 
 def write_all(descriptor: int, data: bytes | memoryview) -> None:
-    """Write all bytes to a descriptor, even if it takes only some at a time or is not ready."""
+    """Write all bytes to a descriptor, waiting and repeating as needed."""
     rest = memoryview(data).cast("B")
     while rest:
         try:
@@ -199,7 +203,7 @@ def write_all(descriptor: int, data: bytes | memoryview) -> None:
 
 
 def _own_descriptor(path: str) -> int | None:
-    """Return the number of the open descriptor to which a path such as /dev/stdout leads."""
+    """Return the open descriptor to which a path such as /dev/stdout refers, or None."""
     own = os.path.realpath(OWN_DESCRIPTORS)
     for _ in range(MOST_LINKS):
         folder, name = os.path.split(os.path.abspath(path))
@@ -212,7 +216,7 @@ def _own_descriptor(path: str) -> int | None:
 
 
 def _opened_for_writing(descriptor: int) -> int:
-    """Return a copy of an open descriptor, unless it is closed for writing."""
+    """Return a copy of a descriptor that is open for writing."""
     if fcntl.fcntl(descriptor, fcntl.F_GETFL) & os.O_ACCMODE == os.O_RDONLY:
         name = "standard output" if descriptor == 1 else f"descriptor {descriptor}"
         raise OSError(errno.EBADF, "is closed", name)
@@ -220,7 +224,10 @@ def _opened_for_writing(descriptor: int) -> int:
 
 
 def _opened_special(path: str) -> int | None:
-    """Open a device, FIFO or open descriptor (`-` is standard output); return None for a regular or new file."""
+    """Open a device, FIFO or open descriptor (`-` is standard output).
+
+    Returns None for a regular or new file.
+    """
     descriptor = 1 if path == "-" else _own_descriptor(path)
     if descriptor is not None:
         return _opened_for_writing(descriptor)
@@ -232,15 +239,17 @@ def _opened_special(path: str) -> int | None:
 
 
 class Output:
-    """A file to write, which gets its name when the block ends without an exception.
+    """An output file that gets its name when the block ends without an exception.
 
-    It is written in a private folder next to the target, which the next one removes if this process is killed. Links are followed, and a file that is replaced keeps its mode. GDAL's
-    files next to a raster are replaced with it. An existing device or FIFO is opened and written, never replaced.
+    The file is written in a private folder next to the target. If this process is killed, the next
+    output removes that folder. Links are followed, and a replaced file keeps its mode. GDAL's files
+    next to a raster are replaced together with the raster. An existing device or FIFO is written
+    to, never replaced.
 
     Parameters
     ----------
     path : str
-        `-` is standard output.
+        The target; `-` is standard output.
     """
 
     def __init__(self, path: str) -> None:
@@ -259,11 +268,11 @@ class Output:
 
     @property
     def is_special(self) -> bool:
-        """Whether the target is a device, a FIFO or an open descriptor, which gets bytes and no name."""
+        """Whether the target is a device, a FIFO or an open descriptor."""
         return self._special is not None
 
     def path(self) -> str:
-        """Return a new path that ends in the name of the file, for libraries that open files themselves."""
+        """Return a temporary path with the target's name, for libraries that open files."""
         folder, name = os.path.split(self._target)
         if self._room is None:
             try:
@@ -277,13 +286,13 @@ class Output:
         return os.path.join(self._room.path, name)
 
     def stream(self) -> int:
-        """Return a descriptor to which the file is written."""
+        """Return a descriptor for writing the file."""
         if self._stream is None:
             self._stream = os.open(self.path(), os.O_WRONLY | os.O_CREAT | os.O_EXCL, 0o666)
         return self._stream
 
     def keep(self) -> None:
-        """Give the file its name, or copy its bytes to the device or FIFO."""
+        """Move the file to the target, or copy its bytes to the device or FIFO."""
         if self._room is None or self._is_kept:
             return
         try:
@@ -315,7 +324,7 @@ class Output:
                 write_all(self._special, piece)
 
     def _adopt(self, part: str) -> None:
-        """Give the new file the owner and mode of the file that it replaces."""
+        """Copy the owner and mode of the replaced file to the new file."""
         try:
             old = os.stat(self._target)
         except FileNotFoundError:
@@ -329,7 +338,7 @@ class Output:
         os.chmod(part, mode & ~0o070 if has_other_group else mode)
 
     def _replace(self, part: str) -> None:
-        """Move the new file and GDAL's files next to it into place; if that fails, restore the old ones."""
+        """Move the new files into place, or restore the old files if that fails."""
         assert self._room is not None
         with open(part, "rb") as file:
             os.fsync(file.fileno())

@@ -1,9 +1,9 @@
 # SPDX-License-Identifier: Apache-2.0 OR GPL-2.0-or-later
-"""Corrections for script lines that rcell rejects: a line that rcell accepts, or one sentence.
+"""Correct script lines that rcell rejects: propose a line that rcell accepts, or a sentence.
 
-The corrections are guesses at common mistakes. rcell-pipe judges at most two of them, and only one
-that it accepts is proposed. No result of a run depends on this module. Lines have one character per
-byte here, as columns count bytes.
+The corrections cover common mistakes. At most two are tested with rcell-pipe, and a line is
+proposed only if rcell-pipe accepts it. No result of a run depends on this module. Lines contain one
+character per byte, because columns count bytes.
 """
 
 from __future__ import annotations
@@ -20,10 +20,10 @@ __all__ = ["advice", "lines_of_error", "near", "sentence"]
 
 SHOWN_BYTES, LONGEST_LINE = 100, 300
 MOST_CHECKS, PLAN_SECONDS = 2, 10
-LONGEST_MENDED = 4000  # bytes of a line
+LONGEST_MENDED = 4000  # the longest line that is corrected, in bytes
 MOST_NAMES = 400
 COMMANDS = ("r.mapcalc", "r.reclass", "r.clump", "r.stats", "r.out.ascii")
-# The flags and the keys of a command.
+# The flags and the keys of each command.
 OPTIONS = {
     "r.reclass": ("", ("input", "output")),
     "r.clump": ("d", ("input", "output")),
@@ -38,8 +38,8 @@ OPERATORS = dict(
     **{"<>": "!=", "=>": ">=", "=<": "<=", "≤": "<=", "≥": ">=", "≠": "!=", "×": "*", "÷": "/"},
 )
 
-_MARK = "\0"  # before the place of the error
-_NO_BYTES = re.compile("[\ud800-\udc7f\udd00-\udfff]")  # surrogates that are not escaped bytes
+_MARK = "\0"  # marks the place of the error in a line
+_NO_BYTES = re.compile("[\ud800-\udc7f\udd00-\udfff]")  # surrogates other than escaped bytes
 _COLUMN = re.compile(r" at column (\d+)$")
 _MADE = re.compile(r"\boutput=([\w.]+)|^[ \t]*r\.mapcalc[ \t]+([\w.]+)[ \t]*=", re.MULTILINE)
 _WORD = re.compile(r"[^ \t\r]+")
@@ -62,7 +62,7 @@ def _lower(match: re.Match[str]) -> str:
 
 
 def _whole(match: re.Match[str]) -> str:
-    """Return a comparison, a product or a quotient with a decimal number in whole numbers."""
+    """Rewrite a comparison, product or quotient with a decimal number in whole numbers."""
     sign, value = match[1].strip(), Fraction(match[2])
     if sign in ("<", ">=", ">", "<="):
         return f"{sign} {value // 1 + (value.denominator > 1 and sign in ('<', '>='))}"
@@ -81,7 +81,7 @@ _FLAG = (r"[ \t]\0?-\0?-\0?(?:o|overwrite|q|quiet|v|verbose|help|ui)\b", "")
 _QUOTES = (r"[\"']", "")
 _KEY = (r"^([ \t]*r\.mapcalc[ \t]+)expression=", r"\1")
 _NEXT = (r"^\0?[ \t]*(?=[rg]\.[a-z])", "end\n")
-# For each message what is replaced in a line. All replacements are tried together, then the first alone.
+# The replacements for each message. All are tried together, then only the first that applies.
 REWRITES: dict[str, list[tuple[str, Replacement]]] = {
     "unknown command": [
         (r"^\0?\xef\xbb\xbf|\xc2\xa0", " "),
@@ -154,7 +154,7 @@ REWRITES: dict[str, list[tuple[str, Replacement]]] = {
 
 
 class _Error:
-    """A line that is rejected: its bytes as text, the message, and the names of the known maps."""
+    """A rejected line: its bytes as text, the message, and the names of the known maps."""
 
     def __init__(self, text: str, line: str, column: int, names: list[str]) -> None:
         self.text, self.line, self.names = text, line, names
@@ -166,7 +166,7 @@ class _Error:
             self.place = self.bad.start()
 
     def bad_word(self) -> Optional[re.Match[str]]:
-        """Return the word that is not an option, or the name that is not a map."""
+        """Return the word that is not an option or not a map, or None."""
         if self.text == "unknown map":
             values = re.compile(r"(?<=[=,])[A-Za-z_][\w.]*(?=[,\s]|$)", re.ASCII)
             words = values.finditer(self.line) if self.command in OPTIONS else ()
@@ -182,7 +182,7 @@ class _Error:
         return None
 
     def is_option(self, key: str, equals: str, value: str) -> bool:
-        """Return whether a word of the line is an option of its command with a possible value."""
+        """Return whether a word is an option of the line's command, with a possible value."""
         flags, keys = OPTIONS.get(self.command, ("", ()))
         if key.startswith("-"):
             return len(key) > 1 and set(key[1:]) <= set(flags) and not equals
@@ -196,10 +196,10 @@ class _Error:
         }
         return bool(equals) and key in keys and is_right.get(key, True)
 
-    # What may be right
+    # Corrections
 
     def lines(self) -> Iterator[str]:
-        """Yield lines that may be meant, the likeliest first."""
+        """Yield corrected lines, the most likely first."""
         marked = self.line[: self.place] + _MARK + self.line[self.place :]
         changed, first = marked, None
         for pattern, new in REWRITES.get(self.text, ()):
@@ -215,7 +215,7 @@ class _Error:
                 yield line
 
     def near_lines(self) -> Iterator[str]:
-        """Yield the line with the nearest map, command, option or function, or with what is missing."""
+        """Yield the line with the nearest known name, or with a missing part added."""
         head, tail = self.line[: self.place], self.line[self.place :]
         word = (_NAME.match(tail) or _WORD.match(tail) or [""])[0]
         rest = tail[len(word) :]
@@ -246,7 +246,7 @@ class _Error:
             yield self.line + ")" * (self.line.count("(") - self.line.count(")"))
 
     def near_options(self) -> Iterator[str]:
-        """Yield what may be meant by a word that is not an option; the empty text leaves it out."""
+        """Yield replacements for a word that is not an option; an empty text removes it."""
         assert self.bad
         flags, keys = OPTIONS.get(self.command, ("", ()))
         key, equals, value = self.bad[0].partition("=")
@@ -268,11 +268,11 @@ class _Error:
         yield self.bad[0] if has_value and is_once else ""
 
     def divides(self, new: str) -> bool:
-        """Return whether a correction divides where the line multiplied."""
+        """Return whether a correction introduces a division."""
         return self.text == "number not whole" and new.count("/") > self.line.count("/")
 
     def sentence(self) -> str:
-        """Return what to do about the message."""
+        """Return advice about the message."""
         text = self.text
         if text == "bad option":
             text = "options that exclude each other"
@@ -292,7 +292,7 @@ class _Error:
 def advice(
     program: str, script: bytes, names: Sequence[str], line: int, text: str
 ) -> tuple[Optional[int], Optional[str]]:
-    """Return the column of the word that is wrong if the message has none, and what to write instead; None if unknown.
+    """Return the column of the invalid word if the message has none, and advice; None if unknown.
 
     Parameters
     ----------
@@ -300,9 +300,9 @@ def advice(
         The path of rcell-pipe.
     script : bytes
     names : sequence of str
-        The given maps.
+        The names of the maps that are given.
     line : int
-        The line that is rejected, from 1.
+        The number of the rejected line, from 1.
     text : str
         The message.
     """
@@ -326,8 +326,8 @@ def advice(
 
 
 def _is_accepted(program: str, names: Sequence[str], script: str, line: int) -> bool:
-    """Return whether rcell-pipe finds nothing wrong up to a line of a script."""
-    from . import protocol  # which needs this module for its errors
+    """Return whether rcell-pipe accepts a script up to this line."""
+    from . import protocol  # a circular import: protocol needs this module for its errors
 
     try:
         protocol.plan(program, names, script.encode("latin-1"), seconds=PLAN_SECONDS)
@@ -337,14 +337,14 @@ def _is_accepted(program: str, names: Sequence[str], script: str, line: int) -> 
 
 
 def near(word: str, known: Iterable[str], cutoff: float = 0.6) -> list[str]:
-    """Return a list of the known word most similar to this one, or an empty list.
+    """Return a list with the most similar known word, or an empty list.
 
     Examples
     --------
     >>> near("contry", ["country", "zones"])
     ['country']
     """
-    import difflib  # only errors need it
+    import difflib  # imported only if there is an error
 
     return difflib.get_close_matches(word[:64], list(known)[:MOST_NAMES], 1, cutoff)
 
@@ -358,12 +358,18 @@ def _sentences() -> dict[str, dict[str, str]]:
 
 
 def sentence(part: str, text: str) -> str:
-    """Return what to do about a message of a part: `arguments`, `files`, `grid`, `script` or `expression`; empty if unknown."""
+    """Return the advice about a message from messages.json; empty if there is none.
+
+    `part` is `arguments`, `files`, `grid`, `script` or `expression`.
+    """
     return _sentences()[part].get(text, "")
 
 
 def lines_of_error(content: str, column: Optional[int]) -> list[str]:
-    """Return a line of a script and, if a column is given (in bytes, from 1), a mark under it; of a long line the part around it."""
+    """Return a script line and a mark under a column (in bytes, from 1), if it is given.
+
+    A long line is shortened to the part around the mark.
+    """
     raw = _NO_BYTES.sub("\ufffd", content).encode("utf-8", "surrogateescape")
     start = (column or 1) - 1
     begin = (

@@ -1,5 +1,5 @@
 # SPDX-License-Identifier: Apache-2.0 OR GPL-2.0-or-later
-"""The program that calls the core: a package, the command line or a plugin, with its wording, its programs, and what watches a run."""
+"""Describe the host: the package, command line or plugin that calls the core."""
 
 from __future__ import annotations
 
@@ -18,7 +18,7 @@ _PACKAGE = os.path.dirname(os.path.dirname(os.path.abspath(__file__)))
 
 
 def _warn(text: str) -> None:
-    """Warn, and point to the line that called the package."""
+    """Issue a warning that points to the line that called the package."""
     depth, frame = 2, sys._getframe(1)
     while frame.f_back is not None and frame.f_code.co_filename.startswith(_PACKAGE):
         depth, frame = depth + 1, frame.f_back
@@ -32,17 +32,18 @@ class Host:
     Attributes
     ----------
     words : {"python", "shell", "qgis"}
-        How it writes options.
+        The form in which the host writes options.
     warn : callable
         Called with the text of a warning.
     find : callable, optional
-        Returns the path of a program by name; None to look where Python packages install it.
+        Returns the path of a program by name. By default, programs are found where Python packages
+        install them.
     watch : callable, optional
         Called while a program runs; an exception ends the run.
     progress : callable, optional
-        Called with the share of the maps that was sent, from 0 to 1.
+        Called with the share of the maps' cells that have been sent, from 0 to 1.
     started : callable, optional
-        Called with a script and its maps by name before the script is run.
+        Called before a script runs, with the script and its maps by name.
     """
 
     words: str = "python"
@@ -57,13 +58,13 @@ _host: contextvars.ContextVar[Host] = contextvars.ContextVar("rcell.host", defau
 
 
 def host() -> Host:
-    """Return the host of this call."""
+    """Return the host of the current call."""
     return _host.get()
 
 
 @contextlib.contextmanager
 def serving(caller: Host) -> Iterator[None]:
-    """Set the host for the calls in this block, in this thread."""
+    """Set the host for calls in this block and thread."""
     token = _host.set(caller)
     try:
         yield
@@ -72,12 +73,12 @@ def serving(caller: Host) -> Iterator[None]:
 
 
 def warn(text: str) -> None:
-    """Warn as the host does."""
+    """Issue a warning through the host."""
     host().warn(text)
 
 
 def option(name: str, value: Any = None) -> str:
-    """Return an option as people write it for this host, with a value if one is given.
+    """Return an option in the form of the current host, with its value if one is given.
 
     Examples
     --------

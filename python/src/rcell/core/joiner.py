@@ -1,7 +1,8 @@
 # SPDX-License-Identifier: Apache-2.0 OR GPL-2.0-or-later
-"""Find the program rcell-join, and let it join the clumps of tiles.
+"""Find the program rcell-join, and join the clumps of tiles with it.
 
-`rcell-join` is proved from bytes to bytes: the borders of tiles give the numbering of their clumps in the full map.
+`rcell-join` is proved: from the borders of tiles it computes the numbering of their clumps in the
+full map.
 """
 
 from __future__ import annotations
@@ -28,17 +29,17 @@ __all__ = ["check_files", "find_joiner", "numbering_of"]
 _MESSAGE = re.compile(r"rcell-join: ([^:]*):(\d+): (.*)")
 
 FILES_EACH = 2
-"""A text is open in this process, and opened again by the program."""
+"""Open files per text: one in this process, and one in the program."""
 
 FIELDS = 4
-"""The numbers of a line of the numbering."""
+"""The number of fields in a line of the numbering."""
 
 OTHER_FILES = 256
-"""What else a process has open."""
+"""An allowance for other files that a process has open."""
 
 
 def find_joiner(program: str | os.PathLike[str] | None = None) -> str:
-    """Return the path of the program rcell-join; it is looked for as `find_beside` does, and its variable is RCELL_JOIN.
+    """Return the path of rcell-join, found like `find_beside` or with RCELL_JOIN.
 
     Examples
     --------
@@ -55,7 +56,7 @@ _PROBE_BORDER = b"north: 1\nsouth: 0\neast: 2\nwest: 0\nrows: 10\ncols: 4\n" + (
 
 
 def _probe(path: str) -> None:
-    """Let the program join the clumps of one tile."""
+    """Raise WrongProgram unless the program joins the clumps of a test tile correctly."""
     try:
         ended = _run(path, ["clumps", "-d"], [_PROBE_BORDER], PROBE_SECONDS)
         is_known = ended[:2] == (0, b"1 1 2 1\n")
@@ -72,13 +73,14 @@ def _probe(path: str) -> None:
 def numbering_of(
     borders: Sequence[bytes], diagonal: bool = False, program: str | os.PathLike[str] | None = None
 ) -> NDArray[Any]:
-    """Join the clumps of tiles using their borders, which come row by row of tiles from the top left.
+    """Join the clumps of tiles using the tiles' borders, row by row from the top left.
 
     Returns
     -------
     array of int64, entries x 4
-        The numbering: rows of a tile, a first and a last clump of it, and a number: in the full map these clumps have this number,
-        the number after it, and so on. Tiles and clumps are counted from 1.
+        The numbering. Each row contains a tile, the first and the last of consecutive clumps, and
+        the first clump's number in the full map; the following clumps have the following numbers.
+        Tiles and clumps are counted from 1.
 
     Raises
     ------
@@ -99,7 +101,7 @@ def numbering_of(
 
 
 def check_files(count: int) -> None:
-    """Raise WriteFailed if the system does not let a process open that many files at once."""
+    """Raise WriteFailed if the system does not allow a process to open enough files at once."""
     needed, most = FILES_EACH * count + OTHER_FILES, resource.getrlimit(resource.RLIMIT_NOFILE)[1]
     if most != resource.RLIM_INFINITY and most < needed:
         raise WriteFailed(
@@ -108,7 +110,7 @@ def check_files(count: int) -> None:
 
 
 def _checked(path: str, status: int, output: bytes, errors: str) -> bytes:
-    """Return the output of a successful run."""
+    """Return the output of a run, or raise an error if the run failed."""
     if status == 0:
         return output
     if status < 0:
@@ -122,7 +124,7 @@ def _checked(path: str, status: int, output: bytes, errors: str) -> bytes:
 def _run(
     path: str, words: list[str], texts: Sequence[bytes], seconds: float | None = None
 ) -> tuple[int, bytes, str]:
-    """Return the status, the output and the message."""
+    """Run the program, and return its status, output and message."""
     with ExitStack() as opened:
         opened.enter_context(_files_allowed(len(texts)))
         files = []
@@ -153,7 +155,7 @@ _limit_lock = threading.Lock()
 
 @contextmanager
 def _files_allowed(count: int) -> Iterator[None]:
-    """Raise the limit of open files for this process and the program that it starts, as far as the system allows."""
+    """Raise the limit of open files for this process and its program, if the system allows it."""
     needed, soft = FILES_EACH * count + OTHER_FILES, resource.getrlimit(resource.RLIMIT_NOFILE)[0]
     if soft == resource.RLIM_INFINITY or needed <= soft:
         yield
@@ -171,7 +173,7 @@ def _files_allowed(count: int) -> Iterator[None]:
 
 
 def _unnamed() -> int:
-    """Return the descriptor of an unnamed file: in memory, if this Python supports that."""
+    """Return the descriptor of an unnamed file, in memory if this Python supports it."""
     if hasattr(os, "memfd_create"):
         return os.memfd_create("table")
     with tempfile.TemporaryFile() as file:
@@ -179,7 +181,7 @@ def _unnamed() -> int:
 
 
 def _held(text: bytes) -> int:
-    """Return the descriptor of an unnamed file with this text."""
+    """Return the descriptor of an unnamed file that contains this text."""
     try:
         file = above_standard(_unnamed())
     except OSError as error:

@@ -1,5 +1,5 @@
 # SPDX-License-Identifier: Apache-2.0 OR GPL-2.0-or-later
-"""Cells of large maps: in memory, or in an unnamed file if they need too much of it."""
+"""Keep the cells of large maps in memory, or in an unnamed file if memory is short."""
 
 from __future__ import annotations
 
@@ -15,14 +15,14 @@ from .memory import free_memory
 
 __all__ = ["cells_for", "fits_memory"]
 
-# The part of the free memory that the cells of one map may take.
+# The share of free memory that the cells of one map may use.
 _SHARE = 0.25
-# It is a file system on a disk, while /tmp is often in memory.
+# /var/tmp is on a disk, while /tmp is often in memory.
 _LARGE_FILES = "/var/tmp"
 
 
 def fits_memory(shape: tuple[int, int], dtype: Any) -> bool:
-    """Return whether the cells of a map are kept in memory."""
+    """Return whether the cells of a map fit in the memory that one map may use."""
     return _size_of(shape, dtype) <= free_memory() * _SHARE
 
 
@@ -31,7 +31,9 @@ def _size_of(shape: tuple[int, int], dtype: Any) -> int:
 
 
 def cells_for(shape: tuple[int, int], dtype: Any) -> NDArray[Any]:
-    """Return an array for the cells of a map: in memory, or else in an unnamed file that is removed with the array.
+    """Return an array for a map's cells, in memory or in an unnamed temporary file.
+
+    The file is removed together with the array.
 
     Raises
     ------
@@ -46,7 +48,7 @@ def cells_for(shape: tuple[int, int], dtype: Any) -> NDArray[Any]:
     )
     try:
         with tempfile.TemporaryFile(dir=folder) as file:
-            # The room is taken at once: a disk that becomes full later would end this process.
+            # Allocate the file now: if the disk filled up later, a signal would end this process.
             os.posix_fallocate(file.fileno(), 0, size)
             return np.memmap(file, dtype, "r+", shape=shape)
     except OSError as error:

@@ -1,5 +1,5 @@
 # SPDX-License-Identifier: Apache-2.0 OR GPL-2.0-or-later
-"""Labels and colours of the categories of a raster: GDAL's category names, attribute tables, colour tables, and QGIS styles."""
+"""Read and write labels and colours of a raster's categories in the formats of GDAL and QGIS."""
 
 from __future__ import annotations
 
@@ -17,24 +17,25 @@ from .protocol import NULL
 
 __all__ = ["checked_labels", "flags_of", "legend_of_band", "write_labels"]
 
-# Columns of attribute tables, in GDAL's numbers.
+# GDAL's numbers for types and usages of attribute table columns.
 _INTEGER, _TEXT = 0, 2
 _USAGE_NAME, _USAGE_VALUE = 2, 5
 _VALUE_USAGES = (_USAGE_VALUE, 3)
 _USAGES_RGB = (6, 7, 8)
-# Category names are a list from 0 on. For larger or negative categories, an attribute table is smaller.
+# Category names are a list that starts at 0. For larger or negative categories, an attribute table
+# is smaller.
 _MOST_NAMES = 1 << 16
-# NUL, and lone surrogates.
+# NUL and lone surrogates.
 _UNWRITABLE = re.compile("[\0\ud800-\udfff]")
 
 
 def checked_labels(name: str, labels: Any) -> dict[int, str]:
-    """Return labels by their categories.
+    """Return labels by category, or raise BadMap if a key or a label is invalid.
 
     Raises
     ------
     BadMap
-        A key that is not a category, or a label that no file can hold.
+        A key is not a category, or a label contains a character that no file can hold.
 
     Examples
     --------
@@ -64,17 +65,17 @@ def checked_labels(name: str, labels: Any) -> dict[int, str]:
 
 
 def legend_of_band(band: ElementTree.Element, path: str) -> Legend:
-    """Return the labels and colours of a band of a raster, from GDAL's description of the raster as a VRT.
+    """Return the labels and colours of a raster band, from GDAL's VRT description.
 
-    Labels are category names, the names of an attribute table, CF's `flag_meanings`, or a QGIS style next to the raster;
-    colours are from a colour table, an attribute table, or the style.
+    Labels are read from category names, an attribute table, CF's `flag_meanings`, or a QGIS style
+    next to the raster; colours are read from a colour table, an attribute table, or the style.
 
     Parameters
     ----------
     band : Element
         The element `VRTRasterBand`.
     path : str
-        The path of the raster; empty if no style counts.
+        The path of the raster; empty to ignore styles.
 
     Examples
     --------
@@ -98,13 +99,13 @@ def legend_of_band(band: ElementTree.Element, path: str) -> Legend:
 def _style_beside(path: str) -> Legend:
     beside = os.path.splitext(path)[0] + ".qml"
     if path and os.path.isfile(beside):
-        with contextlib.suppress(RcellError):  # a style of another kind is not a legend
+        with contextlib.suppress(RcellError):  # ignore styles that are not legends
             return legend_of_qml(beside)
     return Legend({}, {})
 
 
 def flags_of(values: Any, meanings: Any) -> dict[int, str]:
-    """Return labels in the form of CF: whole numbers, and words in their order.
+    """Return labels from CF attributes: `flag_values` and `flag_meanings`.
 
     Examples
     --------
@@ -123,7 +124,7 @@ def flags_of(values: Any, meanings: Any) -> dict[int, str]:
 
 
 def _color_table(band: ElementTree.Element, labels: Mapping[int, str]) -> dict[int, str]:
-    """Return the colours of a colour table; black means that a category has no colour."""
+    """Return the colours of a colour table; black means no colour."""
     colors = {}
     for code, entry in enumerate(band.findall("ColorTable/Entry")):
         parts = [int(entry.get(key, "0")) for key in ("c1", "c2", "c3")]
@@ -156,7 +157,7 @@ class _Attributes:
         return cls(usages, titles, rows)
 
     def _column(self, usages: Sequence[int], titles: Sequence[str]) -> Optional[int]:
-        """Return the first column with one of some usages, or else with a usual title."""
+        """Return the first column with one of these usages, or else with one of these titles."""
         for place, usage in enumerate(self.usages):
             if usage in usages:
                 return place
@@ -166,7 +167,7 @@ class _Attributes:
         return None
 
     def labels(self) -> dict[int, str]:
-        """Return the names of its values."""
+        """Return the label of each value."""
         value = self._column(_VALUE_USAGES, ("value",))
         name = self._column(
             (_USAGE_NAME,), ("class_name", "class_names", "name", "label", "category")
@@ -176,7 +177,7 @@ class _Attributes:
         return _labels_of_rows((row[value], row[name]) for row in self.rows)
 
     def colors(self) -> dict[int, str]:
-        """Return the colours of its values."""
+        """Return the colour of each value."""
         value = self._column(_VALUE_USAGES, ("value",))
         if value is None or not set(_USAGES_RGB) <= set(self.usages):
             return {}
@@ -190,7 +191,7 @@ class _Attributes:
 
 
 def _labels_of_rows(rows: Iterable[Sequence[Any]]) -> dict[int, str]:
-    """Return labels by category, from pairs of a number or its text and a label.
+    """Return labels by category from (number or text, label) pairs.
 
     Examples
     --------
@@ -202,7 +203,7 @@ def _labels_of_rows(rows: Iterable[Sequence[Any]]) -> dict[int, str]:
 
 
 def _category_of(number: Any) -> Optional[int]:
-    """Return a number or a text as a category, or None."""
+    """Convert a number or a text to a category; None if it is not a category."""
     with contextlib.suppress(TypeError, ValueError, OverflowError):
         if float(number).is_integer() and abs(float(number)) < -NULL:
             return int(float(number))
@@ -210,23 +211,23 @@ def _category_of(number: Any) -> Optional[int]:
 
 
 def write_labels(path: str, labels: Mapping[int, str]) -> str | None:
-    """Write the labels of the first band of a raster to the file `.aux.xml` next to it, where GDAL keeps them.
+    """Write the labels of a raster's first band to GDAL's file `.aux.xml` next to it.
 
     Parameters
     ----------
     path : str
-        Of a raster that is written and closed.
+        The path of a raster that is complete and closed.
     labels : mapping of int to str
 
     Returns
     -------
     str or None
-        The file that now has them; None if there are no labels.
+        The file with the labels; None if there are no labels.
 
     Raises
     ------
     OSError
-        They could not be written completely.
+        The labels could not be written completely.
     """
     if not labels:
         return None
@@ -250,7 +251,7 @@ def write_labels(path: str, labels: Mapping[int, str]) -> str | None:
 
 
 def _root_of(beside: str) -> ElementTree.Element:
-    """Return what a file next to a raster already contains."""
+    """Return the existing contents of a raster's `.aux.xml`, or an empty element."""
     with contextlib.suppress(OSError, ElementTree.ParseError):
         root = ElementTree.parse(beside).getroot()
         if root.tag == "PAMDataset":
@@ -259,7 +260,7 @@ def _root_of(beside: str) -> ElementTree.Element:
 
 
 def _put_table(band: ElementTree.Element, labels: Mapping[int, str]) -> None:
-    """Add an attribute table with the values and their labels, in the form of GDAL."""
+    """Add an attribute table with values and labels in GDAL's format."""
     table = ElementTree.SubElement(band, "GDALRasterAttributeTable", tableType="thematic")
     columns = [("Value", _INTEGER, _USAGE_VALUE), ("Class_Name", _TEXT, _USAGE_NAME)]
     for place, (title, kind, usage) in enumerate(columns):

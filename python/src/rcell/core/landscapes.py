@@ -1,5 +1,5 @@
 # SPDX-License-Identifier: Apache-2.0 OR GPL-2.0-or-later
-"""Landscapes: the patches, classes and borders of a map, or of each zone of it, as the program counts them."""
+"""Count the patches, classes and borders of landscapes: a map, or each zone of a map."""
 
 from __future__ import annotations
 
@@ -21,7 +21,10 @@ Floats = NDArray[np.float64]
 
 
 class Sides(NamedTuple):
-    """Pairs of members that share sides, by their indices, and how many of these sides are ends and flanks."""
+    """Pairs of members that share cell sides.
+
+    Contains the indices of both members, and the numbers of shared ends and flanks.
+    """
 
     first: Integers
     second: Integers
@@ -36,18 +39,19 @@ class Landscapes:
     Attributes
     ----------
     zones : array
-        For each landscape.
+        The zone of each landscape.
     classes, zone_at : array
         For each member, which is a class in a landscape: the class, and the index of its landscape.
     member_at, cells, weights, ends, flanks : array
-        For each patch, in the order of zones and first cells: the index of its member, its cells, its weight (in degrees its square metres,
-        else its cells), and the sides of cells on its border that are ends (north, south) or flanks (west, east).
+        For each patch, in the order of zones and first cells: the index of its member, its cells,
+        its weight (square metres in degrees, otherwise cells), and the cell sides on its border:
+        ends (north, south) and flanks (west, east).
     like : array
-        The sides between the cells of each member.
+        The number of sides between cells of the same member, for each member.
     sides : Sides
-        Between two members of a landscape.
+        The sides between two members of a landscape.
     end, flank : float
-        The lengths of sides in metres; NaN if they are not known.
+        The lengths of an end and a flank in metres; NaN if they are unknown.
     """
 
     zones: Integers
@@ -89,11 +93,11 @@ def summed(groups: Integers, values: NDArray[Any], size: int) -> NDArray[Any]:
 
 
 def landscapes_of(maps: Maps, connectivity: int, measure: Measure, has_zones: bool) -> Landscapes:
-    """Run the program over `map`, and over `zones` if there are zones, and arrange its counts."""
+    """Count the landscapes of `map`, or of each zone if there are zones."""
     name, lines = "map", []
     zones, classes, steps = np.zeros(1, np.int64), None, 1
     if has_zones:
-        # Zone and class as one number, so that patches end where a zone ends.
+        # Combine zone and class in one number, so that patches end at the border of a zone.
         occurring = maps.tables("r.stats -n input=zones,map")[0]
         zones, classes = np.unique(occurring[:, 0]), np.unique(occurring[:, 1])
         steps = max(classes.size, 1)
@@ -102,7 +106,8 @@ def landscapes_of(maps: Maps, connectivity: int, measure: Measure, has_zones: bo
         lines.append("r.mapcalc member = zone + code")
     lines += _script(name, connectivity, measure)
     sides, right, below, *by_row = maps.tables("\n".join(lines))
-    # Polygons that overlap are in several runs, each with its own numbers of patches; a member is in one of them.
+    # Overlapping polygons are counted in several runs with separate patch numbers. Each member is
+    # in one run.
     first = places_of(sides[:, :2])
     codes, kinds = sides[first, 1], sides[:, 2]
     cells = _sums(sides[:, 3], first)
@@ -133,7 +138,7 @@ def landscapes_of(maps: Maps, connectivity: int, measure: Measure, has_zones: bo
 
 
 def _weights(cells: Integers, by_row: Sequence[Integers], measure: Measure) -> Floats:
-    """Return the square metres of patches in degrees, from the table of their rows; else their cells."""
+    """Return the square metres of patches in degrees, otherwise their cells."""
     if measure.by_row is None:
         return cells.astype(np.float64)
     [table] = by_row
@@ -147,15 +152,16 @@ def _sums(values: NDArray[Any], first: NDArray[np.intp]) -> NDArray[Any]:
 
 
 def _ranked(source: str, name: str, values: Integers, step: int) -> list[str]:
-    """Return lines that number the categories of a map 0, step, 2 step, .."""
+    """Return script lines that renumber the categories of a map 0, step, 2 * step, ..."""
     rules = [f"{value} = {place * step}" for place, value in enumerate(values.tolist())]
     return [f"r.reclass input={source} output={name}", *rules, "end"]
 
 
 def _script(name: str, connectivity: int, measure: Measure) -> list[str]:
-    """Return lines whose tables have patches with their sides, the pairs of neighbours, and the rows of patches."""
+    """Return script lines that count patches and their sides, neighbours, and patch rows."""
     flag = "-d " if connectivity == 8 else ""
-    # Cells of a class that share a side are of one patch: two comparisons give the perimeters of all patches.
+    # Cells of one class that share a side are in one patch, so two comparisons yield all
+    # perimeters.
     is_like_right = f"nmax({name} == {name}[0,1], 0)"
     is_like_below = f"nmax({name} == {name}[1,0], 0)"
     lines = [
@@ -173,7 +179,7 @@ def _script(name: str, connectivity: int, measure: Measure) -> list[str]:
 
 
 def _borders(members: Integers, zone_at: Integers, right: Integers, below: Integers) -> Sides:
-    """Return the pairs of members of a landscape that share sides."""
+    """Return the pairs of members that share sides in a landscape."""
     pairs, flanks, ends = sides_of(right, below)
     first, second = np.searchsorted(members, pairs.T)
     is_border = first != second

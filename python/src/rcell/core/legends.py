@@ -1,5 +1,5 @@
 # SPDX-License-Identifier: Apache-2.0 OR GPL-2.0-or-later
-"""Legends: labels and colours of classes, from a CSV or TSV, a QGIS style, a raster, or memory."""
+"""Read legends from CSV or TSV files, QGIS styles, rasters, and Python objects."""
 
 from __future__ import annotations
 
@@ -30,9 +30,9 @@ _COLOR = re.compile(r"#[0-9a-fA-F]{6}")
 _COLOR_NAMES = ("colour", "color")
 _STYLE, _TEXTS = ".qml", (".csv", ".tsv", ".tab", ".txt", "")
 _UNWRITABLE = "\0"
-# What is left out around fields; a no-break space is part of a label.
+# Stripped from fields. A no-break space is part of a label.
 _BLANKS = " \t\r\n"
-# Red, green and blue, and perhaps how opaque, as newer versions of QGIS write them.
+# Red, green, blue and optionally opacity, as newer versions of QGIS write them.
 _PARTS = re.compile(r"([0-9]{1,3}),([0-9]{1,3}),([0-9]{1,3})(,.*)?")
 
 
@@ -51,7 +51,7 @@ class Legend(NamedTuple):
 
 
 class Entry(NamedTuple):
-    """A class of a legend, and its place in the legend for errors."""
+    """A class in a legend, with its place in the legend for messages."""
 
     place: str
     value: Any
@@ -60,7 +60,7 @@ class Entry(NamedTuple):
 
 
 def labels_of(source: Any) -> Mapping[int, str]:
-    """Return the labels of a legend of any kind.
+    """Return the labels in a legend of any kind.
 
     Examples
     --------
@@ -76,17 +76,18 @@ def legend_of(source: Any) -> Legend:
     Parameters
     ----------
     source : path, dict, Series or DataFrame
-        A CSV or TSV with the columns `value` and `label` and optionally `colour`, a QGIS style (`.qml`), or a raster with labels;
-        labels by value; a DataFrame with these columns.
+        A CSV or TSV with the columns `value` and `label` and optionally `colour`, a QGIS style
+        (`.qml`), or a raster with labels; labels by value; a DataFrame with these columns.
 
     Raises
     ------
     Refused
-        A value is not a whole number or occurs twice, a colour is invalid, or the header is missing; with the line.
+        A value is not a whole number or occurs twice, a colour is invalid, or the header is
+        missing; the error names the line.
     ReadFailed
         The file cannot be opened.
     BadArgument
-        It is none of these.
+        The source has another type.
     """
     if isinstance(source, (str, os.PathLike)):
         return _of_path(os.fspath(source))
@@ -104,7 +105,7 @@ def legend_of(source: Any) -> Legend:
 
 
 def _of_path(path: str) -> Legend:
-    """Return the legend of a file, by its ending: a style, a table, or else a raster."""
+    """Read a legend from a file, which its ending identifies as a style, table or raster."""
     ending = os.path.splitext(path)[1].lower()
     if ending == _STYLE:
         return legend_of_qml(path)
@@ -124,7 +125,7 @@ def _of_path(path: str) -> Legend:
 
 
 def _entries_of(source: Any) -> Iterator[Entry]:
-    """Yield the rows of a table as entries of a legend."""
+    """Yield the rows of a table as legend entries."""
     for place, row in rows_of("labels", source, ("value", "label"), _COLOR_NAMES):
         yield Entry(place, row["value"], row["label"], row.get("colour") or row.get("color"))
 
@@ -135,7 +136,7 @@ def _entries_of(source: Any) -> Iterator[Entry]:
 def rows_of(
     source: str, table: Any, needed: Tuple[str, ...], optional: Tuple[str, ...] = ()
 ) -> Iterator[Tuple[str, Dict[str, Any]]]:
-    """Yield the rows of a DataFrame, a CSV or a TSV as fields by the titles of its columns, each with its place."""
+    """Yield the place and the selected fields of each row of a DataFrame, CSV or TSV."""
     if isinstance(table, (str, os.PathLike)):
         yield from _rows_of_file(source, os.fspath(table), needed, optional)
         return
@@ -152,14 +153,14 @@ def _rows_of_file(
 ) -> Iterator[Tuple[str, Dict[str, str]]]:
     """Yield the rows of a CSV or TSV.
 
-    Titles may have any case and order, other columns are ignored, and lines without a field are skipped.
+    Titles may have any case and order. Other columns are ignored, and empty lines are skipped.
 
     Raises
     ------
     ReadFailed
         The file cannot be opened.
     Refused
-        A column is missing, a line is not UTF-8, or has a field too many.
+        A column is missing, or a line is not UTF-8 or has too many fields.
     """
     lines = _lines_of(source, path)
     if not lines:
@@ -193,7 +194,7 @@ def _rows_of_file(
 
 
 def _lines_of(source: str, path: str) -> List[str]:
-    """Return the lines of a text in UTF-8."""
+    """Return the lines of a UTF-8 text file."""
     opened(path)
     try:
         with open(path, "rb") as file:
@@ -215,7 +216,7 @@ def _lines_of(source: str, path: str) -> List[str]:
 def _columns_of(
     source: str, titles: List[str], needed: Tuple[str, ...], problem: str
 ) -> Dict[str, int]:
-    """Return the places of columns by their titles in lower case."""
+    """Return the index of each column by its title in lower case."""
     columns: Dict[str, int] = {}
     for place, title in enumerate(titles):
         columns.setdefault(title.strip().lower(), place)
@@ -228,7 +229,10 @@ def _columns_of(
 
 
 def _of_entries(entries: Iterable[Entry]) -> Legend:
-    """Return the legend of checked entries: whole numbers, each once, with labels and colours in their forms."""
+    """Check entries and return them as a legend.
+
+    Values must be unique whole numbers, and labels and colours must be valid.
+    """
     legend = Legend({}, {})
     places: Dict[int, str] = {}
     for entry in entries:
@@ -256,7 +260,7 @@ def _of_entries(entries: Iterable[Entry]) -> Legend:
 
 
 def _of_parts(color: str) -> str:
-    """Return a colour that is given by its parts as `#rrggbb`; any other text unchanged."""
+    """Convert a colour given by its parts to `#rrggbb`; return any other text unchanged."""
     match = _PARTS.fullmatch(color)
     if not match:
         return color
@@ -265,7 +269,7 @@ def _of_parts(color: str) -> str:
 
 
 def is_missing(value: Any) -> bool:
-    """Return whether a value is None, NaN or the missing value of pandas."""
+    """Return whether a value is None, NaN or pandas' missing value."""
     try:
         return value is None or bool(value != value)
     except TypeError:
@@ -278,7 +282,7 @@ def _text(value: Any) -> str:
 
 
 def whole_number(value: Any) -> Optional[int]:
-    """Return a text or a number as a whole number, or None.
+    """Convert a text or a number to an int; None if it is not a whole number.
 
     Examples
     --------
@@ -297,14 +301,14 @@ def whole_number(value: Any) -> Optional[int]:
 
 
 def legend_of_qml(path: str) -> Legend:
-    """Return the legend of a QGIS style: the entries of a palette, or the items of a colour ramp.
+    """Read a legend from the palette or the colour ramp of a QGIS style.
 
     Raises
     ------
     ReadFailed
         The file cannot be opened.
     Refused
-        It is not a style, it declares entities, or the value of a class is not a whole number.
+        The file is not a style, declares entities, or contains a class that is not a whole number.
     """
     palette: List[Entry] = []
     ramp: List[Entry] = []

@@ -1,5 +1,5 @@
 # SPDX-License-Identifier: Apache-2.0 OR GPL-2.0-or-later
-"""Optional libraries, which only some calls need."""
+"""Import optional libraries, which only some calls need."""
 
 from __future__ import annotations
 
@@ -24,7 +24,7 @@ def has(library: str) -> bool:
 
 
 def need(library: str, extra: str, purpose: str) -> Any:
-    """Return the module with this full name; raise MissingLibrary if the module, or a library that it needs, is not installed.
+    """Import a module by its full name, or raise MissingLibrary if that fails.
 
     Examples
     --------

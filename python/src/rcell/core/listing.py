@@ -1,9 +1,9 @@
 # SPDX-License-Identifier: Apache-2.0 OR GPL-2.0-or-later
-"""The only reader of what the programs print as text. Needs numpy.
+"""Read the text output of the programs. Needs numpy.
 
-rcell-pipe takes and returns bytes. Two things are text: the grids of a user, which only rcell
-reads, and prints again in one form; and what rcell-join prints, tables and numberings, whose
-formats are in docs/rcell-join.md.
+rcell-pipe reads and writes binary data. Only two outputs are text: a user's text grids, which rcell
+prints in a normal form, and the tables and numberings of rcell-join, whose formats are in
+docs/rcell-join.md.
 """
 
 from __future__ import annotations
@@ -24,7 +24,8 @@ if TYPE_CHECKING:
 
 __all__ = ["PrintedGrid", "numbers_of", "printed_grid"]
 
-# The bytes of lines of numbers: each kind has a bit, and in the upper half the bits of the kinds that never follow it.
+# The bytes allowed in lines of numbers. The lower half of a code is the kind's bit. The upper half
+# contains the bits of the kinds that must not follow it.
 _KINDS = {b"0123456789": 0x61, b"-": 0xE2, b"*": 0x74, b" \n": 0x88}
 _CODE_OF = {byte: code for kind, code in _KINDS.items() for byte in kind}
 _CODES = bytes(_CODE_OF.get(byte, 0xFF) for byte in range(256))
@@ -35,12 +36,14 @@ _HEADER_BYTES = 1 << 8
 
 
 def numbers_of(text: bytes, width: int) -> NDArray[np.int64]:
-    """Return lines of `width` whole numbers, `NULL` for null; 2^64 is subtracted from numbers of 2^63 or more.
+    """Parse lines of `width` whole numbers each, with `NULL` for null.
+
+    Numbers of 2^63 or more wrap around: 2^64 is subtracted.
 
     Raises
     ------
     NoAnswer
-        The text is anything else.
+        The text has another format.
 
     Examples
     --------
@@ -59,7 +62,10 @@ def numbers_of(text: bytes, width: int) -> NDArray[np.int64]:
 
 
 class PrintedGrid(NamedTuple):
-    """A grid as rcell prints it: north, south, east and west, its size, and its rows, in blocks with `NULL` for null."""
+    """A grid that rcell printed: its edges, its size and its rows.
+
+    The rows are in blocks, in which `NULL` is null.
+    """
 
     edges: tuple[str, ...]
     rows: int
@@ -74,7 +80,10 @@ def printed_grid(
     seconds: Optional[float] = None,
     watch: Optional[Callable[[], None]] = None,
 ) -> Iterator[PrintedGrid]:
-    """Read what rcell prints for a grid; parameters and errors are the same as in `printing.printed`."""
+    """Read a grid that rcell prints.
+
+    Parameters and errors are the same as in `printing.printed`.
+    """
     with printed(program, path, seconds, watch) as pieces:
         text, header = b"", None
         while not header and len(text) < _HEADER_BYTES and (piece := next(pieces, b"")):
@@ -88,7 +97,7 @@ def printed_grid(
 
 
 def _blocks(pieces: Iterator[bytes], rows: int, cols: int) -> Iterator[NDArray[np.int32]]:
-    """Yield that many rows."""
+    """Yield blocks of rows, or raise NoAnswer unless they add up to `rows`."""
     rest = b""
     for piece in pieces:
         lines, end, rest = (rest + piece).rpartition(b"\n")

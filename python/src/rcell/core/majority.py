@@ -1,5 +1,5 @@
 # SPDX-License-Identifier: Apache-2.0 OR GPL-2.0-or-later
-"""The majority filter: each cell gets the most frequent class of the square around it."""
+"""Filter maps by majority: each cell gets the most frequent class of the square around it."""
 
 from __future__ import annotations
 
@@ -15,28 +15,32 @@ from .sources import ArrayMap, MapLike, source_of
 __all__ = ["majority", "majority_script"]
 
 SIZES = range(3, 16, 2)
-# The most tokens of an expression, less the tokens of `x = if(isnull(map), null(), nmode(..))`.
+# The largest number of tokens in an expression, and the tokens of `x = if(isnull(map), null(),
+# nmode())`.
 _MOST_TOKENS, _TOKENS_AROUND = 1000, 25
 _TOKENS_OF_NAME = 2
 
 
 def majority(map: MapLike, size: int = 3, fill: bool = False, *, crs: Any = None) -> ArrayMap:
-    """Give each cell the most frequent class of the square around it; ties go to the smallest class.
+    """Give each cell the most frequent class of the square around it.
+
+    In a tie, the smallest class is used.
 
     Parameters
     ----------
     map : path, array, or any map that `run` accepts
     size : int
-        Rows and columns of the square: odd, 3 to 15. Cells outside the map are null; nulls do not count.
+        The number of rows and of columns of the square; must be odd, from 3 to 15. Null cells and
+        cells outside the map are ignored.
     fill : bool
-        Whether null cells also get a class; by default they stay null.
+        Whether null cells also get a class; by default, they stay null.
     crs : any, optional
         The reference system to assume for a map that has none.
 
     Returns
     -------
     Raster
-        With the labels and colours of the map.
+        The filtered map, with the labels and colours of the map.
 
     Raises
     ------
@@ -59,10 +63,11 @@ def majority(map: MapLike, size: int = 3, fill: bool = False, *, crs: Any = None
 
 
 def majority_script(size: int, fill: bool) -> str:
-    """Return the script that makes the map `majority` of the map `map`.
+    """Return the script that computes the map `majority` from the map `map`.
 
-    Squares of 13 and 15 cells have too many tokens for one expression. So the cells with the longest offsets are first made into
-    maps; a map without an offset has fewer tokens.
+    The expressions for squares of 13 and 15 cells have too many tokens. The script therefore first
+    writes the cells with the longest offsets to maps of their own, because a map without an offset
+    needs fewer tokens.
 
     Examples
     --------
@@ -73,7 +78,7 @@ def majority_script(size: int, fill: bool) -> str:
     terms: dict[tuple[int, int], str] = {}
     tokens: dict[tuple[int, int], int] = {}
     for row, col in itertools.product(reach, reach):
-        # A term and its comma: map [ row , col ] and a sign for each negative offset.
+        # The tokens of a term and its comma: map [ row , col ] ,  plus a sign for each negative offset.
         terms[row, col] = f"map[{row},{col}]"
         tokens[row, col] = 7 + (row < 0) + (col < 0)
     terms[0, 0], tokens[0, 0] = "map", _TOKENS_OF_NAME

@@ -1,5 +1,5 @@
 # SPDX-License-Identifier: Apache-2.0 OR GPL-2.0-or-later
-"""The memory and the processors that this process may use."""
+"""Find the memory and the processors that this process may use."""
 
 from __future__ import annotations
 
@@ -9,7 +9,7 @@ import os
 __all__ = ["free_memory", "processors"]
 
 _GROUP = "/sys/fs/cgroup"
-# If nothing says how much is free, there is hardly less.
+# The assumed free memory if the system does not report it.
 _UNKNOWN = 4 << 30
 
 
@@ -21,7 +21,7 @@ def processors() -> int:
 
 
 def free_memory() -> int:
-    """Return the bytes that this machine, or the group of processes that this one belongs to, has left."""
+    """Return the free memory in bytes, within the limits of the machine and the control group."""
     limits = [_UNKNOWN]
     with contextlib.suppress(OSError, ValueError, KeyError, IndexError):
         with open("/proc/meminfo", encoding="ascii") as file:

@@ -1,7 +1,8 @@
 # SPDX-License-Identifier: Apache-2.0 OR GPL-2.0-or-later
-"""Landscape metrics: of patches, of classes, and of the landscape, in all or by zone.
+"""Compute landscape metrics of patches, classes and landscapes, in total or by zone.
 
-Definitions are as in FRAGSTATS 4 (McGarigal, Cushman and Ene 2012), without background; edges are between two classes.
+Definitions follow FRAGSTATS 4 (McGarigal, Cushman and Ene 2012), without background. Edges are
+borders between two classes.
 """
 
 from __future__ import annotations
@@ -23,7 +24,8 @@ __all__ = ["metrics"]
 
 LEVELS = ("patch", "class", "landscape")
 _SQUARE_KM = 1e6
-# Areas that differ from 1 m2 by no more have no fractal dimension: its divisor is the logarithm of the area.
+# The fractal dimension is undefined for areas this close to 1 m2, because its divisor is the area's
+# logarithm.
 _NEARLY_ONE = 1e-9
 
 Integers = NDArray[np.int64]
@@ -51,11 +53,13 @@ def metrics(
     map : path, array, or any map that `run` accepts
     level : {"class", "landscape", "patch"}
     connectivity : {4, 8}
-        Which cells belong to one patch: 4 connects cells that share an edge, 8 also cells that share a corner.
+        Which cells belong to one patch: 4 connects cells that share an edge, 8 also cells that
+        share a corner.
     area : {"ha", "km2", "m2"} or None
         The unit of areas, as in `composition`. Without areas, sizes are in cells.
     zones : map, or path of polygons, GeoDataFrame or GeoSeries, optional
-        Each zone is a landscape of its own: patches end at its border, and have numbers from 1. Sides along it are not edges.
+        Each zone is a separate landscape: patches end at its border and are numbered from 1. Cell
+        sides along the border of a zone are not edges.
     labels, zone_labels : path, dict, Series or DataFrame, optional
         Legends, as in `composition`.
     zone_field, layer : str, optional
@@ -68,14 +72,17 @@ def metrics(
     Returns
     -------
     pandas.DataFrame
-        The landscape is all cells of the map or zone that have data: percentages and densities are of it, and edges are sides between two
-        of its classes. After `zone`, `zone_label`, `class`, `label`, by class: `cells`, `area_ha`, `percent`, `patches`, `patches_km2`,
-        `largest_patch_percent`, `mean_patch_ha`, `area_weighted_mean_patch_ha`, `effective_mesh_ha`, `edge_m`, `edge_density_m_ha`,
-        `mean_shape_index`, `aggregation_index`, `cohesion`, `interspersion_index`. Of the landscape also `classes`, `contagion`,
-        `shannon_diversity`, `shannon_evenness` and `simpson_diversity`. By patch: `patch`, `class`, `label`, `cells`, `area_ha`,
-        `perimeter_m`, `shape_index`, `fractal_dimension`.
-        Undefined measures are NaN. So are those that need a length, without a reference system and,
-        with a warning, in degrees.
+        The columns `zone`, `zone_label`, `class` and `label` come first. By class, they are
+        followed by `cells`, `area_ha`, `percent`, `patches`, `patches_km2`,
+        `largest_patch_percent`, `mean_patch_ha`, `area_weighted_mean_patch_ha`,
+        `effective_mesh_ha`, `edge_m`, `edge_density_m_ha`, `mean_shape_index`, `aggregation_index`,
+        `cohesion`, `interspersion_index`. A landscape also has `classes`, `contagion`,
+        `shannon_diversity`, `shannon_evenness` and `simpson_diversity`. By patch, the columns are
+        `patch`, `class`, `label`, `cells`, `area_ha`, `perimeter_m`, `shape_index`,
+        `fractal_dimension`. The landscape consists of all cells of the map or zone that are not
+        null. Percentages and densities refer to the landscape, and edges are cell sides between two
+        of its classes. Undefined measures are NaN. Measures that need a length are NaN without a
+        reference system and, with a warning, in degrees.
 
     Raises
     ------
@@ -128,7 +135,7 @@ def _measures(values: dict[str, Floats]) -> list[Column]:
 
 
 def _shapes(land: Landscapes) -> Floats:
-    """Return 0.25 times the perimeter, divided by the root of the area: 1 for a square."""
+    """Return each patch's shape index: a quarter of the perimeter over the area's root."""
     shapes: Floats = 0.25 * land.perimeters / np.sqrt(land.cells * land.end * land.flank)
     return shapes
 
@@ -147,11 +154,11 @@ def _of_patches(land: Landscapes, measure: Measure) -> list[Column]:
 def _of_classes(land: Landscapes, measure: Measure) -> list[Column]:
     cells, weights = land.by_member(land.cells), land.by_member(land.weights)
     whole = land.by_zone(weights)[land.zone_at]
-    # Both sides of a border belong to it.
+    # Count a border for both of its classes.
     members, borders = np.concatenate([land.sides.first, land.sides.second]), np.tile(
         land.borders, 2
     )
-    edges = summed(members, borders, cells.size) + 0 * land.end  # not known without borders either
+    edges = summed(members, borders, cells.size) + 0 * land.end  # NaN if lengths are unknown
     others = np.bincount(land.zone_at, minlength=land.zones.size)[land.zone_at] - 1
     values = {
         "aggregation_index": _aggregation(land),
@@ -171,7 +178,7 @@ def _of_landscapes(land: Landscapes, measure: Measure) -> list[Column]:
     classes, shares = np.bincount(land.zone_at, minlength=size), members / whole[land.zone_at]
     across, borders = land.zone_at[land.sides.first], land.borders
     edges = summed(across, borders, size) + 0 * land.end
-    # The logarithm of one class is 0: what it would divide is not defined.
+    # The measures are undefined for one class, because the logarithm of 1 is 0.
     most = np.where(classes >= 2, np.log(np.maximum(classes, 2)), np.nan)
     diversity = _entropy(land.zone_at, members, size)
     pairs = classes * (classes - 1) // 2
@@ -197,7 +204,10 @@ def _of_sizes(
     edges: Floats,
     measure: Measure,
 ) -> list[Column]:
-    """Return the measures that classes and landscapes have in common; `groups` has the index of each patch's group."""
+    """Return the measures that classes and landscapes have in common.
+
+    `groups` contains the index of each patch's class or landscape.
+    """
     unit, size, full = measure.column, weights.size, measure.area(whole)
     count = np.bincount(groups, minlength=size)
     largest = np.zeros(size)
@@ -221,10 +231,10 @@ def _of_sizes(
 def _aggregation(land: Landscapes) -> Floats:
     """Return the aggregation index of each member (He, DeZonia and Mladenoff 2000).
 
-    It divides the like sides by the most that an area of this size can have.
+    The index divides the like sides by the largest possible number for an area of this size.
     """
     cells = land.by_member(land.cells)
-    side = np.sqrt(cells).astype(np.int64)  # exact, since the cells of a map are fewer than 2^31
+    side = np.sqrt(cells).astype(np.int64)  # exact, because maps have fewer than 2^31 cells
     rest = cells - side**2
     more = np.where(rest <= side, 2 * rest - 1, 2 * rest - 2)
     most = 2 * side * (side - 1) + np.where(rest == 0, 0, more)
@@ -232,7 +242,10 @@ def _aggregation(land: Landscapes) -> Floats:
 
 
 def _cohesion(groups: Integers, land: Landscapes, whole: Integers) -> Floats:
-    """Return the patch cohesion index, with perimeters in sides and areas in cells (Schumaker 1996); NaN in a landscape of one cell."""
+    """Return the patch cohesion index (Schumaker 1996); NaN in a landscape of one cell.
+
+    Perimeters are in cell sides, and areas in cells.
+    """
     sides = (land.ends + land.flanks).astype(np.float64)
     above, below = (
         summed(groups, part, whole.size) for part in (sides, sides * np.sqrt(land.cells))
@@ -244,9 +257,11 @@ def _cohesion(groups: Integers, land: Landscapes, whole: Integers) -> Floats:
 def _interspersion(
     groups: Integers, borders: Floats, edges: Floats, kinds: Integers, others: Integers
 ) -> Floats:
-    """Return the interspersion index: the entropy of borders, divided by its maximum for this number of classes.
+    """Return the interspersion index: the entropy of borders over its maximum.
 
-    It is NaN below three classes or without an edge.
+    The maximum depends on the number of classes.
+
+    The index is NaN if there are fewer than three classes, or no edges.
     """
     known = (others >= 2) & (edges > 0)
     most = np.where(known, np.log(np.maximum(kinds, 2)), np.nan)
@@ -254,14 +269,17 @@ def _interspersion(
 
 
 def _entropy(groups: Integers, parts: Floats, size: int) -> Floats:
-    """Return the entropy of the parts of each group in nats."""
+    """Return the entropy of each group's parts in nats."""
     total = summed(groups, parts, size)[groups]
     shares = parts / np.where(total > 0, total, np.nan)
     return summed(groups, -shares * np.log(np.where(shares > 0, shares, 1)), size)
 
 
 def _entropy_of_sides(land: Landscapes, shares: Floats) -> Floats:
-    """Return the entropy of each landscape's sides by their two classes, each counted from both sides (Riitters et al. 1996)."""
+    """Return the entropy of each landscape's class adjacencies (Riitters et al. 1996).
+
+    Each cell side is counted from both of its cells.
+    """
     members = np.concatenate([land.sides.first, land.sides.second, np.arange(land.classes.size)])
     unlike = land.sides.ends + land.sides.flanks
     counts = np.concatenate([unlike, unlike, 2 * land.like]).astype(np.float64)

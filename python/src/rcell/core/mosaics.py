@@ -1,5 +1,5 @@
 # SPDX-License-Identifier: Apache-2.0 OR GPL-2.0-or-later
-"""Several files as one map: the cells of a list of files, or of the files that match a pattern."""
+"""Read several files as one map: a list of files, or the files that match a pattern."""
 
 from __future__ import annotations
 
@@ -26,19 +26,19 @@ _WILD = "*?["
 
 
 class Part(NamedTuple):
-    """A file of a map, and its place in the map."""
+    """A file in a mosaic, and its place in the map."""
 
     source: Any
     place: Rectangle
 
 
 def is_pattern(path: str) -> bool:
-    """Return whether a path is a pattern of file names, and not itself the name of a file."""
+    """Return whether a path is a pattern of file names and not an existing file."""
     return any(letter in path for letter in _WILD) and not os.path.exists(path)
 
 
 def open_pattern(name: str, pattern: str) -> Source:
-    """Return the files that match a pattern, in the order of their names, as one map."""
+    """Open the files that match a pattern, in the order of their names, as one map."""
     paths = sorted(glob.glob(pattern, recursive=True))
     if not paths:
         raise ReadFailed(name, f"cannot open: {pattern}: no file matches it")
@@ -46,7 +46,9 @@ def open_pattern(name: str, pattern: str) -> Source:
 
 
 def open_files(name: str, paths: Sequence[Any]) -> Source:
-    """Return files of one grid as one map: gaps are null, and if files overlap, the later one has the cells that are not null in it.
+    """Open files on one grid as one map.
+
+    Gaps are null. If files overlap, the later file's cells are used unless they are null.
 
     Parameters
     ----------
@@ -57,7 +59,8 @@ def open_files(name: str, paths: Sequence[Any]) -> Source:
     Raises
     ------
     OtherCrs, OtherRegion, BadMap
-        Two files differ in reference system, size of cells, alignment, type or nodata; the text has both files, and the difference.
+        Two files differ in reference system, cell size, alignment, type or nodata; the message
+        names both files and the difference.
     ReadFailed
         A file cannot be opened.
     """
@@ -85,7 +88,7 @@ def open_files(name: str, paths: Sequence[Any]) -> Source:
     width, _, west, _, height, north = first.transform
     transform = (width, 0.0, west + left * width, 0.0, height, north + top * height)
     region = in_region(name, Region.from_transform, transform, rows, cols)
-    # Gaps need a mask if no value is null.
+    # Gaps need a mask if there is no nodata value.
     may_have_gaps = first.nodata is None and not _is_full(parts, rows * cols)
     is_masked = may_have_gaps or any(part.source.is_masked for part in parts)
     mosaic = MosaicMap(name, parts, region, transform, crs, is_masked)
@@ -94,7 +97,10 @@ def open_files(name: str, paths: Sequence[Any]) -> Source:
 
 
 def _shift_of(name: str, first: Any, source: Any) -> tuple[int, int]:
-    """Return the row and column of the first map at which a file begins; raise an error if it does not fit."""
+    """Return the row and column of the first file at which another file begins.
+
+    Raises an error if the files do not fit together.
+    """
     both = f"{source.name} and {first.name}"
     shift = Shift.between(first.transform, source.transform, source.region.shape)
     if not shift.is_whole:
@@ -113,14 +119,14 @@ def _shift_of(name: str, first: Any, source: Any) -> tuple[int, int]:
 
 
 def _is_full(parts: Sequence[Part], cells: int) -> bool:
-    """Return whether files that do not overlap fill a map of the given number of cells."""
+    """Return whether files fill a map of this number of cells without overlaps."""
     corners = np.array([place for _, place in parts])
     is_apart = all(len(_near(corners, place)) == 1 for _, place in parts)
     return is_apart and sum(place.cells for _, place in parts) == cells
 
 
 def _near(places: NDArray[Any], place: Rectangle) -> NDArray[np.intp]:
-    """Return which of some rectangles have cells in another one."""
+    """Return the indices of the rectangles that overlap another rectangle."""
     tops, lefts, rows, cols = places.T
     in_rows = (tops < place.top + place.rows) & (tops + rows > place.top)
     in_cols = (lefts < place.left + place.cols) & (lefts + cols > place.left)
@@ -139,7 +145,7 @@ def _warn_of_overlaps(mosaic: MosaicMap) -> None:
 
 @dataclass(frozen=True)
 class MosaicMap:
-    """Files of one grid as one map; made by `open_files`.
+    """Files on one grid as one map; created by `open_files`.
 
     Attributes
     ----------
@@ -149,7 +155,8 @@ class MosaicMap:
     transform : tuple of six float
     crs : any
     is_masked : bool
-        Whether its blocks have masks: if a file has one, or there may be gaps and no value is null.
+        Whether its blocks have masks: if a file has a mask, or if there may be gaps and there is no
+        nodata value.
     """
 
     name: str
@@ -166,7 +173,7 @@ class MosaicMap:
 
     @cached_property
     def overlaps(self) -> Sequence[tuple[int, int]]:
-        """The pairs of files that overlap, the later one first."""
+        """The pairs of files that overlap, with the later file first."""
         pairs = []
         for index, (_, place) in enumerate(self.parts):
             for other in _near(self._places, place).tolist():
@@ -175,7 +182,7 @@ class MosaicMap:
         return pairs
 
     def sent(self, outer: Rectangle) -> Optional[MosaicMap]:
-        """Return a map with the files of a window, or at least one of them."""
+        """Return a map with only the files in a window, but at least one file."""
         parts = []
         for index in _near(self._places, outer).tolist() or [0]:
             source, place = self.parts[index]
@@ -187,7 +194,7 @@ class MosaicMap:
 
     @property
     def dtype(self) -> np.dtype[Any]:
-        """The type of its blocks."""
+        """The data type of its blocks."""
         dtype: np.dtype[Any] = self.parts[0].source.dtype
         return dtype
 
@@ -199,24 +206,24 @@ class MosaicMap:
 
     @property
     def labels(self) -> Mapping[int, str]:
-        """Labels of its categories, from the first file."""
+        """The labels of its categories, from the first file."""
         labels: Mapping[int, str] = self.parts[0].source.labels
         return labels
 
     @property
     def colors(self) -> Mapping[int, str]:
-        """Colours of its categories, from the first file."""
+        """The colours of its categories, from the first file."""
         colors: Mapping[int, str] = self.parts[0].source.colors
         return colors
 
     @property
     def files(self) -> tuple[str, ...]:
-        """All files."""
+        """The files of all parts."""
         return tuple(file for part in self.parts for file in part.source.files)
 
     @property
     def block_shape(self) -> tuple[int, int]:
-        """Rows and columns of a block of the first file."""
+        """The rows and columns of a block in the first file."""
         shape: tuple[int, int] = self.parts[0].source.block_shape
         return shape
 
@@ -228,7 +235,7 @@ class MosaicMap:
             yield self.window(row, 0, min(step, rows - row), cols)
 
     def window(self, row: int, col: int, rows: int, cols: int) -> Block:
-        """Return some of the cells, counted from the north-west corner."""
+        """Return a window of cells; rows and columns are counted from the north-west."""
         place, nodata = Rectangle(row, col, rows, cols), self.nodata
         cells = np.full((rows, cols), 0 if nodata is None else nodata, self.dtype)
         null = np.ones((rows, cols), np.bool_) if self.is_masked else None

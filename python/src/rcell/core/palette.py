@@ -1,5 +1,5 @@
 # SPDX-License-Identifier: Apache-2.0 OR GPL-2.0-or-later
-"""Colours for classes without a colour of their own."""
+"""Choose colours for classes that have none."""
 
 from __future__ import annotations
 
@@ -11,7 +11,7 @@ _GOLDEN = 0.618033988749895
 
 
 def colour_at(place: int) -> tuple[int, int, int]:
-    """Return the colour of a place in a legend: always the same one, and different from its neighbours'.
+    """Return the fixed colour of a place in a legend, which differs from its neighbours' colours.
 
     Examples
     --------

@@ -1,5 +1,5 @@
 # SPDX-License-Identifier: Apache-2.0 OR GPL-2.0-or-later
-"""What is counted of the patches of a map: by the program, or from tables in degrees."""
+"""Measure the patches of a map, with the program or from tables."""
 
 from __future__ import annotations
 
@@ -16,7 +16,8 @@ from .tile_patches import PatchSum
 
 __all__ = ["PatchMeasures", "clump_line", "patch_measures"]
 
-# Of the sides of a cell on the border of its patch, up to two are ends (north, south) and up to two are flanks (west, east).
+# A cell has up to two ends (north, south) and two flanks (west, east) on its patch's border. They
+# are counted as one number: ends + 3 * flanks.
 _FLANK = 3
 
 Integers = NDArray[np.int64]
@@ -30,17 +31,18 @@ class PatchMeasures:
     Attributes
     ----------
     numbers : array of int64
-        Of r.clump, ascending.
+        The patch numbers of r.clump, ascending.
     classes, cells, core : array of int64
-        Core cells: all cells within some steps of them, across edges, are in their patch.
+        The class, the number of cells, and the number of core cells. A cell is in the core if all
+        cells within the core depth, across edges, are in its patch.
     ends, flanks : array of int64
-        Sides of cells on the border of the patch: north and south sides, west and east sides.
+        The cell sides on the border of the patch: north and south sides, and west and east sides.
     top, bottom, left, right : array of int64
         The first and last row and column, from 0.
     zones : array of int64 or None
-        The zone of most cells; `NULL` if no cell has a zone.
+        The zone that contains most cells; `NULL` if no cell has a zone.
     area, core_area : array of float64 or None
-        In the unit of the call.
+        The areas of the patch and its core, in the unit of the call.
     """
 
     numbers: Integers
@@ -67,7 +69,7 @@ def patch_measures(
     fewest: int,
     has_zones: bool,
 ) -> PatchMeasures:
-    """Return the measures of the patches of the map `map`.
+    """Measure the patches of the map `map`.
 
     Parameters
     ----------
@@ -89,7 +91,7 @@ def patch_measures(
 
 
 def _of_sum(found: PatchSum, measure: Measure) -> PatchMeasures:
-    """Return measures as the program counts them."""
+    """Convert the program's counts to measures."""
     counts, has_area = dict(found.counts), measure.unit is not None
     zones = counts.pop("zones", None)
     return PatchMeasures(
@@ -103,14 +105,16 @@ def _of_sum(found: PatchSum, measure: Measure) -> PatchMeasures:
 
 
 def _zones(numbers: Integers, table: Integers) -> Integers:
-    """Return the zone with most cells of each patch: the smaller of two, null if no cell has a zone.
+    """Return the zone with most cells of each patch; null if no cell has a zone.
+
+    In a tie, the smallest zone is returned.
 
     Parameters
     ----------
     numbers : array of int64
-        Of the patches, ascending.
+        The patch numbers, ascending.
     table : array of int64
-        Patch, zone and cells.
+        The columns are patch, zone and cells.
     """
     found = np.full(numbers.size, NULL, np.int64)
     order = np.lexsort([table[:, 1], -table[:, 2], table[:, 0]])
@@ -121,14 +125,17 @@ def _zones(numbers: Integers, table: Integers) -> Integers:
 
 
 def _places(numbers: Integers, of: Integers) -> tuple[NDArray[np.intp], NDArray[np.bool_]]:
-    """Return where ascending numbers have the given ones, and which of these occur."""
+    """Look up values in ascending numbers.
+
+    Returns the indices of the values found, and a mask of the values found.
+    """
     at = np.minimum(np.searchsorted(numbers, of), max(numbers.size - 1, 0))
     kept = numbers[at] == of if numbers.size else np.zeros(of.size, np.bool_)
     return at[kept], kept
 
 
 def clump_line(connectivity: int, name: str = "map") -> str:
-    """Return the line of a script that numbers the patches of a map."""
+    """Return the script line that numbers the patches of a map."""
     return f"r.clump {'-d ' if connectivity == 8 else ''}input={name} output=patch"
 
 
@@ -170,7 +177,7 @@ def _of_tables(
 def _script(
     connectivity: int, classes: Optional[list[int]], depth: int, has_zones: bool, by_row: bool
 ) -> str:
-    """Return a script whose tables have the sides, cores, rows, columns and zones of patches."""
+    """Return a script that counts the sides, cores, rows, columns and zones of patches."""
     leaves = "(isnull(patch[{0}]) ||| patch[{0}] != patch)"
     north, south, west, east = (leaves.format(place) for place in ("-1,0", "1,0", "0,-1", "0,1"))
     core = "if({0}[-1,0] == {0} && {0}[1,0] == {0} && {0}[0,-1] == {0} && {0}[0,1] == {0}, {0}, null())"
@@ -207,7 +214,7 @@ class _Tables:
     Parameters
     ----------
     sides : array of int64
-        Patch, class, sides on the border of the patch, and cells.
+        The columns are patch, class, coded sides on the border of the patch, and cells.
     fewest : int
     """
 
@@ -223,12 +230,12 @@ class _Tables:
         self._sides = sides
 
     def sides(self) -> list[Integers]:
-        """Return the ends and the flanks of the patches."""
+        """Return each patch's number of ends and of flanks."""
         numbers, codes, cells = self._sides[:, 0], self._sides[:, 2], self._sides[:, 3]
         return [self.summed(numbers, cells * part) for part in (codes % _FLANK, codes // _FLANK)]
 
     def summed(self, numbers: Integers, values: NDArray[Any]) -> NDArray[Any]:
-        """Return the sum of the values of each patch; equal numbers must be consecutive."""
+        """Return the sum of each patch's values; equal patch numbers must be consecutive."""
         first = places_of(numbers)
         found = np.zeros(self.numbers.size, values.dtype)
         if first.size:
@@ -237,7 +244,7 @@ class _Tables:
         return found
 
     def ends_of(self, table: Integers) -> tuple[Integers, Integers]:
-        """Return the first and last row, or column, of each patch."""
+        """Return the first and last row (or column) of each patch."""
         first = places_of(table[:, 0])
         last = (
             np.concatenate([first[1:], [len(table)]]).astype(np.intp) - 1 if first.size else first
@@ -248,7 +255,7 @@ class _Tables:
     def areas(
         self, measure: Measure, rows: Integers, core: Integers, inner: Integers
     ) -> tuple[Optional[Floats], Optional[Floats]]:
-        """Return the areas of the patches and of their cores, in degrees the sums over their rows."""
+        """Return the areas of the patches and cores; in degrees, sums over their rows."""
         if measure.by_row is None:
             has_area = measure.unit is not None
             return (measure.area(self.cells), measure.area(inner)) if has_area else (None, None)

@@ -1,5 +1,5 @@
 # SPDX-License-Identifier: Apache-2.0 OR GPL-2.0-or-later
-"""Summaries of the patches of each class, without a table of all patches."""
+"""Summarize the patches of each class without a table of all patches."""
 
 from __future__ import annotations
 
@@ -28,7 +28,7 @@ def class_summary(
     fewest: int,
     labels: Any = None,
 ) -> Table:
-    """Return how many patches each class has, and their cells, area, and largest and mean size.
+    """Return each class's number of patches, cells and area, and its largest and mean patch size.
 
     Parameters
     ----------
@@ -52,7 +52,7 @@ def class_summary(
 
 
 class Numbers(NamedTuple):
-    """What is counted of the patches of a class."""
+    """The totals of a class's patches."""
 
     patches: int = 0
     cells: int = 0
@@ -61,7 +61,7 @@ class Numbers(NamedTuple):
     largest_area: float = 0.0
 
     def plus(self, more: Numbers) -> Numbers:
-        """Return the numbers of these and of more patches of the class."""
+        """Return the totals of both sets of patches."""
         return Numbers(
             self.patches + more.patches,
             self.cells + more.cells,
@@ -72,9 +72,10 @@ class Numbers(NamedTuple):
 
 
 class _Summary:
-    """The patches of classes in tables of tiles; patches that may continue in other tiles wait until the tiles are joined.
+    """Sums up the patches of each class over tiles.
 
-    Tiles come in any order. Areas are added in the order of the tiles, so the sums are always the same.
+    Patches that may continue in other tiles wait until the tiles are joined. Tiles may be added in
+    any order. Areas are summed in the order of the tiles, so that rounding is reproducible.
     """
 
     def __init__(self, measure: Measure, classes: Optional[list[int]], fewest: int) -> None:
@@ -83,7 +84,10 @@ class _Summary:
         self._complete: dict[int, dict[int, Numbers]] = {}
 
     def add(self, tile: int, table: Integers, waiting: Integers) -> None:
-        """Add the table of a tile: classes, patches, rows of a map in degrees, and cells; and the patches that may continue."""
+        """Add a tile's table, and the patches that may continue in other tiles.
+
+        The columns are class, patch, row (only in degrees) and cells.
+        """
         if self._listed is not None:
             table = table[np.isin(table[:, 0], self._listed)]
         patches, area = self._patches_of(table)
@@ -92,7 +96,7 @@ class _Summary:
         self._complete[tile] = self._counted(patches[~is_open], area[~is_open])
 
     def join(self, numbers_of: Callable[[int, Integers], Integers]) -> None:
-        """Count the patches that waited, by the numbers that the patches of each tile have in the full map."""
+        """Count the waiting patches, using their numbers in the full map."""
         if not self._waiting:
             return
         tiles = sorted(self._waiting)
@@ -104,14 +108,14 @@ class _Summary:
         self._complete[tiles[-1] + 1] = self._counted(*joined)
 
     def _patches_of(self, table: Integers) -> tuple[Integers, Floats]:
-        """Return class, number and cells of each patch, and its area."""
+        """Return the class, number and cells of each patch, and its area."""
         if self._measure.by_row is None:
             return table, self._measure.area(table[:, -1])
         area = table[:, -1] * self._measure.by_row[table[:, 2] - 1] / self._measure.divisor
         return _added(table[:, [0, 1, 3]], area)
 
     def _counted(self, patches: Integers, area: Floats) -> dict[int, Numbers]:
-        """Return the numbers of each class, of patches that are complete."""
+        """Return the totals of complete patches by class."""
         is_large = patches[:, 2] >= self._fewest
         patches, area = patches[is_large], area[is_large]
         first = places_of(patches[:, 0])
@@ -129,7 +133,7 @@ class _Summary:
         return dict(zip(patches[first, 0].tolist(), numbers))
 
     def _by_class(self) -> dict[int, Numbers]:
-        """Return the numbers of each class in all tiles."""
+        """Return the totals of all tiles by class."""
         by_class: dict[int, Numbers] = {}
         for tile in sorted(self._complete):
             for code, numbers in self._complete[tile].items():
@@ -154,7 +158,7 @@ class _Summary:
             columns.append(Column("largest_cells", "count", largest_cells))
             return [*columns, Column("mean_cells", "measure", cells / np.maximum(count, 1))]
         area = np.array([number.area for number in numbers], np.float64)
-        if self._measure.by_row is None:  # without the rounding of a sum
+        if self._measure.by_row is None:  # exact, unlike a sum of rounded areas
             area = self._measure.area(cells)
         largest = np.array([number.largest_area for number in numbers], np.float64)
         columns.append(Column(f"area_{unit}", "measure", area))
@@ -163,7 +167,7 @@ class _Summary:
 
 
 def _added(patches: Integers, area: Floats) -> tuple[Integers, Floats]:
-    """Return each patch once, by class and number, with its cells and area added up."""
+    """Add up the cells and areas of entries with the same class and patch number."""
     order = np.lexsort([patches[:, 1], patches[:, 0]])
     patches, area = patches[order], area[order]
     first = places_of(patches[:, :2])

@@ -1,5 +1,5 @@
 # SPDX-License-Identifier: Apache-2.0 OR GPL-2.0-or-later
-"""The patches of a map, with their sizes, perimeters, cores and extents."""
+"""List the patches of a map, with their sizes, perimeters, cores and extents."""
 
 from __future__ import annotations
 
@@ -43,7 +43,7 @@ def patches(
     summary: str | None = None,
     crs: Any = None,
 ) -> Table:
-    """List the patches of a map: connected cells of one class, with the numbers of r.clump.
+    """List the patches of a map: connected cells of one class, numbered as in r.clump.
 
     Parameters
     ----------
@@ -51,15 +51,17 @@ def patches(
     connectivity : {4, 8}
         4 connects cells that share an edge, 8 also cells that share a corner.
     area : {"ha", "km2", "m2"} or None
-        The unit of areas, as in `composition`. Without areas there is a column `core_cells`.
+        The unit of areas, as in `composition`. Without areas, there is a column `core_cells`.
     zones : map, or path of polygons, GeoDataFrame or GeoSeries, optional
-        See `composition`. A patch gets the zone with most of its cells; ties go to the smaller zone.
+        See `composition`. A patch gets the zone that contains most of its cells; in a tie, the
+        smallest zone.
     classes : int or iterable of int, optional
-        Lists only patches of these classes. Patches keep their numbers.
+        List only patches of these classes. Patches keep their numbers.
     min_cells : int, optional
-        Lists only patches with at least this many cells. Patches keep their numbers.
+        List only patches with at least this many cells. Patches keep their numbers.
     core_depth : int
-        A cell is in the core if all cells within this many steps, across edges, are in its patch.
+        A cell is in the core of its patch if all cells within this many steps, across edges, are in
+        the patch.
     labels, zone_labels : path, dict, Series or DataFrame, optional
         Legends, as in `composition`.
     zone_field, layer : str, optional
@@ -67,19 +69,20 @@ def patches(
     each : bool
         Whether to process overlapping polygons one after another, as in `composition`.
     summary : {"class"}, optional
-        Returns a row per class instead of per patch, without making the table of patches, which may
-        be too large for memory.
+        Return a row per class instead of a row per patch. The table of patches, which may be too
+        large for memory, is then not created.
     crs : any, optional
         The reference system to assume for maps that have none.
 
     Returns
     -------
     pandas.DataFrame
-        Columns `patch`, `class`, `label`, `cells`, `area_ha`, `perimeter_m`, `core_ha`, `west`, `south`, `east`, `north`, and with zones
-        `zone` and `zone_label`. The perimeter includes sides to other patches, to null and along
-        the map's edge; it is NaN without a reference system and, with a warning, in degrees. With a
-        summary `class`, `label`, `patches`, `cells`, `area_ha`, `largest_ha`, `mean_ha`, or without
-        areas `largest_cells` and `mean_cells`.
+        Columns `patch`, `class`, `label`, `cells`, `area_ha`, `perimeter_m`, `core_ha`, `west`,
+        `south`, `east`, `north`, and with zones `zone` and `zone_label`. The perimeter includes
+        sides to other patches, to null and along the map's edge; it is NaN without a reference
+        system and, with a warning, in degrees. With a summary, the columns are `class`, `label`,
+        `patches`, `cells`, `area_ha`, `largest_ha` and `mean_ha`; without areas, `largest_cells`
+        and `mean_cells` replace the last three.
 
     Raises
     ------
@@ -127,7 +130,7 @@ def patches(
 
 
 def _areas(found: PatchMeasures, measure: Measure) -> list[Column]:
-    """Return the areas of patches and of their cores; without a unit, the number of core cells."""
+    """Return the area columns of patches and cores; without a unit, the core cells."""
     if found.area is None or found.core_area is None:
         return [Column("core_cells", "count", found.core)]
     return [
@@ -137,12 +140,15 @@ def _areas(found: PatchMeasures, measure: Measure) -> list[Column]:
 
 
 def _perimeter(found: PatchMeasures, transform: Transform, unit: float) -> NDArray[np.float64]:
-    """Return the perimeters of patches: an end is as long as a cell is wide, a flank as long as it is high."""
+    """Return the perimeters of patches.
+
+    An end has the length of the cell's width, and a flank of its height.
+    """
     return (found.ends * transform[0] + found.flanks * -transform[4]) * unit
 
 
 def _extents(found: PatchMeasures, transform: Transform) -> list[Column]:
-    """Return the bounding box of each patch."""
+    """Return the columns of each patch's bounding box."""
     width, _, west, _, height, north = transform
     edges = {
         "west": west + width * found.left,
@@ -161,7 +167,7 @@ def clump(
     *,
     crs: Any = None,
 ) -> ArrayMap:
-    """Return the map of the patches that `patches` lists: each cell has the number of its patch.
+    """Return a map of patch numbers, as `patches` lists them.
 
     Parameters
     ----------
@@ -169,7 +175,7 @@ def clump(
     connectivity : {4, 8}
         4 connects cells that share an edge, 8 also cells that share a corner.
     classes : int or iterable of int, optional
-        Only patches of these classes; other cells become null. Patches keep their numbers.
+        Keep only patches of these classes; other cells become null. Patches keep their numbers.
     min_cells : int, optional
         Only patches with at least this many cells.
     crs : any, optional
@@ -178,7 +184,8 @@ def clump(
     Returns
     -------
     Raster
-        The numbers are from 1, in the order of first cells, as r.clump gives them.
+        The map, in which patches are numbered from 1 in the order of their first cells, as in
+        r.clump.
 
     Raises
     ------
@@ -211,7 +218,7 @@ def clump(
 
 
 def _leave_out(numbers: ArrayMap, kept: NDArray[np.bool_]) -> None:
-    """Set the cells of patches that are left out to null, some rows at a time."""
+    """Set the cells of excluded patches to null, in blocks of rows."""
     null = numbers.nodata_value
     assert null is not None
     step = max(1, BLOCK_CELLS // numbers.region.cols)

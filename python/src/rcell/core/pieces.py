@@ -1,5 +1,5 @@
 # SPDX-License-Identifier: Apache-2.0 OR GPL-2.0-or-later
-"""Parts of maps that other processes and machines can read: files by their paths, chunks of Dask, or the cells themselves."""
+"""Send parts of maps to other processes: as paths of files, as Dask chunks, or as cells."""
 
 from __future__ import annotations
 
@@ -27,13 +27,13 @@ __all__ = [
     "states_of",
 ]
 
-# Size in bytes, and time of the last change in nanoseconds.
+# A file's size in bytes, and its modification time in nanoseconds.
 State = tuple[int, int]
 
 
 @dataclass(frozen=True)
 class Piece:
-    """The cells of a map in a window, as a map that has no other cells."""
+    """A map that contains only the cells of a window."""
 
     name: str
     dtype: np.dtype[Any]
@@ -56,7 +56,7 @@ class Piece:
 
 @dataclass(frozen=True)
 class Chunks:
-    """A window of a map whose cells Dask holds.
+    """A window of a map whose cells are in a Dask array.
 
     Attributes
     ----------
@@ -65,9 +65,9 @@ class Chunks:
         The type that Dask expects.
     nodata_value : float or None
     is_masked : bool
-        Whether its block has a mask: each chunk may have one.
+        Whether its block has a mask, because each chunk may have a mask.
     cells : array
-        Of Dask; after `filled` of numpy.
+        A Dask array; after `filled`, a numpy array.
     """
 
     name: str
@@ -78,12 +78,12 @@ class Chunks:
 
     @property
     def dtype(self) -> np.dtype[Any]:
-        """The type of its block."""
+        """The data type of its block."""
         return type_of(self.announced)
 
     @property
     def nodata(self) -> Optional[int]:
-        """The value of its block that is null."""
+        """The value that marks null in its block."""
         return nodata_of(self.announced, self.nodata_value)
 
     def window(self, row: int, col: int, rows: int, cols: int) -> Block:
@@ -96,14 +96,15 @@ class Chunks:
 
 
 def is_file(source: Any) -> bool:
-    """Return whether a map has the cells of its files, unchanged."""
+    """Return whether a map contains the unchanged cells of its files."""
     return bool(getattr(source, "is_file", False))
 
 
 def sendable(source: Any, outer: Rectangle) -> Any:
-    """Return a map for another process, which has at least the cells of a window.
+    """Return a map that can be sent to another process, with at least the cells of a window.
 
-    Maps of files that can be opened by their paths have `sent`, and so have maps of Dask; of other maps the cells are sent.
+    Maps from files that can be opened by path, and maps from Dask, have a method `sent`. For other
+    maps, the cells are sent.
     """
     inner = source.source if isinstance(source, Scaled) else source
     sent = inner.sent(outer) if hasattr(inner, "sent") else None
@@ -113,13 +114,13 @@ def sendable(source: Any, outer: Rectangle) -> Any:
 
 
 def chunks_of(source: Any) -> Any:
-    """Return the array of Dask with the cells of a map, None if it has no such array."""
+    """Return the Dask array with the cells of a map, or None."""
     inner = source.source if isinstance(source, Scaled) else source
     return inner.cells if isinstance(inner, Chunks) else None
 
 
 def filled(source: Any, cells: Any) -> Any:
-    """Return a map of Dask with other cells: computed ones, or none."""
+    """Return a Dask map with its cells replaced: by computed cells, or by None."""
     if isinstance(source, Scaled):
         return Scaled(filled(source.source, cells), source.scale)
     return replace(source, cells=cells)
@@ -129,12 +130,12 @@ def filled(source: Any, cells: Any) -> Any:
 
 
 def shared_path(path: str) -> str:
-    """Return a path that does not depend on the current folder; GDAL's names of other things are unchanged."""
+    """Return the absolute path of a file; other names that GDAL accepts are unchanged."""
     return os.path.abspath(path) if os.path.exists(path) else path
 
 
 def states_of(paths: Iterable[str]) -> dict[str, State]:
-    """Return the states of files; paths that are not files of this system are left out."""
+    """Return the states of files, leaving out paths that are not files on this system."""
     states = {}
     for path in map(shared_path, paths):
         if os.path.exists(path):
@@ -144,7 +145,7 @@ def states_of(paths: Iterable[str]) -> dict[str, State]:
 
 
 def check_files_are(states: Mapping[str, State]) -> None:
-    """Raise ReadFailed if files differ from their states on another machine, or at another time."""
+    """Raise ReadFailed if files differ from states taken elsewhere or earlier."""
     for path, state in states.items():
         own = states_of([path]).get(path)
         if own is None:
@@ -160,5 +161,5 @@ def _state_text(state: State) -> str:
 
 
 def _time(nanoseconds: int) -> str:
-    """Return a time as text, to the nanosecond."""
+    """Return a time as text with nanoseconds."""
     return str(np.datetime64(nanoseconds, "ns"))

@@ -1,5 +1,5 @@
 # SPDX-License-Identifier: Apache-2.0 OR GPL-2.0-or-later
-"""Points with a class, and the cells of a map in which they are."""
+"""Find the cells of a map that contain points with a class."""
 
 from __future__ import annotations
 
@@ -21,7 +21,7 @@ from .zones import Layer
 
 __all__ = ["Points", "points_of"]
 
-# The fields that have the class if none is named.
+# The usual fields for the class, if no field is named.
 _FIELDS = ("class", "reference")
 _KINDS = ("Point", "MultiPoint")
 
@@ -35,11 +35,11 @@ class Points:
     Attributes
     ----------
     map : ArrayMap
-        The cells that have points, numbered from 1; all others are null.
+        The cells with points, numbered from 1; all other cells are null.
     cells, classes : array of int64
-        The number of the cell of each point, and its class.
+        The cell number and the class of each point.
     left_out : list of str
-        Why points are not in a cell.
+        The reasons why points are in no cell, with the number of points.
     total : int
     """
 
@@ -50,12 +50,12 @@ class Points:
     total: int
 
     def pairs(self, table: Integers) -> Integers:
-        """Return how often each class of the map meets each class of the points; warn of points that are left out.
+        """Count pairs of map class and point class, and warn of points that are left out.
 
         Parameters
         ----------
         table : array of int64
-            The number of each cell, and its class in the map; cells that are null there are missing.
+            The number and the map class of each cell that is not null in the map.
         """
         mapped = np.full(int(self.cells.max(initial=0)) + 1, NULL, np.int64)
         mapped[table[:, 0]] = table[:, 1]
@@ -73,7 +73,7 @@ class Points:
 
 
 def points_of(layer: Layer, field: Optional[str], like: Source, crs: Any = None) -> Points:
-    """Return the points of a layer on the grid of a map.
+    """Place the points of a layer on the grid of a map.
 
     A cell contains its northern and its western edge.
 
@@ -91,7 +91,7 @@ def points_of(layer: Layer, field: Optional[str], like: Source, crs: Any = None)
     OtherCrs
         The points' reference system differs from the map's.
     BadMap
-        There is no such field, a feature is not a point, or a class is not a whole number.
+        The field is missing, a feature is not a point, or a class is not a whole number.
     """
     name = _field_of(layer, field)
     titles = {"map": like.name, "reference": layer.name}
@@ -129,7 +129,7 @@ def points_of(layer: Layer, field: Optional[str], like: Source, crs: Any = None)
 
 
 def _field_of(layer: Layer, field: Optional[str]) -> str:
-    """Return the field with the classes: the one that is named, or the only one that has a usual name."""
+    """Return the field with the classes: the named field, or the only field with a usual name."""
     usual = [name for name in _FIELDS if name in layer.fields]
     if field is None and len(usual) == 1:
         return usual[0]
@@ -143,7 +143,7 @@ def _field_of(layer: Layer, field: Optional[str]) -> str:
 
 
 def _points(layer: Layer, field: str) -> Iterator[Optional[tuple[float, float, int]]]:
-    """Yield the place and the class of each point; None if it has none."""
+    """Yield the coordinates and the class of each point; None if either is missing."""
     for feature in layer.features(field):
         value = feature.value
         if feature.geometry is None or is_missing(value) or value == "":

@@ -1,8 +1,8 @@
 # SPDX-License-Identifier: Apache-2.0 OR GPL-2.0-or-later
-"""Text grids: rcell reads a user's grid, and prints it in one form.
+"""Read text grids: rcell reads a user's grid and prints it in a normal form.
 
-This is the only module that starts `rcell`: rcell-pipe does everything else, and its requests have
-maps as bytes. It can go once requests accept text grids.
+This is the only module that starts `rcell`. Everything else uses rcell-pipe, whose requests contain
+binary maps. The module can be removed once requests accept text grids.
 """
 
 from __future__ import annotations
@@ -26,7 +26,7 @@ _MESSAGE = re.compile(r"rcell: [^:]*:(\d+): (.*)")
 
 
 def is_text_grid(start: bytes) -> bool:
-    """Return whether a file with this beginning is an rcell grid.
+    """Return whether a file that begins with these bytes is an rcell grid.
 
     Examples
     --------
@@ -38,7 +38,7 @@ def is_text_grid(start: bytes) -> bool:
 
 @contextlib.contextmanager
 def spooled(pieces: Iterable[bytes]) -> Iterator[str]:
-    """Keep a text in a file of its own until the block ends, since a program only opens paths.
+    """Write a text to a temporary file until the block ends, because programs open paths only.
 
     Examples
     --------
@@ -64,14 +64,16 @@ def printed(
     seconds: Optional[float] = None,
     watch: Optional[Callable[[], None]] = None,
 ) -> Iterator[Iterator[bytes]]:
-    """Let rcell read a grid, and yield its output piece by piece; the output is complete if nothing is raised.
+    """Print a grid with rcell, and yield the output piece by piece.
+
+    The output is complete only if no error is raised.
 
     Parameters
     ----------
     program : str
         The path of `rcell`.
     path : str
-        The grid.
+        The path of the grid.
     seconds, watch
         See `protocol.run`, which also lists the errors raised.
     """
@@ -82,7 +84,7 @@ def printed(
         script, grid = (os.path.join(folder, name) for name in ("script", "grid"))
         with open(script, "wb") as file:
             file.write(_SCRIPT)
-        os.symlink(os.path.abspath(path), grid)  # rcell opens no name that is not UTF-8
+        os.symlink(os.path.abspath(path), grid)  # rcell cannot open names that are not UTF-8
         try:
             process = Started([program, script, f"grid={grid}"], seconds=seconds, watch=watch)
         except OSError as error:

@@ -1,5 +1,8 @@
 # SPDX-License-Identifier: Apache-2.0 OR GPL-2.0-or-later
-"""Hidden folders for files that are not complete; a folder whose process was killed goes when the same file is written again."""
+"""Create hidden folders for incomplete files.
+
+The folder of a killed process is removed when the same file is written again.
+"""
 
 from __future__ import annotations
 
@@ -16,15 +19,15 @@ _ENDING = re.compile("-[0-9a-f]{8}")
 
 
 class PrivateFolder:
-    """A hidden folder for this user only, named after a file.
+    """A hidden folder that is named after a file and that only this user can read.
 
-    A process that is killed cannot remove its folder. So the process has a lock in it, and folders for the same file that no
-    process has a lock in are removed first.
+    A killed process cannot remove its folder. Each process therefore holds a lock in its folder,
+    and a new folder first removes unlocked folders for the same file.
 
     Parameters
     ----------
     folder : str
-        The folder in which it is created.
+        The parent folder.
     name : str
         The name of the file.
 
@@ -56,13 +59,13 @@ class PrivateFolder:
         self._lock: int | None = lock
 
     def rename(self, path: str) -> None:
-        """Give the folder a name that is not there, or is an empty folder; it is not removed then."""
+        """Rename the folder, which is then kept; the target must be missing or an empty folder."""
         os.unlink(_lock_of(self.path))
         os.rename(self.path, path)
         self._unlock()
 
     def remove(self) -> None:
-        """Remove the folder and all that is in it, unless it was renamed."""
+        """Remove the folder and its contents, unless it was renamed."""
         if self._lock is not None:
             try:
                 _remove(self.path)
@@ -76,18 +79,24 @@ class PrivateFolder:
 
 
 def _lock_of(path: str) -> str:
-    """Return the path of a folder's lock: a file that has the name of the folder, which the file that is written cannot have."""
+    """Return the path of a folder's lock, a file with the folder's name.
+
+    The written file cannot have this name.
+    """
     return os.path.join(path, os.path.basename(path))
 
 
 def _locked(path: str) -> int | None:
-    """Lock a new folder and return the descriptor of its lock, or None if another process has just removed the folder."""
+    """Lock a new folder and return the descriptor of the lock.
+
+    Returns None if another process has just removed the folder.
+    """
     try:
         lock = os.open(_lock_of(path), os.O_WRONLY | os.O_CREAT | os.O_EXCL, 0o600)
     except OSError:
         os.rmdir(path)
         raise
-    with contextlib.suppress(OSError):  # some file systems have no locks
+    with contextlib.suppress(OSError):  # some file systems do not support locks
         fcntl.flock(lock, fcntl.LOCK_EX)
     if os.path.exists(_lock_of(path)):
         return lock
@@ -96,7 +105,7 @@ def _locked(path: str) -> int | None:
 
 
 def _remove_abandoned(folder: str, stem: str) -> None:
-    """Remove the folders that killed processes of this user have left for a file."""
+    """Remove folders for a file that killed processes of this user left."""
     with contextlib.suppress(OSError):
         for name in os.listdir(folder):
             if name.startswith(stem) and _ENDING.fullmatch(name, len(stem)):
@@ -105,7 +114,7 @@ def _remove_abandoned(folder: str, stem: str) -> None:
 
 
 def _remove_unlocked(path: str) -> None:
-    """Remove a folder, unless a process has its lock, or it is not of this user; raises OSError in the first case."""
+    """Remove a folder of this user, or raise OSError if a process holds its lock."""
     with contextlib.ExitStack() as opened:
         room = os.open(path, os.O_RDONLY | os.O_DIRECTORY | os.O_NOFOLLOW)
         opened.callback(os.close, room)
@@ -119,7 +128,10 @@ def _remove_unlocked(path: str) -> None:
 
 
 def _remove(path: str) -> None:
-    """Remove a folder and all that is in it, its lock as the last file: without a lock, the folder would stay."""
+    """Remove a folder and its contents.
+
+    The lock is removed last, so that an interrupted removal is repeated later.
+    """
     lock = os.path.basename(path)
     for entry in sorted(os.scandir(path), key=lambda entry: entry.name == lock):
         if entry.is_dir(follow_symlinks=False):

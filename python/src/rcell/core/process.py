@@ -1,5 +1,5 @@
 # SPDX-License-Identifier: Apache-2.0 OR GPL-2.0-or-later
-"""Find, start and always stop programs, with pipes that no other process holds open."""
+"""Find, start and reliably stop programs, with pipes that no other process holds open."""
 
 from __future__ import annotations
 
@@ -27,23 +27,23 @@ __all__ = [
     "pipe",
 ]
 
-PIPE_BYTES = 1 << 18  # stays in the cache of a processor, as what is read at once
+PIPE_BYTES = 1 << 18  # fits in a processor's cache, like READ_BYTES
 READ_BYTES = 1 << 18
-SET_PIPE_SIZE = getattr(fcntl, "F_SETPIPE_SZ", 1031)  # Python has it from 3.10 on
+SET_PIPE_SIZE = getattr(fcntl, "F_SETPIPE_SZ", 1031)  # in fcntl since Python 3.10
 WATCH_SECONDS = 0.1
 LARGE_PAGES = {"GLIBC_TUNABLES": "glibc.malloc.hugetlb=1"}
-"""Memory for a map comes in pages of 2 MiB, where the system has them: with those of 4 KiB, an eighth of a table's time went into them."""
+"""Use pages of 2 MiB if the system supports them. Pages of 4 KiB took an eighth of a table's time."""
 
 MESSAGE_LIMIT = 1 << 16
-"""The programs print one line on standard error; of what another one prints no more is kept."""
+"""The most that is kept of a program's standard error. rcell's programs print one line."""
 
 _held: set[int] = set()
-_works = 0  # blocks in which a file or a program would be left if this process just ended
+_works = 0  # running blocks that must remove a file or stop a program before this process ends
 _lock = threading.RLock()
 
 
 def _let_go() -> None:
-    """Close in a forked child what would keep the parent waiting for the end of a pipe."""
+    """Close pipes in a forked child, because the parent would wait for their end."""
     while _held:
         os.close(_held.pop())
     _lock.release()
@@ -53,14 +53,14 @@ os.register_at_fork(before=_lock.acquire, after_in_parent=_lock.release, after_i
 
 
 def begin_work() -> None:
-    """Note that a file is unfinished, or a program runs."""
+    """Record that a file is unfinished or a program is running."""
     global _works
     with _lock:
         _works += 1
 
 
 def end_work() -> None:
-    """Note that it is finished, removed or stopped."""
+    """Record that the file is finished or removed, or the program has stopped."""
     global _works
     with _lock:
         _works -= 1
@@ -72,7 +72,7 @@ def has_work() -> bool:
 
 
 def found_on_path(name: str) -> str | None:
-    """Return the first program with this name on the path; folders that are not absolute are skipped."""
+    """Return the first program with this name on the path, skipping relative folders."""
     for folder in os.get_exec_path():
         path = os.path.join(folder, name)
         if os.path.isabs(folder) and os.path.isfile(path) and os.access(path, os.X_OK):
@@ -81,7 +81,7 @@ def found_on_path(name: str) -> str | None:
 
 
 def above_standard(descriptor: int) -> int:
-    """Return a descriptor of the same file that is not one of a program's standard streams."""
+    """Return a descriptor of the same file with a number above the standard streams'."""
     if descriptor > 2:
         return descriptor
     try:
@@ -91,7 +91,7 @@ def above_standard(descriptor: int) -> int:
 
 
 def pipe() -> tuple[int, int]:
-    """Create a pipe, larger than usual if the system allows it; both ends are closed in forked children."""
+    """Create a large pipe, if the system allows it, that is closed in forked children."""
     with _lock:
         reader, writer = (above_standard(end) for end in os.pipe())
         _held.update((reader, writer))
@@ -108,24 +108,24 @@ def close(descriptor: int) -> None:
 
 
 class Started:
-    """A running program; leaving the block always stops it.
+    """A running program, as a context manager that stops the program on exit.
 
     Parameters
     ----------
     words : sequence of str
     inherited : sequence of int
-        Descriptors that the program gets under their numbers.
+        Descriptors that the program inherits with the same numbers.
     seconds : float, optional
-        How long it may take.
+        The time limit.
     stdin : int
         The descriptor of its standard input.
     watch : callable, optional
-        Called ten times a second while its output is awaited.
+        Called ten times a second while waiting for output.
 
     Raises
     ------
     OSError
-        The program cannot be started; TimeoutError: it takes too long.
+        The program cannot be started; or, as TimeoutError, it exceeds its time limit.
     """
 
     def __init__(
@@ -177,7 +177,7 @@ class Started:
         end_work()
 
     def pieces(self) -> Iterator[bytes]:
-        """Yield the output as it comes, until it and the message have ended."""
+        """Yield the output as it arrives, until standard output and standard error end."""
         while self._has_output():
             if piece := os.read(self._output, READ_BYTES):
                 yield piece
@@ -185,7 +185,10 @@ class Started:
                 self._ended(self._output)
 
     def fill(self, room: memoryview) -> int:
-        """Read output into a buffer until it is full or the output has ended; return how many bytes were read."""
+        """Read output into a buffer until it is full or the output ends.
+
+        Returns the number of bytes read.
+        """
         filled = 0
         while filled < len(room) and self._has_output():
             count = os.readv(self._output, [room[filled:]])
@@ -195,7 +198,7 @@ class Started:
         return filled
 
     def _has_output(self) -> bool:
-        """Wait for output and keep the message that comes meanwhile; return False once both have ended."""
+        """Wait for output, collecting the message; return False once both have ended."""
         while self._open_ends:
             wait = self._longest_wait()
             ready = {end for end, _ in self._poll.poll(None if wait is None else wait * 1000)}
@@ -228,7 +231,7 @@ class Started:
         return left
 
     def end(self) -> tuple[int, bytes]:
-        """Return the status and the message, once all output has been read."""
+        """Wait for the program to end, and return its status and message."""
         try:
             return self._process.wait(self._seconds_left()), self._message
         except subprocess.TimeoutExpired:

@@ -1,5 +1,5 @@
 # SPDX-License-Identifier: Apache-2.0 OR GPL-2.0-or-later
-"""The programs rcell-pipe and rcell: their paths, and their errors as errors of this package."""
+"""Find the programs rcell-pipe and rcell, and convert their errors to this package's errors."""
 
 from __future__ import annotations
 
@@ -26,16 +26,16 @@ __all__ = [
 ]
 
 PROBE_SECONDS = 60
-"""So long a program may take for a map of three cells, on a machine that has much else to do."""
+"""The time limit for a test run over three cells, generous for a busy machine."""
 
 Path = Union[str, "os.PathLike[str]"]
 
 
-# Where they are
+# Paths
 
 
 def candidates(name: str) -> Iterator[str]:
-    """Yield where a program of this name is: among the scripts of this installation of Python, next to it, on the path."""
+    """Yield possible paths of a program: Python's scripts, next to Python, on the path."""
     folders = [sysconfig.get_path("scripts")]
     if "posix_user" in sysconfig.get_scheme_names():
         folders.append(sysconfig.get_path("scripts", "posix_user"))
@@ -50,12 +50,15 @@ _known: dict[str, tuple[int, int, int]] = {}
 
 
 def find_program(program: Optional[Path] = None) -> str:
-    """Return the path of the program rcell, which only text grids need; it is looked for as `find_beside` does, and its variable is RCELL."""
+    """Return the path of rcell, found like `find_beside` or with RCELL.
+
+    Only text grids need this program.
+    """
     return find_beside("rcell", "RCELL", _probe, program)
 
 
 def find_pipe(program: Optional[Path] = None) -> str:
-    """Return the path of the program rcell-pipe; it is looked for as `find_beside` does, and its variable is RCELL_PIPE."""
+    """Return the path of rcell-pipe, found like `find_beside` or with RCELL_PIPE."""
     return find_beside("rcell-pipe", "RCELL_PIPE", _probe_pipe, program)
 
 
@@ -64,16 +67,16 @@ def find_beside(
 ) -> str:
     """Return the path of a program.
 
-    The host may name it. Otherwise it is the first of: the argument, an environment variable, next
-    to the program that RCELL names, the scripts of this installation of Python (where the wheel
-    puts it), the path.
+    The host may name the program. Otherwise it is looked for in this order: the argument, an
+    environment variable, next to the program that RCELL names, the scripts of this Python
+    installation (in which the wheel installs it), and the path.
 
     Raises
     ------
     MissingProgram
-        There is none.
+        The program was not found.
     WrongProgram
-        It does not work as this package needs it.
+        The program does not work as this package requires.
     """
     find = host().find
     if program is None and find is not None:
@@ -90,7 +93,7 @@ def find_beside(
 
 
 def known_after(probe: Callable[[str], None], path: str) -> str:
-    """Return the path of a program after testing it; it is tested again only if its file has changed."""
+    """Test a program and return its path; test it again only if its file has changed."""
     if not os.path.isfile(path) or not os.access(path, os.X_OK):
         raise MissingProgram(f"the program {path} is not there, or may not be executed")
     state = os.stat(path)
@@ -109,7 +112,7 @@ _PRINTED = b"north: 1\nsouth: 0\neast: 3\nwest: 0\nrows: 1\ncols: 3\n7 * 12\n"
 
 
 def _probe(path: str) -> None:
-    """Let rcell read and print a grid of three cells once."""
+    """Raise WrongProgram unless rcell prints a grid of three cells correctly."""
     try:
         with spooled([_PROBE_GRID]) as grid, printed(path, grid, PROBE_SECONDS) as pieces:
             text = b""
@@ -127,7 +130,7 @@ def _probe(path: str) -> None:
 
 
 def _probe_pipe(path: str) -> None:
-    """Run rcell-pipe once."""
+    """Raise WrongProgram unless rcell-pipe completes a test run."""
     try:
         is_known = protocol.is_known(path, PROBE_SECONDS)
     except TimeoutError:

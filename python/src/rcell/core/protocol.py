@@ -1,8 +1,9 @@
 # SPDX-License-Identifier: Apache-2.0 OR GPL-2.0-or-later
-"""The bytes of rcell-pipe, as docs/pipe.md defines them: a request of maps and a script, and a response of frames.
+"""Write requests for rcell-pipe, and read its responses, as docs/pipe.md defines them.
 
-The program writes nothing before it has read the whole request, except the frame that rejects it. So the request is written first, then
-the response is read, and no thread is needed.
+A request contains maps and a script, and a response contains frames. The program writes nothing
+before it has read the complete request, except a frame that rejects it. So the request can be
+written first and the response read afterwards, without a thread.
 """
 
 from __future__ import annotations
@@ -51,32 +52,32 @@ __all__ = [
 ]
 
 NULL = -2_147_483_648
-"""Null among cells of i32: no category has this value."""
+"""Null in cells of type i32. It is not a category."""
 
 NULL_BYTE = 255
-"""Null among cells of u8 that come back."""
+"""Null in returned cells of type u8."""
 
 COMMANDS = ("r.mapcalc", "r.reclass", "r.clump", "r.stats", "r.out.ascii")
-"""The commands, in the order of their codes, which begin at 1."""
+"""The commands, in the order of their codes, from 1."""
 
 _SOURCES = {1: "request", 2: "script", 3: "question"}
 _OPTIONS = "cl1nN"
 _CALLED = ("row", "col", "nrows", "ncols")
-_NO_MEMORY = 3  # a status
+_NO_MEMORY = 3  # the status for out of memory
 PATCH_BYTES, ZONE_BYTES = 68, 4
 _AT_COLUMN = re.compile(r" at column (\d+)$")
-# Cells of fewer bytes are put together from pieces, and more no map has.
+# Cells with fewer bytes are joined from pieces, and larger ones are read directly into memory.
 DIRECT_BYTES = 1 << 20
 MOST_CELL_BYTES = 1 << 33
 
 
 def script_bytes(script: str) -> bytes:
-    """Return the bytes of a script; a file may have had bytes that are not text, which `surrogateescape` keeps.
+    """Return the bytes of a script, in which surrogates escape bytes that are not UTF-8.
 
     Raises
     ------
     Rejected
-        A lone surrogate is not the escape of a byte.
+        A lone surrogate does not escape a byte.
     """
     try:
         return script.encode("utf-8", "surrogateescape")
@@ -98,7 +99,7 @@ def script_bytes(script: str) -> bytes:
 
 @dataclass(frozen=True)
 class TableFrame:
-    """The table of an `r.stats`; of an `r.stats -1`, the cells in reading order.
+    """The table of an `r.stats`, or the cells of an `r.stats -1` in reading order.
 
     Attributes
     ----------
@@ -109,13 +110,14 @@ class TableFrame:
     separator, null_text : bytes
         Of the printed table.
     entries : int
-        Combinations or cells.
+        The number of combinations or cells.
     counts : memoryview or None
         An unsigned 64-bit number for each entry; None without the flag `-c`.
     cells : memoryview
-        Numbers of 32 bits, entry by entry, in which `NULL` is null.
+        32-bit integers, entry by entry, in which `NULL` is null.
     labels : list of bytes or None
-        A label for each of the cells: `no data` for null, empty for a category without one; None without the flag `-l`.
+        The label of each cell: `no data` for null, empty for a category without a label. None
+        without the flag `-l`.
     """
 
     line: int
@@ -139,12 +141,13 @@ class GridFrame:
     null_text : bytes
         Of the printed grid.
     edges : tuple of str
-        North, south, east and west, as rcell prints them.
+        North, south, east and west, in rcell's notation.
     rows, cols : int
     type : {"u8", "i32"}
-        u8, in which 255 is null, if all categories are from 0 to 254; else i32, in which `NULL` is null.
+        u8 if all categories are from 0 to 254, with 255 for null; otherwise i32, with `NULL` for
+        null.
     cells : memoryview
-        Row by row, of the type.
+        The cells row by row, in this type.
     """
 
     line: int
@@ -169,10 +172,12 @@ class PatchesFrame:
     Attributes
     ----------
     question : int
-        Its place among the questions, from 0.
+        The index of the question, from 0.
     rows : memoryview
-        `PATCH_BYTES` for each patch, in the order of their numbers: class as i32, then as u64 cells, ends, flanks, core, first and
-        last row, first and last column, from 0. If the question has zones, the zone follows as i32, `NULL` if there is none.
+        `PATCH_BYTES` for each patch, in the order of patch numbers. A row contains the class as
+        i32, then as u64 the cells, ends, flanks, core cells, first and last row, and first and last
+        column, from 0. If the question has zones, the zone follows as i32, or `NULL` if there is no
+        zone.
     """
 
     question: int
@@ -183,7 +188,10 @@ Frame = Union[TableFrame, GridFrame, PatchesFrame]
 
 
 class Call(NamedTuple):
-    """A call of `row()`, `col()`, `nrows()` or `ncols()`: the function, and the bytes of the line from `start` to `end`."""
+    """A call of `row()`, `col()`, `nrows()` or `ncols()`, and its place in the line.
+
+    The place is the range of bytes from `start` to `end`.
+    """
 
     function: str
     start: int
@@ -192,7 +200,7 @@ class Call(NamedTuple):
 
 @dataclass(frozen=True)
 class Statement:
-    """A statement of a script, as the program plans it.
+    """A statement of a script, as described by the program's plan.
 
     Attributes
     ----------
@@ -200,12 +208,12 @@ class Statement:
         Its first line, from 1.
     command : {"r.mapcalc", "r.reclass", "r.clump", "r.stats", "r.out.ascii"}
     made : str
-        The map that it makes, or empty.
+        The map that the statement creates, or empty.
     reads : dict of str to Margin
-        Each map that it reads, and how far around a cell.
+        Each map that the statement reads, with the margin around a cell that it needs.
     needs : dict of str to Margin or None
-        Each given map that it depends on, also through earlier maps, and how far around a cell;
-        None for the full map.
+        Each given map on which the statement depends, directly or through earlier statements, with
+        the margin around a cell that it needs; None for the full map.
     options : str
         The flags of r.stats, as letters.
     inputs : tuple of str
@@ -215,9 +223,9 @@ class Statement:
     calls : tuple of Call
         Calls of position functions, from left to right.
     labels : dict of int to str
-        The labels that its rules give.
+        The labels in its rules.
     text : str
-        Its lines, of an r.reclass up to the next statement.
+        The lines of the statement; of an r.reclass, all lines up to the next statement.
     """
 
     line: int
@@ -237,7 +245,10 @@ _AnyFrame = Union[Frame, Statement]
 
 
 class Fault(Exception):
-    """A map, a script or a request is invalid; the class Refused of each package documents the attributes."""
+    """Raised if a map, a script or a request is invalid.
+
+    The class Refused of each package documents the attributes.
+    """
 
     def __init__(
         self,
@@ -270,7 +281,7 @@ class Fault(Exception):
 
 
 class Rejected(Exception):
-    """The program rejected the request or the script, or ran out of memory.
+    """Raised if the program rejects the request or the script, or runs out of memory.
 
     Attributes
     ----------
@@ -280,11 +291,11 @@ class Rejected(Exception):
     map : int
         The index of the invalid map, if the source is the request.
     line : int
-        The line of the script; of a map its row, from 1; 0 if there is none.
+        The line of the script, or the row of the map, from 1; 0 if there is none.
     column : int
-        The byte of the line, from 1; 0 if there is none.
+        The byte in the line, from 1; 0 if there is none.
     text : str
-        As rcell says it.
+        The message, in rcell's words.
     """
 
     def __init__(
@@ -301,7 +312,7 @@ class Rejected(Exception):
         )
 
     def parts(self, program: str, script: str, names: Sequence[str]) -> dict[str, Any]:
-        """Return the arguments of `Fault` for this error of a script over maps of some names; the program is asked for advice."""
+        """Return the arguments of `Fault` for this error, with advice from the program."""
         parts = {"text": self.text, "source": "script", "line": self.line, "status": self.status}
         if self.source == "request" and self.map < len(names):
             return {**parts, "source": names[self.map]}
@@ -311,7 +322,7 @@ class Rejected(Exception):
         if not 0 < self.line <= len(lines):
             return parts
         column, tried = self.column or None, None
-        with contextlib.suppress(Exception):  # an error of the advice must not hide the message
+        with contextlib.suppress(Exception):  # an error in the advice must not hide the message
             raw = script.encode("utf-8", "surrogateescape")
             place, tried = advice(program, raw, list(names), self.line, self.text)
             column = column or place
@@ -328,19 +339,22 @@ class NotStarted(OSError):
 
 
 class Killed(Exception):
-    """A signal, the argument, ended the program."""
+    """Raised if a signal ended the program; the argument is the signal."""
 
 
 class NoAnswer(Exception):
-    """The program is not rcell-pipe of this version; the argument is the status and the text that it ended with."""
+    """Raised if the program is not this version's rcell-pipe; the argument describes its output."""
 
 
 class _NotUnderstood(Exception):
-    """The response ends early, or has another form."""
+    """Raised if the response ends early or has another format."""
 
 
 class _Response:
-    """A response that is read from left to right; memory grows with what has come, not with what a length announces."""
+    """A reader of responses.
+
+    It allocates memory for data that has arrived, not for an announced length.
+    """
 
     def __init__(
         self, pieces: Iterator[bytes], fill: Optional[Callable[[memoryview], int]] = None
@@ -380,13 +394,13 @@ class _Response:
         return tuple(self.name() for _ in range(count))
 
     def cells(self, count: int, letter: str) -> memoryview:
-        """Read numbers of a type of `struct`; long ones go straight into their own memory."""
+        """Read numbers of a `struct` type; long arrays are read directly into their own memory."""
         size = count * struct.calcsize(letter)
         if self._fill is None or not DIRECT_BYTES <= size <= MOST_CELL_BYTES:
             return memoryview(self.take(size)).cast(letter)
-        import numpy as np  # Texts need the standard library alone.
+        import numpy as np  # Texts need only the standard library.
 
-        room = np.empty(size, np.uint8).data  # Its pages are taken as they are written.
+        room = np.empty(size, np.uint8).data  # allocated as it is written
         held = self._held[:size]
         room[: len(held)] = held
         self._held = self._held[len(held) :]
@@ -423,12 +437,12 @@ class _Response:
 
     def patches(self) -> PatchesFrame:
         question = self.count()
-        *_, has_zones = self.take(6)  # after connectivity and depth, as asked
+        *_, has_zones = self.take(6)  # after connectivity and depth, which are known
         row_bytes = PATCH_BYTES + (ZONE_BYTES if has_zones else 0)
         return PatchesFrame(question, self.cells(row_bytes * self.count(), "B"))
 
     def statement(self) -> Statement:
-        """Read what a statement of a plan does."""
+        """Read the description of a statement in a plan."""
         line, (command, _) = self.count(), self.take(2)
         if not 0 < command <= len(COMMANDS):
             self.unknown()
@@ -446,7 +460,7 @@ class _Response:
         )
 
     def options(self) -> str:
-        """Read the flags of a statement, a bit for each letter from the lowest."""
+        """Read the flags of a statement, which are bits in the order of the letters."""
         [bits] = self.take(1)
         flags = ""
         for place, letter in enumerate(_OPTIONS):
@@ -468,7 +482,7 @@ class _Response:
         raise _NotUnderstood
 
     def done(self) -> Rejected:
-        """Read how the run ended."""
+        """Read the status at the end of the response."""
         status, source, map, line, column = self.numbers(5)
         return Rejected(
             status,
@@ -480,7 +494,7 @@ class _Response:
         )
 
     def frames(self) -> tuple[list[_AnyFrame], Rejected]:
-        """Return the frames, and how the run ended."""
+        """Return the frames and the final status."""
         frames: list[_AnyFrame] = []
         kinds: dict[bytes, Callable[[], _AnyFrame]] = {
             b"TABL": self.table,
@@ -508,7 +522,9 @@ def run(
     seconds: Optional[float] = None,
     watch: Optional[Callable[[], None]] = None,
 ) -> list[Frame]:
-    """Run a script over maps and return the frames of its outputs, in the order of the script, then the frames of questions.
+    """Run a script over maps, and return the frames of its outputs and questions.
+
+    The frames of outputs are in the order of the script. The frames of questions follow.
 
     Parameters
     ----------
@@ -517,22 +533,22 @@ def run(
     maps : sequence of Map
     script : bytes
     seconds : float, optional
-        How long the run may take.
+        The time limit for the run.
     watch : callable, optional
         Called at least ten times a second; an exception ends the run.
 
     Raises
     ------
     Rejected
-        The program says what is wrong.
+        The program rejected the request or ran out of memory.
     Killed
         A signal ended the program.
     NoAnswer
-        It is not rcell-pipe.
+        The program is not rcell-pipe.
     NotStarted
-        It is not there, cannot be executed, or there are too many open files.
+        The program is missing or cannot be executed, or too many files are open.
     TimeoutError
-        It takes too long.
+        The run exceeds the time limit.
     """
     return [
         frame
@@ -552,7 +568,10 @@ def text(
     seconds: Optional[float] = None,
     watch: Optional[Callable[[], None]] = None,
 ) -> Iterator[bytes]:
-    """Yield the text that rcell prints for a script over maps, piece by piece; it is complete if nothing is raised. See also `run`."""
+    """Yield the text that rcell prints for a script over maps, piece by piece.
+
+    The text is complete only if no error is raised. See also `run`.
+    """
     with asked([program], request(maps, script, magic=b"RCELLT1\n"), seconds, watch) as process:
         pieces, held = process.pieces(), b""
         for piece in pieces:
@@ -575,12 +594,12 @@ _PROBE_CELLS = [struct.pack("<4i", 12, 2, NULL, NULL), struct.pack("<3i", 1, NUL
 
 
 def is_known(program: str, seconds: float) -> bool:
-    """Return whether a program is rcell-pipe of this version, after a run over three cells with a frame of each kind.
+    """Return whether a program is this version's rcell-pipe, with a test run over three cells.
 
     Raises
     ------
     NotStarted, TimeoutError
-        As `run`.
+        As in `run`.
     """
     probe = Map("probe", ("1", "0", "3", "0"), 1, 3, "u8", [Block(b"\7\xff\14")], nodata=255)
     try:
@@ -599,7 +618,10 @@ def plan(
     seconds: Optional[float] = None,
     watch: Optional[Callable[[], None]] = None,
 ) -> list[Statement]:
-    """Return what each statement of a script does, over maps of these names; no map is needed. See also `run`."""
+    """Return a plan of a script's statements over maps with these names.
+
+    No map is read. See also `run`.
+    """
     statements = [
         frame
         for frame in _answered(program, plan_request(names, script), seconds, watch)
@@ -610,7 +632,7 @@ def plan(
     ends.append(len(lines))
     planned = []
     for statement, end in zip(statements, ends):
-        # Only an r.reclass has rules in the lines below it.
+        # Only r.reclass is followed by lines with rules.
         last = end if statement.command == "r.reclass" else statement.line
         text = "\n".join(lines[statement.line - 1 : last])
         planned.append(replace(statement, text=text))
@@ -629,7 +651,7 @@ def _answered(
 
 
 def failure_of(status: int, message: bytes) -> Exception:
-    """Return the error of a program whose output does not explain it."""
+    """Return the error for a program that failed without a readable response."""
     if status < 0:
         return Killed(-status)
     text = message.decode("utf-8", "replace").strip() or "nothing"
@@ -639,14 +661,15 @@ def failure_of(status: int, message: bytes) -> Exception:
 def _check(
     response: Optional[tuple[list[_AnyFrame], Rejected]], status: int, message: bytes
 ) -> list[_AnyFrame]:
-    """Return the frames of a response, if the program succeeded."""
+    """Return the frames of a response, or raise the program's error."""
     if response is None or status != response[1].status:
         raise failure_of(status, message)
     if status:
         try:
             raise response[1]
         finally:
-            # An error that its own frame holds would keep the maps of the call open until the next collection.
+            # A reference cycle through the error would keep the maps open until the next garbage
+            # collection.
             del response
     return response[0]
 
@@ -659,7 +682,7 @@ def asked(
     watch: Optional[Callable[[], None]],
     inherited: Sequence[int] = (),
 ) -> Iterator[Started]:
-    """Start a program, and send it what it reads on standard input."""
+    """Start a program and send it a request on standard input."""
     try:
         reader, writer = pipe()
         try:
@@ -680,7 +703,10 @@ def asked(
 
 
 def _send(writer: int, pieces: Iterator[Buffer], watch: Optional[Callable[[], None]]) -> None:
-    """Write a request; stop if the program has stopped reading, for its response says why."""
+    """Write a request.
+
+    Stop if the program stops reading, because its response contains the error.
+    """
     os.set_blocking(writer, watch is None)
     room = select.poll()
     room.register(writer, select.POLLOUT)
@@ -700,7 +726,10 @@ def _send(writer: int, pieces: Iterator[Buffer], watch: Optional[Callable[[], No
 def _response(
     pieces: Iterator[bytes], fill: Optional[Callable[[memoryview], int]] = None
 ) -> Optional[tuple[list[_AnyFrame], Rejected]]:
-    """Return the response, or None if it is not understood; all pieces are read. Long cells are read by `fill`, if there is one."""
+    """Read all pieces and return the response, or None if it is not understood.
+
+    Long cells are read with `fill`, if it is given.
+    """
     try:
         return _Response(pieces, fill).frames()
     except _NotUnderstood:

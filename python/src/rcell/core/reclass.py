@@ -1,5 +1,5 @@
 # SPDX-License-Identifier: Apache-2.0 OR GPL-2.0-or-later
-"""New classes by a crosswalk: a table of old and new classes."""
+"""Reclassify maps with a crosswalk, a table of old and new classes."""
 
 from __future__ import annotations
 
@@ -23,7 +23,7 @@ _RANGE = re.compile(r"([+-]?[0-9]+) *- *([+-]?[0-9]+)")
 
 
 class Rule(NamedTuple):
-    """A range of classes and their new class, None for null."""
+    """A range of classes and its new class; None for null."""
 
     low: int
     high: int
@@ -32,29 +32,31 @@ class Rule(NamedTuple):
 
     @property
     def text(self) -> str:
-        """The rule as r.reclass reads it."""
+        """The rule in the syntax of r.reclass."""
         classes = str(self.low) if self.low == self.high else f"{self.low} thru {self.high}"
         return f"{classes} = {'NULL' if self.new is None else self.new} {self.label}".rstrip()
 
 
 def reclass(map: MapLike, rules: Any, other: Optional[str] = None, *, crs: Any = None) -> ArrayMap:
-    """Give each class a new class, by a crosswalk.
+    """Replace each class with a new class, using a crosswalk.
 
     Parameters
     ----------
     map : path, array, or any map that `run` accepts
     rules : path, dict or DataFrame
-        A CSV or DataFrame with the columns `value` (a class, or a range such as `31-39`), `new` (a class; empty for null) and
-        optionally `label`; or a dict of new classes by class or by `(first, last)`.
+        A CSV or DataFrame with the columns `value` (a class, or a range such as `31-39`), `new` (a
+        class; empty for null) and optionally `label`; or a dict of new classes by class or by
+        `(first, last)`.
     other : {"keep", "null"}, optional
-        What becomes of classes without a rule. By default they are an error that names them.
+        Keep classes without a rule, or set them to null. By default, they raise an error that lists
+        them.
     crs : any, optional
         The reference system to assume for a map that has none.
 
     Returns
     -------
     Raster
-        With the labels of the rules; classes that are kept have the labels of the map.
+        The new map, with the labels of the rules. Kept classes have the labels of the map.
 
     Raises
     ------
@@ -94,7 +96,7 @@ def reclass(map: MapLike, rules: Any, other: Optional[str] = None, *, crs: Any =
 
 
 def _checked(rules: Iterable[Rule]) -> Sequence[Rule]:
-    """Return rules in the order of their classes, one per class."""
+    """Sort rules by class, and raise BadArgument if a class has two rules."""
     listed = sorted(rules, key=lambda rule: (rule.low, rule.high))
     if not listed:
         raise BadArgument("rules", "must have at least one rule; got none")
@@ -107,7 +109,7 @@ def _checked(rules: Iterable[Rule]) -> Sequence[Rule]:
 
 
 def _joined(listed: Sequence[Rule]) -> Iterator[Rule]:
-    """Yield rules with a range for consecutive classes of one new class: a script may have at most 1 MiB."""
+    """Merge rules for consecutive classes, because scripts are limited to 1 MiB."""
     run = listed[0]
     for rule in listed[1:]:
         if (rule.low, rule.new, rule.label) == (run.high + 1, run.new, run.label):
@@ -119,7 +121,7 @@ def _joined(listed: Sequence[Rule]) -> Iterator[Rule]:
 
 
 def _check_all(entries: list[list[int]], listed: Sequence[Rule]) -> None:
-    """Raise Refused if a class became null without a rule for it."""
+    """Raise Refused if a class without a rule became null."""
     lost = []
     for old, new in entries:
         has_rule = any(rule.low <= old <= rule.high for rule in listed)
@@ -144,7 +146,7 @@ def _rules_of(crosswalk: Any) -> Iterator[Rule]:
 
 
 def _rule(place: str, value: Any, new: Any, label: Any) -> Rule:
-    """Return a rule for a class, or for a range of classes as a pair or a text such as `1-9`."""
+    """Return a rule for a class or for a range, which is a pair or a text such as `1-9`."""
     low, high = value if isinstance(value, tuple) and len(value) == 2 else (value, value)
     match = _RANGE.fullmatch(value.strip()) if isinstance(value, str) else None
     if match:

@@ -1,5 +1,5 @@
 # SPDX-License-Identifier: Apache-2.0 OR GPL-2.0-or-later
-"""Tables with a record of their inputs, which anyone can verify later."""
+"""Write tables with a record of their inputs, which anyone can verify later."""
 
 from __future__ import annotations
 
@@ -45,12 +45,12 @@ __all__ = [
 ]
 
 FORM = 1
-# Arguments that are words; other texts are paths if there is such a file.
+# Arguments whose texts are never paths. Texts in other arguments are paths if the file exists.
 _WORDS = ("area", "crs", "zone_field", "field", "layer", "level", "allocation", "other", "resample")
-# Files that are not sent as cells, so that their bytes count.
+# Endings of files whose bytes are recorded, because they are not read as cells.
 _TEXTS = (".csv", ".tsv", ".qml")
 _FILES = 4
-# How each host is asked for a record.
+# How to create a record, in the terms of each host.
 _ASKED = {
     "python": "write it with rcell.record",
     "shell": "add --record to the command that makes it",
@@ -59,7 +59,7 @@ _ASKED = {
 
 
 class BandOf(NamedTuple):
-    """A band of a raster, as an argument that can be recorded."""
+    """A band of a raster, as a recordable argument."""
 
     path: str
     band: int
@@ -74,9 +74,9 @@ class RecordedCall:
     outcome : any
     table : Table
     call : dict
-        The name of the call, its arguments, and the part of its result.
+        The name of the call, its arguments, and the name of the table in its result.
     runs : list of dict
-        Each script that was run, with the SHA-256 of the cells of each map by its name.
+        Each script that was run, with the SHA-256 checksum of each map's cells by name.
     """
 
     outcome: Any
@@ -85,7 +85,10 @@ class RecordedCall:
     runs: list[dict[str, Any]]
 
     def write(self, path: str, version: str) -> None:
-        """Write the table, and next to it the record: the same maps, call and versions give the same bytes."""
+        """Write the table and, next to it, the record.
+
+        The same maps, call and versions always result in the same bytes.
+        """
         table = csv_of(self.table)
         versions = {"rcell": version, "python": platform.python_version(), "numpy": np.__version__}
         record = {
@@ -108,12 +111,12 @@ def make(
     named: Mapping[str, Any],
     part: Optional[str] = None,
 ) -> RecordedCall:
-    """Run a call whose table will be written to a path.
+    """Run a call and record it, for a table at this path.
 
     Raises
     ------
     BadArgument
-        An argument cannot be recorded, the path is not a CSV, or the result has no such table.
+        An argument cannot be recorded, the path is not a CSV, or the table is not in the result.
     """
     if not path.lower().endswith(".csv"):
         raise BadArgument("path", f"must end in .csv; got {path!r}")
@@ -146,7 +149,7 @@ def _is_default(known: Optional[inspect.Parameter], argument: Any) -> bool:
 def _recorded(
     recorded_call: Mapping[str, Any], call: Callable[..., Any], folder: str
 ) -> RecordedCall:
-    """Run a call in the way it is recorded."""
+    """Run a call, and record its scripts and maps."""
     before, runs = host().started, []
 
     def started(script: str, maps: Mapping[str, Source]) -> None:
@@ -163,7 +166,7 @@ def _recorded(
 
 
 def table_of(result: Any, part: Optional[str] = None) -> Table:
-    """Return a table of the result of a call, by default the first."""
+    """Return a table from the result of a call, by default the first table."""
     if isinstance(result, Accuracy) and part == "summary":
         return summary_of(result)
     tables = {"": result} if isinstance(result, Table) else {}
@@ -179,12 +182,12 @@ def table_of(result: Any, part: Optional[str] = None) -> Table:
 
 
 def read_record(path: str) -> dict[str, Any]:
-    """Return the record of a table.
+    """Read the record of a table.
 
     Raises
     ------
     Refused
-        There is no record, or it is not one of this version.
+        There is no record, or it is not a record of this version.
     """
     beside = _beside(path)
     if os.path.exists(path) and not os.path.exists(beside):
@@ -209,12 +212,12 @@ def _bytes_of(path: str) -> bytes:
 
 
 def is_of_r(record: Mapping[str, Any]) -> bool:
-    """Return whether the package for R has made a record; its scripts have other lines."""
+    """Return whether the R package wrote a record; its scripts contain different lines."""
     return "R" in record["versions"]
 
 
 def _is_record(record: Any) -> bool:
-    """Return whether an object has the keys of a record."""
+    """Return whether an object contains the keys of a record."""
     try:
         call, runs = record["call"], record["runs"]
         texts = [
@@ -237,7 +240,7 @@ def _is_record(record: Any) -> bool:
 
 
 def differences(path: str, version: str) -> Iterator[str]:
-    """Run the call of a record again, and yield one line for each difference."""
+    """Run the call in a record again, and yield one line for each difference."""
     record, folder = read_record(path), os.path.dirname(os.path.abspath(path))
     if is_of_r(record):
         text = (
@@ -262,7 +265,7 @@ def differences(path: str, version: str) -> Iterator[str]:
 def _other_runs(
     runs: Sequence[Any], recorded_runs: Sequence[Any], paths: Mapping[str, str]
 ) -> Iterator[str]:
-    """Yield which maps and scripts of two lists of runs differ."""
+    """Describe which maps and scripts differ between two lists of runs."""
     maps: dict[str, None] = {}
     for run, recorded in zip(runs, recorded_runs):
         for name, sum_then in recorded["maps"].items():
@@ -275,7 +278,7 @@ def _other_runs(
 
 
 def _other_lines(recorded: bytes, returned: bytes) -> Iterator[str]:
-    """Yield the first line in which a table differs from what its call returns now, and how many others do."""
+    """Describe the first line that differs between two tables, and count the others."""
     lines, others = (text.decode("utf-8", "replace").split("\n") for text in (recorded, returned))
     pairs = enumerate(zip(lines, others), 1)
     different = [(number, *pair) for number, pair in pairs if pair[0] != pair[1]]
@@ -289,7 +292,7 @@ def _other_lines(recorded: bytes, returned: bytes) -> Iterator[str]:
 
 
 def _other_texts(arguments: Any, folder: str) -> Iterator[str]:
-    """Yield which legends and other texts of a call have changed."""
+    """Describe which legends and other text files of a call have changed."""
     for file in files_in(arguments):
         path = os.path.join(folder, file["path"])
         if "sha256" in file and os.path.exists(path) and file_sum(path) != file["sha256"]:
@@ -306,7 +309,7 @@ def files_in(argument: Any) -> Iterator[Mapping[str, Any]]:
 
 
 def _paths_of(recorded_call: Mapping[str, Any], call: Callable[..., Any]) -> dict[str, str]:
-    """Return the paths of maps by the names of arguments."""
+    """Return the paths of maps by argument name."""
     titles = [*inspect.signature(call).parameters]
     arguments = {**dict(zip(titles, recorded_call["words"])), **recorded_call["named"]}
     return {
@@ -320,7 +323,7 @@ def _paths_of(recorded_call: Mapping[str, Any], call: Callable[..., Any]) -> dic
 
 
 def _plain(title: str, argument: Any, folder: str) -> Any:
-    """Return an argument in JSON's types; files as paths relative to a folder."""
+    """Convert an argument to JSON types, with file paths relative to a folder."""
     if isinstance(argument, BandOf):
         return {**_plain(title, argument.path, folder), "band": argument.band}
     if isinstance(argument, (list, tuple)):
@@ -348,7 +351,7 @@ def _is_pattern(path: str) -> bool:
 
 
 def placed(argument: Any, folder: str) -> Any:
-    """Return an argument from a record."""
+    """Convert a recorded argument back to an argument of the call."""
     if isinstance(argument, list):
         return [placed(part, folder) for part in argument]
     if not isinstance(argument, dict):
@@ -359,7 +362,7 @@ def placed(argument: Any, folder: str) -> Any:
     return open_raster("map", path, argument["band"]) if "band" in argument else path
 
 
-# Sums
+# Checksums
 
 
 def _beside(path: str) -> str:
@@ -371,7 +374,7 @@ def _sum(data: bytes) -> str:
 
 
 def file_sum(path: str) -> str:
-    """Return the SHA-256 of a file."""
+    """Return the SHA-256 checksum of a file."""
     with open(path, "rb") as file:
         return _sum(file.read())
 
@@ -381,7 +384,10 @@ def _sum_of_program() -> str:
 
 
 def sum_of_cells(source: Source) -> str:
-    """Return the checksum of a map's region and cells, as 32-bit integers with -2147483648 for null, whatever its file has."""
+    """Return the checksum of a map's region and cells.
+
+    Cells are 32-bit integers, with -2147483648 for null, regardless of the file's format.
+    """
     region = source.region
     state = hashlib.sha256(f"{' '.join(region.edges)} {region.rows} {region.cols}\n".encode())
     for block in source.blocks():

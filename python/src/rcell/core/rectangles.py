@@ -1,5 +1,5 @@
 # SPDX-License-Identifier: Apache-2.0 OR GPL-2.0-or-later
-"""Rectangles of cells, into which large maps are cut."""
+"""Cut large maps into rectangles of cells."""
 
 from __future__ import annotations
 
@@ -15,7 +15,7 @@ NO_MARGIN = Margin()
 
 
 class Rectangle(NamedTuple):
-    """A rectangle of the cells of a map: its first row and column, counted from 0, and how many of each."""
+    """A rectangle of cells: its first row and column, from 0, and its rows and columns."""
 
     top: int
     left: int
@@ -24,28 +24,28 @@ class Rectangle(NamedTuple):
 
     @property
     def cells(self) -> int:
-        """The number of its cells."""
+        """Its number of cells."""
         return self.rows * self.cols
 
     @property
     def slices(self) -> tuple[slice, slice]:
-        """Its rows and columns, as an index of an array of the map."""
+        """Its rows and columns, as an index into an array of the map."""
         return slice(self.top, self.top + self.rows), slice(self.left, self.left + self.cols)
 
     @property
     def region(self) -> Region:
-        """The region of these cells in a map whose cells have sides of 1 and whose top left corner is at 0, 0."""
+        """Its region in a map with cells of size 1 and its top left corner at 0, 0."""
         low, right = self.top + self.rows, self.left + self.cols
         return Region(-self.top, -low, right, self.left, self.rows, self.cols)
 
     def is_within(self, outer: Rectangle) -> bool:
-        """Return whether another rectangle has all cells of this one."""
+        """Return whether another rectangle contains this rectangle."""
         row, col = self.top - outer.top, self.left - outer.left
         fits = row + self.rows <= outer.rows and col + self.cols <= outer.cols
         return fits and row >= 0 and col >= 0
 
     def with_halo(self, reach: Margin, shape: tuple[int, int]) -> Rectangle:
-        """Return the rectangle with a margin around it, as far as the map goes.
+        """Return the rectangle with a margin around it, clipped to the map.
 
         Examples
         --------
@@ -58,13 +58,13 @@ class Rectangle(NamedTuple):
         return Rectangle(top, left, low - top, right - left)
 
     def part_of(self, outer: Rectangle, cells: NDArray[Any]) -> NDArray[Any]:
-        """Return the cells of this rectangle from the cells of one around it."""
+        """Extract the cells of this rectangle from the cells of a rectangle around it."""
         top, left = self.top - outer.top, self.left - outer.left
         return cells[top : top + self.rows, left : left + self.cols]
 
 
 def rectangles_of(shape: tuple[int, int], size: tuple[int, int]) -> list[Rectangle]:
-    """Return the tiles of a map, row by row; each cell is in one.
+    """Cut a map into tiles, row by row; each cell is in exactly one tile.
 
     Examples
     --------

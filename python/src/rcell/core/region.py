@@ -1,5 +1,5 @@
 # SPDX-License-Identifier: Apache-2.0 OR GPL-2.0-or-later
-"""The region of a map: its edges, as the program reads them, and its numbers of rows and columns."""
+"""Define regions: the edges, in the program's precision, and the rows and columns of a map."""
 
 from __future__ import annotations
 
@@ -28,7 +28,8 @@ __all__ = [
     "units_of",
 ]
 
-# a, b, c, d, e, f of x = a * column + b * row + c and y = d * column + e * row + f, as in rasterio's Affine.
+# a, b, c, d, e, f of x = a * column + b * row + c and y = d * column + e * row + f, as in
+# rasterio's Affine.
 Transform = tuple[float, float, float, float, float, float]
 # North, south, east and west in units of 10^-8.
 Units = tuple[int, int, int, int]
@@ -36,7 +37,7 @@ Units = tuple[int, int, int, int]
 EDGE_LIMIT = 10**10 * UNITS
 SIDE_LIMIT = 65_535
 CELL_LIMIT = 2_147_483_647
-# Two grids are a whole number of cells apart if the distance differs from it by at most this part of a cell.
+# The tolerance, in cells, for two grids to be a whole number of cells apart.
 NEARLY_WHOLE = 1e-3
 
 
@@ -61,7 +62,7 @@ def _is_number(value: Any) -> bool:
 
 
 def six_numbers(name: str, transform: Any) -> Transform:
-    """Return the six numbers of a transform of any kind."""
+    """Return the six numbers of any kind of transform."""
     try:
         a, b, c, d, e, f = (float(number) for number in tuple(transform)[:6])
     except (TypeError, ValueError):
@@ -89,16 +90,17 @@ def check_upright(name: str, transform: Transform) -> None:
 def edges_of_transform(
     transform: Transform, rows: int, cols: int
 ) -> tuple[Fraction, Fraction, Fraction, Fraction]:
-    """Return north, south, east and west of an upright map, exactly."""
+    """Return the exact north, south, east and west edges of an upright map."""
     width, _, west, _, height, north = map(Fraction, transform)
     return north, north + height * rows, west + width * cols, west
 
 
 @dataclass(frozen=True, eq=False)
 class Region:
-    """Four edges, and the numbers of rows and columns.
+    """A region: four edges, and the numbers of rows and columns.
 
-    The program keeps edges to 8 decimals, so two regions are equal if their edges, rounded to 8 decimals, are equal.
+    The program stores edges with 8 decimals. Two regions are therefore equal if their sizes are
+    equal and their edges are equal after rounding to 8 decimals.
 
     Parameters
     ----------
@@ -110,8 +112,8 @@ class Region:
     Raises
     ------
     BadMap
-        The region is not allowed: an edge has more than ten digits before the point, north is not above south or east
-        not above west after rounding, or there is no row or column.
+        An edge has more than ten digits before the decimal point, north is not above south or east
+        not above west after rounding, or there are no rows or columns.
 
     Examples
     --------
@@ -149,7 +151,7 @@ class Region:
             )
 
     def _check_sizes(self) -> None:
-        """Raise BadMap unless the numbers of rows and columns are whole and at least 1."""
+        """Raise BadMap unless the numbers of rows and columns are positive integers."""
         if not (
             isinstance(self.rows, numbers.Integral) and isinstance(self.cols, numbers.Integral)
         ):
@@ -162,12 +164,12 @@ class Region:
 
     @classmethod
     def from_transform(cls, transform: Sequence[float], rows: int, cols: int) -> Region:
-        """Return the region of a transform that is not rotated and has rows from north to south.
+        """Return the region of a north-up transform.
 
         Parameters
         ----------
         transform : sequence of float
-            An Affine of rasterio, or its first six numbers.
+            A rasterio Affine, or its first six numbers.
         rows, cols : int
             The shape of the map.
 
@@ -193,7 +195,7 @@ class Region:
 
     @classmethod
     def of_cells(cls, rows: int, cols: int) -> Region:
-        """Return the region of an array without a position: cells of side 1, the bottom left corner at 0, 0.
+        """Return the region of an array without a position: unit cells from 0, 0.
 
         Parameters
         ----------
@@ -203,7 +205,7 @@ class Region:
         Returns
         -------
         Region
-            From 0 to the number of rows and of columns.
+            The region from 0 to the number of rows, and from 0 to the number of columns.
 
         Examples
         --------
@@ -215,7 +217,7 @@ class Region:
 
     @cached_property
     def units(self) -> Units:
-        """North, south, east and west in units of 10^-8, as the program compares them.
+        """The north, south, east and west edges in units of 10^-8, as the program compares them.
 
         Examples
         --------
@@ -232,7 +234,7 @@ class Region:
 
     @property
     def shape(self) -> tuple[int, int]:
-        """Rows and columns, as in numpy.
+        """The rows and columns, like the shape of a numpy array.
 
         Examples
         --------
@@ -259,7 +261,7 @@ class Region:
 
     @property
     def bounds(self) -> tuple[float, float, float, float]:
-        """West, south, east and north.
+        """The west, south, east and north edges.
 
         Examples
         --------
@@ -284,7 +286,7 @@ class Region:
 
     @property
     def edges(self) -> tuple[str, str, str, str]:
-        """North, south, east and west as the program reads them.
+        """The north, south, east and west edges, as the program reads them.
 
         Examples
         --------
@@ -296,7 +298,7 @@ class Region:
         return north, south, east, west
 
     def differences(self, other: Region) -> list[str]:
-        """Return the edges and sizes in which another region differs from this one, with the difference.
+        """Return a text for each edge and size in which another region differs.
 
         Parameters
         ----------
@@ -334,7 +336,8 @@ class Shift:
     Attributes
     ----------
     rows, cols : float
-        The row and column of the other grid, from 0, at which the first cell begins; integers if whole numbers of cells.
+        The row and column of the other grid, from 0, at which the first cell begins; integers if
+        whole numbers of cells.
     height, width : float
         The size of a cell, in cells of the other grid.
     shape : tuple of int
