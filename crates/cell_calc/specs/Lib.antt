@@ -1,6 +1,4 @@
--- Rows of cells, column by column.
--- Windows over maps, and stretches of their rows.
--- Values of expressions along rows.
+-- Rows of cells, windows over maps, spans of their rows, and values of expressions along rows.
 pub mod RowValues
 pub mod ByCategory
 pub mod CommonStretches

@@ -1,4 +1,4 @@
--- Definitions that only bodies and proofs use. Definitions that only private functions and proofs use.
+-- Definitions that only function bodies, private functions and proofs use.
 pub mod Columns
 pub mod InReach
 pub mod WindowRows

@@ -1,4 +1,4 @@
-//! Values along strips: the steps of an expression, one after another, with a stack of operands.
+//! Evaluates an expression along strips: step by step, with a stack of operands.
 
 ghost use Rattle.std.specs.Prelude.{All, IfOk, OnOk};
 ghost use Rattle.cell_calc.specs.parts.Operands.{IsStrip, IsReadyStep, AreReady, IsStepped, IsCalled, AreGathered, HasValuesAfter};
@@ -15,7 +15,7 @@ use cell_core::cell::Cell;
 use cell_core::memory::Memory;
 use std::alloc::Global;
 
-/// The values of an expression along a strip, from windows that are at its row.
+/// Returns the values of an expression along a strip. The windows must be at the strip's row.
 pub(crate) fn along(
     alloc: Global,
     steps: &[Step<usize>],
@@ -39,7 +39,7 @@ pub(crate) fn along(
     Ok(row)
 }
 
-// The result of a step, from the last operands.
+// Applies a step to the last operands and returns its result.
 fn step_value(
     alloc: Global,
     step: Step<usize>,
@@ -93,7 +93,7 @@ fn step_value(
     }
 }
 
-// The values of a function of the last `count` operands. A single argument is changed in place.
+// Applies a function to the last `count` operands and returns its values. A single argument is changed in place.
 fn call_value(
     alloc: Global,
     function: Function,
@@ -136,7 +136,7 @@ fn call_value(
     }
 }
 
-// The same, with a row per argument.
+// Like `call_value`, for functions that need a row per argument.
 fn by_rows(
     alloc: Global,
     function: Function,
@@ -160,7 +160,7 @@ fn by_rows(
     Ok(row)
 }
 
-// Moves the last `count` operands to the arguments of a call, as rows.
+// Moves the last `count` operands into rows that hold the arguments of a call.
 fn gather_arguments(
     alloc: Global,
     count: usize,
@@ -179,7 +179,7 @@ fn gather_arguments(
         let row = row_of(alloc, last, strip, windows, &mut spare.free)?;
         spare.arguments.push(row)?;
     }
-    // the last one came first
+    // The last argument was popped first.
     spare.arguments.reverse();
     Ok(())
 }

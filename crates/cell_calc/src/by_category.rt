@@ -13,10 +13,10 @@ use cell_core::memory::Memory;
 use cell_core::region::Region;
 use std::alloc::Global;
 
-// Looking a value up costs as much as this many steps.
+// Looking up a value costs about as much as this many steps.
 const FEW_STEPS: usize = 4;
 
-// Whether a step reads at most the first map, at the cell itself, and does not ask for the cell's position.
+// Returns whether a step reads at most the first map, at the cell itself, and does not use the cell's position.
 fn is_category_step(step: Step<usize>) -> bool
     ensures { result ≡ true → IsCategoryStep step }
 {
@@ -28,7 +28,8 @@ fn is_category_step(step: Step<usize>) -> bool
     }
 }
 
-/// Whether an expression has only such steps, and takes longer than looking its value up.
+/// Returns whether an expression's value depends only on the category of one cell, and computing it takes longer than
+/// looking it up.
 pub fn is_by_category(bound: &Bound) -> bool
     ensures { result ≡ true → IsByCategory bound.now }
 {
@@ -41,7 +42,7 @@ pub fn is_by_category(bound: &Bound) -> bool
     steps.len() >= FEW_STEPS
 }
 
-/// The values of an expression where the first map has these cells.
+/// Returns the values of an expression for cells of its first map.
 ///
 /// # Errors
 ///

@@ -1,4 +1,4 @@
-//! What functions do with rows of arguments.
+//! Applies functions to rows of arguments.
 
 ghost use Rattle.std.specs.Prelude.{◌≡◌, ◌≤◌, ◌<◌, ◌+◌, length, OnOk};
 ghost use Rattle.cell_calc_binding.specs.CellOperators.{if_of, least, greatest_cell, known_cells, first_known, last_argument, truth, is_null};
@@ -123,7 +123,7 @@ fn size(arguments: &[Vec<Cell>], row: &mut [Cell])
     rows::size(row);
 }
 
-/// The values of a function along a strip, from the values of its arguments.
+/// Computes the values of a function along a strip from the values of its arguments.
 pub fn call_values(
     alloc: Global,
     function: Function,

@@ -1,4 +1,4 @@
-//! Stretches of a row: adjacent columns in which no window's row changes.
+//! Finds the spans of a row: adjacent columns in which no window's row changes.
 
 ghost use Rattle.std.specs.Prelude.{◌≡◌, ◌<◌, ◌≤◌, ◌+◌, ◌^◌, ℕ, length, All, IfOk, IfSome, true};
 ghost use Rattle.cell_calc.specs.RowValues.{at};
@@ -11,16 +11,16 @@ use cell_core::memory::Memory;
 use cell_core::runs::fill_run;
 use std::alloc::Global;
 
-// Minimum mean length of stretches, in columns: if they are shorter, a value for each column costs no more.
+// Minimum mean length of spans, in columns. With shorter spans, computing a value for each column costs no more.
 const COLUMNS_A_STRETCH: usize = 8;
 
-// Number of stretches that are looked for in each row.
+// Number of spans allowed before their mean length counts.
 const FIRST_STRETCHES: usize = 8;
 
-// Number of columns that are looked at first.
+// Number of columns that are inspected first.
 const FIRST_COLUMNS: usize = 16;
 
-// The number of cells at the start that equal the first one.
+// Returns the number of cells at the start that equal the first cell.
 fn count_alike(cells: &[Cell]) -> usize
     requires { 0 < length cells.now }
     ensures within { result ≤ length cells.now }
@@ -35,7 +35,7 @@ fn count_alike(cells: &[Cell]) -> usize
     cells.len()
 }
 
-// Whether at least half of the first cells of a row differ from the cell before: then there is little to gain.
+// Returns whether at least half of the first cells of a row differ from the previous cell. If so, spans save little.
 fn begins_with_changes(row: &[Cell]) -> bool {
     let columns = row.len().min(FIRST_COLUMNS);
     let mut changes: usize = 0;
@@ -47,7 +47,7 @@ fn begins_with_changes(row: &[Cell]) -> bool {
     changes >= columns / 2
 }
 
-/// The same for the row of a window, of which only a few cells are looked at.
+/// Returns whether the row of any window starts with many changes. Inspects only a few cells.
 pub fn are_changing(windows: &[RowWindow]) -> bool {
     for window in windows {
         if begins_with_changes(window.centre_row()) {
@@ -57,7 +57,7 @@ pub fn are_changing(windows: &[RowWindow]) -> bool {
     false
 }
 
-// Whether the row of each window has `cols` columns.
+// Returns whether the row of each window has `cols` columns.
 fn are_wide(windows: &[RowWindow], cols: usize) -> bool
     ensures { result ≡ true → All (HasWidth cols) windows.now }
 {
@@ -69,7 +69,7 @@ fn are_wide(windows: &[RowWindow], cols: usize) -> bool
     true
 }
 
-// The number of columns, from `from` and at most `left`, in which no row changes.
+// Returns the number of columns, at most `left`, counted from `from`, in which no row changes.
 fn alike_in_all(windows: &[RowWindow], from: usize, left: usize) -> usize
     requires wide { All (HasWidth (from + left)) windows.now }
     requires some { 0 < left }
@@ -85,10 +85,10 @@ fn alike_in_all(windows: &[RowWindow], from: usize, left: usize) -> usize
     least
 }
 
-/// The widths of the stretches of the windows' rows, unless there are many.
+/// Returns the widths of the spans in the windows' rows, or `None` if there are many.
 ///
-/// They are found in the rows that windows hold, not in the runs of maps, so that the clauses of `eval_row` are only
-/// about windows. A row with many stretches is given up near its left end.
+/// Spans are found in the rows that windows hold, not in the runs of maps, so that the clauses of `eval_row` mention
+/// only windows. A search that finds many spans stops near the left end of the row.
 ///
 /// # Errors
 ///
@@ -118,7 +118,7 @@ pub fn stretches_of(
     Ok(Some(widths))
 }
 
-// The cell of a row at a column, null past its end.
+// Returns the cell of a row at a column, or null past its end.
 fn cell_in(row: &[Cell], col: usize) -> Cell
     ensures { result ≡ at row.now col }
 {
@@ -128,7 +128,7 @@ fn cell_in(row: &[Cell], col: usize) -> Cell
     }
 }
 
-// The cells of a row where stretches begin.
+// Returns the first cell of each span of a row.
 fn cells_at_starts(alloc: Global, row: &[Cell], widths: &[u32]) -> Result<Vec<Cell>, Memory>
     requires { total widths.now ≤ 65535 }
     ensures { IfOk result (λ cells. cells.items ≡ start_cells row.now widths.now) }
@@ -142,7 +142,7 @@ fn cells_at_starts(alloc: Global, row: &[Cell], widths: &[u32]) -> Result<Vec<Ce
     Ok(cells)
 }
 
-/// One window per window, over only the cells where stretches begin.
+/// Returns windows that hold only the first cell of each span.
 ///
 /// # Errors
 ///
@@ -164,7 +164,7 @@ pub fn short_windows(
     Ok(short)
 }
 
-/// Writes the value of each stretch to its columns.
+/// Writes the value of each span to its columns.
 pub fn spread(values: &[Cell], widths: &[u32], cells: &mut [Cell])
     requires values { length values.now ≡ length widths.now }
     requires width { length cells.old ≡ total widths.now }

@@ -1,4 +1,4 @@
-//! Expressions that need only one value for each stretch of a row in which no map changes.
+//! Finds expressions that need only one value per span of a row in which no map changes.
 
 ghost use Rattle.std.specs.Prelude.{◌≡◌, ◌≤◌, All, IfOk, IfSome, true};
 ghost use Rattle.cell_calc.specs.parts.InPlace.{IsInPlace};
@@ -11,15 +11,15 @@ use cell_calc_grammar::step::Step;
 use cell_core::memory::Memory;
 use std::alloc::Global;
 
-// Steps that must be saved per map, so that stretches save more than finding them costs.
+// Number of steps per map from which spans save more than finding them costs.
 const STEPS_A_WINDOW: usize = 16;
 
-// Whether an expression has enough steps per map.
+// Returns whether an expression has enough steps per map.
 fn is_long(steps: &[Step<usize>], windows: &[RowWindow]) -> bool {
     steps.len() / STEPS_A_WINDOW >= windows.len()
 }
 
-// Whether a step gives the same value for the same cells at each column of a row.
+// Returns whether a step gives the same value for the same cells in every column of a row.
 fn is_in_place(step: Step<usize>) -> bool
     ensures { result ≡ true → IsInPlace step }
 {
@@ -30,7 +30,7 @@ fn is_in_place(step: Step<usize>) -> bool
     }
 }
 
-// Whether all steps do.
+// Returns whether every step gives the same value for the same cells in every column of a row.
 fn are_in_place(steps: &[Step<usize>]) -> bool
     ensures { result ≡ true → All IsInPlace steps.now }
 {
@@ -42,7 +42,7 @@ fn are_in_place(steps: &[Step<usize>]) -> bool
     true
 }
 
-/// The widths of the stretches of the windows' rows, if one value for each is enough and they are few.
+/// Returns the widths of the spans in the windows' rows, if one value per span is enough and there are few spans.
 pub(crate) fn few_stretches(
     alloc: Global,
     steps: &[Step<usize>],

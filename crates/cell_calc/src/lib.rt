@@ -1,16 +1,15 @@
-//! The values of an expression along a row of its maps (GRASS manual: r.mapcalc).
+//! Evaluates expressions along the rows of maps (GRASS manual: r.mapcalc).
 //!
-//! Users only need this crate; it re-exports `parse`, `resolve` and their types.
+//! Users need only this crate; it re-exports `parse`, `resolve` and their types.
 //!
-//! - `rows_of_values`: `eval_row`, the values along a row, from one window for each map
-//! - `window`: `RowWindow`, the rows of a map around a centre row, which moves down; outside the
-//!   map its cells are null (profile); private `window_rows` keeps them
-//! - `rows`, `calls`: operators and functions on rows of cells
-//! - `common_stretches`: spans of columns in which no map changes; one value each is enough
+//! - `rows_of_values`: `eval_row` returns the values along a row, given one window per map
+//! - `window`: `RowWindow` holds the rows of a map around a centre row, which moves down; cells outside
+//!   the map are null (profile); private `window_rows` stores its rows
+//! - `rows`, `calls`: apply operators and functions to rows of cells
+//! - `common_stretches`: finds spans of columns in which no map changes, so that one value is enough
 //! - `by_category`: expressions whose value depends only on the category of one cell
-//! - private: `along`, the steps of an expression one after another, in strips of 1,024 columns,
-//!   with a stack of operands (`operand`, `strip`); `in_place`, whether one value for each span is
-//!   enough
+//! - private: `along` evaluates an expression step by step, in strips of 1,024 columns, with a stack of
+//!   operands (`operand`, `strip`); `in_place` decides whether one value per span is enough
 //!
 //! A window with one row above and one below the centre, over a map of three rows:
 //!

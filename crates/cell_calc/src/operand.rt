@@ -17,7 +17,7 @@ use cell_core::cell::Cell;
 use cell_core::memory::Memory;
 use std::alloc::Global;
 
-/// The last operand.
+/// Removes and returns the last operand.
 pub(crate) fn pop_operand(operands: &mut Vec<Operand>) -> Operand
     requires { 0 < length operands.old.items }
     ensures { operands.old.items ≡ operands.new.items ++ result ∷ [] }
@@ -25,7 +25,7 @@ pub(crate) fn pop_operand(operands: &mut Vec<Operand>) -> Operand
     operands.pop().unwrap()
 }
 
-/// A row of `width` cells with any contents: a free one, or a new one.
+/// Returns a row of `width` cells with unspecified contents: a free row if there is one, otherwise a new one.
 #[inline(never)]
 pub(crate) fn spare_row(
     alloc: Global,
@@ -43,7 +43,7 @@ pub(crate) fn spare_row(
     Ok(Vec::from_elem(alloc, Cell::null(), width)?)
 }
 
-// The row at the given distance below the centre of the window at a place.
+// Returns the row `down` rows below the centre of the window at index `place`.
 fn window_row<'a>(windows: &'a [RowWindow], place: usize, down: i32) -> &'a [Cell]
     requires { IsInReach down (slice_get windows.now place) }
     ensures { result.now ≡ row_below down (slice_get windows.now place) }
@@ -51,9 +51,9 @@ fn window_row<'a>(windows: &'a [RowWindow], place: usize, down: i32) -> &'a [Cel
     windows[place].row(down)
 }
 
-/// The cells of an operand, in a row that may be overwritten.
+/// Returns the cells of an operand in a row that may be overwritten.
 ///
-/// It is inlined, since most operands of operators are rows, which are only passed on.
+/// It is inlined because most operands of operators are rows, which are only passed on.
 #[inline(always)]
 pub(crate) fn row_of(
     alloc: Global,
@@ -84,7 +84,7 @@ pub(crate) fn row_of(
     }
 }
 
-/// The values of an operator, in a row that may be overwritten.
+/// Returns the values of an operator in a row that may be overwritten.
 pub(crate) fn binary_value(
     alloc: Global,
     operator: Operator,
@@ -106,8 +106,8 @@ pub(crate) fn binary_value(
     Ok(row)
 }
 
-// Applies an operator to the cells of a row, which are its left operands. The right ones need no row of their own if
-// they are a number or part of a map's row; otherwise their row is free afterwards.
+// Applies an operator to a row, whose cells are the left operands. A right operand that is a number or part of a map's
+// row needs no row of its own; the row of any other right operand becomes free.
 fn apply_to_operands(
     operator: Operator,
     right: Operand,
@@ -141,8 +141,8 @@ fn apply_to_operands(
     }
 }
 
-/// The values of `if` with three arguments. The first choice needs no row of its own if it is a number or part of a
-/// map's row.
+/// Returns the values of `if` with three arguments. If the first choice is a number or part of a map's row, it needs no
+/// row of its own.
 pub(crate) fn choice_value(
     alloc: Global,
     condition: Operand,
@@ -168,7 +168,7 @@ pub(crate) fn choice_value(
     Ok(row)
 }
 
-// Copies the cells of an operand into a row where conditions hold.
+// Copies the cells of an operand into a row where the conditions hold.
 fn choose_operands(
     alloc: Global,
     yes: Operand,
@@ -205,7 +205,7 @@ fn choose_operands(
     }
 }
 
-// Copies the cells of another row into a row where conditions hold; the other row is free afterwards.
+// Copies the cells of another row into a row where the conditions hold. The other row becomes free.
 fn choose_row(
     others: Vec<Cell>,
     conditions: &[Cell],

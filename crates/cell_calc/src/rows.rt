@@ -1,4 +1,4 @@
-//! Rows of cells.
+//! Applies operators and functions to rows of cells.
 
 ghost use Rattle.std.specs.Prelude.{◌≡◌, ◌≤◌, ◌<◌, ◌≤ℤ◌, ◌<ℤ◌, ℕ, pos, length, None, Some, IfSome, ◌+ℤ◌, ◌+◌};
 ghost use Rattle.cell_calc_binding.specs.CellOperators.{chosen_cell, truth, is_null, lesser, greater};
@@ -11,7 +11,7 @@ use cell_calc_binding::cell_operators;
 use cell_calc_grammar::operator::Operator;
 use cell_core::cell::Cell;
 
-/// Writes a cell into each place of a row.
+/// Writes a cell to every column of a row.
 pub fn fill(row: &mut [Cell], cell: Cell)
     ensures { Becomes row.old row.new (λ c. cell) }
 {
@@ -20,7 +20,7 @@ pub fn fill(row: &mut [Cell], cell: Cell)
     }
 }
 
-/// Changes each cell of a row.
+/// Applies a function to each cell of a row, in place.
 pub(crate) fn each<F: Fn(Cell) -> Cell>(row: &mut [Cell], f: F)
     requires callable { F.IsAlwaysCallable f }
     ensures { (c : ℕ) → c < length row.old → F.post f (at row.old c) (at row.new c) }
@@ -30,9 +30,9 @@ pub(crate) fn each<F: Fn(Cell) -> Cell>(row: &mut [Cell], f: F)
     }
 }
 
-/// Changes each cell of a row using the cell of another row in its column.
+/// Combines each cell of a row with the cell of another row in the same column, in place.
 ///
-/// Callers pass named functions, since a closure would be proved anew at each use.
+/// Callers pass named functions, because a closure would be proved anew at each use.
 pub(crate) fn combine<F: Fn(Cell, Cell) -> Cell>(row: &mut [Cell], other: &[Cell], f: F)
     requires callable { F.IsAlwaysCallable f }
     requires width { length other.now ≡ length row.old }
@@ -44,7 +44,7 @@ pub(crate) fn combine<F: Fn(Cell, Cell) -> Cell>(row: &mut [Cell], other: &[Cell
     }
 }
 
-/// Changes each cell of a row using one other cell.
+/// Combines each cell of a row with the same other cell, in place.
 pub(crate) fn combine_one<F: Fn(Cell, Cell) -> Cell>(row: &mut [Cell], other: Cell, f: F)
     requires callable { F.IsAlwaysCallable f }
     ensures { (c : ℕ) → c < length row.old → F.post f (at row.old c) other (at row.new c) }
@@ -66,7 +66,7 @@ pub fn choose(row: &mut [Cell], conditions: &[Cell], yes: &[Cell])
     }
 }
 
-/// The same with one cell in place of a row.
+/// Like `choose`, with a single cell in place of the other row.
 pub fn choose_one(row: &mut [Cell], conditions: &[Cell], yes: Cell)
     requires width { length conditions.now ≡ length row.old }
     ensures { Becomes row.old row.new
@@ -77,7 +77,7 @@ pub fn choose_one(row: &mut [Cell], conditions: &[Cell], yes: Cell)
     }
 }
 
-/// The numbers, from 1, of the columns of a strip that begins at a column counted from 0.
+/// Writes the column numbers, counted from 1, of a strip that begins at column `from`, counted from 0.
 pub(crate) fn number(row: &mut [Cell], from: usize)
     requires { from + length row.old ≤ 65535 }
     ensures { Becomes row.old row.new (λ c. Some (pos (from + c + 1))) }
@@ -87,7 +87,7 @@ pub(crate) fn number(row: &mut [Cell], from: usize)
     }
 }
 
-/// Moves a row's cells to the left.
+/// Copies cells of a row, shifted to the left by `skip` columns.
 fn from_right(source: &[Cell], skip: usize, row: &mut [Cell])
     requires { (c : ℕ) → c < length row.old → at row.old c ≡ None }
     ensures { Becomes row.old row.new (λ c. at source.now (c + skip)) }
@@ -100,7 +100,7 @@ fn from_right(source: &[Cell], skip: usize, row: &mut [Cell])
     }
 }
 
-/// Moves a row's cells to the right.
+/// Copies cells of a row, shifted to the right by `skip` columns.
 fn from_left(source: &[Cell], skip: usize, row: &mut [Cell])
     requires { (c : ℕ) → c < length row.old → at row.old c ≡ None }
     ensures before { (c : ℕ) → c < skip → c < length row.old → at row.new c ≡ None }
@@ -114,7 +114,7 @@ fn from_left(source: &[Cell], skip: usize, row: &mut [Cell])
     }
 }
 
-// The column `right` columns to the right of `from`; below 0 it is before the row.
+// Returns the column `right` columns to the right of `from`. A negative result is to the left of the row.
 fn shifted_column(from: usize, right: i32) -> i64
     requires { from ≤ 65535 }
     ensures { result ≡ pos from +ℤ right }
@@ -122,7 +122,7 @@ fn shifted_column(from: usize, right: i32) -> i64
     from as i64 + right as i64
 }
 
-/// The part of a row that is `right` columns to the right of a strip, if all of it is inside the row.
+/// Returns the part of a row that is `right` columns to the right of a strip, if all of it is inside the row.
 pub fn inside<'a>(source: &'a [Cell], from: usize, right: i32, width: usize) -> Option<&'a [Cell]>
     requires { from ≤ 65535 }
     ensures width { IfSome result (λ part. length part.now ≡ width) }
@@ -140,7 +140,8 @@ pub fn inside<'a>(source: &'a [Cell], from: usize, right: i32, width: usize) -> 
     Some(&source[first..first + width])
 }
 
-/// The cells of a row that are `right` columns to the right of a strip beginning at `from`, null outside the row.
+/// Copies the cells of a row that are `right` columns to the right of a strip beginning at `from`. Cells outside the
+/// row are null.
 pub fn shift(source: &[Cell], from: usize, right: i32, row: &mut [Cell])
     requires { from ≤ 65535 }
     ensures { Becomes row.old row.new
@@ -152,7 +153,7 @@ pub fn shift(source: &[Cell], from: usize, right: i32, row: &mut [Cell])
     }
 }
 
-// The same, if some of them are outside.
+// Like `shift`, for strips that are partly or fully outside the row.
 fn shift_over_the_edge(source: &[Cell], from: usize, right: i32, row: &mut [Cell])
     requires { from ≤ 65535 }
     ensures { Becomes row.old row.new
@@ -167,35 +168,35 @@ fn shift_over_the_edge(source: &[Cell], from: usize, right: i32, row: &mut [Cell
     }
 }
 
-/// `isnull` of each cell of a row, in place.
+/// Applies `isnull` to each cell of a row, in place.
 pub fn row_nullness(row: &mut [Cell])
     ensures { Becomes row.old row.new (λ c. truth (is_null (at row.old c))) }
 {
     each(row, cell_operators::nullness);
 }
 
-/// `abs` of each cell of a row, in place.
+/// Applies `abs` to each cell of a row, in place.
 pub fn size(row: &mut [Cell])
     ensures { Becomes row.old row.new (λ c. size_of (at row.old c)) }
 {
     each(row, cell_operators::size);
 }
 
-/// `-` of each cell of a row, in place.
+/// Applies unary `-` to each cell of a row, in place.
 pub fn negate(row: &mut [Cell])
     ensures { Becomes row.old row.new (λ c. negated_cell (at row.old c)) }
 {
     each(row, cell_operators::negated_cell);
 }
 
-/// `!` of each cell of a row, in place.
+/// Applies `!` to each cell of a row, in place.
 pub fn invert(row: &mut [Cell])
     ensures { Becomes row.old row.new (λ c. inverted_cell (at row.old c)) }
 {
     each(row, cell_operators::inverted_cell);
 }
 
-/// `if(a)` of each cell of a row, in place: 1 if it is neither null nor 0.
+/// Applies `if(a)` to each cell of a row, in place: 0 becomes 0, null stays null, and other numbers become 1.
 pub fn one_or_zero(row: &mut [Cell])
     ensures { Becomes row.old row.new
         (λ c. chosen_cell (at row.old c) (Some (pos 1)) (Some (pos 0))) }
@@ -245,7 +246,7 @@ pub(crate) fn choose_or_zero(row: &mut [Cell], other: &[Cell])
     }
 }
 
-/// Applies an operator to a row, which holds its left operands.
+/// Applies an operator to a row in place. The row holds the left operands, and `other` the right ones.
 pub fn apply_operator(operator: Operator, row: &mut [Cell], other: &[Cell])
     requires width { length other.now ≡ length row.old }
     ensures { Becomes row.old row.new
@@ -270,7 +271,7 @@ pub fn apply_operator(operator: Operator, row: &mut [Cell], other: &[Cell])
     }
 }
 
-/// Applies an operator to a row, which holds its left operands; the right operand is one cell.
+/// Applies an operator to a row in place. The row holds the left operands; the right operand is always `b`.
 pub fn apply_one(operator: Operator, row: &mut [Cell], b: Cell)
     ensures { Becomes row.old row.new (λ c. operator_value operator (at row.old c) b) }
 {
@@ -293,8 +294,8 @@ pub fn apply_one(operator: Operator, row: &mut [Cell], b: Cell)
     }
 }
 
-// How a row overlaps a strip: the row's first cell in it, the strip's column there, and the number of cells that they
-// share.
+// How a row overlaps a strip: the first common cell of the row, the first common column of the strip, and the number of
+// common cells.
 #[derive(Clone, Copy)]
 struct Overlap {
     first: usize,
@@ -302,7 +303,8 @@ struct Overlap {
     count: usize,
 }
 
-// The overlap of a row of `cells` cells, moved to the left, with a strip of `width` columns that begins at `from`.
+// Returns the overlap of a row of `cells` cells, moved `right` columns to the left, with a strip of `width` columns
+// that begins at `from`.
 fn overlap_of(cells: usize, right: i32, from: usize, width: usize) -> Overlap
     requires { from ≤ 65535 }
     ensures strip { result.before + result.count ≤ width }
@@ -332,8 +334,8 @@ fn overlap_of(cells: usize, right: i32, from: usize, width: usize) -> Overlap
     }
 }
 
-/// Applies an operator along a strip that begins at `from`. The strip holds the left operands; the right ones are the
-/// cells of `source` that are `right` columns to the right, null outside.
+/// Applies an operator along a strip that begins at `from`, in place. The strip holds the left operands. The right
+/// operands are the cells of `source` that are `right` columns to the right; they are null outside the row.
 pub fn apply_shifted(operator: Operator, row: &mut [Cell], source: &[Cell], right: i32, from: usize)
     requires { from ≤ 65535 }
     ensures { Becomes row.old row.new

@@ -1,4 +1,4 @@
-//! Values of expressions along rows.
+//! Evaluates expressions along rows.
 
 ghost use Rattle.std.specs.Prelude.{◌≡◌, ◌<◌, ◌≤◌, ℕ, List, [], ◌∷◌, length, slice_get, slice_index_or, All, None, IfOk, OnOk, OnErr};
 ghost use Rattle.cell_core.specs.Grid.{Grid};
@@ -25,10 +25,10 @@ use cell_core::memory::Memory;
 use cell_core::region::Region;
 use std::alloc::Global;
 
-// Number of columns computed at a time, so that the rows of a value stay in cache.
+// Number of columns computed at a time, so that the intermediate rows stay in the cache.
 const STRIP: usize = 1024;
 
-// The values of an expression along the first columns of a row, strip by strip.
+// Returns the values of an expression along the first columns of a row, strip by strip.
 pub(crate) fn along_columns(
     alloc: Global,
     steps: &[Step<usize>],
@@ -51,7 +51,7 @@ pub(crate) fn along_columns(
         free: Vec::new(alloc),
         arguments: Vec::new(alloc),
     };
-    // The row of a single strip is not copied.
+    // If there is only one strip, its row is returned without a copy.
     if cols <= STRIP {
         let strip = Strip {
             region,
@@ -80,7 +80,7 @@ pub(crate) fn along_columns(
     Ok(cells)
 }
 
-// The value of each stretch of a row: the value at each of its columns.
+// Returns one value per span of a row, which is the value at each of its columns.
 fn along_stretches(
     alloc: Global,
     steps: &[Step<usize>],
@@ -105,7 +105,8 @@ fn along_stretches(
     Ok(values)
 }
 
-// Writes the values of an expression along a row: one per stretch if there are few stretches, else one per column.
+// Writes the values of an expression along a row. Computes one value per span if there are few spans, otherwise one
+// value per column.
 fn write_row(
     alloc: Global,
     steps: &[Step<usize>],
@@ -133,11 +134,11 @@ fn write_row(
     Ok(())
 }
 
-/// Writes the values of an expression along a row into a slice, from windows that are at the row.
+/// Writes the values of an expression along a row into a slice. The windows must be at this row.
 ///
 /// # Errors
 ///
-/// [`Memory`] if memory runs out: the slice is unchanged.
+/// [`Memory`] if memory runs out; the slice is then unchanged.
 pub fn eval_row(
     alloc: Global,
     bound: &Bound,

@@ -1,9 +1,9 @@
-//! Working data of a strip: some columns of a row.
+//! Strips, which are some columns of a row, and the data for evaluating expressions along them.
 
 use cell_core::cell::Cell;
 use cell_core::region::Region;
 
-/// `width` columns of a row, from column `from`.
+/// `width` columns of a row, starting at column `from`.
 #[derive(Clone, Copy)]
 pub(crate) struct Strip {
     pub(crate) region: Region,
@@ -12,16 +12,16 @@ pub(crate) struct Strip {
     pub(crate) width: usize,
 }
 
-/// The values of an operand along a strip. A number or a map gets a row only if one is needed.
+/// The values of an operand along a strip. A number or a map is copied into a row only when one is needed.
 #[derive(Drop)]
 pub(crate) enum Operand {
     Number(u32),
-    /// The cells of the map at `place`, `down` rows below and `right` columns to the right.
+    /// The cells of the map at index `place`, `down` rows below and `right` columns to the right.
     Map { place: usize, down: i32, right: i32 },
     Row(Vec<Cell>),
 }
 
-/// Rows that may be overwritten, and room for the arguments of a call.
+/// Free rows, which may be overwritten, and the arguments of a call.
 #[derive(Drop)]
 pub(crate) struct Spare {
     pub(crate) free: Vec<Vec<Cell>>,

@@ -1,4 +1,4 @@
-//! Windows of rows that move down a map.
+//! Windows of rows, which move down a map.
 
 ghost use Rattle.std.specs.Prelude.{◌≡◌, ◌≤◌, ◌<◌, ◌+◌, ◌+ℤ◌, ℤ, pos, length, None, Some, IfOk, IfSome, IfNone, ◌<ℤ◌};
 ghost use Rattle.cell_core.specs.Grid.{Grid};
@@ -14,7 +14,7 @@ use cell_core::memory::Memory;
 use std::alloc::Global;
 use std::marker::Model;
 
-/// The rows of a map around a centre row. The centre moves down.
+/// Holds the rows of a map around a centre row, which moves down.
 #[derive(Drop)]
 pub struct RowWindow {
     above: u32,
@@ -44,7 +44,7 @@ impl Model for RowWindow {
 }
 
 impl RowWindow {
-    /// A window that is at the first row of a map. Takes all memory that it will need.
+    /// Returns a window at the first row of a map. Allocates all memory that the window will need.
     ///
     /// # Errors
     ///
@@ -57,7 +57,7 @@ impl RowWindow {
         ensures centre { IfOk result (λ w. w.centre ≡ 0) }
     {
         let region = map.region();
-        // On a map with fewer rows than that, the window only needs memory for the map's rows.
+        // If the map has fewer rows than the window, memory for the map's rows is enough.
         let capacity = (above + below + 1).min(region.rows());
         let mut held = WindowRows::new(alloc, capacity as usize, region.cols())?;
         for r in 0..below + 1 {
@@ -72,7 +72,7 @@ impl RowWindow {
         })
     }
 
-    /// The centre row, from 0.
+    /// Returns the centre row, counted from 0.
     pub fn centre(&self) -> u32
         ensures value { result ≡ self.now.centre }
         ensures within { self.now.centre < self.now.rows }
@@ -80,7 +80,7 @@ impl RowWindow {
         self.centre
     }
 
-    /// The largest number of rows that it holds at a time.
+    /// Returns the maximum number of rows that the window holds.
     pub fn capacity(&self) -> usize
         ensures value { result ≡ self.now.above + self.now.below + 1 }
         ensures held { length self.now.held ≤ result }
@@ -88,7 +88,7 @@ impl RowWindow {
         self.above as usize + self.below as usize + 1
     }
 
-    /// Moves the centre down by one row of the same map. Takes no memory.
+    /// Moves the centre down by one row of the same map. Does not allocate.
     pub fn advance(&mut self, map: &CellMap)
         requires window { IsWindowOf self.old map.now }
         requires left { self.old.centre + 1 < self.old.rows }
@@ -103,7 +103,7 @@ impl RowWindow {
         self.centre += 1;
     }
 
-    /// The map's cell `dr` rows below the centre, in column `c`; null outside its region.
+    /// Returns the map's cell `dr` rows below the centre in column `c`, or null outside the region.
     pub fn cell(&self, dr: i32, c: i64) -> Cell
         requires { Reaches self.now dr }
         ensures { (m : Grid) → IsWindowOf self.now m
@@ -112,7 +112,7 @@ impl RowWindow {
         cell_at(self.row(dr), c)
     }
 
-    /// A window that is at these cells, and reaches no other row.
+    /// Returns a window over a single row of cells.
     ///
     /// # Errors
     ///
@@ -131,14 +131,14 @@ impl RowWindow {
         })
     }
 
-    /// The cells of the centre row.
+    /// Returns the cells of the centre row.
     pub fn centre_row(&self) -> &[Cell]
         ensures { result.now ≡ centre_row self.now }
     {
         self.row(0)
     }
 
-    /// The cells of the row `down` rows below the centre; none outside the map.
+    /// Returns the cells of the row `down` rows below the centre, or an empty slice outside the map.
     pub fn row(&self, down: i32) -> &[Cell]
         requires { Reaches self.now down }
         ensures held { result.now ≡ row_below down (Some self.now) }
@@ -153,7 +153,7 @@ impl RowWindow {
     }
 }
 
-// The index, counted from row `first`, of the row `down` rows below the centre.
+// Returns the index of the row `down` rows below the centre, counted from row `first`.
 fn row_place(centre: u32, first: u32, down: i32) -> Option<usize>
     ensures some { IfSome result (λ i. pos (first + i) ≡ pos centre +ℤ down) }
     ensures none { IfNone result ((pos centre +ℤ down) <ℤ pos first) }

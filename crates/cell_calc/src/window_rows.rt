@@ -1,4 +1,4 @@
-//! Rows in use, and rows that wait to be used.
+//! Stores the rows of a window in a ring, and reuses rows that left it.
 
 ghost use Rattle.std.specs.Prelude.{◌≡◌, ◌≤◌, ◌<◌, ◌+◌, ◌++◌, [], ◌∷◌, length, take, drop, nat_le, if◌then◌else◌, slice_index_or, IfOk, All};
 ghost use Rattle.cell_core.specs.Grid.{row_at};
@@ -11,7 +11,7 @@ use circular_buffer::HeapCircularBuffer;
 use std::alloc::Global;
 use std::marker::Model;
 
-/// Rows of equal width in a ring, and waiting rows in a second ring of the same size.
+/// A ring of rows of equal width, and a second ring of the same size for free rows.
 #[derive(Drop)]
 pub(crate) struct WindowRows {
     cols: u32,
@@ -38,7 +38,7 @@ impl Model for WindowRows {
 }
 
 impl WindowRows {
-    /// `count` rows, all waiting.
+    /// Returns `count` free rows.
     pub(crate) fn new(alloc: Global, count: usize, cols: u32) -> Result<WindowRows, Memory>
         ensures { IfOk result (λ h. h ≡ record { cols = cols; rows = []; free = count }) }
     {
@@ -57,7 +57,7 @@ impl WindowRows {
         })
     }
 
-    /// One row, and no waiting row.
+    /// Returns a ring with one row, and no free row.
     pub(crate) fn of_row(alloc: Global, row: Vec<Cell>) -> Result<WindowRows, Memory>
         requires { length row.items ≤ 65535 }
         ensures rows { IfOk result (λ h. h.rows ≡ row.items ∷ []) }
@@ -74,7 +74,7 @@ impl WindowRows {
         })
     }
 
-    /// The row at a place, or none after the last.
+    /// Returns the row at index `i`, or an empty slice past the last row.
     pub(crate) fn row(&self, i: usize) -> &[Cell]
         ensures { result.now ≡ slice_index_or self.now.rows i [] }
     {
@@ -84,7 +84,7 @@ impl WindowRows {
         }
     }
 
-    /// Lets the first row wait, if at least `above` rows are above the centre.
+    /// Frees the first row if at least `above` rows are above the centre.
     pub(crate) fn release(&mut self, above: u32, centre: u32)
         ensures rows { self.new.rows
             ≡ (if nat_le above centre then drop 1 self.old.rows else self.old.rows) }
@@ -98,7 +98,7 @@ impl WindowRows {
         }
     }
 
-    /// Adds a map's row at the end, if the map has that row.
+    /// Appends a row of a map, if the map has that row.
     pub(crate) fn take_in(&mut self, map: &CellMap, row: u64)
         requires width { self.old.cols ≡ map.now.region.cols }
         requires free { row < map.now.region.rows → 0 < self.old.free }
@@ -114,7 +114,7 @@ impl WindowRows {
     }
 }
 
-// Adds a row at the end of a ring that has room.
+// Appends a row to a ring that has room.
 fn put_row_last(ring: &mut HeapCircularBuffer<Vec<Cell>>, row: Vec<Cell>)
     requires { length ring.old.items < ring.old.capacity }
     ensures { ring.new ≡ buffer (ring.old.items ++ row ∷ []) ring.old.capacity }
@@ -122,7 +122,7 @@ fn put_row_last(ring: &mut HeapCircularBuffer<Vec<Cell>>, row: Vec<Cell>)
     ring.push_back(row);
 }
 
-// A row of a map, written over another row.
+// Copies a row of a map into `cells`, and returns it.
 fn row_copy(map: &CellMap, row: u32, mut cells: Vec<Cell>) -> Vec<Cell>
     requires row_in_range { row < map.now.region.rows }
     requires width { length cells.items ≡ map.now.region.cols }

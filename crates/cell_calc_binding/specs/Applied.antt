@@ -1,4 +1,5 @@
--- The values of operators and functions, from the values of their operands (r.mapcalc manual; the range and division by zero are the profile's).
+-- The values of operators and functions, given the values of their operands (r.mapcalc manual; the range and division
+-- by zero are our own choice).
 use Rattle.std.specs.Prelude.{ℕ, ℤ, pos, ◌+◌, ◌+ℤ◌, ◌-ℤ◌, ◌*ℤ◌, neg_ℤ, unsigned_abs, int_div, int_lt, int_le, not, ◌&&◌, ◌||◌, List, Some, None, if◌then◌else◌}
 use Rattle.cell_core.specs.Grid.{CellValue}
 use Rattle.cell_core_values.specs.Region.{RegionValue}
@@ -8,18 +9,18 @@ use Rattle.cell_calc_grammar.specs.declared.function.Function.TheVariants as fun
 use Rattle.cell_calc_grammar.specs.declared.operator.Operator.{Operator}
 use Rattle.cell_calc_grammar.specs.declared.operator.Operator.TheVariants as operator
 
--- the position whose value is asked for, from 0, and the size of the grid
+-- a position, counted from 0, and the size of the grid
 pub record GridPosition : Type 0 where
   pub rows : ℕ
   pub cols : ℕ
   pub row : ℕ
   pub col : ℕ
 
--- a row and a column of a region
+-- the position at a row and a column of a region
 abbrev pub grid_position : RegionValue → (row col : ℕ) → GridPosition
 grid_position region row col = record { rows = region.rows; cols = region.cols; row = row; col = col }
 
--- its negation; 1 if it is 0, else 0; its absolute value
+-- the negation of a cell; 1 if it is 0, otherwise 0; its absolute value
 abbrev pub negated_cell : CellValue → CellValue
 negated_cell a = of_one (λ x. fit (neg_ℤ x)) a
 
@@ -47,7 +48,7 @@ operator_value operator.Or a b = of_both (λ x y. truth (not (is_zero x) || not 
 operator_value operator.KnownAnd a b = known_and a b
 operator_value operator.KnownOr a b = known_or a b
 
--- the value of a function, from the values of its arguments
+-- the value of a function, given the values of its arguments
 abbrev pub call_result : Function → GridPosition → List CellValue → CellValue
 call_result function.If s xs = if_of xs
 call_result function.IsNull s xs = truth (is_null (first_known xs))

@@ -1,4 +1,4 @@
--- Names of maps and their places (profile).
+-- The names of maps and their indices (profile).
 use Rattle.std.specs.Prelude.{◌≡◌, ℕ, List, Some, ◌⊎◌}
 use Rattle.std.specs.Option.{unwrap_or}
 use Rattle.cell_core_values.specs.Name.{place_of}
@@ -10,15 +10,15 @@ use Rattle.cell_calc_grammar.specs.Tree.{with_leaves}
 use Rattle.cell_calc_grammar.specs.Term.{Term}
 use Rattle.cell_calc_language.specs.Unknown.{first_unknown}
 
--- the place of a map's name
+-- the index of a map's name
 abbrev pub place_in : List (List ℕ) → MapName → ℕ
 place_in names m = unwrap_or (place_of m.name names) 0
 
--- the same tree with each name replaced by its place
+-- the expression with each map name replaced by the map's index
 abbrev pub with_places : List (List ℕ) → Term → Formula
 with_places names e = with_leaves (place_in names) e
 
--- the error of an expression with an unknown name, or lack of memory
+-- the error of an expression with an unknown map name, or of running out of memory
 abbrev pub IsBindingFault : List (List ℕ) → Term → CalcFault → Type 0
 IsBindingFault names e fault =
     (fault ≡ record { kind = Memory; column = 0 }) ⊎ ((fault.kind ≡ UnknownMap) × (first_unknown names e ≡ Some fault.column))

@@ -1,70 +1,70 @@
--- Operators and functions on cells (r.mapcalc manual; range, division, ties and nulls among known ones: profile).
+-- Operators and functions on cells (r.mapcalc manual; range, division, ties and mixed nulls: profile).
 use Rattle.std.specs.Prelude.{ℕ, ℤ, pos, negsuc, int_le, Bool, true, false, not, ◌&&◌, ◌||◌, ◌==◌, nat_le, List, [], ◌∷◌, Some, None, slice_index_or, length, ◌-◌, if◌then◌else◌, filter, fold, count_by}
 use Rattle.std.specs.Int.{int_min, int_max}
 use Rattle.std.specs.List.{list_any, list_all}
 use Rattle.cell_core_values.specs.Cell.{cell_eq, is_category}
 use Rattle.cell_core.specs.Grid.{CellValue}
 
--- a result out of range is null
+-- the number as a category, or null if it is out of range
 abbrev pub fit : ℤ → CellValue
 fit n = if is_category n then Some n else None
 
--- 0
+-- the number is 0
 abbrev pub is_zero : ℤ → Bool
 is_zero (pos n) = n == 0
 is_zero (negsuc n) = false
 
--- 1 or 0
+-- 1 if true, otherwise 0
 abbrev pub truth : Bool → CellValue
 truth b = if b then Some (pos 1) else Some (pos 0)
 
--- a function of a category; null for null
+-- the result for a category; null for null
 abbrev pub of_one : (ℤ → CellValue) → CellValue → CellValue
 of_one f None = None
 of_one f (Some x) = f x
 
--- a function of two categories; null if one is null
+-- the result for two categories; null if either is null
 abbrev pub of_both : (ℤ → ℤ → CellValue) → CellValue → CellValue → CellValue
 of_both f None b = None
 of_both f (Some x) None = None
 of_both f (Some x) (Some y) = f x y
 
--- null
+-- the cell is null
 abbrev pub is_null : CellValue → Bool
 is_null None = true
 is_null (Some x) = false
 
--- a cell that is 0, not null
+-- the cell is 0
 abbrev pub is_false : CellValue → Bool
 is_false None = false
 is_false (Some x) = is_zero x
 
--- a category other than 0
+-- the cell is a category other than 0
 abbrev pub is_true : CellValue → Bool
 is_true None = false
 is_true (Some x) = not (is_zero x)
 
--- 0 if one of them is 0, else null if one is null, else 1
+-- 0 if either is 0; otherwise null if either is null; otherwise 1
 abbrev pub known_and : CellValue → CellValue → CellValue
 known_and a b = if is_false a || is_false b then Some (pos 0) else (if is_null a || is_null b then None else Some (pos 1))
 
--- 1 if one of them is a category other than 0, else null if one is null, else 0
+-- 1 if either is a category other than 0; otherwise null if either is null; otherwise 0
 abbrev pub known_or : CellValue → CellValue → CellValue
 known_or a b = if is_true a || is_true b then Some (pos 1) else (if is_null a || is_null b then None else Some (pos 0))
 
--- null if the condition is null; the first if it is not 0, else the second
+-- null if the condition is null; otherwise a if it is not 0, and b if it is 0
 abbrev pub chosen_cell : CellValue → CellValue → CellValue → CellValue
 chosen_cell None a b = None
 chosen_cell (Some x) a b = if is_zero x then b else a
 
--- the smaller of two, and the larger; null if one is null
+-- the smaller of two cells, and the larger; null if either is null
 abbrev pub lesser : CellValue → CellValue → CellValue
 lesser a b = of_both (λ x y. Some (int_min x y)) a b
 
 abbrev pub greater : CellValue → CellValue → CellValue
 greater a b = of_both (λ x y. Some (int_max x y)) a b
 
--- the smallest, and the largest; null if one is null, or if there are no cells
+-- the smallest cell, and the largest; null if any is null or there are none
 abbrev pub least : List CellValue → CellValue
 least [] = None
 least (a ∷ xs) = fold lesser a xs
@@ -73,32 +73,32 @@ abbrev pub greatest_cell : List CellValue → CellValue
 greatest_cell [] = None
 greatest_cell (a ∷ xs) = fold greater a xs
 
--- those that are not null
+-- the cells that are not null
 abbrev pub known_cells : List CellValue → List CellValue
 known_cells xs = filter (λ a. not (is_null a)) xs
 
--- how often a value occurs
+-- how often a cell occurs in a list
 abbrev pub occurrences : CellValue → List CellValue → ℕ
 occurrences v xs = count_by (cell_eq v) xs
 
--- none of the values occurs more often than this
+-- no cell in the list occurs more often than v
 abbrev pub is_most_frequent : List CellValue → CellValue → Bool
 is_most_frequent xs v = list_all (λ w. nat_le (occurrences w xs) (occurrences v xs)) xs
 
--- the smallest of the values that occur most often
+-- the smallest of the cells that occur most often
 abbrev pub most_frequent : List CellValue → CellValue
 most_frequent xs = least (filter (is_most_frequent xs) xs)
 
--- the same, null if one is null
+-- the smallest of the cells that occur most often; null if any is null
 abbrev pub mode : List CellValue → CellValue
 mode xs = if list_any is_null xs then None else most_frequent xs
 
--- the first; null if there is none
+-- the first cell; null if there is none
 abbrev pub first_known : List CellValue → CellValue
 first_known [] = None
 first_known (a ∷ xs) = a
 
--- the last; null if there is none
+-- the last cell; null if there is none
 abbrev pub last_argument : List CellValue → CellValue
 last_argument xs = slice_index_or xs (length xs - 1) None
 

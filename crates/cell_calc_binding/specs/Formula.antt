@@ -1,12 +1,12 @@
--- Expressions whose maps are places.
+-- Expressions over indices of maps.
 use Rattle.std.specs.Prelude.{ℕ}
 use Rattle.cell_calc_grammar.specs.Tree.{Tree, Trees}
 pub use Rattle.cell_calc_grammar.specs.Tree.{Number, Map, Negated, Not, Binary, Call, NoTrees, Then, count}
 
--- an expression over the places of its maps
+-- an expression whose maps are indices
 abbrev pub Formula : Type 0
 Formula = Tree ℕ
 
--- arguments over them
+-- arguments whose maps are indices
 abbrev pub Formulas : Type 0
 Formulas = Trees ℕ

@@ -1,9 +1,9 @@
--- How values of arguments are combined one by one.
+-- Functions that combine the values of arguments one after another.
 use Rattle.std.specs.Prelude.{if◌then◌else◌}
 use Rattle.cell_core.specs.Grid.{CellValue}
 use Rattle.cell_calc_binding.specs.CellOperators.{lesser, greater, is_null}
 
--- the smaller of two values of which one may be null, and the larger
+-- the smaller of two cells, and the larger, ignoring null
 abbrev pub known_lesser : CellValue → CellValue → CellValue
 known_lesser a b = if is_null a then b else (if is_null b then a else lesser a b)
 

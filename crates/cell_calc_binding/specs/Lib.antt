@@ -1,5 +1,5 @@
--- Operators and functions of r.mapcalc on cells. Expressions of r.mapcalc whose maps are places: their names and
--- places, their values at cells, which maps they read and how far.
+-- Operators and functions of r.mapcalc on cells. Expressions of r.mapcalc over indices of maps: their names and
+-- indices, their values at cells, and which maps they read and how far.
 pub mod Applied
 pub mod CellOperators
 pub mod Joins

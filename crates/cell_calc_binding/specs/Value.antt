@@ -1,4 +1,4 @@
--- The value of an expression at a cell (r.mapcalc manual; cells outside the region are the profile's).
+-- The value of an expression at a cell (r.mapcalc manual; null outside the region is our own choice).
 use Rattle.std.specs.Prelude.{pos, ◌+ℤ◌, List, [], ◌∷◌, Some, slice_get}
 use Rattle.cell_core.specs.Grid.{Grid, CellValue}
 use Rattle.cell_calc_binding.specs.Applied.{GridPosition, negated_cell, inverted_cell, operator_value, call_result}
@@ -6,7 +6,7 @@ use Rattle.cell_calc_binding.specs.Offsets.{cell_in}
 use Rattle.cell_calc_binding.specs.Formula.{Formula, Number, Map, Negated, Not, Binary, Call, Formulas, NoTrees, Then}
 
 abbrev mutual
-  -- the value of an expression over maps of one region, at a row and a column from 0
+  -- the value of an expression over maps of one region at a position
   pub value : Formula → List Grid → GridPosition → CellValue
   value (Number n) maps s = Some (pos n)
   value (Map i down right) maps s = cell_in (slice_get maps i) (pos s.row +ℤ down) (pos s.col +ℤ right)

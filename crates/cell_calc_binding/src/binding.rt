@@ -1,4 +1,4 @@
-//! From names of maps to places.
+//! Replaces map names with indices into a list of maps.
 
 ghost use Rattle.std.specs.Prelude.{◌≡◌, map, None, IfOk, IfErr, IfSome, IsErrOf, OnOk};
 ghost use Rattle.cell_calc_binding.specs.Binding.{place_in, with_places, IsBindingFault};
@@ -23,7 +23,7 @@ fn place_in(map: &MapName, names: &Names) -> usize
     }
 }
 
-// The same step with its name replaced by its place.
+// Returns the step with its map name replaced by the map's index.
 fn step_over_place(step: &Step<MapName>, names: &Names) -> Step<usize>
     ensures { result ≡ step_over (place_in names.now) step.now }
 {
@@ -55,11 +55,11 @@ fn steps_over_places(
     Ok(found)
 }
 
-/// The same expression with each map name replaced by its place.
+/// Returns the expression with each map name replaced by the map's index.
 ///
 /// # Errors
 ///
-/// `UnknownMap` with the column of the first name that is not among the names; else `Memory`, with
+/// `UnknownMap` with the column of the first name that is not in the list; otherwise `Memory`, with
 /// column 0, if memory runs out.
 pub fn resolve(alloc: Global, expr: &Expr, names: &Names) -> Result<Bound, CalcFault>
     ensures ok { IfOk result (λ bound. bound ≡ with_places names.now expr.now) }
@@ -68,8 +68,7 @@ pub fn resolve(alloc: Global, expr: &Expr, names: &Names) -> Result<Bound, CalcF
         (λ column. IsErrOf result (record { kind = CalcKind.UnknownMap; column = column })) }
     ensures err { IfErr result (λ fault. IsBindingFault names.now expr.now fault) }
 {
-    // Names are looked up twice, first without allocating: so an unknown map is reported even if there is little
-    // memory.
+    // Names are looked up twice, first without allocating, so that an unknown map is reported even if memory is short.
     if let Some(column) = expr.first_unknown(names) {
         return Err(CalcFault {
             kind: CalcKind::UnknownMap,

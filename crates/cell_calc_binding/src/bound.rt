@@ -1,4 +1,4 @@
-//! Expressions over places of maps.
+//! Expressions over indices of maps.
 
 ghost use Rattle.std.specs.Prelude.{◌≡◌, ◌<◌, ◌≤◌, max, All};
 ghost use Rattle.cell_calc_grammar.specs.Postfix.{postfix, at_step, fold_steps};
@@ -8,7 +8,7 @@ ghost use Rattle.cell_calc_binding.specs.parts.TreeSteps.{IsProperStep};
 use cell_calc_grammar::step::Step;
 use std::marker::Model;
 
-/// An expression whose maps are places in a list of maps.
+/// An expression whose maps are indices into a list of maps.
 #[derive(Drop)]
 pub struct Bound {
     pub(crate) steps: Vec<Step<usize>>,
@@ -112,14 +112,14 @@ fn down(i: usize, steps: &[Step<usize>]) -> u32
 }
 
 impl Bound {
-    /// One more than the largest place that is read; 0 if no map is read. Takes no memory.
+    /// Returns one more than the largest index that is read, or 0 if no map is read. Does not allocate.
     pub fn top(&self) -> usize
         ensures { result ≡ top_of self.now }
     {
         top(self.steps.as_slice())
     }
 
-    /// The largest number of rows up and down in an offset of the map at a place. Takes no memory.
+    /// Returns how many rows above and below a cell the expression reads in the map at index `i`. Does not allocate.
     pub fn reach(&self, i: usize) -> (u32, u32)
         requires { i < top_of self.now }
         ensures up { result.0 ≡ up_of i self.now }
@@ -130,7 +130,7 @@ impl Bound {
         (up(i, steps), down(i, steps))
     }
 
-    /// The steps of the expression in postfix order. Takes no memory.
+    /// Returns the steps of the expression in postfix order. Does not allocate.
     pub fn steps(&self) -> &[Step<usize>]
         ensures steps { result.now ≡ postfix self.now }
         ensures proper { IsProper self.now }

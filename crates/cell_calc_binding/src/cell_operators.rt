@@ -1,4 +1,4 @@
-//! Operators and functions on cells.
+//! Applies operators and functions to cells.
 
 ghost use Rattle.std.specs.Prelude.{◌≡◌, pos, ◌+ℤ◌, ◌-ℤ◌, ◌*ℤ◌, ◌≤ℤ◌, ◌≤◌, Some, negsuc, neg_ℤ, int_div, unsigned_abs, false};
 ghost use Rattle.cell_calc_binding.specs.CellOperators.{fit, truth, chosen_cell, lesser, greater, is_zero, is_false, is_true, is_null, known_and, known_or, of_one};
@@ -8,7 +8,7 @@ ghost use Rattle.cell_calc_grammar.specs.declared.operator.Operator.TheVariants 
 
 use cell_core::cell::Cell;
 
-/// A number as a category, null outside the range.
+/// Returns a number as a category, or null if it is out of range.
 #[inline(always)]
 pub fn fit(number: i32) -> Cell
     ensures { result ≡ fit number }
@@ -19,7 +19,7 @@ pub fn fit(number: i32) -> Cell
     }
 }
 
-/// A natural number as a category.
+/// Returns a natural number as a category.
 #[tactic(auto, using(crate::proofs::Fit::fit_number))]
 #[inline(always)]
 pub fn number(number: u32) -> Cell
@@ -29,7 +29,7 @@ pub fn number(number: u32) -> Cell
     fit(number as i32)
 }
 
-/// A result, or null if there is none.
+/// Returns a number as a category, or null if there is none.
 #[inline(always)]
 fn cell_or_null(number: Option<i32>) -> Cell
     ensures { result ≡ of_one (λ n. fit n) number }
@@ -40,7 +40,7 @@ fn cell_or_null(number: Option<i32>) -> Cell
     }
 }
 
-/// 1 if a condition holds, 0 if not.
+/// Returns 1 if the condition holds, otherwise 0.
 #[inline(always)]
 pub fn truth(holds: bool) -> Cell
     ensures { result ≡ truth holds }
@@ -55,7 +55,7 @@ fn is_zero(x: i32) -> bool
     x == 0
 }
 
-/// Whether a cell is null.
+/// Returns whether a cell is null.
 #[inline(always)]
 pub fn is_null(a: Cell) -> bool
     ensures { result ≡ is_null a }
@@ -86,7 +86,7 @@ fn is_true(a: Cell) -> bool
     }
 }
 
-// The compiler vectorises this test for a wrapping sum, but not for a checked sum.
+// The compiler vectorises this overflow test, but not a checked addition.
 #[inline(always)]
 fn sum_of(x: i32, y: i32) -> Cell
     ensures { result ≡ fit (x +ℤ y) }
@@ -136,7 +136,7 @@ fn remainder_of(x: i32, y: i32) -> Cell
     cell_or_null(x.checked_rem(y))
 }
 
-/// `a + b`; null if one of them is null, or the sum is out of range (profile).
+/// `a + b`; null if either is null, or if the sum is out of range (profile).
 #[inline(always)]
 pub fn sum(a: Cell, b: Cell) -> Cell
     ensures { result ≡ operator_value operator.Plus a b }
@@ -147,7 +147,7 @@ pub fn sum(a: Cell, b: Cell) -> Cell
     }
 }
 
-/// `a - b`; null if one of them is null, or the difference is out of range (profile).
+/// `a - b`; null if either is null, or if the difference is out of range (profile).
 #[inline(always)]
 pub fn difference(a: Cell, b: Cell) -> Cell
     ensures { result ≡ operator_value operator.Minus a b }
@@ -158,7 +158,7 @@ pub fn difference(a: Cell, b: Cell) -> Cell
     }
 }
 
-/// `a * b`; null if one of them is null, or the product is out of range (profile).
+/// `a * b`; null if either is null, or if the product is out of range (profile).
 #[inline(always)]
 pub fn product(a: Cell, b: Cell) -> Cell
     ensures { result ≡ operator_value operator.Times a b }
@@ -169,7 +169,7 @@ pub fn product(a: Cell, b: Cell) -> Cell
     }
 }
 
-/// `a / b`, truncated towards zero; null if one of them is null, or `b` is 0 (GRASS manual: r.mapcalc).
+/// `a / b`, truncated towards zero; null if either is null, or if `b` is 0 (GRASS manual: r.mapcalc).
 #[inline(always)]
 pub fn quotient(a: Cell, b: Cell) -> Cell
     ensures { result ≡ operator_value operator.Divide a b }
@@ -186,7 +186,7 @@ pub fn quotient(a: Cell, b: Cell) -> Cell
     }
 }
 
-/// `a % b`, with the sign of `a`; null if one of them is null, or `b` is 0 (profile).
+/// `a % b`, with the sign of `a`; null if either is null, or if `b` is 0 (profile).
 #[inline(always)]
 pub fn remainder(a: Cell, b: Cell) -> Cell
     ensures { result ≡ operator_value operator.Modulo a b }
@@ -203,7 +203,7 @@ pub fn remainder(a: Cell, b: Cell) -> Cell
     }
 }
 
-/// `a < b` as 1 or 0; null if one of them is null.
+/// `a < b` as 1 or 0; null if either is null.
 #[inline(always)]
 pub fn less(a: Cell, b: Cell) -> Cell
     ensures { result ≡ operator_value operator.Less a b }
@@ -214,7 +214,7 @@ pub fn less(a: Cell, b: Cell) -> Cell
     }
 }
 
-/// `a <= b` as 1 or 0; null if one of them is null.
+/// `a <= b` as 1 or 0; null if either is null.
 #[inline(always)]
 pub fn less_equal(a: Cell, b: Cell) -> Cell
     ensures { result ≡ operator_value operator.LessEqual a b }
@@ -225,7 +225,7 @@ pub fn less_equal(a: Cell, b: Cell) -> Cell
     }
 }
 
-/// `a > b` as 1 or 0; null if one of them is null.
+/// `a > b` as 1 or 0; null if either is null.
 #[inline(always)]
 pub fn greater(a: Cell, b: Cell) -> Cell
     ensures { result ≡ operator_value operator.Greater a b }
@@ -236,7 +236,7 @@ pub fn greater(a: Cell, b: Cell) -> Cell
     }
 }
 
-/// `a >= b` as 1 or 0; null if one of them is null.
+/// `a >= b` as 1 or 0; null if either is null.
 #[inline(always)]
 pub fn greater_equal(a: Cell, b: Cell) -> Cell
     ensures { result ≡ operator_value operator.GreaterEqual a b }
@@ -247,7 +247,7 @@ pub fn greater_equal(a: Cell, b: Cell) -> Cell
     }
 }
 
-/// `a == b` as 1 or 0; null if one of them is null.
+/// `a == b` as 1 or 0; null if either is null.
 #[inline(always)]
 pub fn equal(a: Cell, b: Cell) -> Cell
     ensures { result ≡ operator_value operator.Equal a b }
@@ -258,7 +258,7 @@ pub fn equal(a: Cell, b: Cell) -> Cell
     }
 }
 
-/// `a != b` as 1 or 0; null if one of them is null.
+/// `a != b` as 1 or 0; null if either is null.
 #[inline(always)]
 pub fn not_equal(a: Cell, b: Cell) -> Cell
     ensures { result ≡ operator_value operator.NotEqual a b }
@@ -269,7 +269,7 @@ pub fn not_equal(a: Cell, b: Cell) -> Cell
     }
 }
 
-/// `a && b` as 1 or 0; null if one of them is null.
+/// `a && b` as 1 or 0; null if either is null.
 #[inline(always)]
 pub fn and(a: Cell, b: Cell) -> Cell
     ensures { result ≡ operator_value operator.And a b }
@@ -280,7 +280,7 @@ pub fn and(a: Cell, b: Cell) -> Cell
     }
 }
 
-/// `a || b` as 1 or 0; null if one of them is null.
+/// `a || b` as 1 or 0; null if either is null.
 #[inline(always)]
 pub fn or(a: Cell, b: Cell) -> Cell
     ensures { result ≡ operator_value operator.Or a b }
@@ -291,7 +291,7 @@ pub fn or(a: Cell, b: Cell) -> Cell
     }
 }
 
-/// The smaller of two cells; null if one of them is null.
+/// Returns the smaller of two cells, or null if either is null.
 #[inline(always)]
 pub fn lesser(a: Cell, b: Cell) -> Cell
     ensures { result ≡ lesser a b }
@@ -302,7 +302,7 @@ pub fn lesser(a: Cell, b: Cell) -> Cell
     }
 }
 
-/// The larger of two cells; null if one of them is null.
+/// Returns the larger of two cells, or null if either is null.
 #[inline(always)]
 pub fn larger(a: Cell, b: Cell) -> Cell
     ensures { result ≡ greater a b }
@@ -313,7 +313,7 @@ pub fn larger(a: Cell, b: Cell) -> Cell
     }
 }
 
-/// `a &&& b`: 0 if one of them is 0, whatever the other is; else as `a && b` (GRASS manual: r.mapcalc).
+/// `a &&& b`: 0 if either is 0, even if the other is null; otherwise like `a && b` (GRASS manual: r.mapcalc).
 #[inline(always)]
 pub fn known_and(a: Cell, b: Cell) -> Cell
     ensures { result ≡ operator_value operator.KnownAnd a b }
@@ -327,7 +327,8 @@ pub fn known_and(a: Cell, b: Cell) -> Cell
     fit(1)
 }
 
-/// `a ||| b`: 1 if one of them is neither null nor 0, whatever the other is; else as `a || b` (GRASS manual: r.mapcalc).
+/// `a ||| b`: 1 if either is a number other than 0, even if the other is null; otherwise like `a || b` (GRASS manual:
+/// r.mapcalc).
 #[inline(always)]
 pub fn known_or(a: Cell, b: Cell) -> Cell
     ensures { result ≡ operator_value operator.KnownOr a b }
@@ -341,7 +342,7 @@ pub fn known_or(a: Cell, b: Cell) -> Cell
     fit(0)
 }
 
-/// The smaller of two cells, or the one that is not null.
+/// Returns the smaller of two cells, ignoring null.
 #[inline(always)]
 pub fn known_lesser(a: Cell, b: Cell) -> Cell
     ensures { result ≡ known_lesser a b }
@@ -355,7 +356,7 @@ pub fn known_lesser(a: Cell, b: Cell) -> Cell
     lesser(a, b)
 }
 
-/// The larger of two cells, or the one that is not null.
+/// Returns the larger of two cells, ignoring null.
 #[inline(always)]
 pub fn known_larger(a: Cell, b: Cell) -> Cell
     ensures { result ≡ known_greater a b }
@@ -381,7 +382,7 @@ pub fn negated_cell(a: Cell) -> Cell
     }
 }
 
-/// `!a`: 1 if `a` is 0, 0 if it is another number, null if it is null.
+/// `!a`: 1 if `a` is 0, 0 if it is another number, and null if it is null.
 #[inline(always)]
 pub fn inverted_cell(a: Cell) -> Cell
     ensures { result ≡ inverted_cell a }
@@ -404,7 +405,7 @@ pub fn size(a: Cell) -> Cell
     }
 }
 
-/// `if(condition, yes, no)`: `no` if the condition is 0, `yes` if it is another number, null if it is null.
+/// `if(condition, yes, no)`: `no` if the condition is 0, `yes` if it is another number, and null if it is null.
 #[inline(always)]
 pub fn chosen_cell(condition: Cell, yes: Cell, no: Cell) -> Cell
     ensures { result ≡ chosen_cell condition yes no }
@@ -415,7 +416,7 @@ pub fn chosen_cell(condition: Cell, yes: Cell, no: Cell) -> Cell
     }
 }
 
-/// `isnull(a)`: 1 if `a` is null, 0 if not.
+/// `isnull(a)`: 1 if `a` is null, otherwise 0.
 #[inline(always)]
 pub fn nullness(a: Cell) -> Cell
     ensures { result ≡ truth (is_null a) }

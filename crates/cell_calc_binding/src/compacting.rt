@@ -1,4 +1,4 @@
-//! Expressions over only the maps that they read.
+//! Renumbers the maps of an expression, so that only the maps that it reads have indices.
 
 ghost use Rattle.std.specs.Prelude.{◌≡◌, ◌<◌, ◌+◌, ℕ, List, length, max, All, IfOk};
 ghost use Rattle.cell_core.specs.Grid.{Grid};
@@ -15,7 +15,7 @@ use cell_calc_grammar::step::Step;
 use cell_core::memory::Memory;
 use std::alloc::Global;
 
-// The index of a place in a list; the length of the list if it is not there.
+// Returns the position of an index in a list, or the length of the list if it is not in the list.
 fn listed_place(places: &[usize], place: usize) -> usize
     ensures { result ≡ index_in places.now place }
 {
@@ -27,7 +27,7 @@ fn listed_place(places: &[usize], place: usize) -> usize
     places.len()
 }
 
-// The index of a place in a list, to which it is added if it was not there.
+// Returns the position of an index in a list, after appending it if it is not in the list.
 fn place_or_new(places: &mut Vec<usize>, place: usize) -> Result<usize, Memory>
     ensures there { IfOk result (λ k. k ≡ index_in places.new.items place) }
     ensures count { IfOk result (λ k. length places.new.items
@@ -44,7 +44,7 @@ fn place_or_new(places: &mut Vec<usize>, place: usize) -> Result<usize, Memory>
     Ok(k)
 }
 
-// A step over the places in a list, to which the step's place is added.
+// Returns the step renumbered over a list of indices, to which the step's index is added if needed.
 fn step_over_new_place(step: Step<usize>, places: &mut Vec<usize>) -> Result<Step<usize>, Memory>
     ensures step { IfOk result (λ s. s ≡ step_over (index_in places.new.items) step) }
     ensures listed { IfOk result (λ _. IsListed places.new.items step) }
@@ -64,7 +64,7 @@ fn step_over_new_place(step: Step<usize>, places: &mut Vec<usize>) -> Result<Ste
     }
 }
 
-// Renumbers steps so that they index only the maps that they read. Returns the steps and the places of these maps.
+// Renumbers steps so that they index only the maps that they read. Returns the steps and the old indices of these maps.
 fn steps_over_read_maps(
     alloc: Global,
     steps: &[Step<usize>],
@@ -81,10 +81,11 @@ fn steps_over_read_maps(
 }
 
 impl Bound {
-    /// The same expression over a list of just the maps that it reads, and the place of each of these in the list of all.
+    /// Returns the expression renumbered over a list of only the maps that it reads, and the old index of each.
     ///
-    /// `eval_row` takes a window for each place up to the largest. Over all maps of a shelf, the steps of a script in which each
-    /// map is made from the one before would grow with the square of its statements.
+    /// `eval_row` needs a window for each index up to the largest. If each map of a script is computed from the map
+    /// before, windows over all maps of the shelf would take time that grows with the square of the number of
+    /// statements.
     ///
     /// # Errors
     ///

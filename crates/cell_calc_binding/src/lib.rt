@@ -1,14 +1,14 @@
-//! The value of an expression at one cell, and how far from the cell it reads (GRASS manual:
+//! Defines the value of an expression at one cell, and how far from the cell it reads (GRASS manual:
 //! r.mapcalc). Results out of the range of categories, and cells outside the region, are null
 //! (profile).
 //!
-//! - specs/Value.antt: `value`, what an expression means; specs/Applied.antt: its operators and
+//! - specs/Value.antt: `value`, the meaning of an expression; specs/Applied.antt: its operators and
 //!   functions
-//! - `cell_operators`: the same as calls on cells: `sum`, `quotient`, `chosen_cell`, ..
-//! - `binding`: `resolve`, which replaces the names of maps with their indices in a list
-//! - `bound`: `Bound`, such an expression; `top`, one more than the largest index; `reach`, how
-//!   many rows it reads above and below
-//! - `compacting`: `over_read_maps`, the same expression over just the maps that it reads
+//! - `cell_operators`: operators and functions as calls: `sum`, `quotient`, `chosen_cell`, ..
+//! - `binding`: `resolve` replaces map names with indices into a list
+//! - `bound`: `Bound` is an expression over indices; `top` returns one more than the largest index;
+//!   `reach` returns how many rows it reads above and below
+//! - `compacting`: `over_read_maps` returns the expression over only the maps that it reads
 //!
 //! The map `g` one row below and one row above (`bound_of` calls `parse` and `resolve`):
 //!

@@ -1,3 +1,3 @@
--- Maps of the values of expressions.
+-- Maps of an expression's values.
 pub mod MapValues
 pub mod parts

@@ -1,4 +1,4 @@
--- Maps of the values of expressions.
+-- Maps of an expression's values.
 use Rattle.std.specs.Prelude.{◌≡◌, ◌<◌, ℕ, List}
 use Rattle.cell_core.specs.Grid.{Grid, cell_at, no_labels}
 use Rattle.cell_core_values.specs.Region.{RegionValue}
@@ -6,7 +6,7 @@ use Rattle.cell_calc_binding.specs.Applied.{grid_position}
 use Rattle.cell_calc_binding.specs.Formula.{Formula}
 use Rattle.cell_calc_binding.specs.Value.{value}
 
--- a map of a region without labels; each cell has the value of an expression over maps
+-- the map covers the region without labels, and each cell has the expression's value
 pub record HasValues (f : Formula) (r : RegionValue) (maps : List Grid) (m : Grid) : Type 0 where
   pub region : m.region ≡ r
   pub labels : m.labels ≡ no_labels

@@ -1,7 +1,7 @@
-//! Maps of values that are looked up in a table. This costs less than computing them row by row if a value depends only
-//! on the category of one cell.
+//! Computes the values of an expression by looking them up in a table. If a value depends only on the category of one
+//! cell, this costs less than computing the values row by row.
 //!
-//! - `map_by_category`: `map_by_category`, the map of the values, or none if a table costs more
+//! - `map_by_category`: `map_by_category` returns the map of the values, or none if a table would cost more
 //! - private: `span`, the categories of a map
 #![tactic(auto)]
 

@@ -1,5 +1,5 @@
-//! Maps of values that depend only on the category of one cell: a value is computed once for each category, and looked
-//! up for each cell.
+//! Computes maps whose values depend only on the category of one cell: each category's value is computed once and then
+//! looked up for each cell.
 
 ghost use Rattle.std.specs.Prelude.{◌≡◌, ◌<◌, ◌≤◌, ◌+◌, ℕ, List, [], ◌∷◌, ◌++◌, length, map, All, Some, IfOk, OnOk, IfSome, slice_get, slice_index_or};
 ghost use Rattle.cell_core.specs.Grid.{Grid, CellValue, row_at, no_labels};
@@ -23,10 +23,10 @@ use cell_core::stretches::Stretches;
 use cell_core_values::small_cells::{are_small, bytes_of, cell_of_byte};
 use std::alloc::Global;
 
-// The number of different bytes.
+// Number of different bytes.
 const BYTES: usize = 256;
 
-// `width` categories of a span, as cells, starting at place `from`.
+// Returns `width` categories of a span as cells, starting at index `from`.
 fn cells_of_span(
     alloc: Global,
     span: CategorySpan,
@@ -49,7 +49,7 @@ fn cells_of_span(
     Ok(cells)
 }
 
-// The values of an expression at all places of a span.
+// Returns the value of an expression for every cell in a span.
 fn values_of_span(
     alloc: Global,
     bound: &Bound,
@@ -76,7 +76,7 @@ fn values_of_span(
     Ok(table)
 }
 
-// Replaces each cell with the value at its place in a table.
+// Replaces each cell with its value in a table.
 #[inline(never)]
 fn change_cells(span: CategorySpan, table: &[Cell], cells: &mut [Cell])
     requires span { IsSpan span }
@@ -112,7 +112,7 @@ fn write_by_stretches(
     }
 }
 
-// Writes the values of a map's row. Only a row that is kept as runs is processed run by run.
+// Writes the values of a map's row. Only rows stored as runs are processed run by run.
 fn write_row(span: CategorySpan, table: &[Cell], given: &CellMap, row: u32, cells: &mut [Cell])
     requires span { IsSpan span }
     requires size { IsSize span (length table.now) }
@@ -130,7 +130,7 @@ fn write_row(span: CategorySpan, table: &[Cell], given: &CellMap, row: u32, cell
     }
 }
 
-// The cells that bytes stand for, in the order of the bytes.
+// Returns the cells that bytes stand for, in the order of the bytes.
 fn cells_of_all_bytes(alloc: Global) -> Result<Vec<Cell>, Memory>
     ensures count { IfOk result (λ cells. length cells.items ≡ 256) }
     ensures each { IfOk result (λ cells. (b : ℕ) → b < 256 → at cells.items b ≡ byte_cell b) }
@@ -142,7 +142,7 @@ fn cells_of_all_bytes(alloc: Global) -> Result<Vec<Cell>, Memory>
     Ok(cells)
 }
 
-// The bytes of the values of cells kept as bytes, if all of these values have bytes.
+// Returns the bytes of the values of cells stored as bytes, if every such value has a byte.
 fn byte_table(alloc: Global, span: CategorySpan, table: &[Cell]) -> Result<Option<Vec<u8>>, Memory>
     requires span { IsSpan span }
     requires size { IsSize span (length table.now) }
@@ -160,8 +160,8 @@ fn byte_table(alloc: Global, span: CategorySpan, table: &[Cell]) -> Result<Optio
     Ok(Some(bytes))
 }
 
-// Looks each byte up in a table, and writes the results into a slice of the same length. It is a call of its own, so
-// that the address of the table stays in a register.
+// Looks up each byte in a table and writes the results into a slice of the same length. It is a separate call so that
+// the table's address stays in a register.
 #[inline(never)]
 fn write_bytes(table: &[u8], bytes: &[u8], values: &mut [u8])
     requires table { length table.now ≡ 256 }
@@ -174,7 +174,7 @@ fn write_bytes(table: &[u8], bytes: &[u8], values: &mut [u8])
     }
 }
 
-// Adds the values of a map's row at the bottom of another map: as bytes, if the row and the values are bytes.
+// Appends the values of a map's row to another map, as bytes if the row and its values have bytes.
 fn push_values(
     builder: &mut MapBuilder,
     given: &CellMap,
@@ -210,7 +210,7 @@ fn push_values(
     builder.push_row(cells)
 }
 
-// The map of the values in a table.
+// Returns the map whose cells have the values in a table.
 fn map_of_values(
     alloc: Global,
     given: &CellMap,
@@ -242,8 +242,8 @@ fn map_of_values(
     Ok(builder.finish())
 }
 
-/// The map of an expression's values over maps, if the expression reads only the first of them, a value depends only on
-/// the category of the cell itself, and a table of values costs less than computing each one.
+/// Returns the map of an expression's values, if the expression reads only the first map, each value depends only on
+/// the category of the cell itself, and a table of values costs less than computing each value.
 ///
 /// # Errors
 ///

@@ -10,16 +10,17 @@ use cell_core::cell::Cell;
 use cell_core::map::CellMap;
 use cell_core::stretches::Stretches;
 
-// A table is made only if a map has at least this many cells per category of its span, so that the table costs little.
+// A table is built only if the map has at least this many cells per category of its span, so that building it costs
+// little.
 const CELLS_A_CATEGORY: u32 = 8;
 
-// Maximum number of places in a table, so that it stays in the cache.
+// Maximum number of table entries, so that the table stays in the cache.
 const MOST_PLACES: u32 = 65536;
 
 // The largest category that a byte stands for.
 const GREATEST_BYTE: i32 = 254;
 
-/// The categories from a smallest to a largest one.
+/// The categories from a smallest to a largest one, inclusive.
 #[derive(Clone, Copy)]
 pub(crate) struct CategorySpan {
     pub(crate) least: i32,
@@ -27,7 +28,7 @@ pub(crate) struct CategorySpan {
 }
 
 impl CategorySpan {
-    /// How many places a table has: one for each category, and the last for null.
+    /// Returns the number of table entries: one per category, and one for null at the end.
     pub(crate) fn size(self) -> usize
         requires { IsSpan self }
         ensures { IsSize self result }
@@ -35,7 +36,7 @@ impl CategorySpan {
         (self.greatest as i64 - self.least as i64 + 2) as usize
     }
 
-    /// The place of a cell.
+    /// Returns the table index of a cell.
     #[inline(always)]
     pub(crate) fn place(self, cell: Cell) -> usize
         requires span { IsSpan self }
@@ -48,7 +49,7 @@ impl CategorySpan {
         }
     }
 
-    /// The cell at a place.
+    /// Returns the cell at a table index.
     pub(crate) fn cell(self, place: usize) -> Cell
         requires span { IsSpan self }
         requires place { pos place ≤ℤ ((self.greatest -ℤ self.least) +ℤ pos 1) }
@@ -65,7 +66,7 @@ impl CategorySpan {
         }
     }
 
-    // The span extended by a cell.
+    // Extends the span to contain a cell.
     #[inline(always)]
     fn with(self, cell: Cell) -> CategorySpan
         requires { IsSpan self }
@@ -82,7 +83,7 @@ impl CategorySpan {
         }
     }
 
-    // The span extended by cells.
+    // Extends the span to contain cells.
     fn with_cells(self, cells: &[Cell]) -> CategorySpan
         requires { IsSpan self }
         ensures span { IsSpan result }
@@ -96,7 +97,7 @@ impl CategorySpan {
         span
     }
 
-    // The span extended by the cells of stretches.
+    // Extends the span to contain the cells of stretches.
     fn with_stretches(self, stretches: Stretches<'_>) -> CategorySpan
         requires { IsSpan self }
         ensures span { IsSpan result }
@@ -110,7 +111,7 @@ impl CategorySpan {
         span
     }
 
-    // The span extended by cells kept as bytes: it contains them already.
+    // Returns the span itself, because it already contains all cells stored as bytes.
     fn with_bytes(self, bytes: &[u8]) -> CategorySpan
         requires { IsSpan self }
         ensures same { result ≡ self }
@@ -120,7 +121,7 @@ impl CategorySpan {
         self
     }
 
-    // The span extended by the cells of a map's row.
+    // Extends the span to contain the cells of a map's row.
     fn with_row(self, given: &CellMap, row: u32) -> CategorySpan
         requires span { IsSpan self }
         requires row { row < given.now.region.rows }
@@ -138,7 +139,8 @@ impl CategorySpan {
     }
 }
 
-/// The span of the cells of a map and of all cells that bytes stand for, unless it is too wide for a table.
+/// Returns the smallest span that contains the cells of a map and all cells that bytes stand for, unless it is too wide
+/// for a table.
 pub(crate) fn span_of(given: &CellMap) -> Option<CategorySpan>
     ensures span { IfSome result IsSpan }
     ensures within { IfSome result (λ span. (row : ℕ) → row < given.now.region.rows

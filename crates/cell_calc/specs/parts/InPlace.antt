@@ -1,16 +1,16 @@
--- Steps of expressions that give the same value for the same cells at each column of a row.
+-- Steps of expressions that give the same value for the same cells in every column of a row.
 use Rattle.std.specs.Prelude.{◌≡◌, ℕ, pos, Bool, true, false}
 use Rattle.cell_calc_grammar.specs.declared.step.Step.{Step}
 use Rattle.cell_calc_grammar.specs.declared.step.Step.TheVariants as step
 use Rattle.cell_calc_grammar.specs.declared.function.Function.{Function}
 use Rattle.cell_calc_grammar.specs.declared.function.Function.TheVariants as function
 
--- col()
+-- the function is col()
 abbrev pub asks_column : Function → Bool
 asks_column function.Column = true
 asks_column f = false
 
--- a step whose value at a cell depends only on the cells there: it reads no neighbours and no column number
+-- the value of the step at a cell depends only on the cells there: it reads no neighbours and no column number
 abbrev pub IsInPlace : Step ℕ → Type 0
 IsInPlace (step.Map i down right) = (down ≡ pos 0) × (right ≡ pos 0)
 IsInPlace (step.Call f n) = asks_column f ≡ false
