@@ -1,11 +1,12 @@
--- The shelf after each statement (profile).
+-- The shelf after each statement (see the profile).
 use Rattle.std.specs.Prelude.{◌≡◌}
 use Rattle.cell_core.specs.Shelf.{ShelfValue}
 use Rattle.rcell.specs.Making.{IsWithValues, IsWithClasses, IsWithNumbers}
 use Rattle.rcell_script_commands.specs.declared.command.Command.{Command}
 use Rattle.rcell_script_commands.specs.declared.command.Command.TheVariants.{Mapcalc, Reclass, Clump, Stats, OutAscii}
 
--- the shelf after a command: if it makes a map, the map is added at the end under its name; else nothing changes
+-- the shelf after a command: if the command makes a map, the map is added at the end with its name; otherwise the shelf
+-- does not change
 abbrev pub IsShelfAfter : ShelfValue → Command → ShelfValue → Type 0
 IsShelfAfter shelf (Mapcalc target bound) after = IsWithValues shelf target bound after
 IsShelfAfter shelf (Reclass place target rules) after = IsWithClasses shelf place target rules after

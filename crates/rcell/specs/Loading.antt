@@ -1,4 +1,4 @@
--- The shelf of grids, in their order, or the first error (profile).
+-- Reads grids onto a shelf, in order, up to the first error (see the profile).
 use Rattle.std.specs.Prelude.{ℕ, ◌+◌, List, [], ◌∷◌, ◌++◌, Option, Some, None, Result, Ok, Err, if◌then◌else◌}
 use Rattle.cell_core.specs.Grid.{Grid}
 use Rattle.cell_core_values.specs.Name.{place_of}
@@ -10,35 +10,35 @@ use Rattle.rcell.specs.Sources.{Named}
 use Rattle.rcell.specs.declared.run_fault.RunFault.{RunFault}
 use Rattle.rcell.specs.declared.run_fault.RunFault.TheVariants as faults
 
--- the first grid's region is the region of the shelf
+-- a shelf with one map, whose region is the region of the shelf
 abbrev pub shelf_of_one : List ℕ → Grid → ShelfValue
 shelf_of_one name map = record { region = map.region; names = name ∷ []; maps = map ∷ [] }
 
--- a name already on the shelf is reported before another region
+-- adds a map to the shelf; a name that is already on the shelf is reported before a different region
 abbrev pub shelf_with_map : ℕ → ShelfValue → List ℕ → Grid → Option ℕ → Result ShelfValue RunFault
 shelf_with_map grid shelf name map (Some place) = Err (faults.GridTwice grid)
 shelf_with_map grid shelf name map None = if is_same_region map.region shelf.region then Ok (record shelf { names = shelf.names ++ name ∷ []; maps = shelf.maps ++ map ∷ [] }) else Err (faults.GridRegion grid)
 
--- the shelf with one more map; the first map makes the shelf
+-- adds a map to the shelf, or creates a shelf with the first map
 abbrev pub shelf_placed : ℕ → Option ShelfValue → List ℕ → Grid → Result ShelfValue RunFault
 shelf_placed grid None name map = Ok (shelf_of_one name map)
 shelf_placed grid (Some shelf) name map = shelf_with_map grid shelf name map (place_of name shelf.names)
 
--- the shelf with the grid in place `grid`
+-- adds the grid with index `grid` to the shelf, or returns its error
 abbrev pub with_grid : ℕ → Option ShelfValue → List ℕ → Result Grid GridFault → Result ShelfValue RunFault
 with_grid grid shelf name (Ok map) = shelf_placed grid shelf name map
 with_grid grid shelf name (Err fault) = Err (faults.Grid grid fault)
 
--- the shelf after the remaining grids, unless there was an error
+-- continues with the remaining grids, unless there was an error
 abbrev pub then_grids : (ShelfValue → Result (Option ShelfValue) RunFault) → Result ShelfValue RunFault → Result (Option ShelfValue) RunFault
 then_grids rest (Ok shelf) = rest shelf
 then_grids rest (Err fault) = Err fault
 
--- the shelf with the remaining grids, from place `grid` on
+-- adds the remaining grids, starting at index `grid`
 unfoldable pub shelf_from : ℕ → Option ShelfValue → List Named → Result (Option ShelfValue) RunFault
 shelf_from grid shelf [] = Ok shelf
 shelf_from grid shelf (g ∷ gs) = then_grids (λ s. shelf_from (grid + 1) (Some s) gs) (with_grid grid shelf g.0 (grid_of g.1))
 
--- the shelf of grids: each is read completely, in order
+-- the shelf of the grids: each is read completely, in order
 abbrev pub shelf_of : List Named → Result (Option ShelfValue) RunFault
 shelf_of grids = shelf_from 0 None grids

@@ -1,4 +1,4 @@
--- What the statements of a script write (r.stats and r.out.ascii manuals), one after another (profile).
+-- What the statements of a script write, one after another (r.stats and r.out.ascii manuals; profile).
 use Rattle.std.specs.Prelude.{ℕ, ◌≡◌, List, [], ◌∷◌, ◌++◌, slice_get, if◌then◌else◌}
 use Rattle.std.specs.Option.{option_map_or}
 use Rattle.cell_ascii_meaning.specs.Writing.{grid_text}
@@ -12,7 +12,7 @@ use Rattle.cell_stats.specs.TableText.{FormatValue, table_text, printed_pairs, c
 use Rattle.cell_stats.specs.CategoryTables.{table_of}
 use Rattle.rcell.specs.After.{IsShelfAfter}
 
--- the combinations of all cells of the maps at the places
+-- the combinations at all cells of these maps
 abbrev pub combinations_of : ShelfValue → List ℕ → List Combination
 combinations_of shelf places = all_combinations shelf.maps places shelf.region.rows shelf.region.cols
 
@@ -20,13 +20,13 @@ combinations_of shelf places = all_combinations shelf.maps places shelf.region.r
 abbrev pub format_of : StatsOptions → FormatValue
 format_of options = record { separator = options.separator; null_text = options.null_text; labels = options.labels; counts = options.counts }
 
--- r.stats: a line for each cell, or for each entry of the table or of its rest
+-- r.stats: one line for each cell, or for each entry of the table or of its rest after a combination
 abbrev pub stats_text : ShelfValue → List ℕ → StatsOptions → List ℕ
 stats_text shelf places options =
     if options.cells then cell_lines (format_of options) options.skip shelf.maps places shelf.region.rows shelf.region.cols
     else table_text (format_of options) shelf.maps places (printed_pairs options.after (table_of options.skip (combinations_of shelf places)))
 
--- r.out.ascii: the grid text of the map at a place, or nothing if there is no map
+-- r.out.ascii: the grid text of the map at index `place`, or an empty text if there is no map
 abbrev pub out_ascii_text : ShelfValue → ℕ → List ℕ → List ℕ
 out_ascii_text shelf place null_text = option_map_or (grid_text null_text) (slice_get shelf.maps place) []
 
@@ -38,7 +38,8 @@ command_text shelf (Clump place target joining) = []
 command_text shelf (Stats places options) = stats_text shelf places options
 command_text shelf (OutAscii place null_text) = out_ascii_text shelf place null_text
 
--- statements over a shelf write a text and leave another shelf: each writes over the shelf that those before it left
+-- executed over `shelf`, the statements write the text and leave the shelf `after`; each runs over the shelf that the
+-- previous statements left
 abbrev pub Executes : ShelfValue → List Statement → List ℕ → ShelfValue → Type 0
 Executes shelf [] text after = (text ≡ []) × (after ≡ shelf)
 Executes shelf (s ∷ ss) text after =

@@ -1,4 +1,4 @@
--- The output of a script: there is exactly one, and the outputs of its parts are concatenated.
+-- The output of a script is unique, and the outputs of its parts are concatenated.
 use Rattle.std.specs.Prelude.{ℕ, ◌≡◌, ◌↔◌, List, ◌++◌}
 use Rattle.cell_core.specs.Shelf.{ShelfValue}
 use Rattle.rcell_script.specs.declared.statement.Statement.{Statement}
@@ -8,7 +8,8 @@ use Rattle.rcell.specs.Output.{Executes, IsOutput}
 abbrev pub OneOutput : Type 0
 OneOutput = (shelf : ShelfValue) (statements : List Statement) (a b : List ℕ) → IsOutput shelf statements a → IsOutput shelf statements b → a ≡ b
 
--- executing a script is executing its first part, and then its second over the shelf that the first left
+-- executing a script is the same as executing its first part, and then its second part over the shelf that the first
+-- part left
 abbrev pub PartsJoin : Type 0
 PartsJoin = (shelf : ShelfValue) (first second : List Statement) (text : List ℕ) (after : ShelfValue)
     → Executes shelf (first ++ second) text after

@@ -1,11 +1,11 @@
--- Where an error of a run is reported, and its text (profile).
+-- Where a run's error is reported, and its text (see the profile).
 use Rattle.std.specs.Prelude.{ℕ, List, [], codes, slice_get, unwrap_or}
 use Rattle.rcell.specs.declared.run_fault.RunFault.{RunFault}
 use Rattle.rcell.specs.declared.run_fault.RunFault.TheVariants.{GridTwice, GridRegion, Grid, ScriptRead, ScriptSize, Script, Memory, Write}
 use Rattle.rcell.specs.declared.report.FaultText.{FaultText}
 use Rattle.rcell.specs.declared.report.FaultText.TheVariants as texts
 
--- the name of the grid in a place, or nothing if there is no such grid
+-- the name of the grid with this index, or an empty name if there is none
 abbrev pub name_at_place : List (List ℕ) → ℕ → List ℕ
 name_at_place names grid = unwrap_or (slice_get names grid) []
 
@@ -20,7 +20,7 @@ fault_source names (Script fault) = codes "script"
 fault_source names (Memory line) = codes "script"
 fault_source names Write = codes "output"
 
--- the line of an error, 0 if it has no line
+-- the line of an error, or 0 if it has none
 abbrev pub fault_line_number : RunFault → ℕ
 fault_line_number (GridTwice grid) = 0
 fault_line_number (GridRegion grid) = 0
@@ -31,7 +31,7 @@ fault_line_number (Script fault) = fault.line
 fault_line_number (Memory line) = line
 fault_line_number Write = 0
 
--- the text of an error, after written bytes were written
+-- the text of an error that occurred after `written` bytes
 abbrev pub text_of : ℕ → RunFault → FaultText
 text_of written (GridTwice grid) = texts.GridTwice
 text_of written (GridRegion grid) = texts.GridRegion
@@ -42,6 +42,6 @@ text_of written (Script fault) = texts.Script fault.kind
 text_of written (Memory line) = texts.Memory
 text_of written Write = texts.Write written
 
--- the parts of an error line, after the given number of bytes was written: source, line and text
+-- the parts of the line for an error that occurred after `written` bytes: source, line and text
 abbrev pub line_parts : List (List ℕ) → ℕ → RunFault → List ℕ × (ℕ × FaultText)
 line_parts names written fault = (fault_source names fault, (fault_line_number fault, text_of written fault))

@@ -1,9 +1,9 @@
--- The text of a script (its limit is the profile's).
+-- The text of a script (the profile sets its maximum length).
 use Rattle.std.specs.Prelude.{ℕ, nat_lt, List, length, Result, Ok, Err, if◌then◌else◌}
 use Rattle.cell_core_devices.specs.Device.{Coming}
 use Rattle.rcell.specs.declared.run_fault.RunFault.{RunFault}
 use Rattle.rcell.specs.declared.run_fault.RunFault.TheVariants.{ScriptRead, ScriptSize}
 
--- a script has at most 1048576 bytes, and its reader ends
+-- the bytes of a script: at most 1048576, from a reader that does not fail
 abbrev pub script_text : Coming → Result (List ℕ) RunFault
 script_text c = if nat_lt 1048576 (length c.bytes) then Err ScriptSize else (if c.fails then Err ScriptRead else Ok c.bytes)

@@ -1,4 +1,4 @@
--- What r.stats writes, in terms of the tables of its maps (r.stats manual).
+-- What r.stats writes, in terms of its maps' tables (r.stats manual).
 use Rattle.std.specs.Prelude.{ℕ, ◌≡◌, ◌*◌, true, false, List, [], ◌∷◌, ◌++◌, None, sum_by, decimal}
 use Rattle.std.specs.List.{flat_map}
 use Rattle.cell_core.specs.Shelf.{ShelfValue}
@@ -9,18 +9,20 @@ use Rattle.cell_stats.specs.TableText.{table_text, printed_pairs, line_text, com
 use Rattle.cell_stats_combinations.specs.declared.skip.Skip.TheVariants.{Nothing}
 use Rattle.rcell.specs.Output.{combinations_of, format_of, command_text}
 
--- the pairs are a table of the maps at the places
+-- the pairs are a table of the maps at these places
 abbrev pub IsTableOf : ShelfValue → List ℕ → StatsOptions → Pairs → Type 0
 IsTableOf shelf places options pairs = IsTable options.skip (combinations_of shelf places) pairs
 
--- without `-1`, r.stats writes the printed form of every list that is a table of its maps, or of its rest after a combination; and there is such a list
+-- without `-1`, r.stats writes the printed form of every list that is a table of its maps, or of the rest of the table
+-- after a combination; at least one such list exists
 abbrev pub TablesAreAppended : Type 0
 TablesAreAppended = (shelf : ShelfValue) (places : List ℕ) (options : StatsOptions) → options.cells ≡ false
     → ((pairs : Pairs) × IsTableOf shelf places options pairs)
     × ((pairs : Pairs) → IsTableOf shelf places options pairs
     → command_text shelf (Stats places options) ≡ table_text (format_of options) shelf.maps places (printed_pairs options.after pairs))
 
--- with only `-c`, r.stats writes a line per pair of the table, ending in its count; the counts add up to all cells
+-- with only `-c`, r.stats writes one line per pair of the table, which ends in the pair's count; the counts add up to
+-- the number of cells
 abbrev pub CountsCoverTheRegion : Type 0
 CountsCoverTheRegion = (shelf : ShelfValue) (places : List ℕ) (options : StatsOptions)
     → options.cells ≡ false → options.counts ≡ true → options.skip ≡ Nothing → options.after ≡ None → (pairs : Pairs) → IsTableOf shelf places options pairs

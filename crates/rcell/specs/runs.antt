@@ -1,4 +1,4 @@
--- A run: its statuses and its outcome.
+-- A run, its exit statuses and its outcome.
 pub mod Statuses
 pub mod Accepted
 pub mod Execution

@@ -1,4 +1,4 @@
-//! Executes statements in order: those that make maps add them to the shelf, the others write their text.
+//! Executes statements in order. A statement that makes a map adds it to the shelf; any other writes its text.
 
 ghost use Rattle.std.specs.Prelude.{◌≡◌, OnOk, OnErr, IfOk, IfErr};
 ghost use Rattle.cell_core_devices.specs.Device.{after_put};
@@ -20,7 +20,7 @@ use cell_core::sink::Sink;
 use rcell_script::statement::{Command, Statement};
 use std::alloc::Global;
 
-/// What stops an execution.
+/// Why an execution stopped.
 #[derive(Clone, Copy)]
 pub enum RunStop {
     /// Memory ran out at the statement of this line.
@@ -29,14 +29,14 @@ pub enum RunStop {
     Write,
 }
 
-/// What stopped an execution, and the number of bytes that the sink took.
+/// Why an execution stopped, and the number of bytes that the sink accepted.
 #[derive(Clone, Copy)]
 pub struct Stopped {
     pub stop: RunStop,
     pub written: u64,
 }
 
-// A put failed after `written` bytes.
+// Builds the result if a write failed after `written` bytes.
 fn stopped_by(written: u64) -> Stopped
     ensures { result ≡ record { stop = RunStop.Write; written = written } }
 {
@@ -46,7 +46,7 @@ fn stopped_by(written: u64) -> Stopped
     }
 }
 
-// Memory ran out after `written` bytes.
+// Builds the result if memory ran out after `written` bytes.
 fn out_of_memory(line: u64, written: u64) -> Stopped
     ensures { result ≡ record { stop = RunStop.Memory line; written = written } }
 {
@@ -56,7 +56,7 @@ fn out_of_memory(line: u64, written: u64) -> Stopped
     }
 }
 
-// Executes a statement. All its memory is allocated before its first byte is written.
+// Executes a statement. Allocates all memory before it writes the first byte.
 fn execute_statement<W: Sink>(
     alloc: Global,
     shelf: &mut Shelf,
@@ -94,13 +94,13 @@ fn execute_statement<W: Sink>(
     }
 }
 
-/// Executes statements in order. Returns the number of bytes that the sink took.
+/// Executes statements in order. Returns the number of bytes that the sink accepted.
 ///
 /// # Errors
 ///
-/// Each has the number of bytes that the sink took:
+/// Each error contains the number of bytes that the sink accepted:
 ///
-/// - [`RunStop::Memory`] if memory runs out, with the line of the statement, which has written nothing
+/// - [`RunStop::Memory`] if memory runs out, with the line of the statement, for which nothing is written
 /// - [`RunStop::Write`] if the sink fails
 pub fn execute<W: Sink>(
     alloc: Global,

@@ -1,4 +1,4 @@
-//! Laws of output.
+//! Laws of the output.
 
 ghost use Rattle.rcell.specs.OutputLaw.{OneOutput, PartsJoin};
 ghost use Rattle.rcell.specs.StatsLaw.{CountsCoverTheRegion, TablesAreAppended};
@@ -13,22 +13,22 @@ pub fn one_output()
     clumping_is_one();
 }
 
-/// Executing a script is executing its first part, and then its second part over the shelf that the first part left;
-/// their outputs are concatenated.
+/// Executing a script is the same as executing its first part, and then its second part over the shelf that the first
+/// part left. The outputs are concatenated.
 pub fn parts_join()
     ensures { PartsJoin }
 {}
 
-/// Without `-1`, r.stats writes the printed form of every list that is a table of its maps, or of the table's rest
-/// after a combination; and there is such a list.
+/// Without `-1`, r.stats writes the printed form of every list that is a table of its maps, or of the rest of the table
+/// after a combination. At least one such list exists.
 pub fn tables_are_printed()
     ensures { TablesAreAppended }
 {
     table_lists_what_occurs();
 }
 
-/// With `-c`, and without `-n`, `-N`, `-1` and `after`, r.stats writes a line for each entry of the table of its maps,
-/// with its count at the end, and the counts add up to the number of cells of the region.
+/// With `-c`, and without `-n`, `-N`, `-1` and `after`, r.stats writes one line per entry of its maps' table. Each line
+/// ends in the count of the entry, and the counts add up to the number of cells in the region.
 pub fn counts_cover_the_region()
     ensures { CountsCoverTheRegion }
 {

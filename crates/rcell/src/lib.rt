@@ -1,16 +1,16 @@
-//! Map algebra and category tools over maps of integers: a run reads grids and a script, and writes
-//! the tables and grids that the script asks for (GRASS manual: r.in.ascii, r.mapcalc, r.reclass,
-//! r.clump, r.stats, r.out.ascii). It works on sources and sinks, and opens no file.
+//! Map algebra and category tools over maps of integers. A run reads grids and a script, and writes the tables and
+//! grids that the script asks for (GRASS manual: r.in.ascii, r.mapcalc, r.reclass, r.clump, r.stats, r.out.ascii). It
+//! works on sources and sinks, and opens no files.
 //!
-//! - `run`: the run, in private `running`; all grids, then the script, then the first statement
-//! - `outcome`: `Outcome`, the exit status, bytes written and `RunFault`, of `run_fault`; status 1
-//!   for bad input, 3 if memory runs out, 4 if a read or write fails
+//! - `run`, in private `running`: reads all grids, then the script, and then executes the statements
+//! - `outcome`: `Outcome`: the exit status, the number of bytes written, and the `RunFault` (in `run_fault`). The
+//!   status is 1 for bad input, 3 if memory runs out, 4 if a read or write fails
 //! - `report`: `fault_line`, the error line `rcell: SOURCE:LINE: TEXT`
-//! - `loading`, `script_bytes`: the shelf of the grids, and the bytes of the script
-//! - `making`, `map_of_values`: the maps that statements make; `evaluate`, the map of an expression
-//! - `execution`: `execute`, the statements in order
-//! - private: `tables`, r.stats
-//! - `law`: there is one output; the outputs of two parts of a script, joined, are its output
+//! - `loading`, `script_bytes`: read the grids onto a shelf, and the bytes of the script
+//! - `making`, `map_of_values`: make the maps of statements; `evaluate` makes the map of an expression
+//! - `execution`: `execute` executes the statements in order
+//! - private: `tables` writes the output of r.stats
+//! - `law`: there is exactly one output, and the outputs of two parts of a script are concatenated
 //!
 //! ```
 //! let mut named = Vec::new(alloc);

@@ -1,4 +1,4 @@
-//! The shelf of the grids.
+//! Reads the grids onto a shelf.
 
 ghost use Rattle.std.specs.Prelude.{ℕ, ◌≡◌, ◌+◌, ◌<◌, List, IfOk, IfErr, IfSome, Some, length, vec_len};
 ghost use Rattle.cell_core_values.specs.Name.{place_of};
@@ -17,7 +17,7 @@ use cell_core::shelf::{Shelf, ShelfFault};
 use cell_core::source::Source;
 use std::alloc::Global;
 
-// The error of a grid that the shelf rejects.
+// Returns the error for a grid that the shelf rejects.
 fn of_shelf(grid: usize, fault: ShelfFault) -> RunFault
     ensures { result ≡ of_shelf grid fault }
 {
@@ -28,7 +28,7 @@ fn of_shelf(grid: usize, fault: ShelfFault) -> RunFault
     }
 }
 
-// The shelf with one more map.
+// Adds a map to the shelf.
 fn shelf_with_map(
     mut shelf: Shelf,
     grid: usize,
@@ -45,7 +45,7 @@ fn shelf_with_map(
     }
 }
 
-// The shelf with one more map, or a new shelf with the map's region.
+// Adds a map to the shelf, or creates a shelf with the map's region.
 fn shelf_or_new(
     alloc: Global,
     shelf: Option<Shelf>,
@@ -65,7 +65,7 @@ fn shelf_or_new(
     }
 }
 
-// Reads a full grid, and adds it to the shelf.
+// Reads a complete grid, and adds it to the shelf.
 fn shelf_with_grid<R: Source + Drop>(
     alloc: Global,
     shelf: Option<Shelf>,
@@ -91,9 +91,9 @@ fn shelf_with_grid<R: Source + Drop>(
 /// The error of the first grid that has one:
 ///
 /// - [`RunFault::Grid`] if its text is rejected, or, with kind `Memory` and line 0, if memory runs out
-/// - else [`RunFault::GridTwice`] if its name is on the shelf already
-/// - else [`RunFault::GridRegion`] if its region is not the first grid's
-/// - else [`RunFault::Memory`] with line 0 if memory runs out
+/// - or else [`RunFault::GridTwice`] if its name is already on the shelf
+/// - or else [`RunFault::GridRegion`] if its region differs from the first grid's
+/// - or else [`RunFault::Memory`] with line 0 if memory runs out
 pub fn load<R: Source + Drop>(alloc: Global, grids: Vec<(Name, R)>) -> Result<Shelf, RunFault>
     requires { 0 < vec_len grids }
     ensures answer { (named : List Named) → Report R.coming grids.items named
@@ -116,7 +116,7 @@ pub fn load<R: Source + Drop>(alloc: Global, grids: Vec<(Name, R)>) -> Result<Sh
     }
 }
 
-/// The names of the maps on a shelf, in order.
+/// Returns the names of the maps on a shelf, in order.
 ///
 /// # Errors
 ///

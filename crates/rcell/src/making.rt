@@ -1,4 +1,4 @@
-//! Statements that make a map and add it to the shelf.
+//! Executes the statements that make a map, and adds the map to the shelf.
 
 ghost use Rattle.std.specs.Prelude.{◌≡◌, ◌≤◌, ◌<◌, None, length, OnOk, OnErr};
 ghost use Rattle.cell_calc_binding.specs.Reach.{top_of};
@@ -16,7 +16,7 @@ use cell_core::name::Name;
 use cell_core::shelf::{Shelf, ShelfFault};
 use std::alloc::Global;
 
-// Adds a map of the shelf's region at the end, under a free name.
+// Adds a map of the shelf's region at the end, with an unused name.
 fn put_last(alloc: Global, shelf: &mut Shelf, target: &Name, made: CellMap) -> Result<(), Memory>
     requires free { place_of target.now shelf.old.names ≡ None }
     requires region { made.region ≡ shelf.old.region }
@@ -38,7 +38,7 @@ fn put_last(alloc: Global, shelf: &mut Shelf, target: &Name, made: CellMap) -> R
 ///
 /// # Errors
 ///
-/// [`Memory`] if memory runs out: the shelf is unchanged.
+/// [`Memory`] if memory runs out. The shelf is then unchanged.
 pub fn make_values(
     alloc: Global,
     shelf: &mut Shelf,
@@ -54,11 +54,11 @@ pub fn make_values(
     put_last(alloc, shelf, target, made)
 }
 
-/// r.reclass: makes a map by reclassifying another one.
+/// r.reclass: makes a map by reclassifying another map.
 ///
 /// # Errors
 ///
-/// [`Memory`] if memory runs out: the shelf is unchanged.
+/// [`Memory`] if memory runs out. The shelf is then unchanged.
 pub fn make_classes(
     alloc: Global,
     shelf: &mut Shelf,
@@ -75,11 +75,11 @@ pub fn make_classes(
     put_last(alloc, shelf, target, made)
 }
 
-/// r.clump: makes the map of the clump numbers of another one.
+/// r.clump: makes the map of another map's clump numbers.
 ///
 /// # Errors
 ///
-/// [`Memory`] if memory runs out: the shelf is unchanged.
+/// [`Memory`] if memory runs out. The shelf is then unchanged.
 pub fn make_numbers(
     alloc: Global,
     shelf: &mut Shelf,

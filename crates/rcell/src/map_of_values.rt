@@ -1,4 +1,4 @@
-//! Maps of values.
+//! Evaluates expressions over maps.
 
 ghost use Rattle.std.specs.Prelude.{◌≡◌, ◌<◌, ◌≤◌, ◌+◌, length, slice_get, Some, IfOk};
 ghost use Rattle.cell_core_values.specs.Region.{RegionValue};
@@ -18,7 +18,7 @@ use cell_core::region::Region;
 use cell_core::shelf::Shelf;
 use std::alloc::Global;
 
-// The map at the place with index `i`.
+// Returns the map that the i-th place refers to.
 fn map_at<'a>(maps: &'a [CellMap], places: &[usize], i: usize) -> &'a CellMap
     requires place { i < length places.now }
     requires within { AreMapPlaces maps.now places.now }
@@ -29,7 +29,7 @@ fn map_at<'a>(maps: &'a [CellMap], places: &[usize], i: usize) -> &'a CellMap
     &maps[places[i]]
 }
 
-// A window for each map that is read, at the first row.
+// Opens a window at the first row of each map that is read.
 fn open_windows(
     alloc: Global,
     bound: &Bound,
@@ -50,7 +50,7 @@ fn open_windows(
     Ok(windows)
 }
 
-// Moves each window down by one row, if there is another row.
+// Moves each window down by one row, if another row follows.
 fn advance_windows(
     bound: &Bound,
     places: &[usize],
@@ -76,7 +76,7 @@ fn advance_windows(
     }
 }
 
-// The map of an expression's values over the maps at places, without labels.
+// Returns the map of an expression's values over the maps at these places, without labels.
 fn evaluate_over(
     alloc: Global,
     bound: &Bound,
@@ -107,7 +107,7 @@ fn evaluate_over(
     Ok(builder.finish())
 }
 
-// The same using a table of categories, if that is faster.
+// Does the work of `evaluate_over`, with a table of categories if that is faster.
 fn evaluate_fast(
     alloc: Global,
     bound: &Bound,
@@ -128,7 +128,7 @@ fn evaluate_fast(
     evaluate_over(alloc, bound, places, maps, region)
 }
 
-/// The map of an expression's values over a shelf's maps, without labels.
+/// Returns the map of an expression's values over a shelf's maps, without labels.
 ///
 /// # Errors
 ///
@@ -137,7 +137,7 @@ pub fn evaluate(alloc: Global, bound: &Bound, shelf: &Shelf) -> Result<CellMap, 
     requires { top_of bound.now ≤ length shelf.now.maps }
     ensures { IfOk result (AreValues bound.now shelf.now) }
 {
-    // Only the maps that are read have windows.
+    // Only maps that are read get windows.
     let (compact, places) = bound.over_read_maps(alloc)?;
     let (maps, region) = (shelf.maps(), shelf.region());
     let map = evaluate_fast(alloc, &compact, places.as_slice(), maps, region)?;

@@ -10,11 +10,11 @@ use rcell_script::script_fault::ScriptKind;
 /// The outcome of a run.
 #[derive(Clone, Copy, Debug, PartialEq, Eq)]
 pub struct Outcome {
-    /// 0 if it is done, 1 if a grid or the script was rejected, 3 if memory ran out, 4 if a read or write failed.
+    /// 0 for success, 1 if a grid or the script was rejected, 3 if memory ran out, 4 if a read or write failed.
     pub status: u8,
-    /// The number of bytes that the sink took, at most `u64::MAX`.
+    /// The number of bytes that the sink accepted, capped at `u64::MAX`.
     pub written: u64,
-    /// Why it is not done.
+    /// The error, if the run failed.
     pub fault: Option<RunFault>,
 }
 
@@ -37,7 +37,7 @@ fn script_status(kind: ScriptKind) -> u8
     }
 }
 
-/// The exit status of an error.
+/// Returns the exit status for an error.
 pub fn status_of(fault: RunFault) -> u8
     ensures { result ≡ fault_status fault }
 {

@@ -1,4 +1,4 @@
-//! The line that reports why a run failed.
+//! Formats the line that reports why a run failed.
 
 ghost use Rattle.std.specs.Prelude.{◌≡◌};
 ghost use Rattle.std.specs.Option.{option_map};
@@ -12,7 +12,7 @@ use rcell_script::script_fault::ScriptKind;
 use std::fmt;
 use thiserror::Error;
 
-/// The text of an error of a run.
+/// The text of a run's error.
 #[derive(Clone, Copy, Debug, PartialEq, Eq, Error)]
 pub enum FaultText {
     #[error("name used twice")]
@@ -33,7 +33,7 @@ pub enum FaultText {
     Write { written: u64 },
 }
 
-/// A line `rcell: SOURCE:LINE: TEXT` (profile); the line is 0 if the error has no line.
+/// A line `rcell: SOURCE:LINE: TEXT` (see the profile). The line number is 0 if the error has none.
 #[derive(Clone, Copy, Debug)]
 pub struct FaultLine<'a, T> {
     pub source: &'a [u8],
@@ -104,8 +104,8 @@ fn text_of(written: u64, fault: RunFault) -> FaultText
     }
 }
 
-/// The line that reports the error of an outcome, or None if there is no error. `names` are the names of the grids, in the
-/// order of the run; a place without a name has an empty source. Takes no memory.
+/// Returns the line that reports the error of an outcome, or `None` if there is no error. `names` contains the names of
+/// the grids, in the order of the run. If a name is missing, the source is empty. Allocates no memory.
 pub fn fault_line<'a>(outcome: &Outcome, names: &'a [Name]) -> Option<FaultLine<'a, FaultText>>
     ensures { option_map (λ reported. (reported.source.now, (reported.line, reported.text))) result
         ≡ option_map (line_parts names.now outcome.now.written) outcome.now.fault }

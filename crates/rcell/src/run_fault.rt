@@ -3,12 +3,12 @@
 use cell_ascii::grid_fault::GridFault;
 use rcell_script_commands::script_fault::ScriptFault;
 
-/// Why a run failed. `grid` is a place among the grids, from 0.
+/// Why a run failed. `grid` is the index of a grid, from 0.
 #[derive(Clone, Copy, Debug, PartialEq, Eq)]
 pub enum RunFault {
-    /// The name of a grid is on the shelf already.
+    /// A grid's name is already on the shelf.
     GridTwice { grid: usize },
-    /// The region of a grid differs from the first grid's.
+    /// A grid's region differs from the first grid's.
     GridRegion { grid: usize },
     /// A grid could not be read.
     Grid { grid: usize, fault: GridFault },
@@ -20,6 +20,6 @@ pub enum RunFault {
     Script(ScriptFault),
     /// Memory ran out, at the line of the statement being executed, or at line 0 before execution.
     Memory { line: u64 },
-    /// A write, or the flush at the end, failed.
+    /// A write or the final flush failed.
     Write,
 }

@@ -1,4 +1,4 @@
-//! A run, from bytes to bytes.
+//! Runs a script over grids, from bytes to bytes.
 
 ghost use Rattle.std.specs.Prelude.{◌≡◌, ◌<◌, List, All, length, true, false, IsNone, IfSome, IfOk, IfErr, Some, None, vec_len};
 ghost use Rattle.std.specs.Option.{ForSome};
@@ -28,7 +28,7 @@ use rcell_script::script_parsing::parse_script;
 use rcell_script::statement::Script;
 use std::alloc::Global;
 
-// The statements of a script over the maps on a shelf.
+// Reads the statements of a script over the maps on a shelf.
 fn read_statements<R: Source + Drop>(
     alloc: Global,
     shelf: &Shelf,
@@ -57,11 +57,11 @@ fn read_statements<R: Source + Drop>(
     }
 }
 
-// Flushes the sink unless a put failed, and returns the outcome. A failed flush turns a finished run into a failed write,
-// and changes no other outcome.
+// Flushes the sink unless a write failed, and returns the outcome. A failed flush turns a finished run into a failed
+// write, and does not change any other outcome.
 //
-// No clause of `run` sees that memory ran out. If the remaining statements write nothing, only this contract and a test
-// distinguish it from a failed write.
+// No clause of `run` mentions that memory ran out. If the remaining statements write nothing, only this contract and a
+// test distinguish it from a failed write.
 fn finish_run<W: Sink>(executed: Result<u64, Stopped>, out: &mut W) -> Outcome
     ensures taken { W.taken out.new ≡ W.taken out.old }
     ensures ends { Ends executed (W.faults out.old) (W.faults out.new) result }
@@ -85,7 +85,7 @@ fn finish_run<W: Sink>(executed: Result<u64, Stopped>, out: &mut W) -> Outcome
     }
 }
 
-// Executes the statements, and flushes the sink unless a put failed.
+// Executes the statements, and flushes the sink unless a write failed.
 fn put_out<W: Sink>(alloc: Global, mut shelf: Shelf, script: &Script, out: &mut W) -> Outcome
     requires fits { Fits shelf.names script.now }
     requires numbered { All (λ t. 0 < t.line) script.now }
@@ -109,9 +109,9 @@ fn refused_outcome(fault: RunFault, written: u64) -> Outcome
 
 /// Runs a script over grids, and writes its output.
 ///
-/// The grids are read completely, in their order, then the script, and only then the first statement is executed. Each
-/// statement has allocated all its memory before its first byte is written. If the script was accepted and no write
-/// failed, the sink is flushed once at the end.
+/// First reads all grids, in order, then the script, and only then executes the first statement. For each statement,
+/// all memory is allocated before the first byte is written. If the script is accepted and no write fails, the sink is
+/// flushed once at the end.
 pub fn run<R: Source + Drop, W: Sink>(
     alloc: Global,
     script: R,
@@ -119,43 +119,45 @@ pub fn run<R: Source + Drop, W: Sink>(
     out: &mut W,
 ) -> Outcome
     requires { 0 < vec_len grids }
-    // Without an error, the sink has taken exactly the output, and its length is reported.
+    // Without an error, the sink has accepted exactly the output, and `written` is the output's length.
     ensures done { OfTexts R.coming grids.items script (λ named text. IsNone result.fault
         → IsRunDone named text (W.taken out.old) (W.taken out.new) result.written) }
-    // An error of the grids or of the script is the first one.
+    // If the error is in the grids or the script, it is the first error.
     ensures refused { OfTexts R.coming grids.items script
         (λ named text. IfSome result.fault (λ f. IsOfInput f → IsRefusal named text f)) }
-    // A run that is rejected before execution leaves the sink unchanged: nothing is put, and it is not flushed.
+    // If a run is rejected before execution, the sink is unchanged: nothing is written to it, and it is not flushed.
     ensures untouched { IfSome result.fault
         (λ f. IsBeforeExecution f → (out.new ≡ out.old) × (result.written ≡ 0)) }
-    // If memory runs out, the full output of the statements before the reported one is written; if the sink fails, a
-    // prefix of the output is written, and its length is reported.
+    // If memory runs out, the full output of the statements before the reported one is written. If the sink fails, a
+    // prefix of the output is written. In both cases, `written` is its length.
     ensures stopped { OfTexts R.coming grids.items script
         (λ named text. IfSome result.fault (λ f. IsInExecution f
         → IsRunStopped named text (W.taken out.old) (W.taken out.new) result.written f)) }
     ensures status { result.status ≡ status_after result.fault }
-    // An error of a grid names one of the given grids; out of memory, for a grid or for the script, is reported at line
-    // 0.
+    // An error in a grid names one of the given grids. If memory runs out while a grid or the script is read, the line
+    // is 0.
     ensures reported { IfSome result.fault (NamesItsGrid (length grids.items)) }
-    // Status 0: no call of the sink failed and it was flushed once. `Write`: a call failed, now or before.
+    // For status 0, no call of the sink failed, and it was flushed once. For `Write`, a call failed, in this run or
+    // before.
     ensures sound { result.status ≡ 0 → W.faults out.new ≡ after_flush (W.faults out.old) false }
     ensures write { result.fault ≡ Some RunFault.Write → has_failed (W.faults out.new) ≡ true }
-    // If `Write` is reported and no put failed (only the flush at the end did), the sink took the full output.
+    // If `Write` is reported and no write failed, only the flush at the end failed, and the sink has accepted the full
+    // output.
     ensures whole { OfTexts R.coming grids.items script
         (λ named text. result.fault ≡ Some RunFault.Write → (W.faults out.new).refused ≡ false
         → IsRunDone named text (W.taken out.old) (W.taken out.new) result.written) }
-    // A run that was not rejected before execution flushes its sink once, unless a put failed: this is reported as
-    // `Write`.
+    // If a run is not rejected before execution, it flushes its sink once, unless a write failed. That error is
+    // reported as `Write`.
     ensures first { IfSome result.fault IsInExecution
         → Failing result.fault (W.faults out.old) (W.faults out.new) }
-    // For every accepted script over grids of one region, if memory suffices and the sink takes everything, exactly the
-    // output of its statements is written.
+    // If a script over grids of one region is accepted, memory suffices and the sink does not fail, exactly the output
+    // of its statements is written.
     ensures headline { OfTexts R.coming grids.items script
         (λ named text. (shelf : ShelfValue) (statements : List Statement)
         → IsAccepted named text shelf statements
         → Writes shelf statements (W.taken out.old) (W.taken out.new)
         (has_failed (W.faults out.new)) result) }
-    // The same for any reading as statements over a shelf.
+    // The same guarantee for any statements as which the script can be read over a shelf.
     ensures complete { OfTexts R.coming grids.items script
         (λ named text. (shelf : ShelfValue) (statements : List Statement)
         → IsReadScript named text shelf statements

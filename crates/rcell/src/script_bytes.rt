@@ -1,4 +1,4 @@
-//! The text of a script.
+//! Reads the text of a script.
 
 ghost use Rattle.std.specs.Prelude.{◌≡◌, IfErr, IfSome};
 ghost use Rattle.rcell.specs.RunFaults.{AnswersInput, IsOfScript};
@@ -12,12 +12,12 @@ use std::alloc::Global;
 /// Maximum length of a script in bytes.
 const MOST_BYTES: usize = 1048576;
 
-/// Reads a script to its end, up to one byte more than its limit.
+/// Reads a script to its end, or to one byte beyond its maximum length.
 ///
 /// # Errors
 ///
-/// - [`RunFault::ScriptSize`] if it has over 1,048,576 bytes
-/// - [`RunFault::ScriptRead`] if its reader fails before
+/// - [`RunFault::ScriptSize`] if it has more than 1,048,576 bytes
+/// - [`RunFault::ScriptRead`] if its reader fails before that
 /// - [`RunFault::Memory`] with line 0 if memory runs out
 pub fn read_script<R: Source + Drop>(alloc: Global, mut source: R) -> Result<Vec<u8>, RunFault>
     ensures answer { IfSome (R.coming source)
@@ -27,12 +27,12 @@ pub fn read_script<R: Source + Drop>(alloc: Global, mut source: R) -> Result<Vec
     read_text(alloc, &mut source)
 }
 
-// Reads a source to its end, up to one byte more than the limit of a script.
+// Reads a source to its end, or to one byte beyond the maximum length of a script.
 fn read_text<R: Source>(alloc: Global, source: &mut R) -> Result<Vec<u8>, RunFault>
     ensures answer { IfSome (R.coming source.old)
         (λ c. AnswersInput (λ text. text.items) result (script_text c)) }
     ensures whose { IfErr result IsOfScript }
-    // Its end and its `Err` are reported, and it is not asked after them.
+    // The end of the source and a read error are reported, and the source is not read again after them.
     ensures asked { R.asked source.old ≡ Asked.Going → R.asked source.new ≡ asked_by result }
 {
     let mut text = Vec::new(alloc);

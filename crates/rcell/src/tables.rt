@@ -1,4 +1,4 @@
-//! r.stats: writing tables and cells.
+//! Writes the output of r.stats: tables and cells.
 
 ghost use Rattle.std.specs.Prelude.{◌≡◌, ◌<◌, ◌≤◌, All, length, OnOk, OnErr, IfSome};
 ghost use Rattle.std.specs.Option.{option_map};
@@ -17,7 +17,7 @@ use cell_stats::tallying::tally;
 use rcell_script::statement::StatsOptions;
 use std::alloc::Global;
 
-// The format that the options give.
+// Returns the format that the options specify.
 fn format_of<'a>(options: &'a StatsOptions) -> Format<'a>
     ensures { result ≡ format_of options.now }
 {
@@ -29,7 +29,7 @@ fn format_of<'a>(options: &'a StatsOptions) -> Format<'a>
     )
 }
 
-// The combination after which the table continues.
+// Returns the combination after which the table continues, if any.
 fn combination_before<'a>(options: &'a StatsOptions) -> Option<&'a Combo>
     ensures { option_map (λ k. k.now) result ≡ options.now.after }
 {
@@ -39,11 +39,11 @@ fn combination_before<'a>(options: &'a StatsOptions) -> Option<&'a Combo>
     }
 }
 
-/// Writes the output of r.stats. All its memory is allocated before its first byte.
+/// Writes the output of r.stats. Allocates all memory before it writes the first byte.
 ///
 /// # Errors
 ///
-/// `Memory` if memory runs out: nothing is written then.
+/// `Memory` if memory runs out. Nothing is then written.
 pub fn write_stats<W: Sink>(
     alloc: Global,
     shelf: &Shelf,

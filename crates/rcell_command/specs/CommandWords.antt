@@ -1,18 +1,18 @@
--- The words of a command line (profile).
+-- The words of a command line (see the profile).
 use Rattle.std.specs.Prelude.{ℕ, Bool, not, List, [], ◌∷◌, ◌==◌, false, codes}
 use Rattle.std.specs.List.{list_any}
 use Rattle.cell_core_values.specs.Letters.{byte}
 
--- a word that begins with a hyphen
+-- the word begins with a hyphen
 abbrev pub begins_with_hyphen : List ℕ → Bool
 begins_with_hyphen [] = false
 begins_with_hyphen (b ∷ rest) = b == byte (codes "-")
 
--- one of the words begins with a hyphen
+-- some word begins with a hyphen
 abbrev pub has_hyphen_word : List (List ℕ) → Bool
 has_hyphen_word words = list_any begins_with_hyphen words
 
--- at least two words, the first of which does not begin with a hyphen
+-- there are at least two words, and the first does not begin with a hyphen
 abbrev pub is_command : List (List ℕ) → Bool
 is_command (first ∷ word ∷ words) = not (begins_with_hyphen first)
 is_command words = false

@@ -1,4 +1,4 @@
-//! The words of the command line.
+//! Reads the words of the command line.
 
 ghost use Rattle.std.specs.Prelude.{◌≡◌, ◌≢◌, ◌∷◌, false, true, IfErr, IfOk, OnOk, drop, map};
 ghost use Rattle.std.specs.List.{list_any};
@@ -14,11 +14,11 @@ use std::alloc::{AllocError, Global};
 use std::rt::Env;
 use std::{env, io};
 
-/// The words that the program was given, its own name first.
+/// Returns the words of the command line, starting with the program's own name.
 ///
 /// # Errors
 ///
-/// `usage` if a word is not UTF-8; `memory`.
+/// `usage` if a word is not UTF-8; `memory` if memory runs out.
 pub fn words_given<R: Env + AllocGlobal, E: Copy>(
     rt: &R,
     memory: E,
@@ -50,14 +50,14 @@ fn any_with_hyphen(words: &[&str]) -> bool
     words.iter().any(|word| begins_with_hyphen(word))
 }
 
-/// Whether one of the words begins with a hyphen.
+/// Returns whether a word begins with a hyphen.
 pub fn has_hyphen_word(words: &[&str]) -> bool
     ensures { result ≡ has_hyphen_word (texts words.now) }
 {
     any_with_hyphen(words)
 }
 
-// Whether at least two words follow the program's own name, the first of which does not begin with a hyphen.
+// Returns whether at least two words follow the program's own name, and the first of them does not begin with a hyphen.
 fn is_command(words: &[String]) -> bool
     ensures { result ≡ is_command (drop 1 (map string_bytes words.now)) }
 {
@@ -67,9 +67,9 @@ fn is_command(words: &[String]) -> bool
     }
 }
 
-// The words that clap accepts: one, and then one or more, with or without hyphens.
+// Defines the words that clap accepts: one word, and then one or more words, which may begin with hyphens.
 //
-// The words after the first are one list: what clap does with a flag between paths depends on its whole walk.
+// The words after the first are a single list, because clap's treatment of flags between paths depends on all words.
 fn command<'a>(alloc: Global, program: &'a str) -> Result<Command<'a>, AllocError>
     ensures { IfOk result (λ command. app_of command ≡ command_line program.now) }
 {
@@ -84,7 +84,7 @@ fn command<'a>(alloc: Global, program: &'a str) -> Result<Command<'a>, AllocErro
     Command::new(alloc, program).arg(first)?.arg(rest)
 }
 
-// An error of clap, as an error of the program.
+// Converts an error of clap.
 fn of_clap<E: Copy>(kind: ErrorKind, memory: E, usage: E) -> E
     ensures memory { kind ≡ ErrorKind.OutOfMemory → result ≡ memory }
     ensures usage { result ≢ memory → result ≡ usage }
@@ -95,7 +95,7 @@ fn of_clap<E: Copy>(kind: ErrorKind, memory: E, usage: E) -> E
     }
 }
 
-// The words that clap finds after the program's own name.
+// Returns the words that clap finds after the program's own name.
 fn clap_matches<'a, E: Copy>(
     alloc: Global,
     program: &'a str,
@@ -117,11 +117,12 @@ fn clap_matches<'a, E: Copy>(
     }
 }
 
-/// The first word after the program's own name, and the words that follow it.
+/// Returns the first word after the program's own name, and the words that follow it.
 ///
 /// # Errors
 ///
-/// `usage` if fewer than two words follow the program's own name, or the first of them begins with `-`; `memory`.
+/// `usage` if fewer than two words follow the program's own name, or the first of them begins with `-`; `memory` if
+/// memory runs out.
 pub fn first_and_rest<'a, E: Copy>(
     alloc: Global,
     program: &'a str,

@@ -15,10 +15,10 @@ use std::alloc::{AllocError, Global};
 use std::fmt::Display;
 use std::marker::Model;
 
-// The largest number of bytes that a file's source gives per call.
+// The largest number of bytes that a file's source returns per read.
 const PIECE: usize = 4096;
 
-/// A line that standard error took.
+/// A line printed to standard error.
 #[derive(Drop)]
 pub struct PrintedLine {
     program: Vec<u8>,
@@ -36,7 +36,7 @@ impl Model for PrintedLine {
 }
 
 impl PrintedLine {
-    // The line of an error.
+    // Formats the line of an error.
     fn new<T: Display>(
         alloc: Global,
         program: &str,
@@ -58,7 +58,7 @@ impl PrintedLine {
         })
     }
 
-    /// The line as it was printed, with its line feed.
+    /// Returns the printed line, with its line feed.
     pub fn text(&self) -> &str {
         self.text.as_str()
     }
@@ -80,7 +80,7 @@ impl Model for MemoryFile {
 }
 
 impl MemoryFile {
-    /// A file with these bytes.
+    /// Creates a file with these bytes.
     pub fn new(path: Vec<u8>, bytes: Vec<u8>) -> MemoryFile
         ensures { result ≡ (path.items, bytes.items) }
     {
@@ -102,7 +102,7 @@ impl MemoryFile {
     }
 }
 
-// The first file with a path.
+// Returns the first file with this path.
 fn file_of<'a>(files: &'a [MemoryFile], path: &str) -> Option<&'a MemoryFile>
     ensures { option_map (λ file. text_of_file file.now) result ≡ file_of files.now path.now }
 {
@@ -114,7 +114,7 @@ fn file_of<'a>(files: &'a [MemoryFile], path: &str) -> Option<&'a MemoryFile>
     None
 }
 
-/// A process in memory, about which everything is known.
+/// A process in memory, whose ghost members are all known.
 #[derive(Drop)]
 pub struct MemoryProcess {
     alloc: Global,
@@ -126,7 +126,7 @@ pub struct MemoryProcess {
 }
 
 impl MemoryProcess {
-    /// A process with these words, the program's own name first, and these files.
+    /// Creates a process with these words, starting with the program's own name, and these files.
     pub fn new(alloc: Global, words: Vec<String>, files: Vec<MemoryFile>) -> MemoryProcess {
         MemoryProcess {
             alloc,
@@ -138,13 +138,13 @@ impl MemoryProcess {
         }
     }
 
-    /// The lines that standard error took.
+    /// Returns the lines printed to standard error.
     pub fn errors(&self) -> &[PrintedLine] {
         &self.errors
     }
 }
 
-// The same texts.
+// Copies texts.
 fn copies(alloc: Global, texts: &[String]) -> Result<Vec<String>, AllocError>
     ensures { IfOk result
         (λ copies. map string_bytes copies.items ≡ map string_bytes texts.now) }

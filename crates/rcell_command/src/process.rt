@@ -1,4 +1,4 @@
-//! The words, files and standard error of a program.
+//! The interface to a program's words, files and standard error.
 
 ghost use Rattle.std.specs.Prelude.{◌≡◌, ◌≢◌, ℕ, Bool, ◌||◌, List, [], ◌∷◌, Option, None, Some, IfErr, IfOk, IfSome, OnErr, OnOk, is_err, map};
 ghost use Rattle.std.specs.String.{string_bytes};
@@ -12,10 +12,9 @@ use std::alloc::Global;
 use std::fmt::Display;
 
 /// The words of a command line, files by their paths, and standard error. Standard input is a `Source`, and standard
-/// output a `Sink`.
+/// output is a `Sink`.
 ///
-/// The ghost members may be unknown, as they are for the system's process. For a process in memory, all of them are
-/// known.
+/// The ghost members may be unknown, for example those for the running process. For a process in memory, all are known.
 pub trait Process {
     ghost use Rattle.cell_core_devices.specs.Device.{Coming};
     ghost use Rattle.cell_core_devices.specs.declared.source.Asked.{Asked};
@@ -24,39 +23,39 @@ pub trait Process {
     /// The source of an opened file.
     type File: Source + Drop;
 
-    /// The words of the command line, the program's own name first.
+    /// The words of the command line, starting with the program's own name.
     ghost words: { Self → Option (List (List ℕ)) };
 
-    /// The contents of the file at a path.
+    /// The contents of the file with a path.
     ghost files: { Self → List ℕ → Option Coming };
 
     /// The paths of the files that were opened, in order.
     ghost opened: { Self → Option (List (List ℕ)) };
 
-    /// The lines that standard error took, in order.
+    /// The lines printed to standard error, in order.
     ghost errors: { Self → Option (List ErrorLine) };
 
     /// Whether standard error failed.
     ghost failed: { Self → Bool };
 
-    /// The words of the command line, the program's own name first.
+    /// Returns the words of the command line, starting with the program's own name.
     ///
     /// # Errors
     ///
-    /// `usage` if a word is not UTF-8; `memory`.
+    /// `usage` if a word is not UTF-8; `memory` if memory runs out.
     fn words<E: Copy>(&self, alloc: Global, memory: E, usage: E) -> Result<Vec<String>, E>
         ensures given { IfOk result
             (λ given. IfSome (words self.now) (λ known. map string_bytes given.items ≡ known)) }
         ensures reported { IfErr result (λ error. error ≢ memory → (error ≡ usage)
             × (words self.now ≡ None)) };
 
-    /// Opens the file at a path.
+    /// Opens the file with this path.
     ///
     /// # Errors
     ///
-    /// `file` if it can't be opened; `memory`.
+    /// `file` if the file can't be opened; `memory` if memory runs out.
     fn open<E: Copy>(&mut self, path: &str, memory: E, file: E) -> Result<Self::File, E>
-        // Nothing has been read: the source was not asked, so it has neither ended nor failed.
+        // The source has not been read yet, so it has neither ended nor failed.
         ensures asked { IfOk result (λ source. Self.File.asked source ≡ Asked.Going) }
         ensures gives { IfOk result (GivesFile (files self.old) Self.File.coming path.now) }
         ensures opens { OnOk result
@@ -66,11 +65,11 @@ pub trait Process {
         ensures reported { IfErr result (λ error. error ≢ memory → (error ≡ file)
             × (files self.old path.now ≡ None)) };
 
-    /// Prints the line `PROGRAM: SOURCE:LINE: TEXT` on standard error.
+    /// Prints the line `PROGRAM: SOURCE:LINE: TEXT` to standard error.
     ///
     /// # Errors
     ///
-    /// [`DeviceFault`] if standard error did not take the line. From then on, it has failed.
+    /// [`DeviceFault`] if standard error does not accept the line. From then on, `failed` is true.
     fn print_error<T: Display>(
         &mut self,
         program: &str,

@@ -1,4 +1,4 @@
-//! The line on standard error that says why a program failed, and the exit status.
+//! Prints why a program failed, and determines the exit status.
 
 ghost use Rattle.std.specs.Prelude.{◌≡◌, Option};
 ghost use Rattle.rcell_command.specs.Processes.{HasReported};
@@ -9,8 +9,9 @@ use crate::shown::Shown;
 use std::fmt;
 use std::marker::Model;
 
-/// The source of an error, its line, and the exit status (profile). The line is 0 if the error has none. The status is 1 if a text
-/// was rejected, 2 for the command line, 3 if memory ran out, and 4 if a file could not be opened, read or written.
+/// The source of an error, its line, and the exit status (see the profile). The line is 0 if the error has none. The
+/// status is 1 if a text was rejected, 2 for the command line, 3 if memory ran out, and 4 if a file could not be
+/// opened, read or written.
 #[derive(Drop)]
 pub struct Place<'a> {
     pub source: &'a [u8],
@@ -26,7 +27,7 @@ impl<'a> Model for Place<'a> {
     ghost view = { λ p. record { source = p.source.now; line = p.line; status = p.status } };
 }
 
-/// A line of a source.
+/// Creates the place of an error in a line of a source.
 pub fn on_line<'a>(source: &'a [u8], line: u64, status: u8) -> Place<'a>
     ensures { result ≡ on_line source.now line status }
 {
@@ -37,18 +38,18 @@ pub fn on_line<'a>(source: &'a [u8], line: u64, status: u8) -> Place<'a>
     }
 }
 
-/// The report of a program's work. It is displayed as the text of its error.
+/// The result of a program's work. It is displayed as the text of its error.
 pub trait Reported: fmt::Display {
-    /// Where the error is, or None if there is none.
+    /// The place of the error, or `None` if there is no error.
     ghost place: { Self → Option PlaceValue };
 
-    /// Where the error is, or None if there is none.
+    /// Returns the place of the error, or `None` if there is no error.
     fn place(&self) -> Option<Place<'_>>
         ensures { result ≡ place self.now };
 }
 
-/// Prints the line `PROGRAM: SOURCE:LINE: TEXT` of an error (profile) on standard error, and returns the exit status; 0 and no line if
-/// there is no error. If standard error takes nothing, the status still says it.
+/// Prints the line `PROGRAM: SOURCE:LINE: TEXT` for an error (see the profile) to standard error. Returns the exit
+/// status, which is 0 if there is no error. The status does not depend on whether standard error accepts the line.
 pub fn report<R: Eprint, T: Reported>(rt: &R, program: &str, reported: &T) -> u8
     ensures { result ≡ status_of (T.place reported.now) }
 {
@@ -61,7 +62,7 @@ pub fn report<R: Eprint, T: Reported>(rt: &R, program: &str, reported: &T) -> u8
     place.status
 }
 
-/// The same for a process, with everything that it does to it.
+/// Does the work of `report` for a `Process`. The contract states all effects on the process.
 pub fn report_error<P: Process, T: Reported>(process: &mut P, program: &str, reported: &T) -> u8
     ensures { HasReported P.opened P.errors P.failed process.old process.new program.now
         (T.place reported.now) result }

@@ -1,9 +1,9 @@
-//! Words and paths as they are printed in messages.
+//! Displays words and paths in messages.
 
 use bstr::ByteSlice;
 use std::fmt;
 
-/// A text without bytes that a terminal would interpret: its control characters are escaped.
+/// A text whose control characters are escaped, so that a terminal does not interpret them.
 #[derive(Clone, Copy, Debug)]
 pub struct Shown<'a> {
     /// The text.

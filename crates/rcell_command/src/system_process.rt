@@ -1,4 +1,4 @@
-//! The process of the system.
+//! The running process.
 
 ghost use Rattle.std.specs.Prelude.{◌≡◌, false};
 
@@ -15,7 +15,7 @@ use std::io::ErrorKind;
 use std::rt::{Env, Files};
 use std::{env, io};
 
-// Only the words: the environment of the process is empty. With the environment and the folder of `HostRuntime`, a
+// Exposes only the words: the environment is empty. With the environment and the working folder of `HostRuntime`, a
 // program would depend on calls that it never makes.
 #[derive(Drop)]
 struct WordsOnly<'a> {
@@ -36,10 +36,10 @@ impl<'a> Env for WordsOnly<'a> {
     }
 }
 
-/// The process of the system: the words that the program was given, the system's files and standard error.
+/// The running process: the words of its command line, the system's files, and standard error.
 ///
-/// Nothing is known about them, since std's `args`, `open_file` and `eprintln` promise nothing. Tests check that the
-/// words come from the process, that a source has the bytes of the file, and that a line is printed.
+/// Nothing is known about them, because std's `args`, `open_file` and `eprintln` promise nothing. Tests check that the
+/// words are the process's arguments, that a source returns the bytes of the file, and that a line is printed.
 #[derive(Drop)]
 pub struct SystemProcess<'a> {
     rt: &'a HostRuntime,
@@ -47,7 +47,7 @@ pub struct SystemProcess<'a> {
 }
 
 impl<'a> SystemProcess<'a> {
-    /// The running process.
+    /// Creates the running process.
     pub fn new(rt: &'a HostRuntime) -> SystemProcess<'a>
         ensures { result.failed ≡ false }
     {
@@ -86,7 +86,7 @@ impl<'a> Process for SystemProcess<'a> {
     fn open<E: Copy>(&mut self, path: &str, memory: E, file: E) -> Result<ReadSource<File>, E> {
         let mut how = OpenOptions::new();
         how.read(true);
-        // Not `fs::open`: it is generic over `Files`, so a program would depend on all of its calls.
+        // `fs::open` is generic over `Files`, so a program that calls it would depend on all calls of `Files`.
         match self.rt.open_file(&how, path) {
             Ok(opened) => Ok(ReadSource::new(opened)),
             Err(fault) => match fault.kind() {

@@ -1,4 +1,4 @@
--- Where errors are reported, and their exit status (profile).
+-- Where errors are reported, and their exit statuses (see the profile).
 use Rattle.std.specs.Prelude.{ℕ, ◌-◌, List, [], codes, length, slice_get, unwrap_or}
 use Rattle.cell_ascii_meaning.specs.declared.grid_fault.GridKind.{GridKind}
 use Rattle.cell_ascii_meaning.specs.declared.grid_fault.GridKind.TheVariants as grid_kinds
@@ -21,11 +21,12 @@ use Rattle.rcell_command.specs.Reported.{PlaceValue, on_line}
 use Rattle.rcell_join.specs.declared.join_refusal.JoinRefusal.{JoinRefusal}
 use Rattle.rcell_join.specs.declared.join_refusal.JoinRefusal.TheVariants as refusals
 
--- the path of a text, or nothing if there is none
+-- the path of the text with this index, or an empty path if there is none
 abbrev pub path_at : List (List ℕ) → ℕ → List ℕ
 path_at paths text = unwrap_or (slice_get paths text) []
 
--- status 4 if a read failed, 3 if memory ran out, and 1 otherwise: for a table, a grid, a numbering
+-- the exit status for an error in a table, a grid or a numbering: 4 if a read failed, 3 if memory ran out, and 1
+-- otherwise
 abbrev pub table_kind_status : TableKind → ℕ
 table_kind_status table_kinds.Read = 4
 table_kind_status table_kinds.Memory = 3
@@ -41,13 +42,13 @@ numbering_kind_status numbering_kinds.Read = 4
 numbering_kind_status numbering_kinds.Memory = 3
 numbering_kind_status kind = 1
 
--- an error before anything is joined belongs to the command line or to a file
+-- an error before anything is joined is reported for the command line or for a file
 abbrev pub join_refusal_place : List (List ℕ) → JoinRefusal → PlaceValue
 join_refusal_place paths (refusals.File file) = on_line (path_at paths file) 0 4
 join_refusal_place paths refusals.Memory = on_line (codes "arguments") 0 3
 join_refusal_place paths refusal = on_line (codes "arguments") 0 2
 
--- if two labels differ, the error belongs to the table with the second
+-- if two labels differ, the error is reported for the table with the second label
 abbrev pub tables_place : List (List ℕ) → LabelFault → PlaceValue
 tables_place paths (labels.OtherLabel other) = on_line (path_at paths other.text) other.line 1
 tables_place paths (labels.Join (joins.Text text fault)) = on_line (path_at paths text) fault.line (table_kind_status fault.kind)
@@ -60,7 +61,7 @@ border_place map (maps.Text fault) = on_line map fault.line (grid_kind_status fa
 border_place map maps.Memory = on_line (codes "border") 0 3
 border_place map maps.Write = on_line (codes "output") 0 4
 
--- if two borders do not fit, the error belongs to the later one
+-- if two borders do not fit, the error is reported for the later one
 abbrev pub clumps_place : List (List ℕ) → ClumpsFault → PlaceValue
 clumps_place paths (clumps.Border text (borders.Text fault)) = on_line (path_at paths text) fault.line (grid_kind_status fault.kind)
 clumps_place paths (clumps.Border text borders.Memory) = on_line (path_at paths text) 0 3

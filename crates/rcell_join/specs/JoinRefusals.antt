@@ -1,9 +1,9 @@
--- Why nothing was joined (profile).
+-- Errors before anything is joined (see the profile).
 use Rattle.std.specs.Prelude.{ℕ, ◌<◌}
 use Rattle.rcell_join.specs.declared.join_refusal.JoinRefusal.{JoinRefusal}
 use Rattle.rcell_join.specs.declared.join_refusal.JoinRefusal.TheVariants.{Usage, BadOption, Memory, File}
 
--- the errors of opening the given number of files
+-- the error can occur when this number of files is opened
 abbrev pub IsOfJoinOpening : ℕ → JoinRefusal → Type 0
 IsOfJoinOpening files (Usage usage) = ⊥
 IsOfJoinOpening files BadOption = ⊥

@@ -1,4 +1,4 @@
--- What the words of rcell-join's command line ask for, and why nothing was joined.
+-- The request in rcell-join's command line, and why nothing was joined.
 -- Where the program reports an error.
 pub mod JoinCommandLine
 pub mod JoinRefusals

@@ -1,4 +1,4 @@
--- Two labels of the same category (profile).
+-- Two labels for one category (see the profile).
 use Rattle.std.specs.Prelude.{ℕ, ◌≡◌, ◌≢◌, ◌==◌, List, [], ◌∷◌, ◌++◌}
 use Rattle.std.specs.List.{slice_split}
 
@@ -6,13 +6,13 @@ use Rattle.std.specs.List.{slice_split}
 abbrev pub fields_of : (separator : ℕ) → List ℕ → List (List ℕ)
 fields_of separator line = slice_split (λ b. b == separator) line
 
--- the last of fields
+-- the last field
 abbrev pub last_field : List (List ℕ) → List ℕ
 last_field [] = []
 last_field (field ∷ []) = field
 last_field (field ∷ next ∷ fields) = last_field (next ∷ fields)
 
--- the fields of two lines are the same up to a category, and the next fields differ
+-- the fields of two lines are the same up to and including a category, and the next fields differ
 pub record AreTwoLabels (separator : ℕ) (line other category label other_label : List ℕ) : Type 0 where
   pub same : List (List ℕ)
   pub behind : List (List ℕ)

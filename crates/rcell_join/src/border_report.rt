@@ -1,4 +1,4 @@
-//! The report of a border.
+//! Reports the outcome of writing a border.
 
 ghost use Rattle.std.specs.Option.{option_map};
 ghost use Rattle.rcell_join.specs.ErrorPlaces.{border_place};
@@ -9,7 +9,7 @@ use cell_join_borders::map_fault::MapFault;
 use rcell_command::reported::{Place, Reported, on_line};
 use std::fmt;
 
-/// The report of a border, naming the path of its map.
+/// The outcome of writing a border, and the path of its map.
 #[derive(Drop)]
 pub struct BorderReport<'a> {
     pub outcome: BorderOutcome,

@@ -1,4 +1,4 @@
-//! The report of joined borders.
+//! Reports the outcome of joining borders.
 
 ghost use Rattle.std.specs.Prelude.{◌≡◌, map};
 ghost use Rattle.std.specs.Option.{option_map};
@@ -15,10 +15,10 @@ use rcell_command::reported::{Place, Reported, on_line};
 use rcell_command::shown::Shown;
 use std::fmt;
 
-// Units per coordinate 1.
+// Units per whole coordinate: coordinates are stored in units of 10^-8.
 const UNIT: u64 = 100_000_000;
 
-// A coordinate in units of 10^-8, in its shortest form.
+// A coordinate in units of 10^-8, displayed in its shortest form.
 #[derive(Drop)]
 struct Coordinate {
     units: i64,
@@ -35,7 +35,7 @@ impl fmt::Display for Coordinate {
             return Ok(());
         }
         let mut buffer = Buffer::new();
-        // A leading 1 keeps the zeros after the point.
+        // The leading 1 keeps the zeros after the decimal point.
         let digits = buffer.format(UNIT + part);
         let digits = digits
             .strip_prefix('1')
@@ -45,8 +45,8 @@ impl fmt::Display for Coordinate {
     }
 }
 
-// Whether a tile of the first row that is neither right of the last tile nor below the first begins the next row: it
-// starts to the left of the last tile's east edge, and the first tile ends where it begins.
+// Returns whether a tile of the first row, neither right of the last tile nor below the first, starts the next row: it
+// starts to the left of the last tile's east edge, and the first tile ends where it starts.
 fn begins_row(beside: Misfit, below: Misfit) -> bool
     ensures { result ≡ begins_row beside below }
 {
@@ -57,7 +57,7 @@ fn begins_row(beside: Misfit, below: Misfit) -> bool
     }
 }
 
-// Writes the connectivity of a border, and the one that was asked for.
+// Writes that a border's connectivity differs from the requested one.
 fn write_connectivity<W: fmt::Write>(f: &mut fmt::Formatter<W>, found: Joining) -> fmt::Result {
     match found {
         Joining::Edges => f.write_str("connectivity 4 is not the 8"),
@@ -65,7 +65,7 @@ fn write_connectivity<W: fmt::Write>(f: &mut fmt::Formatter<W>, found: Joining) 
     }
 }
 
-// Two different edges.
+// Writes two edges that differ.
 fn write_edges<W: fmt::Write>(
     f: &mut fmt::Formatter<W>,
     edge: &str,
@@ -113,7 +113,7 @@ fn write_border_fault<W: fmt::Write>(f: &mut fmt::Formatter<W>, fault: BorderFau
     }
 }
 
-// What the rejected border is compared with: another border or, for the first one, the command.
+// Returns what the rejected border was compared with: another border or, for the first border, the command.
 fn clumps_other<'a>(paths: &[&'a str], fault: ClumpsFault) -> &'a [u8]
     ensures { result.now ≡ clumps_other (map (λ path. path.now) paths.now) fault }
 {
@@ -142,7 +142,7 @@ fn clumps_other<'a>(paths: &[&'a str], fault: ClumpsFault) -> &'a [u8]
     }
 }
 
-/// The report of joined borders, naming their paths.
+/// The outcome of joining borders, and their paths.
 #[derive(Drop)]
 pub struct ClumpsReport<'a> {
     pub outcome: ClumpsOutcome,

@@ -1,4 +1,4 @@
-//! The files that a request names.
+//! Opens the files that a request names.
 
 ghost use Rattle.std.specs.Prelude.{◌≡◌, ◌≢◌, All, IfErr, IfOk, length};
 ghost use Rattle.cell_core_devices.specs.declared.source.Asked.{Asked};
@@ -9,17 +9,17 @@ use cell_core::source::ReadSource;
 use rcell_command::file_opening::open_file;
 use std::rt::Files;
 
-/// Opens the files in order.
+/// Opens files in order.
 ///
 /// # Errors
 ///
-/// [`JoinRefusal::File`] of the first that can't be opened; [`JoinRefusal::Memory`].
+/// [`JoinRefusal::File`] for the first file that can't be opened; [`JoinRefusal::Memory`] if memory runs out.
 pub fn open_paths<R: Files + AllocGlobal>(
     rt: &R,
     paths: &[&str],
 ) -> Result<Vec<ReadSource<R::File>>, JoinRefusal>
     ensures count { IfOk result (λ opened. length opened.items ≡ length paths.now) }
-    // Nothing has been read: no source was asked, so none has ended or failed.
+    // No source has been read yet, so none has ended or failed.
     ensures asked { IfOk result (λ opened. All (λ source. source.1 ≡ Asked.Going) opened.items) }
     ensures reported { IfErr result (IsOfJoinOpening (length paths.now)) }
 {

@@ -1,4 +1,4 @@
-//! Why nothing was joined.
+//! Errors that occur before anything is joined.
 
 ghost use Rattle.std.specs.Prelude.{Some, map};
 
@@ -7,22 +7,22 @@ use rcell_command::reported::{Place, Reported, on_line};
 use std::fmt;
 use thiserror::Error;
 
-/// The usage of one command, or of all.
+/// The usage of one command, or of all commands.
 #[derive(Clone, Copy, Debug, PartialEq, Eq, Error)]
 pub enum Usage {
-    /// No command, or a command other than these four.
+    /// No command, or an unknown command.
     #[error("usage: rcell-join (tables|border|clumps|sizes) ...")]
     AnyCommand,
-    /// The words of `tables`.
+    /// Wrong arguments of `tables`.
     #[error("usage: rcell-join tables [-l] [separator=S] [null_value=N] FILE...")]
     Tables,
-    /// The words of `border`.
+    /// Wrong arguments of `border`.
     #[error("usage: rcell-join border [-d] MAP")]
     Border,
-    /// The words of `clumps`.
+    /// Wrong arguments of `clumps`.
     #[error("usage: rcell-join clumps [-d] BORDER...")]
     Clumps,
-    /// The words of `sizes`.
+    /// Wrong arguments of `sizes`.
     #[error("usage: rcell-join sizes [separator=S] [null_value=N] NUMBERING TABLE...")]
     Sizes,
 }
@@ -30,7 +30,7 @@ pub enum Usage {
 /// Why nothing was joined.
 #[derive(Clone, Copy, Debug, PartialEq, Eq, Error)]
 pub enum JoinRefusal {
-    /// Other words: too few or too many paths, a word that begins with `-` and is not a flag, or one that is not UTF-8.
+    /// Too few or too many paths, a word that begins with `-` and is not a flag, or a word that is not UTF-8.
     #[error(transparent)]
     Usage(Usage),
     /// A repeated option, or a bad separator or null text.
@@ -39,12 +39,12 @@ pub enum JoinRefusal {
     /// Memory ran out.
     #[error("no memory")]
     Memory,
-    /// The file at this place, from 0, can't be opened.
+    /// The file with this index, from 0, can't be opened.
     #[error("cannot open")]
     File { file: usize },
 }
 
-/// The report of an error before anything is joined, naming the paths of the files.
+/// An error before anything is joined, and the paths of the files.
 #[derive(Drop)]
 pub struct JoinRefusalReport<'a> {
     pub refusal: JoinRefusal,

@@ -1,4 +1,4 @@
-//! What the words of a command line ask for.
+//! The requests of the command line.
 
 ghost use Rattle.std.specs.Prelude.{◌≡◌, true};
 
@@ -7,7 +7,7 @@ use cell_stats::format::Format;
 use rcell_script_commands::null_text::TableNullText;
 use std::marker::Model;
 
-/// How tables of counts are printed: the byte between two fields, the null text, and whether labels are printed.
+/// The format of tables with counts: the byte between fields, the null text, and whether labels are printed.
 #[derive(Drop)]
 pub struct TableFormat {
     separator: u8,
@@ -25,7 +25,7 @@ impl Model for TableFormat {
 }
 
 impl TableFormat {
-    /// A format with counts, and with or without labels.
+    /// Creates a format with counts, and with or without labels.
     pub fn new(separator: u8, null_text: TableNullText, labels: bool) -> TableFormat
         ensures { result ≡ record {
           separator = separator;
@@ -41,14 +41,14 @@ impl TableFormat {
         }
     }
 
-    /// Whether each category is followed by its label.
+    /// Returns whether each category is followed by its label.
     pub fn has_labels(&self) -> bool
         ensures { result ≡ self.now.labels }
     {
         self.labels
     }
 
-    /// The same, with its null text borrowed.
+    /// Returns the format, with its null text borrowed.
     pub fn lent(&self) -> Format
         ensures { result ≡ self.now }
     {
@@ -56,37 +56,37 @@ impl TableFormat {
     }
 }
 
-/// The request, with the paths of the texts that are read.
+/// A request, with the paths of the texts to read.
 #[derive(Drop)]
 pub enum JoinRequest<'a> {
-    /// The tables of tiles, merged to the table of the full map.
+    /// Merges the tables of tiles into the table of the full map.
     Tables {
-        /// How they are printed, with or without labels.
+        /// The format of the tables, with or without labels.
         format: TableFormat,
-        /// One or more, in order.
+        /// The paths of one or more tables, in order.
         tables: Vec<&'a str>,
     },
-    /// The border of a tile.
+    /// Writes the border of a tile.
     Border {
         /// Which cells are adjacent.
         joining: Joining,
-        /// The tile's map.
+        /// The path of the tile's map.
         map: &'a str,
     },
-    /// The numbering of the clumps of the full map.
+    /// Writes the numbering of the full map's clumps.
     Clumps {
         /// Which cells are adjacent.
         joining: Joining,
-        /// The borders of one or more tiles, in rows from the top left.
+        /// The paths of the borders of one or more tiles, in rows from the top left.
         borders: Vec<&'a str>,
     },
-    /// The sizes of the clumps of the full map.
+    /// Writes the sizes of the full map's clumps.
     Sizes {
-        /// How the tables are printed: without labels.
+        /// The format of the tables, without labels.
         format: TableFormat,
-        /// The numbering.
+        /// The path of the numbering.
         numbering: &'a str,
-        /// The table of each tile's clump numbers, in the order of the numbering.
+        /// The paths of the tables of each tile's clump numbers, in the order of the numbering.
         tables: Vec<&'a str>,
     },
 }

@@ -1,4 +1,4 @@
-//! The words of the command line.
+//! Reads the words of the command line.
 
 ghost use Rattle.std.specs.Prelude.{◌≡◌, ◌≢◌, IfErr, IfOk, drop, map, not};
 ghost use Rattle.std.specs.List.{list_any};
@@ -17,13 +17,13 @@ use rcell_script_commands::option_fault::OptionFault;
 use rcell_script_commands::options::{Form, options_of};
 use std::alloc::Global;
 
-// The flag that also connects clumps at corners.
+// The flag with which cells that touch only at corners are also connected.
 const CORNERS_FLAG: &str = "-d";
 
 // The flag for tables with labels.
 const LABELS_FLAG: &str = "-l";
 
-// Whether a word gives the separator or the null text.
+// Returns whether a word sets the separator or the null text.
 fn is_option(word: &[u8]) -> bool
     ensures { result ≡ is_option word.now }
 {
@@ -33,14 +33,14 @@ fn is_option(word: &[u8]) -> bool
     }
 }
 
-// Whether a word is a path.
+// Returns whether a word is a path.
 fn is_path(word: &[u8]) -> bool
     ensures { result ≡ not (is_option word.now) }
 {
     !is_option(word)
 }
 
-// The words that are options.
+// Returns the words that are options.
 fn options_in<'a>(alloc: Global, words: &[&'a str]) -> Result<Vec<&'a [u8]>, JoinRefusal>
     ensures options { IfOk result
         (λ options. texts options.items ≡ options_in (texts words.now)) }
@@ -59,7 +59,7 @@ fn options_in<'a>(alloc: Global, words: &[&'a str]) -> Result<Vec<&'a [u8]>, Joi
     Ok(options)
 }
 
-// The words that are paths.
+// Returns the words that are paths.
 fn paths_in<'a>(alloc: Global, words: &[&'a str]) -> Result<Vec<&'a str>, JoinRefusal>
     ensures paths { IfOk result (λ paths. texts paths.items ≡ paths_in (texts words.now)) }
     ensures memory { IfErr result (λ refusal. refusal ≡ JoinRefusal.Memory) }
@@ -77,7 +77,7 @@ fn paths_in<'a>(alloc: Global, words: &[&'a str]) -> Result<Vec<&'a str>, JoinRe
     Ok(paths)
 }
 
-// The error of bad options.
+// Converts an error of options.
 fn of_options(fault: OptionFault) -> JoinRefusal
     ensures memory { fault ≡ OptionFault.Memory → result ≡ JoinRefusal.Memory }
     ensures option { fault ≢ OptionFault.Memory → result ≡ JoinRefusal.BadOption }
@@ -88,7 +88,7 @@ fn of_options(fault: OptionFault) -> JoinRefusal
     }
 }
 
-// The format that the options among the words give, with or without labels.
+// Returns the format that the options among the words specify, with or without labels.
 fn format_in(alloc: Global, labels: bool, words: &[&str]) -> Result<TableFormat, JoinRefusal>
     ensures { Answers JoinRefusal.Memory (λ format. format) result
         (format_in labels (texts words.now)) }
@@ -113,21 +113,21 @@ fn format_in(alloc: Global, labels: bool, words: &[&str]) -> Result<TableFormat,
     Ok(format)
 }
 
-// Whether a word is this flag.
+// Returns whether a word is this flag.
 fn is_flag(flag: &str, word: &[u8]) -> bool
     ensures { result ≡ is_flag flag.now word.now }
 {
     word == flag.as_bytes()
 }
 
-// Whether one of the words is this flag. It may be repeated, as flags of GRASS commands may.
+// Returns whether the words contain this flag. It may be repeated, like the flags of GRASS commands.
 fn contains_flag(flag: &str, words: &[&str]) -> bool
     ensures { result ≡ list_any (λ word. is_flag flag.now word.now) words.now }
 {
     words.iter().any(|word| is_flag(flag, word.as_bytes()))
 }
 
-// The words that are not this flag.
+// Returns the words without this flag.
 fn without_flag<'a>(
     alloc: Global,
     flag: &str,
@@ -150,7 +150,7 @@ fn without_flag<'a>(
     Ok(others)
 }
 
-// The request of the words after `tables`, without the flag for labels, given whether the flag was there.
+// Reads the words after `tables`, without the flag for labels. `labels` states whether the flag was given.
 fn asked_labelled<'a>(
     alloc: Global,
     labels: bool,
@@ -175,7 +175,7 @@ fn asked_labelled<'a>(
     }
 }
 
-// The request of the words after `tables`.
+// Reads the words after `tables`.
 fn asked_tables<'a>(alloc: Global, words: &[&'a str]) -> Result<JoinRequest<'a>, JoinRefusal>
     ensures { Answers JoinRefusal.Memory request_value result (asked_tables (texts words.now)) }
 {
@@ -187,7 +187,7 @@ fn asked_tables<'a>(alloc: Global, words: &[&'a str]) -> Result<JoinRequest<'a>,
     asked_labelled(alloc, labels, others.as_slice())
 }
 
-// Which cells are adjacent.
+// Returns which cells are adjacent.
 fn joining_in(words: &[&str]) -> Joining
     ensures { result ≡ joining_in (texts words.now) }
 {
@@ -198,7 +198,7 @@ fn joining_in(words: &[&str]) -> Joining
     }
 }
 
-// The paths of one or more tiles after a command, and which cells are adjacent.
+// Reads the words after `border` or `clumps`: the paths of one or more tiles, and which cells are adjacent.
 fn joined_tiles<'a>(
     alloc: Global,
     usage: Usage,
@@ -221,7 +221,7 @@ fn joined_tiles<'a>(
     Ok((joining, tiles))
 }
 
-// The request of the words after `border`.
+// Reads the words after `border`.
 fn asked_border<'a>(alloc: Global, words: &[&'a str]) -> Result<JoinRequest<'a>, JoinRefusal>
     ensures { Answers JoinRefusal.Memory request_value result (asked_border (texts words.now)) }
 {
@@ -235,7 +235,7 @@ fn asked_border<'a>(alloc: Global, words: &[&'a str]) -> Result<JoinRequest<'a>,
     }
 }
 
-// The request of the words after `clumps`.
+// Reads the words after `clumps`.
 fn asked_clumps<'a>(alloc: Global, words: &[&'a str]) -> Result<JoinRequest<'a>, JoinRefusal>
     ensures { Answers JoinRefusal.Memory request_value result (asked_clumps (texts words.now)) }
 {
@@ -245,7 +245,7 @@ fn asked_clumps<'a>(alloc: Global, words: &[&'a str]) -> Result<JoinRequest<'a>,
     }
 }
 
-// The request of the words after `sizes`.
+// Reads the words after `sizes`.
 fn asked_sizes<'a>(alloc: Global, words: &[&'a str]) -> Result<JoinRequest<'a>, JoinRefusal>
     ensures { Answers JoinRefusal.Memory request_value result (asked_sizes (texts words.now)) }
 {
@@ -270,7 +270,7 @@ fn asked_sizes<'a>(alloc: Global, words: &[&'a str]) -> Result<JoinRequest<'a>, 
     }
 }
 
-// The request of a command and the words after it.
+// Reads a command and the words after it.
 fn command_of<'a>(
     alloc: Global,
     command: &str,
@@ -292,14 +292,14 @@ fn command_of<'a>(
     }
 }
 
-/// Reads the words, of which the first is the program's own name.
+/// Reads the words of the command line, starting with the program's own name.
 ///
 /// # Errors
 ///
-/// - [`JoinRefusal::Usage`] if no word follows it, the next one is not a command, a later word begins with `-` and is not
-///   the flag `-l` of `tables` or `-d` of `border` or `clumps`, or the command accepts fewer or more paths
-/// - [`JoinRefusal::BadOption`]
-/// - [`JoinRefusal::Memory`]
+/// - [`JoinRefusal::Usage`] if there is no command or an unknown one, a word begins with `-` and is neither the flag
+///   `-l` of `tables` nor `-d` of `border` or `clumps`, or the number of paths is wrong
+/// - [`JoinRefusal::BadOption`] if an option is repeated, or the separator or null text is invalid
+/// - [`JoinRefusal::Memory`] if memory runs out
 pub fn read_join_words<'a>(
     alloc: Global,
     words: &'a [String],

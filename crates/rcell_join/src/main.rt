@@ -1,14 +1,14 @@
-//! The program `rcell-join`: puts together what `rcell` made of the tiles of a map, with
-//! `rcell-join tables`, `border`, `clumps` or `sizes`.
+//! The program `rcell-join`: joins the results of `rcell` for the tiles of a map, with `rcell-join tables`, `border`,
+//! `clumps` or `sizes`.
 //!
-//! The work is done by the crates `cell_join_tables`, `cell_join_borders`, `cell_join_clumps` and
-//! `cell_join_sizes`. Here is what only a process has, in the order of work:
-//! - `join_words`: `read_join_words`, arguments to a `JoinRequest`, defined in `join_request`
-//! - `join_opening`: the files; `join_refusal`: why nothing was joined
-//! - `tables_report`, `border_report`, `clumps_report`, `sizes_report`: the error of a command, which
-//!   `report` of `rcell_command` prints; `text_places`: where the error of a text is
+//! The crates `cell_join_tables`, `cell_join_borders`, `cell_join_clumps` and `cell_join_sizes` do the work. This crate
+//! handles arguments, files and errors, in the order of work:
+//! - `join_words`: `read_join_words` reads arguments as a `JoinRequest`, defined in `join_request`
+//! - `join_opening`: opens the files; `join_refusal`: why nothing was joined
+//! - `tables_report`, `border_report`, `clumps_report`, `sizes_report`: the error of a command, printed by `report` of
+//!   `rcell_command`; `text_places`: where a text has an error
 //!
-//! Example: this folder. `args` has the arguments, data/ the files, `stdout` the output.
+//! Example: this folder. `args` contains the arguments, data/ the files, and `stdout` the output.
 #![tactic(auto)]
 
 ghost use Rattle.std.specs.Prelude.{◌≡◌, map};
@@ -46,21 +46,21 @@ use std::io;
 use std::process::ExitCode;
 use std::rt::{Env, Files};
 
-// Reports an error, if there is one, and returns the exit status.
+// Reports an error, if any, and returns the exit status.
 fn print_error<R: Eprint, T: Reported>(rt: &R, reported: &T) -> u8
     ensures { result ≡ status_of (T.place reported.now) }
 {
     report(rt, "rcell-join", reported)
 }
 
-// Reports an error before anything is joined, and returns the exit status.
+// Reports an error that occurred before anything was joined, and returns the exit status.
 fn print_refusal<R: Eprint>(rt: &R, refusal: JoinRefusal, paths: &[&str]) -> u8
     ensures { result ≡ (join_refusal_place (map (λ path. path.now) paths.now) refusal).status }
 {
     print_error(rt, &JoinRefusalReport { refusal, paths })
 }
 
-// Merges the tables of tiles, with labels if they have them.
+// Merges the tables of tiles, with or without labels.
 fn merge_tables<R: Files + Print + Eprint + AllocGlobal>(
     rt: &R,
     format: &TableFormat,
@@ -105,7 +105,7 @@ fn join_clumps<R: Files + Print + Eprint + AllocGlobal>(
     print_error(rt, &ClumpsReport { outcome, paths })
 }
 
-// Adds up the sizes of the clumps of tiles.
+// Adds up the clump sizes of tiles.
 fn add_sizes<R: Files + Print + Eprint + AllocGlobal>(
     rt: &R,
     format: &TableFormat,
@@ -137,7 +137,7 @@ fn add_sizes<R: Files + Print + Eprint + AllocGlobal>(
     )
 }
 
-// Does what the words ask for, and returns the exit status.
+// Executes the request in the words, and returns the exit status.
 fn work<R: Env + Files + Print + Eprint + AllocGlobal>(rt: &R) -> u8 {
     let misuse = JoinRefusal::Usage(Usage::AnyCommand);
     let words = match words_given(rt, JoinRefusal::Memory, misuse) {

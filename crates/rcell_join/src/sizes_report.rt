@@ -1,4 +1,4 @@
-//! The report of sizes.
+//! Reports the outcome of adding up sizes.
 
 ghost use Rattle.std.specs.Prelude.{map};
 ghost use Rattle.std.specs.Option.{option_map};
@@ -10,7 +10,7 @@ use cell_join_sizes::table_sizes::SizesOutcome;
 use rcell_command::reported::{Place, Reported, on_line};
 use std::fmt;
 
-/// The report of sizes, naming the paths of the numbering and of the tables.
+/// The outcome of adding up sizes, and the paths of the numbering and the tables.
 #[derive(Drop)]
 pub struct SizesReport<'a> {
     pub outcome: SizesOutcome,

@@ -1,4 +1,4 @@
-//! The report of merged tables.
+//! Reports the outcome of merging tables.
 
 ghost use Rattle.std.specs.Prelude.{IfSome, map};
 ghost use Rattle.std.specs.Option.{option_map};
@@ -15,7 +15,7 @@ use rcell_command::reported::{Place, Reported, on_line};
 use rcell_command::shown::Shown;
 use std::fmt;
 
-// The cells of a combination, separated by blanks, with `*` for null.
+// The cells of a combination, displayed with blanks in between and `*` for null.
 #[derive(Drop)]
 struct CellList<'a> {
     combo: &'a Combo,
@@ -34,7 +34,7 @@ impl<'a> fmt::Display for CellList<'a> {
     }
 }
 
-/// The first category whose labels on two lines differ, and its label on each.
+/// The first category with different labels on two lines, and its two labels.
 #[derive(Clone, Copy)]
 pub struct TwoLabels<'a> {
     category: &'a [u8],
@@ -53,8 +53,8 @@ impl<'a> fmt::Display for TwoLabels<'a> {
     }
 }
 
-/// The first labels of two lines that differ. Cells are the same on both lines, so the first fields that differ are
-/// labels, and the field before them is their category.
+/// Returns the first labels of two lines that differ. The lines have the same cells, so the first fields that differ
+/// are labels, and the field before them is their category.
 pub fn two_labels<'a>(separator: u8, line: &'a [u8], other: &'a [u8]) -> Option<TwoLabels<'a>>
     ensures { IfSome result (λ two. AreTwoLabels separator line.now other.now
         two.category.now two.label.now two.other.now) }
@@ -80,7 +80,7 @@ pub fn two_labels<'a>(separator: u8, line: &'a [u8], other: &'a [u8]) -> Option<
     None
 }
 
-// Writes the first two labels that differ. A separator follows each field, so the last byte is one.
+// Writes the first two labels that differ. Every field is followed by a separator, so the last byte is the separator.
 fn write_labels<W: fmt::Write>(f: &mut fmt::Formatter<W>, reported: &OtherLabel) -> fmt::Result {
     f.write_str("two labels for ")?;
     let line = reported.labelled.as_slice();
@@ -93,7 +93,7 @@ fn write_labels<W: fmt::Write>(f: &mut fmt::Formatter<W>, reported: &OtherLabel)
     }
 }
 
-/// Displays the outcome of merging tables, naming input files by their paths.
+/// The outcome of merging tables, and their paths.
 #[derive(Drop)]
 pub struct TablesReport<'a> {
     pub outcome: JoinOutcome,

@@ -1,4 +1,4 @@
-//! Where the error of a text is reported: status 4 if a read failed, 3 if memory runs out, and 1 otherwise.
+//! Where a text has an error, with the exit status: 4 if a read failed, 3 if memory ran out, and 1 otherwise.
 
 ghost use Rattle.std.specs.Prelude.{◌≡◌, map};
 ghost use Rattle.rcell_command.specs.Reported.{on_line};
@@ -9,7 +9,7 @@ use cell_join_lines::areas_fault::{AreasFault, AreasKind};
 use cell_join_lines::table_fault::{TableFault, TableKind};
 use rcell_command::reported::{Place, on_line};
 
-/// The path of a text, or nothing if there is none.
+/// Returns the path of the text with this index, or an empty path if there is none.
 pub fn path_at<'a>(paths: &[&'a str], text: usize) -> &'a [u8]
     ensures { result.now ≡ path_at (map (λ path. path.now) paths.now) text }
 {
@@ -19,7 +19,7 @@ pub fn path_at<'a>(paths: &[&'a str], text: usize) -> &'a [u8]
     }
 }
 
-/// Where the error of a table is.
+/// Returns where a table has an error.
 pub fn table_place<'a>(path: &'a [u8], fault: TableFault) -> Place<'a>
     ensures { result ≡ on_line path.now fault.line (table_kind_status fault.kind) }
 {
@@ -30,7 +30,7 @@ pub fn table_place<'a>(path: &'a [u8], fault: TableFault) -> Place<'a>
     }
 }
 
-/// Where the error of a grid is.
+/// Returns where a grid has an error.
 pub fn grid_place<'a>(path: &'a [u8], fault: GridFault) -> Place<'a>
     ensures { result ≡ on_line path.now fault.line (grid_kind_status fault.kind) }
 {
@@ -41,7 +41,7 @@ pub fn grid_place<'a>(path: &'a [u8], fault: GridFault) -> Place<'a>
     }
 }
 
-/// Where the error of a numbering is.
+/// Returns where a numbering has an error.
 pub fn numbering_place<'a>(path: &'a [u8], fault: AreasFault) -> Place<'a>
     ensures { result ≡ on_line path.now fault.line (numbering_kind_status fault.kind) }
 {

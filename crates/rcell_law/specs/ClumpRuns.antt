@@ -1,4 +1,4 @@
--- What runs over tiles and their joined borders say about the full map, of any size.
+-- What runs over tiles and their joined borders imply about the full map, of any size.
 use Rattle.std.specs.Prelude.{ℕ, pos, negsuc, ◌≡◌, ◌⊎◌, ◌+◌, ◌-◌, ◌<◌, ◌≤◌, ◌^◌, List, [], length, All, Some, None, slice_get, slice_index}
 use Rattle.cell_core_devices.specs.Device.{Coming}
 use Rattle.cell_core.specs.Grid.{CellValue, Grid}
@@ -17,8 +17,8 @@ use Rattle.rcell_law.specs.MapRuns.{MapRun, NumbersClumps}
 use Rattle.rcell_law.specs.TileRuns.{AreTileRuns, HasTiles, TileRun, all_runs, border_texts}
 use Rattle.rcell_law.specs.TileRuns.{tiles_of_runs}
 
--- each run wrote the clump numbers of its tile; the texts of at most 2^33 borders, in order, are joined unless memory
--- runs out or the sink fails; and the text to which they are joined is the numbering of every map that has these tiles
+-- each run wrote the clump numbers of its tile; unless memory runs out or the sink fails, the texts of at most 2^33
+-- borders, in order, are joined; and the resulting text is the numbering of every map with these tiles
 pub record NumberTheGrid {script : Coming} {place : ℕ} (joining : Joining)
     (runs : List (List (TileRun script place joining))) : Type 0 where
   pub numbered : All (IsNumberedTile joining) (all_tiles (tiles_of_runs runs))
@@ -28,20 +28,20 @@ pub record NumberTheGrid {script : Coming} {place : ℕ} (joining : Joining)
       → HasWrittenClumps joining (border_texts runs) (Some []) (Some text) written
       → IsNumberingOfGrid joining whole (tiles_of_runs runs) text
 
--- this holds for the runs, over the tiles of a map, of a script that numbers clumps
+-- if a script numbers clumps, its runs over the tiles of a map number the full map
 abbrev pub ScriptsOfTilesNumber : Type 0
 ScriptsOfTilesNumber =
     (script : Coming) (names : List (List ℕ)) (place : ℕ) (joining : Joining) → NumbersClumps script names place joining
     → (runs : List (List (TileRun script place joining))) → AreTileRuns script names place joining runs
     → NumberTheGrid joining runs
 
--- the number in the full map of a cell of a tile, with before clumps in the tiles before; null for null
+-- the full map's number for a cell of a tile, if the previous tiles have `before` clumps; null for null
 abbrev pub number_in_whole : (numbers : List ℕ) (before : ℕ) → CellValue → CellValue
 number_in_whole numbers before None = None
 number_in_whole numbers before (Some (pos k)) = Some (pos (slice_index numbers (before + (k - 1))))
 number_in_whole numbers before (Some (negsuc k)) = None
 
--- a map has the numbers of the tiles, with each tile in its place and each number as in the full map
+-- a map contains the numbers of the tiles: each tile in its position, and each number replaced by the full map's number
 abbrev pub IsRenumbered : Grid → List (List NumberedTile) → List (List ℕ) → List ℕ → Type 0
 IsRenumbered numbered tiles counts numbers =
     (r c : ℕ) (row : List NumberedTile) (tile : NumberedTile) → slice_get tiles r ≡ Some row → slice_get row c ≡ Some tile
@@ -49,14 +49,14 @@ IsRenumbered numbered tiles counts numbers =
     → cell_at_position numbered (moved_position (tile_place (tile_heights tiles) (tile_widths tiles) r c) p)
     ≡ number_in_whole numbers (clumps_before counts r c) (cell_at_position tile.numbers p)
 
--- the numbering is the full map's, and gives for each cell of each tile the number that a map has for it
+-- the numbering is the full map's, and it gives the number in `numbered` for each cell of each tile
 pub record HasNumbersOf (numbered : Grid) (joining : Joining) (whole : Grid) (tiles : List (List NumberedTile))
     (text : List ℕ) : Type 0 where
   pub is : IsNumberingOfGrid joining whole tiles text
   pub same : IsRenumbered numbered tiles is.counts is.numbers
 
--- the output of a run of the script over the full map has, at each cell, the number that the numbering gives for the
--- cell's number in the output of the run over its tile
+-- the output of the script over the full map contains, at each cell, the number that the numbering gives for the cell's
+-- number in the tile's output
 abbrev pub OneRunHasTheseNumbers : Type 0
 OneRunHasTheseNumbers =
     (script : Coming) (names : List (List ℕ)) (place : ℕ) (joining : Joining) → NumbersClumps script names place joining

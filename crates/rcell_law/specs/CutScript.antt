@@ -11,12 +11,13 @@ use Rattle.rcell.specs.Output.{Executes, IsOutput}
 use Rattle.rcell.specs.runs.Accepted.{IsAccepted}
 use Rattle.rcell_law.specs.ReadAgain.{bare, written_grids, PrintNoLabels}
 
--- the grids of the second run: the first run's, then the maps that it made, each as r.out.ascii writes it
+-- the grids of the second run: the grids of the first, then the maps that it made, as r.out.ascii writes them
 abbrev pub second_grids : List ℕ → List Named → ShelfValue → List Named
 second_grids null_text grids between = grids ++ drop (length grids) (written_grids null_text between)
 
--- if the first part of a script is accepted and leaves a shelf, a second part that prints no labels is accepted over
--- what the first made, written and read back; and it writes what the full script writes after the first part's text
+-- suppose that the first part of a script is accepted and leaves a shelf; then a second part that prints no labels is
+-- accepted over the first part's maps, written and read back, and writes what the full script writes after the first
+-- part's text
 abbrev pub CutInTwo : Type 0
 CutInTwo = (grids : List Named) (first second : Coming) (shelf between : ShelfValue) (one two : List Statement)
     (null_text text : List ℕ)
@@ -27,12 +28,12 @@ CutInTwo = (grids : List Named) (first second : Coming) (shelf between : ShelfVa
     → IsAccepted (second_grids null_text grids between) second (bare between) two
     × ((rest : List ℕ) → IsOutput (bare between) two rest ↔ IsOutput shelf (one ++ two) (text ++ rest))
 
--- a text that ends at the end of a line
+-- the text ends at the end of a line
 abbrev pub EndsLine : List ℕ → Type 0
 EndsLine text = (front : List ℕ) × (text ≡ front ++ 10 ∷ [])
 
--- a script that ends at the end of a line, and one over the maps that it leaves: together they are a script, which
--- writes what the first writes, then what the second writes over the first's maps, written and read back
+-- a script that ends at the end of a line and a script over the maps that it leaves form one script; it writes the
+-- output of the first, then the output of the second over the first's maps, written and read back
 abbrev pub ScriptCutInTwo : Type 0
 ScriptCutInTwo = (grids : List Named) (first second : Coming) (shelf between : ShelfValue) (one two : List Statement)
     (null_text text : List ℕ)

@@ -1,4 +1,4 @@
--- Sizes added up with the numbering of a grid of tiles are the clump sizes of the full map.
+-- If sizes are added up with the numbering of a grid of tiles, they are the clump sizes of the full map.
 use Rattle.std.specs.Prelude.{ℕ, ◌≡◌, ◌<◌, ◌≤◌, ◌*◌, List, map, All, Contains, None}
 use Rattle.std.specs.List.{AllZip}
 use Rattle.cell_core.specs.Grid.{Grid, IsFilled}
@@ -18,7 +18,7 @@ use Rattle.cell_join_clumps.specs.TileTexts.{AreTileRows}
 use Rattle.cell_join_law.specs.JoinedGrids.{IsNumberingOfGrid, all_counts}
 use Rattle.cell_join_law.specs.TileGrids.{IsNumberedTile, NumberedTile, all_tiles, rows_of_tiles, tile_regions}
 
--- numbered tiles that make up a map, and its numbering
+-- numbered tiles that make up a map, and the map's numbering
 pub record AreTilesOf (j : Joining) (whole : Grid) (tiles : List (List NumberedTile)) (text : List ℕ) : Type 0 where
   pub make : AreTileRows (tile_regions tiles)
   pub rows : whole.rows ≡ rows_of_tiles tiles
@@ -26,21 +26,21 @@ pub record AreTilesOf (j : Joining) (whole : Grid) (tiles : List (List NumberedT
   pub numbered : All (IsNumberedTile j) (all_tiles tiles)
   pub numbering : IsNumberingOfGrid j whole tiles text
 
--- each number from 1 to the number of clumps of the full map is in the numbering
+-- the numbering contains each number from 1 to the number of the full map's clumps
 abbrev pub NoNumberOfTilesIsLeftOut : Type 0
 NoNumberOfTilesIsLeftOut = (j : Joining) (whole : Grid) (tiles : List (List NumberedTile)) (text : List ℕ)
     → (are : AreTilesOf j whole tiles text) → (clumps : ℕ) → HasAreas j whole clumps
     → (n : ℕ) → 0 < n → n ≤ clumps → Contains are.numbering.numbers n
 
--- the table of the numbers of a tile
+-- the table of a tile's clump numbers
 abbrev pub IsTableOfTile : Skip → NumberedTile → Pairs → Type 0
 IsTableOfTile skip tile table = IsTable skip (cells_of tile.numbers tile.map.region.rows tile.map.region.cols) table
 
--- how the numbering of tiles is read
+-- the reading of the tiles' numbering
 abbrev pub numbering_read : (counts : List (List ℕ)) (numbers : List ℕ) → AreasReading
 numbering_read counts numbers = record { stretches = stretches_of (all_counts counts) numbers; fault = None }
 
--- the sizes that are added up with the numbering are listed as in the table of the clump map of the full map
+-- the sizes, added up with the numbering, are listed as in the table of the full map's clumps
 abbrev pub SizesOfTheGrid : Type 0
 SizesOfTheGrid = (j : Joining) (whole : Grid) (tiles : List (List NumberedTile)) (text : List ℕ)
     → (are : AreTilesOf j whole tiles text)
@@ -50,7 +50,7 @@ SizesOfTheGrid = (j : Joining) (whole : Grid) (tiles : List (List NumberedTile))
     → (numbered : Grid) → IsClumping j whole numbered
     → IsTable AnyNull (cells_of numbered whole.region.rows whole.region.cols) (number_entries 1 sizes)
 
--- there are such sizes, none larger than the full map
+-- the sizes exist, and none exceeds the size of the full map
 abbrev pub GridSizesExist : Type 0
 GridSizesExist = (j : Joining) (whole : Grid) (tiles : List (List NumberedTile)) (text : List ℕ)
     → (are : AreTilesOf j whole tiles text)

@@ -1,4 +1,4 @@
--- A law of all texts of scripts.
+-- A law of all script texts.
 use Rattle.std.specs.Prelude.{ℕ, ◌⊎◌, List}
 use Rattle.rcell_script_commands.specs.declared.script_fault.ScriptFault.{ScriptFault}
 use Rattle.rcell_script.specs.ReadScripts.{IsScriptFault}
@@ -17,6 +17,6 @@ IsBadText known text =
     (fault : ScriptFault) × IsScriptFault known text fault
     × ((statements : List Statement) → IsScript known text statements → ⊥)
 
--- each text is one or the other, over any known maps
+-- over any known maps, each text is either good or bad
 abbrev pub ScriptTextsAreJudged : Type 0
 ScriptTextsAreJudged = (known : List (List ℕ)) (text : List ℕ) → IsGoodText known text ⊎ IsBadText known text

@@ -1,4 +1,4 @@
--- A statement r.stats with labels over each part of maps: its outputs, joined, are its output over the full maps.
+-- A statement r.stats with labels, over each part of maps: its outputs merge into its output over the full maps.
 use Rattle.std.specs.Prelude.{ℕ, ◌≡◌, List, [], ◌∷◌, All, length, map, Option}
 use Rattle.cell_core_devices.specs.Blocks.{capped_count}
 use Rattle.cell_core_devices.specs.Device.{append_known}
@@ -10,7 +10,7 @@ use Rattle.rcell_script_commands.specs.declared.command.StatsOptions.{StatsOptio
 use Rattle.rcell.specs.Output.{IsOutput, format_of}
 use Rattle.rcell_law.specs.PartRuns.{AreRunsOfParts, PartRun, PrintsWholeTable, coming_of, part_of}
 
--- if the parts have the labels of the full maps, the outputs over the parts join to the output over the full maps
+-- if the parts have the labels of the full maps, the outputs over the parts merge into the output over the full maps
 abbrev pub LabelledRunsOfPartsJoin : Type 0
 LabelledRunsOfPartsJoin =
     (statement : Statement) (places : List ℕ) (options : StatsOptions) → PrintsWholeTable statement places options
@@ -20,7 +20,7 @@ LabelledRunsOfPartsJoin =
     → (text : List ℕ) → IsOutput whole (statement ∷ []) text
     → JoinLabelledTo (format_of options) (map coming_of runs) text
 
--- if these outputs were joined without an error, the sink took exactly the output over the full maps
+-- if these outputs were merged without an error, the sink accepted exactly the output over the full maps
 abbrev pub JoinedLabelledRunsAreOneRun : Type 0
 JoinedLabelledRunsAreOneRun =
     (statement : Statement) (places : List ℕ) (options : StatsOptions) → PrintsWholeTable statement places options

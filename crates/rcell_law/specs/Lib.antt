@@ -1,5 +1,5 @@
--- The law that each text of a script is a script or has an error. What the laws of outputs state. Runs over the parts
--- of maps, and what their texts say about the full maps.
+-- The law that each text is a script or has an error, and the laws of outputs. Runs over the parts of maps, and what
+-- their outputs imply about the full maps.
 pub mod JudgedLaw
 pub mod ReadAgain
 pub mod OutputExists

@@ -12,8 +12,8 @@ use Rattle.rcell.specs.Sources.{Named}
 use Rattle.rcell.specs.runs.Endings.{IsRunDone}
 use Rattle.rcell_law.specs.PartRuns.{PrintsTable}
 
--- over maps of these names a script is two statements: r.clump of the map at a place, and r.out.ascii of the map of numbers
--- that it makes, which comes after them, with a null text that is not a whole number
+-- over maps with these names, the script consists of two statements: r.clump of the map at index `place`, and
+-- r.out.ascii of the map of numbers that it makes, with a null text that is not a whole number
 pub record NumbersClumps (script : Coming) (names : List (List ℕ)) (place : ℕ) (joining : Joining) : Type 0 where
   pub clump : Statement
   pub out : Statement
@@ -24,8 +24,8 @@ pub record NumbersClumps (script : Coming) (names : List (List ℕ)) (place : �
   pub writes : out.command ≡ OutAscii (length names) null_text
   pub no_number : whole_number null_text ≡ None
 
--- two statements: r.clump of the map at a place, and r.stats of the map of numbers that it makes: a full table with
--- counts, whose lines can be read back
+-- the script consists of two statements: r.clump of the map at index `place`, and r.stats of the map of numbers that it
+-- makes, which prints a full table with counts, whose lines can be read back
 pub record CountsClumps (script : Coming) (names : List (List ℕ)) (place : ℕ) (joining : Joining)
     (options : StatsOptions) : Type 0 where
   pub clump : Statement
@@ -35,7 +35,7 @@ pub record CountsClumps (script : Coming) (names : List (List ℕ)) (place : ℕ
   pub clumps : clump.command ≡ Clump place target joining
   pub prints : PrintsTable stats (length names ∷ []) options
 
--- a run of a script over grids, one of them in this place: it is done, and a sink that had taken nothing took this text
+-- a successful run of a script over grids, with the grid at index `place`; `text` is everything that its sink accepted
 pub record MapRun (script : Coming) (place : ℕ) : Type 0 where
   pub grids : List Named
   pub text : List ℕ

@@ -1,4 +1,4 @@
--- Statements that fit their maps have an output, and so does every accepted script.
+-- Statements that fit their maps have an output, and every accepted script has an output.
 use Rattle.std.specs.Prelude.{ℕ, ◌≡◌, List, length, All}
 use Rattle.cell_core_devices.specs.Device.{Coming}
 use Rattle.cell_core.specs.Grid.{IsFilled}
@@ -9,7 +9,7 @@ use Rattle.rcell_script.specs.declared.statement.Statement.{Statement}
 use Rattle.rcell.specs.Output.{IsOutput}
 use Rattle.rcell.specs.runs.Accepted.{IsAccepted}
 
--- if each name has a map of the shelf's region, and each map has the region's rows and columns, statements that fit the
+-- if each name belongs to a map of the shelf's region, with the region's rows and columns, statements that fit the
 -- names have an output
 abbrev pub OutputsExist : Type 0
 OutputsExist = (shelf : ShelfValue) (statements : List Statement) → length shelf.names ≡ length shelf.maps

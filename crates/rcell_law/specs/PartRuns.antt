@@ -1,4 +1,4 @@
--- A statement r.stats over each part of maps: its outputs, joined, are its output over the full maps.
+-- A statement r.stats over each part of maps: its outputs merge into its output over the full maps.
 use Rattle.std.specs.Prelude.{ℕ, ◌≡◌, ◌<◌, ◌-◌, ◌*◌, ◌^◌, false, List, [], ◌∷◌, All, length, map, Option, None}
 use Rattle.cell_core_devices.specs.Blocks.{capped_count}
 use Rattle.cell_core_devices.specs.Device.{Coming, append_known}
@@ -13,47 +13,47 @@ use Rattle.rcell_script_commands.specs.declared.command.Command.TheVariants.{Sta
 use Rattle.rcell_script_commands.specs.declared.command.StatsOptions.{StatsOptions}
 use Rattle.rcell.specs.Output.{IsOutput, format_of}
 
--- the statement is r.stats of the maps in these places and prints a full table: not a line for each cell, and not the
--- rest after a combination
+-- the statement is r.stats of the maps at these indexes and prints a full table: neither a line per cell nor the rest
+-- after a combination
 pub record PrintsWholeTable (statement : Statement) (places : List ℕ) (options : StatsOptions) : Type 0 where
   pub command : statement.command ≡ Stats places options
   pub table : options.cells ≡ false
   pub all : options.after ≡ None
 
--- and its lines have no labels and can be read back
+-- the statement prints a full table, whose lines have no labels and can be read back
 pub record PrintsTable (statement : Statement) (places : List ℕ) (options : StatsOptions) : Type 0 where
   pub whole : PrintsWholeTable statement places options
   pub readable : CanBeReadBack (format_of options) places
 
--- a run over a shelf that stands for a rectangle of other maps, and what it wrote
+-- a run over a shelf that contains a rectangle of other maps, and its output
 pub record PartRun : Type 0 where
   pub place : Rectangle
   pub shelf : ShelfValue
   pub text : List ℕ
 
--- the part that it ran over
+-- the part that the run covered
 abbrev pub part_of : PartRun → Part
 part_of run = record { place = run.place; maps = run.shelf.maps }
 
--- what it wrote, as a text to be joined: complete, without a failure at its end
+-- the run's output, as a complete text to be merged
 abbrev pub coming_of : PartRun → Coming
 coming_of run = record { bytes = run.text; fails = false }
 
--- the shelf is as large as the rectangle, and the text is the output of the statement over it
+-- the shelf has the size of the rectangle, and the text is the output of the statement over it
 pub record IsRunOf (statement : Statement) (run : PartRun) : Type 0 where
   pub rows : run.shelf.region.rows ≡ run.place.rows
   pub cols : run.shelf.region.cols ≡ run.place.cols
   pub output : IsOutput run.shelf (statement ∷ []) run.text
 
--- runs of the statement over parts of maps of fewer than 2^64 - 1 cells, however these are cut, and whatever the names
--- and labels of the parts are
+-- runs of the statement over parts of maps with fewer than 2^64 - 1 cells, cut in any way; the parts may have any names
+-- and labels
 pub record AreRunsOfParts (statement : Statement) (whole : ShelfValue) (runs : List PartRun) : Type 0 where
   pub cells : All (λ m. AreCells m.rows) whole.maps
   pub small : whole.region.rows * whole.region.cols < 2 ^ 64 - 1
   pub parts : AreParts whole.region.rows whole.region.cols whole.maps (map part_of runs)
   pub outputs : All (IsRunOf statement) runs
 
--- the outputs over the parts join to the output over the full maps
+-- the outputs over the parts merge into the output over the full maps
 abbrev pub RunsOfPartsJoin : Type 0
 RunsOfPartsJoin =
     (statement : Statement) (places : List ℕ) (options : StatsOptions) → PrintsTable statement places options
@@ -61,7 +61,7 @@ RunsOfPartsJoin =
     → (text : List ℕ) → IsOutput whole (statement ∷ []) text
     → JoinTo (format_of options) (map coming_of runs) text
 
--- if these outputs were joined without an error, the sink took exactly the output over the full maps
+-- if these outputs were merged without an error, the sink accepted exactly the output over the full maps
 abbrev pub JoinedRunsAreOneRun : Type 0
 JoinedRunsAreOneRun =
     (statement : Statement) (places : List ℕ) (options : StatsOptions) → PrintsTable statement places options

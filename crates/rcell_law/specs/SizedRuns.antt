@@ -1,5 +1,5 @@
--- A script that counts the cells of the clumps of a map, run over each tile of a grid: the sizes added up from its
--- tables are the output of such a script over the full map.
+-- A script that counts the cells of a map's clumps, run over each tile of a grid: the sizes added up from its tables
+-- are the output of this script over the full map.
 use Rattle.std.specs.Prelude.{ℕ, ◌≡◌, ◌<◌, ◌^◌, ◌⊎◌, List, [], ◌∷◌, length, map, Some, slice_get}
 use Rattle.std.specs.List.{AllZip}
 use Rattle.cell_core_devices.specs.Device.{Coming}
@@ -20,13 +20,13 @@ use Rattle.rcell.specs.Output.{IsOutput, format_of}
 use Rattle.rcell_law.specs.MapRuns.{CountsClumps, MapRun, NumbersClumps, run_texts}
 use Rattle.rcell_law.specs.TileRuns.{AreTileRuns, HasTiles, TileRun, all_runs, border_texts}
 
--- a run of a script that counts clumps, over grids with these names; the map's text is the tile's
+-- a run of a script that counts clumps, over grids with these names; the map's text is the tile's text
 pub record CountsTile {script counting : Coming} {place : ℕ} {joining : Joining} (names : List (List ℕ))
     (tile : TileRun script place joining) (run : MapRun counting place) : Type 0 where
   pub named : run.done.shelf.names ≡ names
   pub same : run.grid.1 ≡ tile.run.grid.1
 
--- a script that numbers clumps was run over fewer than 2^31 tiles of a map, one that counts them too, and the borders were joined
+-- fewer than 2^31 tiles of a map were numbered by one script and counted by another, and their borders were joined
 pub record AreCountedRuns (script counting : Coming) (names : List (List ℕ)) (place : ℕ) (joining : Joining)
     (options : StatsOptions) (runs : List (List (TileRun script place joining))) (tables : List (MapRun counting place))
     (whole : Grid) (numbering : List ℕ) : Type 0 where
@@ -46,8 +46,8 @@ pub record IsFullMap (shelf : ShelfValue) (names : List (List ℕ)) (place : ℕ
   pub there : slice_get shelf.maps place ≡ Some whole
   pub region : whole.region ≡ shelf.region
 
--- the sizes that are written are the output over the full map of a script that prints its table in the same format,
--- without null; even if the map is too large for a run
+-- the sizes that are written are the output, over the full map, of a script that prints its table in the same format,
+-- without null; the map may be too large for a run
 abbrev pub SizesAreThoseOfTheGrid : Type 0
 SizesAreThoseOfTheGrid =
     (script counting full : Coming) (names : List (List ℕ)) (place : ℕ) (joining : Joining)

@@ -1,5 +1,4 @@
--- A script that numbers the clumps of a map, run over each tile of a map, and the texts written for the borders of the
--- tiles.
+-- A script that numbers the clumps of a map, run over each tile of a map, and the texts written for the tiles' borders.
 use Rattle.std.specs.Prelude.{ℕ, ◌≡◌, ◌⊎◌, List, [], All, flat_map, map, Some}
 use Rattle.cell_core_devices.specs.Device.{Coming}
 use Rattle.cell_core.specs.Grid.{Grid}
@@ -23,7 +22,7 @@ pub record TileRun (script : Coming) (place : ℕ) (joining : Joining) : Type 0 
   pub written : ℕ
   pub drawn : HasWrittenBorder joining run.grid.1 (Some []) (Some border) written
 
--- the tile: its map, and the map that the output of the run denotes
+-- the tile of a run: its map, and the map that the run's output denotes
 abbrev pub tile_of_run : {script : Coming} {place : ℕ} {joining : Joining} → TileRun script place joining → NumberedTile
 tile_of_run one = record { map = one.drawn.m; numbers = one.numbers }
 
@@ -35,17 +34,17 @@ tiles_of_runs runs = map (λ row. map tile_of_run row) runs
 abbrev pub all_runs : {script : Coming} {place : ℕ} {joining : Joining} → List (List (TileRun script place joining)) → List (TileRun script place joining)
 all_runs runs = flat_map (λ row. row) runs
 
--- the texts of borders, as they are given to be joined
+-- the borders as texts to be joined
 abbrev pub border_texts : {script : Coming} {place : ℕ} {joining : Joining} → List (List (TileRun script place joining)) → List Coming
 border_texts runs = map (λ one. written_text one.border) (all_runs runs)
 
--- runs over grids of these names, of tiles whose regions make a grid
+-- runs over grids with these names, for tiles whose regions make up a grid
 pub record AreTileRuns (script : Coming) (names : List (List ℕ)) (place : ℕ) (joining : Joining)
     (runs : List (List (TileRun script place joining))) : Type 0 where
   pub named : All (λ one. one.run.done.shelf.names ≡ names) (all_runs runs)
   pub make : AreTileRows (tile_regions (tiles_of_runs runs))
 
--- a map of any size whose rows are the rows of the tiles, side by side and one below the other
+-- a map of any size, whose rows are the rows of the tiles, next to each other and one below the other
 abbrev pub HasTiles : {script : Coming} {place : ℕ} {joining : Joining} → Grid → List (List (TileRun script place joining)) → Type 0
 HasTiles whole runs = whole.rows ≡ rows_of_tiles (tiles_of_runs runs)
 

@@ -5,22 +5,22 @@ ghost use Rattle.rcell_law.specs.OutputExists.{AcceptedHaveOutput, OutputsExist}
 ghost use Rattle.rcell_law.specs.ReadAgain.{LabelsChangeNoOtherText, WrittenIsReadAgain, WrittenMapsAreGrids};
 ghost use Rattle.rcell_law.specs.RunMaps.{RunMapsAreWritable};
 
-/// Maps that r.out.ascii wrote, read as the grids of a second run, are the same maps, without their labels.
+/// If the maps that r.out.ascii wrote are the grids of a second run, they are read as the same maps without labels.
 pub fn written_maps_are_grids()
     ensures { WrittenMapsAreGrids }
 {}
 
-/// Statements that print no labels write the same text whatever labels the maps have.
+/// The labels of maps do not affect the output of statements that print no labels.
 pub fn labels_change_no_other_text()
     ensures { LabelsChangeNoOtherText }
 {}
 
-/// Maps written by r.out.ascii and read as the grids of a second run give the same tables and the same texts.
+/// If the maps that r.out.ascii wrote are the grids of a second run, they produce the same tables and texts.
 pub fn written_is_read_again()
     ensures { WrittenIsReadAgain }
 {}
 
-/// Statements that fit the maps of a shelf have an output: there is a value at each cell, a class, and a clumping.
+/// Statements that fit the maps of a shelf have an output: values, new categories and clump numbers always exist.
 pub fn outputs_exist()
     ensures { OutputsExist }
 {}
@@ -30,13 +30,13 @@ pub fn accepted_have_output()
     ensures { AcceptedHaveOutput }
 {}
 
-/// A script cut in two: if the maps that the first part made are written and read back as grids, the second part writes
-/// what the full script would have written.
+/// Cut a script in two, write the maps that the first part made, and read them back as grids. The second part then
+/// writes what the full script would have written.
 pub fn cut_in_two()
     ensures { CutInTwo }
 {}
 
-/// The same for texts: the two parts, one after the other, are a script that writes what they write.
+/// The law `cut_in_two` for texts: the two parts form one script, whose output is their concatenated output.
 pub fn script_cut_in_two()
     ensures { ScriptCutInTwo }
 {}

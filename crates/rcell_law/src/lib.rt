@@ -1,12 +1,11 @@
-//! Laws of runs. No code runs.
+//! Laws of runs. This crate contains only proofs.
 //!
-//! - `script_law`: every text is a script, or has one first error
-//! - `law`: every accepted script has an output; a map that is written and read again gives the
-//!   same results; a script that is cut in two, with maps written and read between, gives the same
-//!   output
-//! - `parts_law`: a script run over tiles, its outputs joined with `rcell-join`, gives the tables,
-//!   the numbers and the sizes of clumps of one run over the full maps, also if these are too large
-//!   for a run (`scripts_of_parts_join`, `scripts_of_tiles_number`, `sizes_are_those_of_the_grid`)
+//! - `script_law`: every text either is a script or has a first error
+//! - `law`: every accepted script has an output; maps that are written and read again produce the same results; a
+//!   script cut in two, with maps written and read in between, has the same output
+//! - `parts_law`: if the outputs of a script over tiles are joined with `rcell-join`, they are the tables, clump
+//!   numbers and clump sizes of one run over the full maps, even if the full maps are too large for a run
+//!   (`scripts_of_parts_join`, `scripts_of_tiles_number`, `sizes_are_those_of_the_grid`)
 #![tactic(auto)]
 
 pub mod law;

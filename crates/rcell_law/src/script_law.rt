@@ -1,8 +1,9 @@
-//! A law of all texts of scripts.
+//! A law of all script texts.
 
 ghost use Rattle.rcell_law.specs.JudgedLaw.{ScriptTextsAreJudged};
 
-/// Each text is a script over known maps without an error, or has a first error and is not a script (profile).
+/// Each text either is a script over known maps and has no error, or has a first error and is not a script (see the
+/// profile).
 pub fn script_texts_are_judged()
     ensures { ScriptTextsAreJudged }
 {}

@@ -1,4 +1,4 @@
--- What the words of a command line ask for: rcell SCRIPT NAME=PATH... (profile).
+-- The request in a command line: rcell SCRIPT NAME=PATH... (see the profile).
 use Rattle.std.specs.Prelude.{ℕ, Bool, false, List, [], ◌∷◌, ◌++◌, ◌==◌, ◌≡◌, ◌≢◌, ◌+◌, ◌&&◌, ◌||◌}
 use Rattle.std.specs.Prelude.{drop, map, if◌then◌else◌, length, nat_lt, None, Option, Some, Result, Ok, Err, option_map, codes}
 use Rattle.std.specs.List.{after_first, before_first}
@@ -13,11 +13,11 @@ abbrev pub grid_words : List (List ℕ) → List (List ℕ) → List (List ℕ)
 grid_words (name ∷ names) (path ∷ paths) = (name ++ byte (codes "=") ∷ path) ∷ grid_words names paths
 grid_words _ _ = []
 
--- NAME=PATH: a name before the first equals sign, and something after it
+-- NAME=PATH: a valid name before the first equals sign, and a nonempty text after it
 abbrev pub is_grid_argument : List ℕ → Bool
 is_grid_argument word = is_name (before_first (λ b. b == byte (codes "=")) word) && nat_lt 0 (length (after_first (λ b. b == byte (codes "=")) word))
 
--- the path of the script, and the name and the path of each grid, as words give them
+-- the script's path, and each grid's name and path, as the words state them
 abbrev pub script_path : List (List ℕ) → List ℕ
 script_path [] = []
 script_path (script ∷ grids) = script
@@ -34,25 +34,25 @@ grid_names words = map grid_name (drop 1 words)
 abbrev pub grid_paths : List (List ℕ) → List (List ℕ)
 grid_paths words = map grid_path (drop 1 words)
 
--- the place of the first of these words that is not NAME=PATH, if there is one; the words are counted from this place
+-- the position of the first word that is not NAME=PATH, if any; the words are counted from `place`
 abbrev pub first_bad : ℕ → List (List ℕ) → Option ℕ
 first_bad place [] = None
 first_bad place (word ∷ words) = if is_grid_argument word then first_bad (place + 1) words else Some place
 
--- one of the words begins with a hyphen, or they are fewer than two, a script and a grid
+-- a word begins with a hyphen, or there are fewer than two words, for a script and a grid
 abbrev pub is_misuse : List (List ℕ) → Bool
 is_misuse words = has_hyphen_word words || nat_lt (length words) 2
 
--- why these words, which follow the program's own name, are rejected; None if they ask for a run
+-- why the words after the program's own name are rejected, or `None` if they are a request
 abbrev pub refusal_of : List (List ℕ) → Option Refusal
 refusal_of words = if is_misuse words then Some Usage else option_map (λ place. GridWord place) (first_bad 2 (drop 1 words))
 
--- unless memory ran out, words are rejected for this reason, or accepted if there is none
+-- unless memory ran out, the words are rejected for this reason, or accepted if there is none
 abbrev pub IsRefusedFor : {A : Type 0} → Option Refusal → Result A Refusal → Type 0
 IsRefusedFor reason (Ok request) = reason ≡ None
 IsRefusedFor reason (Err refusal) = refusal ≢ Memory → reason ≡ Some refusal
 
--- what the words ask for: the path of a script, and the names and paths of grids
+-- the request in the words: the path of a script, and the names and paths of grids
 pub record IsRequest (words : List (List ℕ)) (script : List ℕ) (names paths : List (List ℕ)) : Type 0 where
   pub of_script : script ≡ script_path words
   pub of_names : names ≡ grid_names words

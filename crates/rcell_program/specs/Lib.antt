@@ -1,4 +1,4 @@
--- The request of a command line, and what is reported if no run was started, with the exit status.
+-- The request of a command line, and the errors before a run, with their exit statuses.
 pub mod CommandLine
 pub mod OpenedGrids
 pub mod Refusals

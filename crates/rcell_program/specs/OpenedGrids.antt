@@ -6,7 +6,7 @@ use Rattle.cell_core_devices.specs.declared.source.Asked.{Asked}
 use Rattle.cell_core_devices.specs.declared.source.Asked.TheVariants.{Going}
 use Rattle.rcell_command.specs.Processes.{GivesFile}
 
--- the sources of grids of these names and paths, in their order, of which none was asked yet
+-- the sources of grids with these names and paths, in order, none of which has been read yet
 pub record AreOpened {F : Type 0} (files : List ℕ → Option Coming) (coming : F → Option Coming) (asked : F → Asked)
     (names paths : List (List ℕ)) (grids : List (List ℕ × F)) : Type 0 where
   pub named : map (λ grid. grid.0) grids ≡ names

@@ -1,4 +1,4 @@
--- What `rcell` does: the words of its process, the files that it opens, its output and its error (profile).
+-- What `rcell` does: the words of its process, the files that it opens, its output and its error (see the profile).
 use Rattle.std.specs.Prelude.{ℕ, ◌≡◌, ◌<◌, Bool, false, true, ⊤, List, []}
 use Rattle.std.specs.Prelude.{◌∷◌, drop, length, take, Option, None, Some, IfSome, IsNone, codes}
 use Rattle.std.specs.List.{AllZip}
@@ -23,7 +23,7 @@ use Rattle.rcell_program.specs.declared.refusal.Refusal.{Refusal}
 use Rattle.rcell_program.specs.declared.refusal.Refusal.TheVariants as refusals
 use Rattle.rcell_script.specs.declared.statement.Statement.{Statement}
 
--- what the files hold that words name, the script's and each grid's under its name
+-- the contents of the files that the words name: the script's, and each grid's with its name
 pub record AreTexts (files : List ℕ → Option Coming) (words : List (List ℕ)) (named : List Named) (text : Coming) :
     Type 0 where
   pub script : files (script_path words) ≡ Some text
@@ -34,12 +34,12 @@ pub data WorkEnd : Type 0 where
   Rejected : (refusal : Refusal) → WorkEnd
   Ran : (outcome : Outcome) → WorkEnd
 
--- where the error is reported, with the names of the grids
+-- where the error is reported, given the names of the grids
 abbrev pub end_place : List (List ℕ) → WorkEnd → Option PlaceValue
 end_place names (Rejected refusal) = Some (refusal_place names refusal)
 end_place names (Ran outcome) = run_place names outcome
 
--- why no run was started: the form of the words, a file that the process is not known to have, or lack of memory
+-- why no run was started: invalid words, a file whose contents are not known, or a lack of memory
 abbrev pub IsReason : (List ℕ → Option Coming) → List (List ℕ) → Refusal → Type 0
 IsReason files words refusals.Usage = refusal_of words ≡ Some refusals.Usage
 IsReason files words (refusals.GridWord place) = refusal_of words ≡ Some (refusals.GridWord place)
@@ -48,7 +48,7 @@ IsReason files words refusals.ScriptFile = files (script_path words) ≡ None
 IsReason files words (refusals.GridFile grid) = (grid < length (grid_paths words)) × (files (grid_path_at (grid_paths
     words) grid) ≡ None)
 
--- no run was started: some of the files were opened, in order, and nothing was written
+-- no run was started: the first files were opened, in order, and nothing was written
 pub record IsRejected {W : Type 0} (files : List ℕ → Option Coming) (words : List (List ℕ)) (opened now_opened :
     Option (List (List ℕ))) (out now : W) (refusal : Refusal) : Type 0 where
   pub reason : IsReason files words refusal
@@ -56,7 +56,7 @@ pub record IsRejected {W : Type 0} (files : List ℕ → Option Coming) (words :
   pub opens : now_opened ≡ grown opened (take count (script_path words ∷ grid_paths words))
   pub untouched : now ≡ out
 
--- what a run over these texts wrote, if its error is none, of the input or in execution
+-- what a run over these texts wrote: without an error, with an error in the input, and with an error during execution
 pub record IsRunOfTexts (named : List Named) (text : Coming) (before now : Option (List ℕ)) (failed : Bool) (outcome :
     Outcome) : Type 0 where
   pub done : IsNone outcome.fault → IsRunDone named text before now outcome.written
@@ -85,9 +85,8 @@ EndsWork files words opened now_opened taken faults out now (Rejected refusal) =
 EndsWork files words opened now_opened taken faults out now (Ran outcome) = IsRunOver files words opened now_opened
     taken faults out now outcome
 
--- the work of `rcell`: it ends for the words of the process, without the program's own name, if these are known;
--- exactly the line of its error is on standard error, unless standard error failed; and the exit status is the
--- error's, or 0
+-- the work of `rcell` for the words of the process, without the program's own name, if the words are known: unless
+-- standard error failed, it contains exactly the line for the error; the exit status is the error's, or 0
 pub record IsWork {P W : Type 0} (words : P → Option (List (List ℕ))) (files : P → List ℕ → Option Coming) (opened : P
     → Option (List (List ℕ))) (errors : P → Option (List ErrorLine)) (failed : P → Bool) (old new : P) (taken : W →
     Option (List ℕ)) (faults : W → Faults) (out now : W) (status : ℕ) : Type 0 where
@@ -97,8 +96,8 @@ pub record IsWork {P W : Type 0} (words : P → Option (List (List ℕ))) (files
   pub ends : EndsWork (files old) given (opened old) (opened new) taken faults out now end
   pub told : IsTold errors failed old new (codes "rcell") (end_place (grid_names given) end) status
 
--- exactly the output of these statements was written, the files of these paths were opened, in order, nothing is
--- on standard error, and the exit status is 0
+-- exactly the output of these statements was written, the files at these paths were opened, in order, standard error is
+-- empty, and the exit status is 0
 pub record IsDoneWork (shelf : ShelfValue) (statements : List Statement) (paths : List (List ℕ)) (opened now_opened :
     Option (List (List ℕ))) (errors now_errors : Option (List ErrorLine)) (before now : Option (List ℕ)) (status : ℕ)
     : Type 0 where

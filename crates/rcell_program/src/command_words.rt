@@ -1,4 +1,4 @@
-//! The words of the command line.
+//! Reads the words of the command line.
 
 ghost use Rattle.std.specs.Prelude.{◌≡◌, ◌≢◌, ◌++◌, ◌∷◌, true, false, IfErr, IfOk, None, OnOk, Some, drop, map, option_map, vec_len};
 ghost use Rattle.std.specs.String.{string_bytes};
@@ -11,7 +11,7 @@ use cell_core::name::{Name, NameFault};
 use rcell_command::arguments::{first_and_rest, has_hyphen_word};
 use std::alloc::Global;
 
-/// What the words ask for: a script over the grids of these names, each in the file of its path.
+/// The request in the words: a script over grids with these names, each read from the file at its path.
 #[derive(Drop)]
 pub struct RunRequest<'a> {
     /// The path of the script.
@@ -23,10 +23,10 @@ pub struct RunRequest<'a> {
     ghost has_paths: { vec_len names ≡ vec_len paths },
 }
 
-// The place of SCRIPT among the words; the program's own name has place 0.
+// The position of SCRIPT among the words. The program's own name has position 0.
 const SCRIPT_PLACE: u64 = 1;
 
-// The name and the path that a grid word has around its first equals sign.
+// Splits a grid word into the name before its first equals sign and the path after it.
 fn grid_of<'a>(alloc: Global, word: &'a str, place: u64) -> Result<(Name, &'a str), Refusal>
     ensures cut { IfOk result (λ grid. word.now ≡ grid.0 ++ 61 ∷ grid.1.now) }
     ensures name { IfOk result (λ grid. is_name grid.0 ≡ true) }
@@ -49,7 +49,7 @@ fn grid_of<'a>(alloc: Global, word: &'a str, place: u64) -> Result<(Name, &'a st
     }
 }
 
-// The names and the paths of the grid words, of which the first has place 2.
+// Splits the grid words into names and paths. The first grid word has position 2.
 #[tactic(auto, using(crate::proofs::WordLemmas::grid_words_more))]
 fn grids_of<'a>(alloc: Global, words: &[&'a str]) -> Result<(Vec<Name>, Vec<&'a str>), Refusal>
     ensures words { IfOk result (λ grids. grid_words grids.0.items (texts grids.1.items)
@@ -74,12 +74,12 @@ fn grids_of<'a>(alloc: Global, words: &[&'a str]) -> Result<(Vec<Name>, Vec<&'a 
     Ok((names, paths))
 }
 
-/// Reads the words, of which the first is the program's own name.
+/// Reads the words, starting with the program's own name.
 ///
 /// # Errors
 ///
-/// [`Refusal::Usage`] if a later word begins with `-`, or fewer than two follow the first; [`Refusal::GridWord`] of
-/// the first word after the script's that is not NAME=PATH; [`Refusal::Memory`].
+/// [`Refusal::Usage`] if a later word begins with `-`, or fewer than two words follow the first; [`Refusal::GridWord`]
+/// for the first word after the script's that is not NAME=PATH; [`Refusal::Memory`] if memory runs out.
 pub fn read_words<'a>(alloc: Global, words: &'a [String]) -> Result<RunRequest<'a>, Refusal>
     ensures asked { IfOk result (λ request. drop 1 (map string_bytes words.now)
         ≡ request.script.now

@@ -1,13 +1,12 @@
 //! The program `rcell`: runs a script over grids in files, `rcell SCRIPT NAME=PATH...`.
 //!
-//! The work is done by `rcell::run`. Here is what only a process has, in the order of work:
-//! - `working`: `work`, all that the program does, generic in the process
-//! - `command_words`: `read_words`, arguments to a `RunRequest`
-//! - `opening`: `open_files`, its script and grids
-//! - `refusal`, `run_report`: why no run was started, and why a run failed, as they are reported
+//! `rcell::run` does the work. This crate handles arguments, files and errors, in the order of work:
+//! - `working`: `work` does all that the program does, for any `Process`
+//! - `command_words`: `read_words` reads arguments as a `RunRequest`
+//! - `opening`: `open_files` opens the script and the grids
+//! - `refusal`, `run_report`: why no run was started, and why a run failed
 //!
-//! Example: cases/five-commands. `args` has the arguments, `script` the script, `stdout` the
-//! output.
+//! Example: cases/five-commands. `args` contains the arguments, `script` the script, and `stdout` the output.
 #![tactic(auto)]
 
 mod command_words;

@@ -1,4 +1,4 @@
-//! The files that a request names.
+//! Opens the files that a request names.
 
 ghost use Rattle.std.specs.Prelude.{◌≡◌, ◌≢◌, ◌<◌, ℕ, List, [], ◌∷◌, None, IfErr, IfOk, OnErr, OnOk, get_or, vec_len};
 ghost use Rattle.clap.specs.Walk.{texts};
@@ -24,7 +24,7 @@ pub struct OpenedFiles<F: Source + Drop> {
     ghost has_grid: { 0 < vec_len grids },
 }
 
-// Opens the file of a grid. Returns its name and its source.
+// Opens the file of a grid. Returns the grid's name and its source.
 fn open_grid<P: Process>(
     alloc: Global,
     process: &mut P,
@@ -55,7 +55,7 @@ fn open_grid<P: Process>(
     }
 }
 
-// The path of a grid.
+// Returns the path of a grid.
 #[tactic(auto, using(crate::proofs::WordLemmas::word_at))]
 fn path_of<'a>(request: &RunRequest<'a>, grid: usize) -> &'a str
     requires { grid < vec_len request.now.paths }
@@ -64,7 +64,7 @@ fn path_of<'a>(request: &RunRequest<'a>, grid: usize) -> &'a str
     request.paths[grid]
 }
 
-// The names and the sources of the grids, in order.
+// Opens the files of the grids. Returns their names and sources, in order.
 fn open_grids<P: Process>(
     alloc: Global,
     process: &mut P,
@@ -97,18 +97,18 @@ fn open_grids<P: Process>(
     Ok(grids)
 }
 
-/// Opens the script and then each grid in order.
+/// Opens the script, and then each grid in order.
 ///
 /// # Errors
 ///
-/// [`Refusal::ScriptFile`] or [`Refusal::GridFile`] of the first that can't be opened; [`Refusal::Usage`] if the request
-/// names no grid; [`Refusal::Memory`].
+/// [`Refusal::ScriptFile`] or [`Refusal::GridFile`] for the first file that can't be opened; [`Refusal::Usage`] if the
+/// request names no grid; [`Refusal::Memory`] if memory runs out.
 pub fn open_files<P: Process>(
     alloc: Global,
     process: &mut P,
     request: &RunRequest<'_>,
 ) -> Result<OpenedFiles<P::File>, Refusal>
-    // Nothing is read yet: no source was asked, so none has ended or failed.
+    // No source has been read yet, so none has ended or failed.
     ensures script { IfOk result (λ opened. P.File.asked opened.script ≡ Asked.Going) }
     ensures gives { IfOk result (λ opened. GivesFile (P.files process.old) P.File.coming
         request.now.script.now opened.script) }

@@ -1,4 +1,4 @@
-//! Why no run was started.
+//! Errors that occur before a run is started.
 
 ghost use Rattle.std.specs.Prelude.{Some};
 
@@ -10,10 +10,10 @@ use thiserror::Error;
 /// Why no run was started.
 #[derive(Clone, Copy, Debug, PartialEq, Eq, Error)]
 pub enum Refusal {
-    /// Fewer than two words after the program's own name, one of them that begins with `-`, or a word that is not UTF-8.
+    /// Fewer than two words follow the program's own name, one of them begins with `-`, or a word is not UTF-8.
     #[error("usage: rcell SCRIPT NAME=PATH...")]
     Usage,
-    /// The word at this place is not NAME=PATH; SCRIPT has place 1.
+    /// The word at this position is not NAME=PATH. SCRIPT has position 1.
     #[error("bad grid argument")]
     GridWord { place: u64 },
     /// Memory ran out.
@@ -22,12 +22,12 @@ pub enum Refusal {
     /// The script can't be opened.
     #[error("cannot open")]
     ScriptFile,
-    /// The file of the grid at this place, from 0, can't be opened.
+    /// The file of the grid with this index, from 0, can't be opened.
     #[error("cannot open")]
     GridFile { grid: usize },
 }
 
-/// The report of an error before a run, by the names of the grids.
+/// An error before a run, and the names of the grids.
 #[derive(Drop)]
 pub struct RefusalReport<'a> {
     pub refusal: Refusal,

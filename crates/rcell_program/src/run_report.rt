@@ -1,4 +1,4 @@
-//! The report of a run.
+//! Reports the outcome of a run.
 
 ghost use Rattle.rcell_program.specs.Refusals.{run_place};
 
@@ -8,7 +8,7 @@ use rcell::report::fault_line;
 use rcell_command::reported::{Place, Reported};
 use std::fmt;
 
-/// The report of a run, by the names of its grids.
+/// The outcome of a run, and the names of its grids.
 #[derive(Drop)]
 pub struct RunReport<'a> {
     pub outcome: Outcome,

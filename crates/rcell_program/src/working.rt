@@ -1,4 +1,4 @@
-//! What the program does in a process.
+//! Does the work of the program in a process.
 
 ghost use Rattle.std.specs.Prelude.{◌≡◌, ◌≢◌, ◌∷◌, ℕ, List, false, drop, Some, None, codes};
 ghost use Rattle.cell_core.specs.Shelf.{ShelfValue};
@@ -22,7 +22,7 @@ use rcell_command::process::Process;
 use rcell_command::reported::report_error;
 use std::alloc::Global;
 
-// The program's name in the line of an error.
+// The program's name in error lines.
 const PROGRAM: &str = "rcell";
 
 // Reports an error before a run, and returns the exit status.
@@ -33,15 +33,16 @@ fn refuse<P: Process>(process: &mut P, refusal: Refusal, names: &[Name]) -> u8
     report_error(process, PROGRAM, &RefusalReport { refusal, names })
 }
 
-/// Does what the words of the process ask for, and returns the exit status: opens the files that they name, runs the script
-/// over the grids, writes the output to `out`, and reports the error, if there is one.
+/// Executes the request in the process's arguments, and returns the exit status. Opens the files that the words name,
+/// runs the script over the grids, writes the output to `out`, and reports the error, if any.
 pub fn work<P: Process, W: Sink>(alloc: Global, process: &mut P, out: &mut W) -> u8
-    // The words come from the process; the files that they name were opened, in their order; `out` has taken what a run
-    // over exactly these files writes; standard error has exactly the line of the error, and the exit status is the error's.
+    // The words are those given to the process. The files that they name were opened, in order. `out` has accepted
+    // exactly what a run over these files writes. Standard error contains exactly the line for the error, and the exit
+    // status is the error's.
     ensures work { IsWork P.words P.files P.opened P.errors P.failed process.old process.new
         W.taken W.faults out.old out.new result }
-    // For words and files that are known, and an accepted script over grids of one region, if memory lasts and the sink takes
-    // everything: exactly the output of its statements is written, nothing is on standard error, and the status is 0.
+    // If the words and files are known, a script over grids of one region is accepted, memory suffices and the sink
+    // does not fail, exactly the output of its statements is written, standard error is empty, and the status is 0.
     ensures headline { (words : List (List ℕ)) (named : List Named) (text : Coming)
         (shelf : ShelfValue) (statements : List Statement)
         → P.words process.old ≡ Some words → refusal_of (drop 1 words) ≡ None

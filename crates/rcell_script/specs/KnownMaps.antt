@@ -11,11 +11,11 @@ made_by (Clump place target joining) = Some target
 made_by (Stats places options) = None
 made_by (OutAscii place null_text) = None
 
--- with the name of the new map, if there is one
+-- adds the name of the new map, if there is one
 abbrev pub with_made : List (List ℕ) → Option (List ℕ) → List (List ℕ)
 with_made known None = known
 with_made known (Some target) = known ++ target ∷ []
 
--- a map that is made is known after the command that makes it
+-- a command's new map is known after the command
 abbrev pub known_after : List (List ℕ) → Command → List (List ℕ)
 known_after known command = with_made known (made_by command)

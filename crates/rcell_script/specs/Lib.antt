@@ -1,4 +1,4 @@
--- Scripts: their lines, which texts are scripts, how they are read, and which errors they have.
+-- Scripts: their lines, which texts are scripts, how scripts are read, and their errors.
 pub mod Lines
 pub mod ReclassRules
 pub mod KnownMaps

@@ -1,8 +1,8 @@
--- The lines of a script, with their numbers (profile).
+-- The numbered lines of a script (see the profile).
 use Rattle.std.specs.Prelude.{ℕ, List, [], ◌∷◌, map, ◌+◌}
 use Rattle.bstr.specs.Text.{lines_of, without_terminator}
 
--- a script is cut at line feeds; a carriage return just before a line feed does not belong to the line
+-- a script is split at line feeds; a carriage return right before a line feed is not part of the line
 abbrev pub script_lines : List ℕ → List (List ℕ)
 script_lines text = map without_terminator (lines_of text)
 
@@ -11,7 +11,7 @@ pub record ScriptLine : Type 0 where
   pub number : ℕ
   pub bytes : List ℕ
 
--- lines with their numbers, from a first one on
+-- lines with their numbers, starting at `first`
 abbrev pub numbered_lines : ℕ → List (List ℕ) → List ScriptLine
 numbered_lines first [] = []
 numbered_lines first (l ∷ ls) = record { number = first; bytes = l } ∷ numbered_lines (first + 1) ls

@@ -1,4 +1,4 @@
--- How a text is read as statements, and its error if it is not a script (profile).
+-- How a text is read as statements, and its error if it is not a script (see the profile).
 use Rattle.std.specs.Prelude.{ℕ, ◌≡◌, List, Ok, Err}
 use Rattle.rcell_script.specs.Lines.{script_lines}
 use Rattle.rcell_script.specs.ScriptsRead.{IsScriptReading, start}
@@ -14,6 +14,6 @@ IsReadAs known text statements = IsScriptReading 1 (start known) (script_lines t
 unfoldable pub IsScriptFault : List (List ℕ) → List ℕ → ScriptFault → Type 0
 IsScriptFault known text fault = IsScriptReading 1 (start known) (script_lines text) (Err fault)
 
--- lack of memory is reported at line 0
+-- an error that memory ran out is reported at line 0
 abbrev pub ReportsMemoryAtZero : ScriptFault → Type 0
 ReportsMemoryAtZero fault = fault.kind ≡ Memory → fault.line ≡ 0

@@ -1,4 +1,4 @@
--- The lines of the rules of an r.reclass (r.reclass manual).
+-- The lines of an r.reclass's rules (r.reclass manual).
 use Rattle.std.specs.Prelude.{ℕ, ◌≡◌, List, ◌∷◌, codes, []}
 use Rattle.cell_cats.specs.Rule.{RuleValue}
 use Rattle.cell_cats.specs.RuleLine.{SpellsRule}
@@ -6,11 +6,11 @@ use Rattle.rcell_script_commands.specs.Skipped.{IsSkipped}
 use Rattle.cell_core_values.specs.Blanks.{trimmed_text}
 use Rattle.rcell_script.specs.Lines.{ScriptLine}
 
--- the line after the rules of an r.reclass
+-- the line that ends the rules
 abbrev pub IsEnd : List ℕ → Type 0
 IsEnd bytes = trimmed_text bytes ≡ codes "end"
 
--- lines that each spell a rule; blank lines and comments are skipped
+-- each line spells one rule; blank lines and comments are skipped
 pub data AreRules : List ScriptLine → List RuleValue → Type 0 where
   none : AreRules [] []
   skipped : {line : ScriptLine} {lines : List ScriptLine} {rules : List RuleValue} → IsSkipped line.bytes → AreRules lines rules → AreRules (line ∷ lines) rules

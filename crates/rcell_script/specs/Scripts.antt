@@ -1,4 +1,4 @@
--- Which texts are scripts, and of which statements, by lines that group into statements (profile; commands: GRASS manual).
+-- Which texts are scripts, and of which statements (see the profile, and the GRASS manual for the commands).
 use Rattle.std.specs.Prelude.{ℕ, List, ◌≤◌, [], ◌∷◌, ◌++◌, length, All}
 use Rattle.cell_cats.specs.Rule.{RuleValue}
 use Rattle.rcell_script.specs.KnownMaps.{known_after}
@@ -11,7 +11,8 @@ use Rattle.rcell_script_commands.specs.declared.command.Command.{Command}
 use Rattle.rcell_script_commands.specs.declared.command.Command.TheVariants.{Reclass}
 use Rattle.rcell_script.specs.declared.statement.Statement.{Statement}
 
--- how lines group into statements: one line per command, for r.reclass also rules and `end`; then its map is known
+-- how lines group into statements: one line per command, and for r.reclass also the lines of its rules and of `end`; a
+-- map that a command makes is known to the statements after it
 pub data Group : List (List ℕ) → List ScriptLine → List Statement → Type 0 where
   none : {known : List (List ℕ)} → Group known [] []
   skipped : {known : List (List ℕ)} {line : ScriptLine} {lines : List ScriptLine} {statements : List Statement}
@@ -28,6 +29,6 @@ pub record IsGrouped (known : List (List ℕ)) (text : List ℕ) (statements : L
   pub short : All (λ l. length l ≤ 65535) (script_lines text)
   pub grouped : Group known (numbered_lines 1 (script_lines text)) statements
 
--- the text is a script of these statements, over known maps: its lines group into them
+-- over the known maps, the text is a script of these statements
 unfoldable pub IsScript : List (List ℕ) → List ℕ → List Statement → Type 0
 IsScript known text statements = IsGrouped known text statements

@@ -4,7 +4,7 @@ ghost use Rattle.rcell_script.specs.ScriptLaw.{NoFaultOfAScript, OneScript, Read
 
 use cell_calc_language::assignment::one_assignment;
 
-/// A text is a script of at most one list of statements.
+/// A text denotes at most one list of statements.
 pub fn one_script()
     ensures { OneScript }
 {
@@ -18,8 +18,7 @@ pub fn no_fault_of_a_script()
     one_assignment();
 }
 
-/// Reading a text line by line gives statements exactly if the text is a script of these statements, into which its
-/// lines group.
+/// Reading a text line by line returns statements exactly if the text is a script of these statements.
 pub fn script_reading_denotes()
     ensures { ReadingDenotes }
 {}

@@ -1,11 +1,11 @@
-//! Scripts: one command on a line, r.reclass with its rules on the lines after it.
+//! Scripts: one command per line. The rules of an r.reclass are on the lines after it.
 //!
-//! - `script_parsing`: `parse_script`, from a text and the names of the grids to a `Script`, or the
-//!   first `ScriptFault` with its line, from 1
-//! - `statement`: `Script`, its statements; `Statement`, a `Command` and its line
-//! - specs/Scripts.antt: which text is which script; specs/ScriptsRead.antt: how it is read
-//! - `law`: a text is a script of one list of statements at most, and then has no error
-//! - private: `lines`; `line_reading`, the statements so far and the r.reclass that is open
+//! - `script_parsing`: `parse_script` reads a text, given the names of the known maps. Returns a `Script`, or the first
+//!   `ScriptFault` with its line, from 1
+//! - `statement`: `Script`, a list of statements; `Statement`, a `Command` and its line
+//! - specs/Scripts.antt: which texts are scripts; specs/ScriptsRead.antt: how scripts are read
+//! - `law`: a text denotes at most one list of statements, and then has no error
+//! - private: `lines`; `line_reading`: the statements read so far, and an r.reclass whose rules follow
 //! - re-exported from `rcell_script_commands`: `null_text`, `script_fault`
 //!
 //! ```

@@ -1,4 +1,4 @@
-//! Reading a script line by line.
+//! Reads a script line by line.
 
 ghost use Rattle.std.specs.Prelude.{◌≡◌, ◌≢◌, ◌<◌, ℕ, List, IfOk, IfErr, OnOk, Ok, Some};
 ghost use Rattle.std.specs.Option.{option_map};
@@ -28,7 +28,7 @@ pub(crate) struct OpenReclass {
     rules: Rules,
 }
 
-/// What was read so far: the names known, the statements, and the r.reclass whose rules are being read.
+/// The state of the reader: the known names, the statements, and the r.reclass whose rules are being read, if any.
 #[derive(Drop)]
 pub(crate) struct Progress {
     known: Names,
@@ -36,13 +36,13 @@ pub(crate) struct Progress {
     pending: Option<OpenReclass>,
 }
 
-/// Memory ran out.
+/// The error if memory runs out.
 pub(crate) const NO_MEMORY: ScriptFault = ScriptFault {
     kind: ScriptKind::Memory,
     line: 0,
 };
 
-// An error at a line; out of memory is reported at line 0.
+// Builds the error for a line. If memory ran out, the line is 0.
 fn fault_at(line: u64, kind: ScriptKind) -> ScriptFault
     ensures other { kind ≢ ScriptKind.Memory → result ≡ record { kind = kind; line = line } }
     ensures kind { result.kind ≡ kind }
@@ -54,7 +54,7 @@ fn fault_at(line: u64, kind: ScriptKind) -> ScriptFault
     }
 }
 
-// A copy of names.
+// Copies names.
 fn names_copy(alloc: Global, names: &Names) -> Result<Names, Memory>
     ensures { IfOk result (λ copy. copy ≡ names.now) }
 {
@@ -66,7 +66,7 @@ fn names_copy(alloc: Global, names: &Names) -> Result<Names, Memory>
     Ok(copy)
 }
 
-// The name of the map that a command makes.
+// Returns the name of the map that a command makes, if any.
 fn made_by(command: &Command) -> Option<&Name>
     ensures { option_map (λ name. name.now) result ≡ made_by command.now }
 {
@@ -78,7 +78,7 @@ fn made_by(command: &Command) -> Option<&Name>
     }
 }
 
-// Adds the name of the map that a command makes, if any, to the end of the known names.
+// Adds the name of the map that a command makes, if any, to the known names.
 fn add_made(alloc: Global, known: &mut Names, command: &Command) -> Result<(), Memory>
     requires { FitsCommand known.old command.now }
     ensures { OnOk result (known.new ≡ known_after known.old command.now) }
@@ -89,7 +89,7 @@ fn add_made(alloc: Global, known: &mut Names, command: &Command) -> Result<(), M
     Ok(())
 }
 
-// A line among rules, and the rules after it.
+// Reads a line among the rules of an r.reclass.
 fn add_rule(rules: &mut Rules, line: &[u8]) -> Result<LineKind, ScriptKind>
     ensures { Answers ScriptKind.Memory (λ kind. (kind, rules.new)) result
         (rule_line rules.old line.now) }
@@ -101,7 +101,7 @@ fn add_rule(rules: &mut Rules, line: &[u8]) -> Result<LineKind, ScriptKind>
 }
 
 impl Progress {
-    /// Nothing read yet, over known names.
+    /// Creates a reader that has read nothing and knows these names.
     ///
     /// # Errors
     ///
@@ -133,7 +133,7 @@ impl Progress {
         Ok(self)
     }
 
-    // After a line outside the rules of r.reclass.
+    // Continues after a line outside the rules of an r.reclass.
     fn with_head(self, alloc: Global, line: u64, head: Head) -> Result<Progress, Memory>
         requires { FitsHead self.known head }
         ensures { IfOk result (λ read. after_head line self (Ok head) ≡ Ok read) }
@@ -153,7 +153,7 @@ impl Progress {
         }
     }
 
-    // After a line among rules.
+    // Continues after a line among the rules of an r.reclass.
     fn with_rule(
         self,
         alloc: Global,
@@ -192,7 +192,7 @@ impl Progress {
     ///
     /// # Errors
     ///
-    /// The error of the line, with its number; [`ScriptKind::Memory`] with line 0 if memory runs out.
+    /// The error in the line, with its number; [`ScriptKind::Memory`] with line 0 if memory runs out.
     pub(crate) fn with_line(
         self,
         alloc: Global,
@@ -229,11 +229,11 @@ impl Progress {
         }
     }
 
-    /// The statements, at the end of the lines.
+    /// Returns the statements after the last line.
     ///
     /// # Errors
     ///
-    /// [`ScriptKind::MissingEnd`] at the line of an r.reclass whose rules have no end.
+    /// [`ScriptKind::MissingEnd`] with the line of an r.reclass whose rules have no `end`.
     pub(crate) fn into_script(self) -> Result<Script, ScriptFault>
         ensures { result ≡ at_end self }
     {

@@ -1,4 +1,4 @@
-//! The lines of a script.
+//! Splits a script into lines.
 
 ghost use Rattle.std.specs.Prelude.{◌≡◌, IfOk, map};
 ghost use Rattle.rcell_script.specs.Lines.{script_lines};
@@ -6,7 +6,7 @@ ghost use Rattle.rcell_script.specs.Lines.{script_lines};
 use bstr::ByteSlice;
 use std::alloc::{AllocError, Global};
 
-// The lines of a script.
+// Splits a script into lines.
 pub(crate) fn lines_of<'a>(alloc: Global, text: &'a [u8]) -> Result<Vec<&'a [u8]>, AllocError>
     ensures { IfOk result (λ lines. map (λ line. line.now) lines.items ≡ script_lines text.now) }
 {

@@ -1,4 +1,4 @@
-//! From the text of a script to its statements.
+//! Parses the text of a script.
 
 ghost use Rattle.std.specs.Prelude.{◌≡◌, ◌≢◌, ◌<◌, All, IfOk, IfErr};
 ghost use Rattle.rcell_script.specs.Scripts.{IsScript};
@@ -12,14 +12,15 @@ use cell_core::name::Names;
 use rcell_script_commands::script_fault::{ScriptFault, ScriptKind};
 use std::alloc::Global;
 
-/// The statements of a script over maps of these names. A place is an index among the names, then the maps made, in order.
+/// Parses a script over maps with these names. In statements, a place is an index into the known names, followed by the
+/// names of the maps that the script makes, in order.
 ///
 /// # Errors
 ///
-/// The first error, line by line from the top, with the number of its line from 1:
+/// The first error, line by line from the top, with its line number, from 1:
 ///
 /// - [`ScriptKind::LongLine`], then [`ScriptKind::UnknownCommand`], then the errors of the command and of its rules
-/// - [`ScriptKind::MissingEnd`] at the line of an r.reclass whose rules have no end
+/// - [`ScriptKind::MissingEnd`] with the line of an r.reclass whose rules have no `end`
 /// - [`ScriptKind::Memory`] with line 0 if memory runs out
 pub fn parse_script(alloc: Global, text: &[u8], known: &Names) -> Result<Script, ScriptFault>
     ensures ok { IfOk result (IsScript known.now text.now) }

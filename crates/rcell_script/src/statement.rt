@@ -7,14 +7,14 @@ pub use rcell_script_commands::command::{Command, Places, StatsOptions};
 use std::alloc::Global;
 use std::marker::Model;
 
-/// A command and its line.
+/// A command, and the number of its line.
 #[derive(Drop)]
 pub struct Statement {
     pub line: u64,
     pub command: Command,
 }
 
-/// The statements of a script, in order.
+/// A list of statements, in order.
 #[derive(Drop)]
 pub struct Script {
     statements: Vec<Statement>,
@@ -34,7 +34,7 @@ impl Model for Script {
 }
 
 impl Script {
-    // A script without statements.
+    // Creates a script without statements.
     pub(crate) fn new(alloc: Global) -> Script
         ensures { result ≡ [] }
     {
@@ -43,7 +43,7 @@ impl Script {
         }
     }
 
-    // Adds a statement at the end.
+    // Appends a statement.
     pub(crate) fn push(&mut self, statement: Statement) -> Result<(), Memory>
         ensures ok { OnOk result (self.new ≡ self.old ++ statement ∷ []) }
         ensures err { OnErr result (self.new ≡ self.old) }
@@ -52,7 +52,7 @@ impl Script {
         Ok(())
     }
 
-    /// The statements as a slice.
+    /// Returns the statements as a slice.
     pub fn statements(&self) -> &[Statement]
         ensures { result.now ≡ self.now }
     {

@@ -1,4 +1,4 @@
--- Which line spells which command (GRASS manual: the commands).
+-- Which line spells which command, as described in the GRASS manual.
 use Rattle.std.specs.Prelude.{ℕ, List}
 use Rattle.rcell_script_commands.specs.RClump.{SpellsClump}
 use Rattle.rcell_script_commands.specs.RMapcalc.{SpellsMapcalc}
@@ -7,7 +7,7 @@ use Rattle.rcell_script_commands.specs.RStats.{SpellsStats}
 use Rattle.rcell_script_commands.specs.declared.command.Command.{Command}
 use Rattle.rcell_script_commands.specs.declared.command.Command.TheVariants.{Mapcalc, Reclass, Clump, Stats, OutAscii}
 
--- a line spells a command that needs no further lines
+-- the line spells the command, which needs no further lines
 abbrev pub SpellsCommand : List (List ℕ) → List ℕ → Command → Type 0
 SpellsCommand known line (Mapcalc target bound) = SpellsMapcalc known line target bound
 SpellsCommand known line (Reclass place target rules) = ⊥

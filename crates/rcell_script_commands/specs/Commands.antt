@@ -1,4 +1,4 @@
--- The meaning of a line: skipped, a command, the beginning of an r.reclass, or an error (profile: order of errors).
+-- The meaning of a line: skipped, a command, the start of an r.reclass, or an error (order of errors: see the profile).
 use Rattle.std.specs.Prelude.{ℕ, ◌≡◌, ◌≢◌, ◌⊎◌, List, Option, Some, None, Result, Ok, Err, length, if◌then◌else◌, unwrap_or, Bool, true, false, [], ◌∷◌, nat_lt, bytes_eq, codes}
 use Rattle.cell_ascii_meaning.specs.GridWords.{usual_null}
 use Rattle.cell_calc_binding.specs.Binding.{with_places}
@@ -32,7 +32,7 @@ use Rattle.rcell_script_commands.specs.declared.command.Command.{Command}
 use Rattle.rcell_script_commands.specs.declared.command.Command.TheVariants.{Mapcalc, Clump, Stats, OutAscii}
 use Rattle.rcell_script_commands.specs.declared.command.StatsOptions.{StatsOptions}
 
--- the map that an assignment makes: each map that it reads is known, and the target is new
+-- the command for an assignment: each map that it reads must be known, and its target must be new
 abbrev pub mapcalc_of : List (List ℕ) → Assignment → Result Head ScriptKind
 mapcalc_of known a = by (first_unknown known a.expr)
   where
@@ -40,7 +40,7 @@ mapcalc_of known a = by (first_unknown known a.expr)
     by (Some column) = Err (Calc (record { kind = calc.UnknownMap; column = column }))
     by None = in_script (new_target (place_of a.target known) (Ok (Whole (Mapcalc a.target (with_places known a.expr)))))
 
--- the text is an assignment, and this is its meaning
+-- the text is an assignment with this meaning
 abbrev pub IsAssigned : List (List ℕ) → List ℕ → Result Head ScriptKind → Type 0
 IsAssigned known text head = (a : Assignment) × IsAssignmentText text a × (mapcalc_of known a ≡ head)
 
@@ -52,11 +52,11 @@ IsUnassigned text head = (fault : CalcFault) × IsTextFault text fault × (fault
 abbrev pub IsMapcalc : List (List ℕ) → List ℕ → Result Head ScriptKind → Type 0
 IsMapcalc known line head = IsAssigned known (assignment_text line) head ⊎ IsUnassigned (assignment_text line) head
 
--- the place of the map that is read, and the name of the map that is made
+-- the index of the input map, and the name of the output map
 abbrev pub reclass_of : List (List ℕ) → List (List ℕ) → Result (ℕ × List ℕ) OptionFault
 reclass_of known words = options_of form.Reclass words >>= from_to known
 
--- the areas that words ask for
+-- the command that the words after r.clump spell
 abbrev pub clump_of : List (List ℕ) → List (List ℕ) → Result Command OptionFault
 clump_of known words = do
   given ← options_of form.Clump words
@@ -72,7 +72,7 @@ after_of width (Some text) = combined (combo_of width text)
     combined (Ok combo) = Ok (Some combo)
     combined (Err fault) = Err (of_combo fault)
 
--- how a table is printed, and which part of it: the defaults are a space between fields and an asterisk for null
+-- how a table is printed, and which part of it; by default, fields are separated by a space, and null is an asterisk
 abbrev pub printed_with : Given → Option Combination → StatsOptions
 printed_with given after =
     record {
@@ -85,7 +85,8 @@ printed_with given after =
       after = after;
     }
 
--- the table that words ask for: inputs, flags that go together, known maps, and a combination with one cell per map
+-- the command that the words after r.stats spell: flags must not exclude each other, maps must be known, and `after`
+-- must contain one cell per map
 abbrev pub stats_of : List (List ℕ) → List (List ℕ) → Result Command ScriptKind
 stats_of known words = do
   given ← in_script (options_of form.Stats words)
@@ -93,7 +94,7 @@ stats_of known words = do
   after ← after_of (length places) given.after
   Ok (Stats places (printed_with given after))
 
--- the grid text that words ask for, for a known input; the default for null is an asterisk
+-- the command that the words after r.out.ascii spell: the input must be known, and null is by default an asterisk
 abbrev pub out_ascii_of : List (List ℕ) → List (List ℕ) → Result Command OptionFault
 out_ascii_of known words = do
   given ← options_of form.OutAscii words
@@ -119,12 +120,11 @@ head_named known name words =
     else (if bytes_eq name (codes "r.reclass") then as_opened (in_script (reclass_of known words))
     else Err UnknownCommand)))
 
--- blank lines and comments are skipped; in any other line the first word is the command
+-- the meaning of words: blank lines and comments are skipped, and otherwise the first word is the command
 abbrev pub head_of_words : List (List ℕ) → List (List ℕ) → Result Head ScriptKind
 head_of_words known [] = Ok Skipped
 head_of_words known (w ∷ ws) = if is_comment w then Ok Skipped else head_named known w ws
 
--- the first word is r.mapcalc
 abbrev pub is_mapcalc : List (List ℕ) → Bool
 is_mapcalc [] = false
 is_mapcalc (w ∷ ws) = bytes_eq w (codes "r.mapcalc")
@@ -134,11 +134,11 @@ abbrev pub IsShortHead : Bool → List (List ℕ) → List ℕ → Result Head S
 IsShortHead true known line head = IsMapcalc known line head
 IsShortHead false known line head = head_of_words known (words_of line) ≡ head
 
--- the meaning of a line, depending on whether it is longer than that
+-- the meaning of a line, depending on whether it is longer than 65535 bytes
 abbrev pub IsHeadOf : Bool → List (List ℕ) → List ℕ → Result Head ScriptKind → Type 0
 IsHeadOf true known line head = Err LongLine ≡ head
 IsHeadOf false known line head = IsShortHead (is_mapcalc (words_of line)) known line head
 
--- the meaning of a line outside the rules of r.reclass, over known maps
+-- the meaning of a line that is not among the rules of an r.reclass, over known maps
 abbrev pub IsHead : List (List ℕ) → List ℕ → Result Head ScriptKind → Type 0
 IsHead known line head = IsHeadOf (nat_lt 65535 (length line)) known line head

@@ -7,7 +7,7 @@ use Rattle.rcell_script_commands.specs.declared.command.Command.TheVariants.{Map
 use Rattle.rcell_script_commands.specs.declared.heads.Head.{Head}
 use Rattle.rcell_script_commands.specs.declared.heads.Head.TheVariants.{Skipped, Whole, Opened}
 
--- the maps that a command reads are known, and the map that it makes is new
+-- the command reads only known maps, and the map that it makes is new
 abbrev pub FitsCommand : List (List ℕ) → Command → Type 0
 FitsCommand known (Mapcalc target bound) = (top_of bound ≤ length known) × (place_of target known ≡ None)
 FitsCommand known (Reclass place target rules) = (place < length known) × (place_of target known ≡ None)
@@ -16,7 +16,7 @@ FitsCommand known (Stats places options) =
     All (λ place. place < length known) places × ((1 ≤ length places) × ((length places ≤ 16) × IfSome options.after (λ combo. length combo ≡ length places)))
 FitsCommand known (OutAscii place null_text) = place < length known
 
--- the maps that a line names
+-- the line reads only known maps, and the map that it makes is new
 abbrev pub FitsHead : List (List ℕ) → Head → Type 0
 FitsHead known Skipped = Unit {0}
 FitsHead known (Whole command) = FitsCommand known command

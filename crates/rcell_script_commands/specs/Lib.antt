@@ -1,5 +1,5 @@
--- One line of a script: the flags and keys of each command, the options and maps that its words give, which lines spell
--- it, and which errors a line has.
+-- One line of a script: the flags and keys of each command, the options and maps that its words specify, which lines
+-- spell a command, and the errors of a line.
 pub mod NullText
 pub mod Options
 pub mod OptionReading

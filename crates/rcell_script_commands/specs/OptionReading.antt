@@ -1,4 +1,4 @@
--- The words after a command, read in order: the options that they give, or the first error (profile: the order of the errors).
+-- Reads the words after a command in order, up to the first error (order of errors: see the profile).
 use Rattle.std.specs.Prelude.{ℕ, Bool, false, ◌&&◌, ◌||◌, ◌==◌, nat_lt, List, [], ◌∷◌, map, length, Option, Some, None, is_some, Result, Ok, Err, if◌then◌else◌, bytes_eq, codes}
 use Rattle.std.specs.Borrow.{Bor}
 use Rattle.std.specs.List.{list_all}
@@ -17,11 +17,11 @@ use Rattle.rcell_script_commands.specs.declared.options.Form.TheVariants.{Clump,
 use Rattle.rcell_script_commands.specs.declared.options.OptionKey.{OptionKey}
 use Rattle.rcell_script_commands.specs.declared.options.OptionKey.TheVariants.{Input, Inputs, Output, Separator, NullText, TableNullText, After}
 
--- the result is what the reading gives, unless memory ran out
+-- the result is the specified reading, unless memory ran out
 abbrev pub GivesOption : {A : Type 0} → Result A OptionFault → Result A OptionFault → Type 0
 GivesOption answer reading = Answers Memory (λ x. x) answer reading
 
--- borrowed texts
+-- borrowed texts as values
 abbrev pub texts : List (Bor (List ℕ)) → List (List ℕ)
 texts words = map (λ word. word.now) words
 
@@ -50,11 +50,11 @@ option_key_of form text = key_among (option_keys form) text
 
 -- ---- values
 
--- the name of one map: a comma cannot be part of it
+-- the name of one map, which cannot contain a comma
 abbrev pub option_name : List ℕ → Result (List ℕ) OptionFault
 option_name value = if is_name value then Ok value else Err BadName
 
--- texts that are all names
+-- the texts, if all are names
 abbrev pub names_from : List (List ℕ) → Result (List (List ℕ)) OptionFault
 names_from texts = if list_all is_name texts then Ok texts else Err BadName
 
@@ -62,11 +62,11 @@ names_from texts = if list_all is_name texts then Ok texts else Err BadName
 abbrev pub names_of : List (List ℕ) → Result (List (List ℕ)) OptionFault
 names_of texts = if nat_lt 16 (length texts) then Err BadOption else names_from texts
 
--- the null text of a grid text that a value spells
+-- the null text of a grid, as an option's value
 abbrev pub null_text_of : List ℕ → Result (List ℕ) OptionFault
 null_text_of value = if is_null_text value then Ok value else Err BadOption
 
--- the null text of a table that a value spells
+-- the null text of a table, as an option's value
 abbrev pub table_null_text_of : List ℕ → Result (List ℕ) OptionFault
 table_null_text_of value = if is_table_null_text value then Ok value else Err BadOption
 
@@ -83,20 +83,20 @@ pub record Given : Type 0 where
   pub table_null_text : Option (List ℕ)
   pub after : Option (List ℕ)
 
--- no flag was given
+-- no flag is given
 abbrev pub no_flags : Flags
 no_flags = record { labels = false; counts = false; cells = false; no_null = false; no_all_null = false; corners = false }
 
--- no option was given
+-- no option is given
 abbrev pub no_options : Given
 no_options =
     record { flags = no_flags; input = None; inputs = None; output = None; separator = None; null_text = None; table_null_text = None; after = None }
 
--- a line for each cell excludes counts and `after`
+-- a line per cell is asked for, together with counts or `after`, which exclude it
 abbrev pub is_torn : Given → Bool
 is_torn given = given.flags.cells && (given.flags.counts || is_some given.after)
 
--- with letters that are flags; a flag may be repeated
+-- adds the flags with these letters; a flag may be repeated
 abbrev pub with_letters : Flags → List ℕ → Flags
 with_letters flags letters =
     record {
@@ -108,16 +108,16 @@ with_letters flags letters =
       corners = flags.corners || is_one_of letters (byte (codes "d"));
     }
 
--- with the letters after a dash
+-- adds the flags after a dash
 abbrev pub with_flags : Form → Given → List ℕ → Result Given OptionFault
 with_flags form given letters = if are_flags (flags_of form) letters then Ok (record given { flags = with_letters given.flags letters }) else Err BadOption
 
--- a repeated key is a bad option
+-- a key that is given twice is a bad option
 abbrev pub given_once : {X O : Type 0} → Option X → Result O OptionFault → Result O OptionFault
 given_once (Some old) options = Err BadOption
 given_once None options = options
 
--- with the value of a key
+-- adds the value of a key
 abbrev pub with_value : Given → OptionKey → List ℕ → Result Given OptionFault
 with_value given Input value = given_once given.input (do
   input ← option_name value
@@ -139,28 +139,28 @@ with_value given TableNullText value = given_once given.table_null_text (do
   Ok (record given { table_null_text = Some text }))
 with_value given After value = given_once given.after (Ok (record given { after = Some value }))
 
--- with the value of a key, if the command has it
+-- adds the value of a key, if the command has this key
 abbrev pub with_option : Given → Option OptionKey → List ℕ → Result Given OptionFault
 with_option given None value = Err BadOption
 with_option given (Some key) value = with_value given key value
 
--- a word without a key and a value is a bad option
+-- adds a key and its value; any other word is a bad option
 abbrev pub with_pair : Form → Given → Option (List ℕ × List ℕ) → Result Given OptionFault
 with_pair form given None = Err BadOption
 with_pair form given (Some pair) = with_option given (option_key_of form pair.0) pair.1
 
--- flags after a dash, or a key and its value
+-- adds flags after a dash, or a key and its value
 abbrev pub with_word : Form → Given → List ℕ → Result Given OptionFault
 with_word form given [] = Err BadOption
 with_word form given (b ∷ bs) = if b == byte (codes "-") then with_flags form given bs else with_pair form given (pair_of (b ∷ bs))
 
--- the options of all words, or the error of the first word that has one
+-- adds the options of all words, or returns the error in the first word that has one
 abbrev pub with_words : Form → Given → List (List ℕ) → Result Given OptionFault
 with_words form given [] = Ok given
 with_words form given (w ∷ ws) = do
   more ← with_word form given w
   with_words form more ws
 
--- the options that the words after a command give
+-- the options that the words after a command specify
 abbrev pub options_of : Form → List (List ℕ) → Result Given OptionFault
 options_of form words = with_words form no_options words

@@ -1,4 +1,4 @@
--- r.clump: the areas that its options ask for (r.clump manual).
+-- r.clump and its options (r.clump manual).
 use Rattle.std.specs.Prelude.{ℕ, ◌≡◌, Bool, List, ◌∷◌, if◌then◌else◌, codes}
 use Rattle.cell_core_values.specs.Words.{words_of}
 use Rattle.cell_cats_areas.specs.declared.clump.Joining.{Joining}
@@ -6,11 +6,11 @@ use Rattle.cell_cats_areas.specs.declared.clump.Joining.TheVariants.{Edges, Edge
 use Rattle.rcell_script_commands.specs.Options.{has_flag}
 use Rattle.rcell_script_commands.specs.RReclass.{AreFromTo}
 
--- with the flag `-d`, cells that touch at a corner are connected too
+-- with the flag `-d`, cells that touch only at a corner are also connected
 abbrev pub joining_of : Bool → Joining
 joining_of corners = if corners then EdgesAndCorners else Edges
 
--- r.clump
+-- r.clump: a known input, a new output, and the connectivity
 pub record SpellsClump (known : List (List ℕ)) (line : List ℕ) (place : ℕ) (target : List ℕ) (joining : Joining) : Type 0 where
   pub words : List (List ℕ)
   pub named : words_of line ≡ codes "r.clump" ∷ words

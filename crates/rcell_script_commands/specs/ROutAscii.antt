@@ -1,4 +1,4 @@
--- r.out.ascii: the grid text that its options ask for (r.out.ascii manual).
+-- r.out.ascii and its options (r.out.ascii manual).
 use Rattle.std.specs.Prelude.{ℕ, ◌≡◌, List, [], ◌∷◌, All, Some, codes}
 use Rattle.cell_ascii_meaning.specs.GridWords.{usual_null}
 use Rattle.cell_core_values.specs.Words.{words_of}
@@ -6,7 +6,7 @@ use Rattle.cell_core_values.specs.Name.{is_name, place_of}
 use Rattle.rcell_script_commands.specs.NullText.{is_null_text}
 use Rattle.rcell_script_commands.specs.Options.{IsOption, values_of, IsOptional, IsOr, SpellsText}
 
--- r.out.ascii: the default for null is an asterisk
+-- r.out.ascii: a known input; null is by default an asterisk
 pub record SpellsOutAscii (known : List (List ℕ)) (line : List ℕ) (place : ℕ) (null_text : List ℕ) : Type 0 where
   pub words : List (List ℕ)
   pub named : words_of line ≡ codes "r.out.ascii" ∷ words

@@ -1,4 +1,4 @@
--- r.stats: the table that its options ask for (r.stats manual; `after` is the profile's).
+-- r.stats and its options (r.stats manual; `after` is defined by the profile).
 use Rattle.std.specs.Prelude.{ℕ, ◌≡◌, Bool, true, false, List, [], ◌∷◌, length, All, Some, None, if◌then◌else◌, codes}
 use Rattle.cell_ascii_meaning.specs.GridWords.{usual_null}
 use Rattle.cell_core_values.specs.Words.{words_of}
@@ -11,11 +11,12 @@ use Rattle.rcell_script_commands.specs.NullText.{is_table_null_text}
 use Rattle.rcell_script_commands.specs.Options.{IsOption, has_flag, values_of, IsOptional, IsOr, SpellsText, SpellsNames, separator_in}
 use Rattle.rcell_script_commands.specs.declared.command.StatsOptions.{StatsOptions}
 
--- what is left out: `-n` overrides `-N`
+-- which combinations are left out: `-n` overrides `-N`
 abbrev pub skip_of : Bool → Bool → Skip
 skip_of no_null no_all_null = if no_null then AnyNull else (if no_all_null then AllNull else Nothing)
 
--- r.stats: known maps as `input`, a cell for each in `after`; space and `*` by default; `-1` without `-c` and `after`
+-- r.stats: known maps as `input`, and one cell per map in `after`; by default, fields are separated by a space, and
+-- null is `*`; `-1` excludes `-c` and `after`
 pub record SpellsStats (known : List (List ℕ)) (line : List ℕ) (places : List ℕ) (options : StatsOptions) : Type 0 where
   pub words : List (List ℕ)
   pub named : words_of line ≡ codes "r.stats" ∷ words

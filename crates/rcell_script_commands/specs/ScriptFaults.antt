@@ -1,4 +1,4 @@
--- The errors of options, rules and combinations as errors of a script, and how reading a script reports them.
+-- Converts errors of options, rules and combinations to errors of a script.
 use Rattle.std.specs.Prelude.{◌≢◌, Result, Ok, Err}
 use Rattle.cell_cats.specs.declared.rules.RuleFault.{RuleFault}
 use Rattle.cell_cats.specs.declared.rules.RuleFault.TheVariants as rule
@@ -10,7 +10,7 @@ use Rattle.rcell_script_commands.specs.declared.script_fault.ScriptKind.{ScriptK
 use Rattle.rcell_script_commands.specs.declared.script_fault.ScriptKind.TheVariants.{BadOption, MissingOption, UnknownMap, MapExists, BadName, Rule, Combo, Memory}
 use Rattle.rcell_script_commands.specs.declared.script_fault.ScriptFault.{ScriptFault}
 
--- each error of options as an error of a script
+-- the script error for an error of options
 abbrev pub kind_of : OptionFault → ScriptKind
 kind_of option.BadOption = BadOption
 kind_of option.MissingOption = MissingOption
@@ -19,17 +19,17 @@ kind_of option.MapExists = MapExists
 kind_of option.BadName = BadName
 kind_of option.Memory = Memory
 
--- what options give, or the error of a script
+-- converts an error of options to an error of a script
 abbrev pub in_script : {A : Type 0} → Result A OptionFault → Result A ScriptKind
 in_script (Ok x) = Ok x
 in_script (Err fault) = Err (kind_of fault)
 
--- an error of a combination
+-- the script error for an error of a combination
 abbrev pub of_combo : ComboFault → ScriptKind
 of_combo combo.Memory = Memory
 of_combo fault = Combo fault
 
--- an error of a rule
+-- the script error for an error of a rule
 abbrev pub of_rule : RuleFault → ScriptKind
 of_rule rule.Memory = Memory
 of_rule fault = Rule fault
@@ -39,7 +39,7 @@ abbrev pub Reads : {A : Type 0} → (Result A ScriptKind → Type 0) → Result 
 Reads IsReading (Ok x) = IsReading (Ok x)
 Reads IsReading (Err kind) = kind ≢ Memory → IsReading (Err kind)
 
--- the same for an error at a line
+-- `Reads`, for errors with a line
 abbrev pub ReadsLine : {A : Type 0} → (Result A ScriptFault → Type 0) → Result A ScriptFault → Type 0
 ReadsLine IsReading (Ok x) = IsReading (Ok x)
 ReadsLine IsReading (Err fault) = fault.kind ≢ Memory → IsReading (Err fault)

@@ -1,4 +1,4 @@
--- The texts of the errors of a script (profile).
+-- The texts of a script's errors (see the profile).
 use Rattle.std.specs.Prelude.{ℕ, List, ◌++◌, codes, decimal, Option, Some, None}
 use Rattle.cell_calc_grammar.specs.declared.calc_fault.CalcKind.{CalcKind}
 use Rattle.cell_calc_grammar.specs.declared.calc_fault.CalcKind.TheVariants as calc
@@ -13,7 +13,7 @@ use Rattle.rcell_script_commands.specs.declared.script_fault.ScriptKind.TheVaria
 use Rattle.rcell_script_commands.specs.declared.script_fault.ScriptKind.TheVariants.{MissingEnd, LongLine, BadName}
 use Rattle.rcell_script_commands.specs.declared.script_fault.ScriptKind.TheVariants.{Memory}
 
--- what is wrong with an expression
+-- the text for an error in an expression
 abbrev pub calc_words : CalcKind → List ℕ
 calc_words calc.BadByte = codes "bad byte"
 calc_words calc.BadNumber = codes "bad number"
@@ -27,19 +27,19 @@ calc_words calc.BadName = codes "bad name"
 calc_words calc.Memory = codes "no memory"
 calc_words calc.UnknownMap = codes "unknown map"
 
--- what is wrong with a rule
+-- the text for an error in a rule
 abbrev pub rule_words : RuleFault → List ℕ
 rule_words rule.BadRule = codes "bad rule"
 rule_words rule.BadNumber = codes "bad number in rule"
 rule_words rule.Memory = codes "no memory"
 
--- what is wrong with a combination
+-- the text for an error in a combination
 abbrev pub combo_words : ComboFault → List ℕ
 combo_words combo.BadCombo = codes "bad combination"
 combo_words combo.BadWidth = codes "combination of another width"
 combo_words combo.Memory = codes "no memory"
 
--- what is wrong with a script
+-- the text for an error in a script
 abbrev pub kind_words : ScriptKind → List ℕ
 kind_words UnknownCommand = codes "unknown command"
 kind_words BadOption = codes "bad option"
@@ -54,7 +54,7 @@ kind_words LongLine = codes "line too long"
 kind_words BadName = codes "bad name"
 kind_words Memory = codes "no memory"
 
--- the column, for an error in an expression
+-- the column of an error in an expression
 abbrev pub kind_column : ScriptKind → Option ℕ
 kind_column (Calc fault) = Some fault.column
 kind_column kind = None
@@ -63,6 +63,6 @@ abbrev pub with_column : List ℕ → Option ℕ → List ℕ
 with_column words None = words
 with_column words (Some column) = words ++ codes " at column " ++ decimal column
 
--- the text of an error: what is wrong, and in which column of an expression
+-- the full text of an error: what is wrong and, for an expression, in which column
 abbrev pub kind_text : ScriptKind → List ℕ
 kind_text kind = with_column (kind_words kind) (kind_column kind)

@@ -1,4 +1,4 @@
-//! What a line of a script asks for.
+//! The commands of a script.
 
 pub use crate::maps::Places;
 use crate::null_text::{NullText, TableNullText};
@@ -9,7 +9,7 @@ use cell_core::name::Name;
 use cell_stats_combinations::combination::Combo;
 use cell_stats_combinations::skip::Skip;
 
-/// How r.stats prints a table, and which part of it.
+/// The options of r.stats: how it prints a table, and which part of it.
 #[derive(Drop)]
 pub struct StatsOptions {
     /// Which combinations are left out (`-n`, `-N`).
@@ -18,42 +18,42 @@ pub struct StatsOptions {
     pub labels: bool,
     /// Whether counts are printed (`-c`).
     pub counts: bool,
-    /// Whether there is a line for each cell (`-1`).
+    /// Whether one line is printed per cell (`-1`).
     pub cells: bool,
     /// The byte between the fields of a line.
     pub separator: u8,
-    /// The null text.
+    /// The text for null.
     pub null_text: TableNullText,
     /// The combination after which the table continues, with one cell per map.
     pub after: Option<Combo>,
 }
 
-/// What a statement asks for. A place is the index of a map on the shelf before the statement.
+/// What a statement does. A place is the index of a map on the shelf before the statement.
 #[derive(Drop)]
 pub enum Command {
-    /// `r.mapcalc`: the map of the values of an expression.
+    /// `r.mapcalc`: makes the map of an expression's values.
     Mapcalc {
         target: Name,
         bound: Bound,
     },
-    /// `r.reclass`: the map of the new categories that rules give.
+    /// `r.reclass`: makes a map with new categories, given by rules.
     Reclass {
         place: usize,
         target: Name,
         rules: Rules,
     },
-    /// `r.clump`: the map of clump numbers.
+    /// `r.clump`: makes the map of clump numbers.
     Clump {
         place: usize,
         target: Name,
         joining: Joining,
     },
-    /// `r.stats`: the combinations that occur in the maps at the places.
+    /// `r.stats`: prints the combinations that occur in the maps at these places.
     Stats {
         places: Places,
         options: StatsOptions,
     },
-    /// `r.out.ascii`: the grid text of the map at the place, with this null text.
+    /// `r.out.ascii`: prints the map at this place as grid text.
     OutAscii {
         place: usize,
         null_text: NullText,

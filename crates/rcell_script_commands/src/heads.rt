@@ -1,4 +1,4 @@
-//! The command of a line.
+//! Reads the command in a line.
 
 ghost use Rattle.std.specs.Prelude.{◌≡◌, IfOk};
 ghost use Rattle.rcell_script_commands.specs.OptionReading.{texts};
@@ -22,18 +22,18 @@ use std::alloc::Global;
 /// Maximum length of a line in bytes.
 pub const MOST_LINE: usize = 65535;
 
-/// The meaning of a line outside the rules of r.reclass.
+/// The meaning of a line that is not among the rules of an r.reclass.
 #[derive(Drop)]
 pub enum Head {
-    /// Blank, or a comment.
+    /// A blank line or a comment.
     Skipped,
-    /// A command that the line completes.
+    /// A command that needs no further lines.
     Whole(Command),
-    /// An r.reclass, whose rules follow.
+    /// The start of an r.reclass. Its rules follow on the next lines.
     Opened { place: usize, target: Name },
 }
 
-// Whether a word begins a comment.
+// Returns whether a word starts a comment.
 fn is_comment(word: &[u8]) -> bool
     ensures { result ≡ is_comment word.now }
 {
@@ -43,7 +43,7 @@ fn is_comment(word: &[u8]) -> bool
     }
 }
 
-// The meaning of a command name and the words after it.
+// Returns the meaning of a line, given its command name and the words after it.
 #[tactic(auto, using(crate::proofs::FaultLemmas::reported))]
 fn head_named(
     alloc: Global,
@@ -68,7 +68,7 @@ fn head_named(
     }
 }
 
-// The meaning of words.
+// Returns the meaning of a line, given its words.
 fn head_of_words(alloc: Global, known: &Names, words: &[&[u8]]) -> Result<Head, ScriptKind>
     ensures head { GivesScript result (head_of_words known.now (texts words.now)) }
     ensures fits { IfOk result (FitsHead known.now) }
@@ -82,7 +82,7 @@ fn head_of_words(alloc: Global, known: &Names, words: &[&[u8]]) -> Result<Head, 
     head_named(alloc, known, *name, others)
 }
 
-// Whether the first word is r.mapcalc.
+// Returns whether the first word is r.mapcalc.
 fn is_mapcalc(words: &[&[u8]]) -> bool
     ensures { result ≡ is_mapcalc (texts words.now) }
 {
@@ -92,12 +92,12 @@ fn is_mapcalc(words: &[&[u8]]) -> bool
     }
 }
 
-/// The meaning of a line outside the rules of r.reclass, over known maps.
+/// Returns the meaning of a line that is not among the rules of an r.reclass. `known` contains the known maps.
 ///
 /// # Errors
 ///
-/// [`ScriptKind::LongLine`], then [`ScriptKind::UnknownCommand`], then the error of the command;
-/// [`ScriptKind::Memory`] if memory runs out.
+/// [`ScriptKind::LongLine`], then [`ScriptKind::UnknownCommand`], then the error of the command; [`ScriptKind::Memory`]
+/// if memory runs out.
 pub fn head_of(alloc: Global, known: &Names, line: &[u8]) -> Result<Head, ScriptKind>
     ensures head { Reads (IsHead known.now line.now) result }
     ensures fits { IfOk result (FitsHead known.now) }

@@ -1,16 +1,16 @@
-//! One line of a script: a command with its options, or the first line of an r.reclass (GRASS
-//! manual: r.mapcalc, r.reclass, r.clump, r.stats, r.out.ascii). Options may come in any order.
+//! Reads one line of a script: a command with its options, or the first line of an r.reclass (GRASS manual: r.mapcalc,
+//! r.reclass, r.clump, r.stats, r.out.ascii). Options may be given in any order.
 //!
-//! - `heads`: `head_of`, from a line and the names known before it to a `Head`, or a `ScriptKind`
-//! - `command`: `Command`, what a statement does, with the indices of its maps on the shelf
-//! - `script_fault`: `ScriptKind`, what is wrong; `ScriptFault`, with the line
-//! - one private module a command: `r_mapcalc`, `r_reclass`, `r_clump`, `r_stats`, `r_out_ascii`
-//! - `options`: `options_of`, from words to `Options`; `maps`, the maps that they name;
-//!   `null_text`, the null texts of grids and of tables; `option_fault`: `OptionFault`
-//! - specs/CommandSpelling.antt: which line is which command; specs/Options.antt: which options
-//!   words spell; one file a command
+//! - `heads`: `head_of` reads a line, given the known names. Returns a `Head` or a `ScriptKind`
+//! - `command`: `Command`, what a statement does, with the indexes of its maps on the shelf
+//! - `script_fault`: `ScriptKind`, an error; `ScriptFault`, an error and its line
+//! - one private module per command: `r_mapcalc`, `r_reclass`, `r_clump`, `r_stats`, `r_out_ascii`
+//! - `options`: `options_of` reads words as `Options`; `maps`: the maps that options name; `null_text`: the null texts
+//!   of grids and tables; `option_fault`: `OptionFault`
+//! - specs/CommandSpelling.antt: which line spells which command; specs/Options.antt: which options words spell; one
+//!   file per command
 //!
-//! After `r.stats -cl -nN input=c,g separator=pipe null_value=a:b after=1,*`:
+//! For `r.stats -cl -nN input=c,g separator=pipe null_value=a:b after=1,*`:
 //!
 //! ```
 //! let Command::Stats { places, options } = command else {

@@ -1,4 +1,4 @@
-//! The known maps that options name.
+//! Looks up the maps that options name.
 
 ghost use Rattle.std.specs.Prelude.{◌≡◌, ◌<◌, ◌≤◌, IfOk, None, All, length};
 ghost use Rattle.std.specs.Option.{ok_or};
@@ -13,7 +13,7 @@ use cell_core::name::{Name, Names};
 use std::alloc::Global;
 use std::marker::Model;
 
-/// Places of maps on a shelf, in order; a place may occur twice.
+/// Indexes of maps on a shelf, in order. An index may occur twice.
 #[derive(Drop)]
 pub struct Places {
     places: Vec<usize>,
@@ -28,7 +28,7 @@ impl Model for Places {
 }
 
 impl Places {
-    /// The places as a slice.
+    /// Returns the indexes as a slice.
     pub fn as_slice(&self) -> &[usize]
         ensures { result.now ≡ self.now }
     {
@@ -36,7 +36,7 @@ impl Places {
     }
 }
 
-/// The place of the map that is read, and the name of the map that is made.
+/// Returns the index of the input map, and the name of the output map.
 ///
 /// # Errors
 ///
@@ -59,7 +59,7 @@ pub fn from_to(known: &Names, options: Options) -> Result<(usize, Name), OptionF
     }
 }
 
-/// The place of the map that is read.
+/// Returns the index of the input map.
 ///
 /// # Errors
 ///
@@ -77,7 +77,7 @@ pub fn input_place(known: &Names, options: &Options) -> Result<usize, OptionFaul
     }
 }
 
-// The places of names among the known ones.
+// Returns the indexes of names among the known names.
 fn map_places(alloc: Global, known: &Names, names: &[Name]) -> Result<Places, OptionFault>
     ensures places { GivesOption result
         (ok_or (places_of known.now names.now) OptionFault.UnknownMap) }
@@ -94,18 +94,18 @@ fn map_places(alloc: Global, known: &Names, names: &[Name]) -> Result<Places, Op
     Ok(Places { places })
 }
 
-// Whether a line for each cell is asked for, or an error if other flags do not allow it.
+// Returns whether the options ask for a line per cell, together with options that exclude this.
 fn is_torn(options: &Options) -> bool
     ensures { result ≡ is_torn options.now }
 {
     options.flags.cells && (options.flags.counts || options.after.is_some())
 }
 
-/// The places of the maps that are read, 1 to 16.
+/// Returns the indexes of the 1 to 16 input maps.
 ///
 /// # Errors
 ///
-/// [`OptionFault::MissingOption`], then [`OptionFault::BadOption`] if flags do not go together, then
+/// [`OptionFault::MissingOption`], then [`OptionFault::BadOption`] if flags exclude each other, then
 /// [`OptionFault::UnknownMap`]; [`OptionFault::Memory`] if memory runs out.
 pub fn input_places(alloc: Global, known: &Names, options: &Options) -> Result<Places, OptionFault>
     ensures places { GivesOption result (input_places known.now options.now) }

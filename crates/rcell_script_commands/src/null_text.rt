@@ -1,4 +1,4 @@
-//! The texts that stand for null.
+//! Texts that denote null.
 
 ghost use Rattle.std.specs.Prelude.{◌≡◌, IfOk, true};
 ghost use Rattle.std.specs.List.{list_all};
@@ -15,7 +15,7 @@ use std::marker::Model;
 /// Maximum length of a null text in bytes.
 const MOST_BYTES: usize = 64;
 
-/// The null text of a written grid: 1 to 64 bytes from `!` to `~`, none of them a colon (profile).
+/// The null text of a grid that is written: 1 to 64 bytes from `!` to `~`, except colons (see the profile).
 #[derive(Drop)]
 pub struct NullText {
     bytes: Vec<u8>,
@@ -32,7 +32,7 @@ impl Model for NullText {
     ghost invariant = { λ t. is_null_text t.bytes.items ≡ true };
 }
 
-/// The null text of a table: 1 to 64 bytes from `!` to `~` (profile).
+/// The null text of a table: 1 to 64 bytes from `!` to `~` (see the profile).
 #[derive(Drop)]
 pub struct TableNullText {
     bytes: Vec<u8>,
@@ -86,11 +86,11 @@ fn is_table_null_text(bytes: &[u8]) -> bool
 }
 
 impl NullText {
-    /// The null text that a value spells.
+    /// Reads the value of an option as a null text.
     ///
     /// # Errors
     ///
-    /// [`OptionFault::BadOption`] exactly if it spells none; [`OptionFault::Memory`] if memory runs out.
+    /// [`OptionFault::BadOption`] if the value is not a null text; [`OptionFault::Memory`] if memory runs out.
     pub(crate) fn read(alloc: Global, value: &[u8]) -> Result<NullText, OptionFault>
         ensures { GivesOption result (null_text_of value.now) }
     {
@@ -101,7 +101,7 @@ impl NullText {
         Ok(NullText { bytes })
     }
 
-    /// The null text if none is given: an asterisk.
+    /// Returns the default null text: an asterisk.
     ///
     /// # Errors
     ///
@@ -113,7 +113,7 @@ impl NullText {
         Ok(NullText { bytes })
     }
 
-    /// Its bytes.
+    /// Returns the bytes of the text.
     pub fn bytes(&self) -> &[u8]
         ensures value { result.now ≡ self.now }
         ensures text { IsNullText self.now }
@@ -123,11 +123,11 @@ impl NullText {
 }
 
 impl TableNullText {
-    /// The null text that a value spells.
+    /// Reads the value of an option as a null text.
     ///
     /// # Errors
     ///
-    /// [`OptionFault::BadOption`] exactly if it spells none; [`OptionFault::Memory`] if memory runs out.
+    /// [`OptionFault::BadOption`] if the value is not a null text; [`OptionFault::Memory`] if memory runs out.
     pub(crate) fn read(alloc: Global, value: &[u8]) -> Result<TableNullText, OptionFault>
         ensures { GivesOption result (table_null_text_of value.now) }
     {
@@ -138,7 +138,7 @@ impl TableNullText {
         Ok(TableNullText { bytes })
     }
 
-    /// The null text if none is given: an asterisk.
+    /// Returns the default null text: an asterisk.
     ///
     /// # Errors
     ///
@@ -150,7 +150,7 @@ impl TableNullText {
         Ok(TableNullText { bytes })
     }
 
-    /// Its bytes.
+    /// Returns the bytes of the text.
     pub fn bytes(&self) -> &[u8]
         ensures value { result.now ≡ self.now }
         ensures text { is_table_null_text self.now ≡ true }

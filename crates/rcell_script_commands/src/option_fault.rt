@@ -1,4 +1,4 @@
-//! Why words are not valid options.
+//! Errors of options.
 
 use cell_core::memory::Memory;
 use cell_core::name::NameFault;
@@ -10,13 +10,13 @@ pub enum OptionFault {
     /// An unknown flag or key, a word without `=`, a repeated key, more than 16 maps, a bad separator or null text, or
     /// flags that exclude each other.
     BadOption,
-    /// A command without an option that it needs.
+    /// A required option is missing.
     MissingOption,
-    /// A map that is read is not known.
+    /// An input map is not known.
     UnknownMap,
-    /// A map that is made is already known.
+    /// An output map is already known.
     MapExists,
-    /// An input or output that is not a name.
+    /// An input or output is not a map name.
     BadName,
     /// Memory ran out.
     Memory,

@@ -1,4 +1,4 @@
-//! The words after a command: flags, and keys with their values.
+//! Reads the words after a command: flags, and keys with their values.
 
 ghost use Rattle.std.specs.Prelude.{◌≡◌, ◌≤◌, ◌||◌, IfOk, length, unwrap_or};
 ghost use Rattle.std.specs.List.{list_all};
@@ -19,10 +19,10 @@ use cell_core_values::words::{pair_of, parts_of};
 use std::alloc::Global;
 use std::marker::Model;
 
-/// Maximum number of maps of one r.stats.
+/// Maximum number of maps in one r.stats.
 const MOST_INPUTS: usize = 16;
 
-/// A command that has options.
+/// A command with options.
 #[derive(Clone, Copy)]
 pub enum Form {
     Reclass,
@@ -34,11 +34,11 @@ pub enum Form {
 /// The meaning of a key.
 #[derive(Clone, Copy)]
 pub enum OptionKey {
-    /// One map that is read.
+    /// One input map.
     Input,
-    /// Several maps that are read.
+    /// Several input maps.
     Inputs,
-    /// The map that is made.
+    /// The output map.
     Output,
     Separator,
     /// The null text of a grid.
@@ -65,7 +65,7 @@ impl Model for Inputs {
 }
 
 impl Inputs {
-    // These names.
+    // Wraps these names.
     fn of(names: Vec<Name>) -> Inputs
         requires { (1 ≤ length names.items) × (length names.items ≤ 16) }
         ensures { result ≡ names.items }
@@ -73,7 +73,7 @@ impl Inputs {
         Inputs { names }
     }
 
-    /// The names in order.
+    /// Returns the names in order.
     pub(crate) fn names(&self) -> &[Name]
         ensures value { result.now ≡ self.now }
         ensures some { 1 ≤ length self.now }
@@ -86,21 +86,21 @@ impl Inputs {
 /// The flags given so far.
 #[derive(Clone, Copy)]
 pub struct Flags {
-    /// `l` of r.stats.
+    /// The flag `-l` of r.stats.
     pub labels: bool,
-    /// `c` of r.stats.
+    /// The flag `-c` of r.stats.
     pub counts: bool,
-    /// `1` of r.stats.
+    /// The flag `-1` of r.stats.
     pub cells: bool,
-    /// `n` of r.stats.
+    /// The flag `-n` of r.stats.
     pub no_null: bool,
-    /// `N` of r.stats.
+    /// The flag `-N` of r.stats.
     pub no_all_null: bool,
-    /// `d` of r.clump.
+    /// The flag `-d` of r.clump.
     pub corners: bool,
 }
 
-// Whether a flag is given, now or earlier.
+// Returns whether a flag was given before, or is among these letters.
 fn or_given(given: bool, letters: &[u8], flag: u8) -> bool
     ensures { result ≡ (given || is_one_of letters.now flag) }
 {
@@ -108,7 +108,7 @@ fn or_given(given: bool, letters: &[u8], flag: u8) -> bool
 }
 
 impl Flags {
-    // Adds letters that are flags. A flag may be repeated.
+    // Adds the flags with these letters. A flag may be repeated.
     fn with(self, letters: &[u8]) -> Flags
         ensures { result ≡ with_letters self letters.now }
     {
@@ -161,7 +161,7 @@ fn are_all_flags(form: Form, letters: &[u8]) -> bool
     letters.iter().all(|letter| is_flag(form, *letter))
 }
 
-// One or more letters, each a flag of the command.
+// Returns whether there is at least one letter, and each is a flag of the command.
 fn are_flags(form: Form, letters: &[u8]) -> bool
     ensures { result ≡ are_flags (flags_of form) letters.now }
 {
@@ -208,7 +208,7 @@ fn out_ascii_key(text: &[u8]) -> Option<OptionKey>
     }
 }
 
-// The command's key with this name.
+// Returns the command's key with this name.
 fn option_key_of(form: Form, text: &[u8]) -> Option<OptionKey>
     ensures { result ≡ option_key_of form text.now }
 {
@@ -220,7 +220,7 @@ fn option_key_of(form: Form, text: &[u8]) -> Option<OptionKey>
     }
 }
 
-// The name of one map.
+// Reads the name of one map.
 fn option_name(alloc: Global, value: &[u8]) -> Result<Name, OptionFault>
     ensures { GivesOption result (option_name value.now) }
 {
@@ -228,7 +228,7 @@ fn option_name(alloc: Global, value: &[u8]) -> Result<Name, OptionFault>
     Ok(name)
 }
 
-// The names that texts spell.
+// Reads several names.
 fn names_from(alloc: Global, parts: &[&[u8]]) -> Result<Vec<Name>, OptionFault>
     ensures names { Answers OptionFault.Memory (λ names. names.items) result
         (names_from (texts parts.now)) }
@@ -241,7 +241,7 @@ fn names_from(alloc: Global, parts: &[&[u8]]) -> Result<Vec<Name>, OptionFault>
     Ok(names)
 }
 
-// The names of maps, separated by commas.
+// Reads the names of maps, separated by commas.
 fn option_names(alloc: Global, value: &[u8]) -> Result<Inputs, OptionFault>
     ensures { GivesOption result (names_of (parts_of value.now)) }
 {
@@ -262,7 +262,7 @@ fn printed_byte(value: &[u8]) -> Option<u8>
     }
 }
 
-// The byte between the fields of a line.
+// Returns the separator byte that a value spells.
 fn separator_in(value: &[u8]) -> Option<u8>
     ensures { result ≡ separator_in value.now }
 {
@@ -280,7 +280,7 @@ fn separator_in(value: &[u8]) -> Option<u8>
 }
 
 impl Options {
-    // No options yet.
+    // Creates options with nothing set.
     fn new() -> Options
         ensures { result ≡ no_options }
     {
@@ -303,21 +303,21 @@ impl Options {
         }
     }
 
-    /// The flags that were given.
+    /// Returns the flags that were given.
     pub fn flags(&self) -> Flags
         ensures { result ≡ self.now.flags }
     {
         self.flags
     }
 
-    /// The byte between the fields of a line, if one was given.
+    /// Returns the byte between the fields of a line, if one was given.
     pub fn separator(&self) -> Option<u8>
         ensures { result ≡ self.now.separator }
     {
         self.separator
     }
 
-    /// The text of `after`, if it was given.
+    /// Returns the text of `after`, if it was given.
     pub fn after_text(&self) -> Option<&[u8]>
         ensures { option_map (λ text. text.now) result ≡ self.now.after }
     {
@@ -327,11 +327,11 @@ impl Options {
         }
     }
 
-    /// The null text of a grid text, an asterisk if none was given.
+    /// Returns the null text of a grid, by default an asterisk.
     ///
     /// # Errors
     ///
-    /// [`Memory`] if memory for the asterisk runs out.
+    /// [`Memory`] if memory for the default runs out.
     pub fn into_null_text(self, alloc: Global) -> Result<NullText, Memory>
         ensures { IfOk result (λ text. text ≡ unwrap_or self.null_text usual_null) }
     {
@@ -342,11 +342,11 @@ impl Options {
         }
     }
 
-    /// The null text of a table, an asterisk if none was given.
+    /// Returns the null text of a table, by default an asterisk.
     ///
     /// # Errors
     ///
-    /// [`Memory`] if memory for the asterisk runs out.
+    /// [`Memory`] if memory for the default runs out.
     pub fn into_table_null_text(self, alloc: Global) -> Result<TableNullText, Memory>
         ensures { IfOk result (λ text. text ≡ unwrap_or self.table_null_text usual_null) }
     {
@@ -360,7 +360,7 @@ impl Options {
         }
     }
 
-    /// The names of the map that is read and of the map that is made, as far as they were given.
+    /// Returns the names of the input map and the output map, if given.
     pub(crate) fn into_names(self) -> (Option<Name>, Option<Name>)
         ensures { result ≡ (self.input, self.output) }
     {
@@ -393,7 +393,7 @@ impl Options {
         Ok(())
     }
 
-    // Sets the value of a key, which may be given only once.
+    // Sets the value of a key. A key may be given only once.
     fn set_value(&mut self, alloc: Global, key: OptionKey, value: &[u8]) -> Result<(), OptionFault>
         ensures { Answers OptionFault.Memory (λ _. self.new) result
             (with_value self.old key value.now) }
@@ -417,7 +417,7 @@ impl Options {
         Ok(())
     }
 
-    // Adds the options of one more word.
+    // Adds the option in one more word.
     fn add_word(&mut self, alloc: Global, form: Form, word: &[u8]) -> Result<(), OptionFault>
         ensures { Answers OptionFault.Memory (λ _. self.new) result
             (with_word form self.old word.now) }
@@ -438,11 +438,11 @@ impl Options {
     }
 }
 
-/// The options that the words after a command give.
+/// Reads the words after a command as options.
 ///
 /// # Errors
 ///
-/// The error of the first word that has one; [`OptionFault::Memory`] if memory runs out.
+/// The error in the first word that has one; [`OptionFault::Memory`] if memory runs out.
 pub fn options_of(alloc: Global, form: Form, words: &[&[u8]]) -> Result<Options, OptionFault>
     ensures { GivesOption result (options_of form (texts words.now)) }
 {

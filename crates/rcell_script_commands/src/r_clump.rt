@@ -1,4 +1,4 @@
-//! The words of r.clump.
+//! Reads the words of r.clump.
 
 ghost use Rattle.std.specs.Prelude.{◌≡◌, IfOk};
 ghost use Rattle.rcell_script_commands.specs.OptionReading.{GivesOption, texts};
@@ -24,11 +24,11 @@ fn joining_of(corners: bool) -> Joining
     }
 }
 
-/// The clumps that the words after r.clump ask for, over known maps.
+/// Reads the words after r.clump. `known` contains the known maps.
 ///
 /// # Errors
 ///
-/// The error of the first word that has one, then [`OptionFault::MissingOption`], [`OptionFault::UnknownMap`] and
+/// The error in the first word that has one, then [`OptionFault::MissingOption`], [`OptionFault::UnknownMap`] and
 /// [`OptionFault::MapExists`]; [`OptionFault::Memory`] if memory runs out.
 pub(crate) fn clump_of(
     alloc: Global,

@@ -1,4 +1,4 @@
-//! The line of an r.mapcalc.
+//! Reads the line of an r.mapcalc.
 
 ghost use Rattle.std.specs.Prelude.{◌≡◌, ◌≤◌, IfOk, length};
 ghost use Rattle.rcell_script_commands.specs.RMapcalc.{text_after_command, after_command, assignment_text};
@@ -31,7 +31,7 @@ fn after_word<'a>(text: &'a [u8]) -> &'a [u8]
     rest
 }
 
-// The text after the command of a line.
+// Returns the text after the command name of a line.
 fn after_command<'a>(line: &'a [u8]) -> &'a [u8]
     ensures text { result.now ≡ after_command line.now }
     ensures shorter { length result.now ≤ length line.now }
@@ -39,7 +39,7 @@ fn after_command<'a>(line: &'a [u8]) -> &'a [u8]
     after_word(after_blanks(line))
 }
 
-// The assignment in a line; everything up to the end of the command is replaced with blanks.
+// Returns the line with blanks in place of the command name, so that columns do not change.
 fn assignment_text(alloc: Global, line: &[u8]) -> Result<Vec<u8>, Memory>
     ensures text { IfOk result (λ text. text.items ≡ assignment_text line.now) }
     ensures length { IfOk result (λ text. length text.items ≡ length line.now) }
@@ -50,7 +50,7 @@ fn assignment_text(alloc: Global, line: &[u8]) -> Result<Vec<u8>, Memory>
     Ok(text)
 }
 
-// The map that an assignment makes.
+// Returns the command for an assignment.
 #[tactic(auto, using(crate::proofs::MapcalcLemmas::unbound, crate::proofs::MapcalcLemmas::fits_known))]
 fn mapcalc_with(alloc: Global, known: &Names, a: Assignment) -> Result<Head, ScriptKind>
     ensures head { GivesScript result (mapcalc_of known.now a) }
@@ -64,12 +64,12 @@ fn mapcalc_with(alloc: Global, known: &Names, a: Assignment) -> Result<Head, Scr
     }
 }
 
-/// The map that the line of an r.mapcalc makes, over known maps. The line has at most 65,535 bytes.
+/// Reads the line of an r.mapcalc, which has at most 65,535 bytes. `known` contains the known maps.
 ///
 /// # Errors
 ///
-/// [`ScriptKind::Calc`] with the error of the assignment, then of its first unknown map; columns count within the line.
-/// Then [`ScriptKind::MapExists`]; [`ScriptKind::Memory`] if memory runs out.
+/// [`ScriptKind::Calc`] with the error in the assignment, or with its first unknown map; columns are columns of the
+/// line. Then [`ScriptKind::MapExists`]; [`ScriptKind::Memory`] if memory runs out.
 #[tactic(auto, using(crate::proofs::MapcalcLemmas::assigned, crate::proofs::MapcalcLemmas::unassigned))]
 pub(crate) fn mapcalc_of(alloc: Global, known: &Names, line: &[u8]) -> Result<Head, ScriptKind>
     requires { length line.now ≤ 65535 }

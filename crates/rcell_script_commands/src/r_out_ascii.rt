@@ -1,4 +1,4 @@
-//! The words of r.out.ascii.
+//! Reads the words of r.out.ascii.
 
 ghost use Rattle.std.specs.Prelude.{IfOk};
 ghost use Rattle.rcell_script_commands.specs.OptionReading.{GivesOption, texts};
@@ -12,11 +12,11 @@ use crate::options::{Form, options_of};
 use cell_core::name::Names;
 use std::alloc::Global;
 
-/// The grid text that the words after r.out.ascii ask for, over known maps.
+/// Reads the words after r.out.ascii. `known` contains the known maps.
 ///
 /// # Errors
 ///
-/// The error of the first word that has one, then [`OptionFault::MissingOption`] and [`OptionFault::UnknownMap`];
+/// The error in the first word that has one, then [`OptionFault::MissingOption`] and [`OptionFault::UnknownMap`];
 /// [`OptionFault::Memory`] if memory runs out.
 pub(crate) fn out_ascii_of(
     alloc: Global,

@@ -1,4 +1,4 @@
-//! The words of r.reclass.
+//! Reads the words of r.reclass.
 
 ghost use Rattle.std.specs.Prelude.{◌≡◌, ◌<◌, IfOk, None, length};
 ghost use Rattle.cell_core_values.specs.Name.{place_of};
@@ -11,11 +11,11 @@ use crate::options::{Form, options_of};
 use cell_core::name::{Name, Names};
 use std::alloc::Global;
 
-/// The place of the known map that the words after r.reclass name, and the name of the map to make.
+/// Reads the words after r.reclass. Returns the index of the input map, and the name of the output map.
 ///
 /// # Errors
 ///
-/// The error of the first word that has one, then [`OptionFault::MissingOption`], [`OptionFault::UnknownMap`] and
+/// The error in the first word that has one, then [`OptionFault::MissingOption`], [`OptionFault::UnknownMap`] and
 /// [`OptionFault::MapExists`]; [`OptionFault::Memory`] if memory runs out.
 pub(crate) fn reclass_of(
     alloc: Global,

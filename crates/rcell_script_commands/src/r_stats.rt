@@ -1,4 +1,4 @@
-//! The words of r.stats.
+//! Reads the words of r.stats.
 
 ghost use Rattle.std.specs.Prelude.{◌≡◌, ◌≤◌, IfOk, IfSome, length};
 ghost use Rattle.std.specs.Option.{option_map};
@@ -18,7 +18,7 @@ use cell_stats_combinations::combination::Combo;
 use cell_stats_combinations::skip::Skip;
 use std::alloc::Global;
 
-// `-n` leaves out everything that `-N` leaves out, so it overrides it.
+// Returns which combinations are left out. `-n` leaves out everything that `-N` leaves out, so it overrides `-N`.
 fn skip_of(no_null: bool, no_all_null: bool) -> Skip
     ensures { result ≡ skip_of no_null no_all_null }
 {
@@ -31,7 +31,7 @@ fn skip_of(no_null: bool, no_all_null: bool) -> Skip
     }
 }
 
-// The combination after which a table continues, if one is given.
+// Returns the combination after which a table continues, if one is given.
 fn after_in_text(
     alloc: Global,
     width: usize,
@@ -48,7 +48,7 @@ fn after_in_text(
     }
 }
 
-// How a table is printed, and which part of it.
+// Returns the options that determine the printed table.
 fn printed_with(
     alloc: Global,
     options: Options,
@@ -70,12 +70,12 @@ fn printed_with(
     })
 }
 
-/// The table that the words after r.stats ask for, over known maps.
+/// Reads the words after r.stats. `known` contains the known maps.
 ///
 /// # Errors
 ///
-/// The error of the first word that has one, then [`ScriptKind::MissingOption`], [`ScriptKind::BadOption`] if flags do not
-/// go together, [`ScriptKind::UnknownMap`] and [`ScriptKind::Combo`]; [`ScriptKind::Memory`] if memory runs out.
+/// The error in the first word that has one, then [`ScriptKind::MissingOption`], [`ScriptKind::BadOption`] if flags
+/// exclude each other, [`ScriptKind::UnknownMap`] and [`ScriptKind::Combo`]; [`ScriptKind::Memory`] if memory runs out.
 #[tactic(auto, using(crate::proofs::FaultLemmas::reported))]
 pub(crate) fn stats_of(alloc: Global, known: &Names, words: &[&[u8]]) -> Result<Command, ScriptKind>
     ensures command { GivesScript result (stats_of known.now (texts words.now)) }

@@ -1,4 +1,4 @@
-//! Why a text is not a script.
+//! Errors of scripts.
 
 ghost use Rattle.std.specs.Prelude.{◌≡◌};
 ghost use Rattle.rcell_script_commands.specs.ScriptTexts.{calc_words, rule_words, combo_words, kind_words, kind_column};
@@ -19,30 +19,30 @@ pub enum ScriptKind {
     /// An unknown flag or key, a word without `=`, a repeated key, more than 16 maps, a bad separator or null text, or
     /// flags that exclude each other.
     BadOption,
-    /// A command without an option that it needs.
+    /// A required option is missing.
     MissingOption,
-    /// A map that is not known when a statement reads it.
+    /// A statement reads a map that is not known.
     UnknownMap,
-    /// A map that is made but already known.
+    /// A statement makes a map that is already known.
     MapExists,
-    /// An assignment of r.mapcalc; its column is counted from the start of the script's line.
+    /// An error in the assignment of an r.mapcalc. Its column is a column of the line.
     Calc(CalcFault),
-    /// A rule of r.reclass.
+    /// An error in a rule of an r.reclass.
     Rule(RuleFault),
-    /// The combination of `after`.
+    /// An error in the combination of `after`.
     Combo(ComboFault),
-    /// The rules of an r.reclass without an end.
+    /// The rules of an r.reclass have no `end`.
     MissingEnd,
-    /// A line of more than 65,535 bytes.
+    /// A line has more than 65,535 bytes.
     LongLine,
-    /// An input or output that is not a name.
+    /// An input or output is not a map name.
     BadName,
     /// Memory ran out.
     Memory,
 }
 
 impl ScriptKind {
-    // What is wrong, without a column.
+    // Returns the text of an error, without the column.
     fn words(self) -> &'static str
         ensures { result.now ≡ kind_words self }
     {
@@ -62,7 +62,7 @@ impl ScriptKind {
         }
     }
 
-    // The column of an error in an expression.
+    // Returns the column of an error in an expression.
     fn column(self) -> Option<u32>
         ensures { result ≡ kind_column self }
     {
@@ -198,7 +198,7 @@ fn combo_words(fault: ComboFault) -> &'static str
     }
 }
 
-/// What is wrong, and the line, counted from 1; 0 if memory ran out.
+/// An error and its line, counted from 1, or 0 if memory ran out.
 #[derive(Clone, Copy, Debug, PartialEq, Eq, thiserror::Error)]
 #[error("{line}: {kind}")]
 pub struct ScriptFault {

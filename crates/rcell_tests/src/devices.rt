@@ -1,4 +1,4 @@
-//! Runs whose sources fail, are cut off or never end, and how often a sink is flushed.
+//! Tests runs whose sources fail, are cut off or never end, and counts how often a sink is flushed.
 
 ghost use Rattle.std.specs.Prelude.{◌≡◌, ◌≤◌, length, IfOk};
 
@@ -19,31 +19,31 @@ const GRID: &[u8] =
 
 const HEADER: &[u8] = b"north: 3\nsouth: 0\neast: 4\nwest: 0\nrows: 3\ncols: 4\n";
 
-// The last cell of the grid and its line feed.
+// The last cell of the grid, and its line feed.
 const LAST_CELL: usize = 2;
 
 const SCRIPT: &[u8] = FIVE_COMMANDS;
 
-// Number of bytes requested at a time.
+// The length of the full output in bytes.
 const ALL_BYTES: u64 = 111;
 
 /// Maximum length of a script in bytes.
 const MOST_BYTES: usize = 1048576;
 
-// What comes after the bytes of a source.
+// What follows the bytes of a source.
 #[derive(Clone, Copy)]
 enum Then<'a> {
     Ends,
     Fails,
-    // Its end is reported, then these bytes come, and then its end again.
+    // The source reports its end, then returns these bytes, and then ends again.
     EndsOnce(&'a [u8]),
-    // One call fails, then these bytes come, and then its end.
+    // One call fails, then these bytes follow, and then the end.
     FailsOnce(&'a [u8]),
     // Two bytes in turn, endlessly.
     Turns([u8; 2]),
 }
 
-// Fills the bytes with two bytes in turn, and returns whether the second is next.
+// Fills the buffer with two bytes in turn, and returns whether the second byte is next.
 fn fill_by_turns(buf: &mut [u8], turns: [u8; 2], is_second: bool) -> bool
     ensures { length buf.new ≡ length buf.old }
 {
@@ -55,7 +55,7 @@ fn fill_by_turns(buf: &mut [u8], turns: [u8; 2], is_second: bool) -> bool
     is_second
 }
 
-// A source of some bytes about which nothing is known.
+// A source of some bytes, whose ghost members are unknown.
 #[derive(Drop)]
 struct Unknown<'a> {
     bytes: &'a [u8],
@@ -74,7 +74,7 @@ impl<'a> Unknown<'a> {
         }
     }
 
-    // What a call returns.
+    // Returns the result of a read.
     fn give(&mut self, buf: &mut [u8]) -> Result<usize, DeviceFault>
         ensures count { IfOk result (λ n. n ≤ length buf.new) }
         ensures asked { self.new.asked ≡ self.old.asked }
@@ -121,7 +121,7 @@ impl<'a> Source for Unknown<'a> {
     }
 }
 
-// A sink with this much room, whose flush fails or not.
+// A sink with limited room, which counts flushes. Its flush may fail.
 #[derive(Drop)]
 struct Counting {
     room: usize,
@@ -177,7 +177,7 @@ fn whole_script() -> Unknown<'static> {
     Unknown::new(SCRIPT, Then::Ends)
 }
 
-// Runs a script over one grid, g.
+// Runs a script over one grid, `g`.
 fn run_sources<'a, W: Sink>(
     alloc: Global,
     script: Unknown<'a>,
@@ -189,7 +189,7 @@ fn run_sources<'a, W: Sink>(
     Ok(run(alloc, script, grids, out))
 }
 
-// The outcome of a run over one grid, g, and its sink.
+// Runs a script over one grid, `g`. Returns the outcome and the sink.
 fn ran<'a, R: AllocGlobal>(
     rt: &R,
     script: Unknown<'a>,
@@ -200,7 +200,7 @@ fn ran<'a, R: AllocGlobal>(
     Ok((outcome, out))
 }
 
-// The run is rejected, and has written nothing.
+// Checks that a run is rejected and has written nothing.
 fn expect_refused<'a, R: Abort + AllocGlobal>(
     rt: &R,
     script: Unknown<'a>,
@@ -242,7 +242,7 @@ fn each_read_fails_in_turn(rt: HostRuntime) -> Result<(), Fail> {
     Ok(())
 }
 
-// A source that fails once would continue if it were asked again.
+// A source that fails once would continue if it were read again.
 #[test]
 fn each_read_fails_once(rt: HostRuntime) -> Result<(), Fail> {
     let mut line = 1u64;
@@ -267,7 +267,7 @@ fn each_read_fails_once(rt: HostRuntime) -> Result<(), Fail> {
     Ok(())
 }
 
-// A run over a script and a grid has the same outcome as one over another script and another grid.
+// Checks that two runs, each over a script and a grid, have the same outcome.
 fn expect_same<'a, R: Abort + AllocGlobal>(
     rt: &R,
     run: (Unknown<'a>, Unknown<'a>),
@@ -399,7 +399,7 @@ fn is_flushed_once_unless_refused_or_failed(rt: HostRuntime) -> Result<(), Fail>
     Ok(())
 }
 
-// Runs a script over named grids; the same follows the bytes of each.
+// Runs a script over named grids. `then` follows the bytes of each source.
 fn run_grids<'a, W: Sink>(
     alloc: Global,
     script: Unknown<'a>,
@@ -435,7 +435,7 @@ const BAD_CELL: &[(&[u8], &[u8])] = &[(
     b"north: 1\nsouth: 0\neast: 1\nwest: 0\nrows: 1\ncols: 1\nx\n",
 )];
 
-// A run that is rejected with a status.
+// A run that is rejected, and its exit status.
 #[derive(Clone, Copy)]
 struct Refusal<'a> {
     grids: &'a [(&'a [u8], &'a [u8])],
@@ -471,7 +471,7 @@ impl<'a> Refusal<'a> {
     }
 }
 
-// The run is rejected with a status, and its sink is not called, whether or not its flush would fail.
+// Checks that a run is rejected and never calls its sink, whether or not a flush would fail.
 fn expect_no_call<'a, R: Abort + AllocGlobal>(rt: &R, refusal: Refusal<'a>) -> Result<(), Fail> {
     for flush_fails in [false, true] {
         let mut out = Counting::new(200, flush_fails);
@@ -510,7 +510,7 @@ fn counted<R: AllocGlobal>(rt: &R, flush_fails: bool) -> Result<(Outcome, Flushe
     Ok((outcome, out.flushes))
 }
 
-// How many bytes are written if memory runs out at a line of the script.
+// Returns the number of bytes written if memory runs out at a line of the script.
 fn written_before(line: u64) -> u64 {
     if line < 2 {
         0
@@ -521,8 +521,8 @@ fn written_before(line: u64) -> u64 {
     }
 }
 
-// A run that runs out of memory reports the bytes of the statements before. It is flushed once if memory ran out in a
-// statement, like a finished run, and never if it ran out before.
+// Checks a run that runs out of memory. It reports the bytes of the previous statements. Like a finished run, it
+// flushes its sink once if memory ran out in a statement; if memory ran out earlier, it never does.
 fn expect_out_of_memory<R: Abort>(rt: &R, outcome: Outcome, flushes: Flushes) {
     let line = match outcome.fault {
         Some(RunFault::Memory { line }) => line,
@@ -553,7 +553,7 @@ fn a_run_out_of_memory_is_flushed_and_made_again(rt: HostRuntime) -> Result<(), 
     Ok(())
 }
 
-// A failed flush turns a finished run into a failed write, and does not change a run that is out of memory.
+// A failed flush turns a finished run into a failed write, and does not affect a run that is out of memory.
 #[test]
 fn a_run_out_of_memory_stays_so_and_is_made_again(rt: HostRuntime) -> Result<(), Fail> {
     let (outcome, flushes) = counted(&rt, true)?;

@@ -1,4 +1,4 @@
-//! Which error of a script is reported, and where.
+//! Tests which error of a script is reported, and where.
 
 use crate::assertions::assert_same;
 use cell_calc_language::calc_fault::{CalcFault, CalcKind};
@@ -10,7 +10,7 @@ use rcell_script::script_parsing::parse_script;
 use std::alloc::Global;
 use std::test::Fail;
 
-// The name of the only grid, g.
+// Returns the names of the only grid, `g`.
 pub(crate) fn one_grid(alloc: Global) -> Result<Names, Fail> {
     let mut known = Names::new(alloc);
     let name = Name::read(alloc, b"g")?;
@@ -18,7 +18,7 @@ pub(crate) fn one_grid(alloc: Global) -> Result<Names, Fail> {
     Ok(known)
 }
 
-// Scripts, and the kind and the line of the first error of each.
+// Scripts, each with the kind and the line of its first error.
 const FAULTS: [(&str, ScriptKind, u64); 31] = [
     (
         "r.stats -c input=g\n# note\nr.clump input=h output=c",
@@ -115,7 +115,7 @@ fn reports_the_first_fault(rt: HostRuntime) -> Result<(), Fail> {
     Ok(())
 }
 
-// Scripts of an assignment, and the kind and the column of the error of its expression.
+// Scripts of one assignment, each with the kind and the column of the error in its expression.
 const EXPRESSIONS: [(&str, CalcKind, u32); 6] = [
     ("r.mapcalc x = 2147483648", CalcKind::BadNumber, 15),
     ("r.mapcalc x = h", CalcKind::UnknownMap, 15),
@@ -125,7 +125,7 @@ const EXPRESSIONS: [(&str, CalcKind, u32); 6] = [
     ("r.mapcalc x = 1 + ", CalcKind::Expected, 19),
 ];
 
-// Scripts of assignments, and the kind and the line of the error of each.
+// Scripts of assignments, each with the kind and the line of its error.
 const ASSIGNMENTS: [(&str, ScriptKind, u64); 3] = [
     ("r.mapcalc x = 1\nr.mapcalc x = 2", ScriptKind::MapExists, 2),
     ("r.mapcalc g = g", ScriptKind::MapExists, 1),

@@ -1,4 +1,4 @@
-//! Tests of scripts, of full runs over memory, and of error lines.
+//! Tests of scripts, of full runs in memory, and of error lines.
 #![tactic(auto)]
 
 #[cfg(test)]

@@ -1,4 +1,4 @@
-//! The line that reports each error.
+//! Tests the line that reports each error.
 
 use crate::assertions::assert_same;
 use cell_ascii::grid_fault::{GridFault, GridKind};
@@ -14,7 +14,7 @@ use std::alloc::{AllocGlobal, Global};
 use std::process::Abort;
 use std::test::Fail;
 
-// The line of an error of a run whose first grid is g and whose second is land.use.
+// Returns the line for an error of a run over the grids `g` and `land.use`.
 fn line_of(alloc: Global, fault: RunFault) -> Result<String, Fail> {
     let mut names = Vec::new(alloc);
     for name in [b"g".as_slice(), b"land.use"] {
@@ -43,7 +43,7 @@ fn expect_line<R: Abort + AllocGlobal>(
     Ok(())
 }
 
-// The line of an error of an expression, at column 15.
+// Checks the line for an error of an expression, at column 15.
 fn expect_calc_line<R: Abort + AllocGlobal>(
     rt: &R,
     kind: CalcKind,
@@ -55,7 +55,7 @@ fn expect_calc_line<R: Abort + AllocGlobal>(
     expect_line(rt, RunFault::Script(fault), "script:6", text.as_str())
 }
 
-// The text of each kind of error of a grid.
+// The text for each kind of error of a grid.
 const GRID_KINDS: [(GridKind, &str); 15] = [
     (GridKind::BadHeader, "bad header line"),
     (GridKind::TwiceKey, "key given twice"),
@@ -94,7 +94,7 @@ fn reports_faults_of_grids(rt: HostRuntime) -> Result<(), Fail> {
     )
 }
 
-// The text of each kind of error of a script, except of an expression.
+// The text for each kind of error of a script, except in expressions.
 const SCRIPT_KINDS: [(ScriptKind, &str); 13] = [
     (ScriptKind::UnknownCommand, "unknown command"),
     (ScriptKind::BadOption, "bad option"),
@@ -114,7 +114,7 @@ const SCRIPT_KINDS: [(ScriptKind, &str); 13] = [
     (ScriptKind::Memory, "no memory"),
 ];
 
-// The text of each kind of error of an expression, before its column.
+// The text for each kind of error of an expression, without its column.
 const CALC_KINDS: [(CalcKind, &str); 10] = [
     (CalcKind::BadByte, "bad byte"),
     (CalcKind::BadNumber, "bad number"),

@@ -1,4 +1,4 @@
-//! Full runs over memory: what is written, how many bytes, the status and the error.
+//! Tests full runs in memory: the output, its length, the status and the error.
 
 use crate::assertions::assert_same;
 use cell_ascii::grid_fault::{GridFault, GridKind};
@@ -58,7 +58,7 @@ fn sink(alloc: Global, room: usize) -> Result<MemorySink, Fail> {
     Ok(MemorySink::new(vec![in alloc; 0u8; room]?, 3, false))
 }
 
-// Checks the outcome of a run, and the bytes that its sink has taken.
+// Checks the outcome of a run, and the bytes that its sink accepted.
 fn expect_run<R: Abort + AllocGlobal>(
     rt: &R,
     grids: &[(&[u8], &[u8])],
@@ -73,7 +73,7 @@ fn expect_run<R: Abort + AllocGlobal>(
     Ok(())
 }
 
-// A run is done, and has written the text.
+// Checks that a run succeeds and writes the text.
 fn expect_text<R: Abort + AllocGlobal>(
     rt: &R,
     grids: &[(&[u8], &[u8])],
@@ -88,7 +88,7 @@ fn expect_text<R: Abort + AllocGlobal>(
     expect_run(rt, grids, script, sink(rt.alloc(), 1000)?, wanted, text)
 }
 
-// A run is rejected, and has written nothing.
+// Checks that a run is rejected and has written nothing.
 fn expect_refused<R: Abort + AllocGlobal>(
     rt: &R,
     grids: &[(&[u8], &[u8])],
@@ -104,7 +104,7 @@ fn expect_refused<R: Abort + AllocGlobal>(
     expect_run(rt, grids, script, sink(rt.alloc(), 1000)?, wanted, b"")
 }
 
-// A run over the grid g fails while writing, and its sink has taken these bytes.
+// Checks that a run over the grid `g` fails while writing, after its sink accepted these bytes.
 fn expect_failed_write<R: Abort + AllocGlobal>(
     rt: &R,
     script: &[u8],
@@ -119,7 +119,7 @@ fn expect_failed_write<R: Abort + AllocGlobal>(
     expect_run(rt, &[(b"g", GRID)], script, out, wanted, bytes)
 }
 
-// Grids by name, a script over them, and its output.
+// Grids with their names, a script over them, and its output.
 const TABLES: [(&[(&[u8], &[u8])], &[u8], &[u8]); 7] = [
     (&[(b"g", GRID)], b"r.stats -c input=g", TABLE),
     (
@@ -185,7 +185,7 @@ fn puts_out_grids(rt: HostRuntime) -> Result<(), Fail> {
     expect_failed_write(&rt, script, sink(rt.alloc(), 60)?, front)
 }
 
-// Each of the five commands.
+// A script with each of the five commands.
 pub(crate) const FIVE_COMMANDS: &[u8] =
     b"r.stats -c input=g\nr.clump input=g output=c\nr.mapcalc x = c[1,0] + 1\nr.reclass input=g output=r\n1 thru 3 = 7 low\nend\nr.stats -cl input=r\nr.out.ascii input=x\n";
 
@@ -241,7 +241,7 @@ fn refuses_grids_before_it_writes(rt: HostRuntime) -> Result<(), Fail> {
     Ok(())
 }
 
-// Scripts, and the kind and the line of the error of each.
+// Scripts, each with the kind and the line of its error.
 const BAD_SCRIPTS: [(&[u8], ScriptKind, u64); 7] = [
     (b"r.stats -c -1 input=g", ScriptKind::BadOption, 1),
     (b"r.stats -c\n", ScriptKind::MissingOption, 1),
@@ -281,7 +281,8 @@ fn reports_what_a_failing_device_took(rt: HostRuntime) -> Result<(), Fail> {
     expect_failed_write(&rt, script, unflushed, TABLE)
 }
 
-// The outcome of a run over one grid, g, and the number of bytes that it writes. The sources may fail at their ends.
+// Runs a script over one grid, `g`. Returns the outcome, and the number of bytes that it writes. The sources may fail
+// at their ends.
 fn run_one(
     alloc: Global,
     script: MemorySource,
@@ -320,7 +321,7 @@ fn reports_a_failing_reader(rt: HostRuntime) -> Result<(), Fail> {
     Ok(())
 }
 
-// A script of 2,000 lines, each of which makes a map: `m0000` to `m1999`.
+// Returns a script of 2,000 lines, each of which makes a map: `m0000` to `m1999`.
 fn two_thousand_maps(alloc: Global) -> Result<Vec<u8>, Fail> {
     let mut script = Vec::new(alloc);
     for thousands in b"01" {
@@ -337,7 +338,7 @@ fn two_thousand_maps(alloc: Global) -> Result<Vec<u8>, Fail> {
     Ok(script)
 }
 
-// Only the length of the script limits the number of maps.
+// The number of maps is limited only by the length of the script.
 #[test]
 fn makes_two_thousand_maps(rt: HostRuntime) -> Result<(), Fail> {
     let mut script = two_thousand_maps(rt.alloc())?;

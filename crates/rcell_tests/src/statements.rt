@@ -1,4 +1,4 @@
-//! Which statements a script has.
+//! Tests which statements a script has.
 
 use crate::assertions::assert_same;
 use crate::faults::one_grid;

@@ -7,9 +7,9 @@ abbrev pub row : Text
 row = (codes "row", codes "north: 1\nsouth: 0\neast: 1.5\nwest: 0\nrows: 1\ncols: 3\n1 2 *\n")
 
 pub record WorkedGrids : Type 0 where
-  -- a map as it is, with another text for null
+  -- the map itself, with a different text for null
   pub written : Prints (row ∷ []) (codes "r.out.ascii input=row null_value=NA\n")
       (codes "north: 1\nsouth: 0\neast: 1.5\nwest: 0\nrows: 1\ncols: 3\nnull: NA\n1 2 NA\n")
-  -- the cell to the right, and null beyond the edge
+  -- the cell to the right, or null beyond the edge
   pub moved : Prints (row ∷ []) (codes "r.mapcalc next = row[0,1]\nr.out.ascii input=next\n")
       (codes "north: 1\nsouth: 0\neast: 1.5\nwest: 0\nrows: 1\ncols: 3\n2 * *\n")

@@ -1,4 +1,4 @@
--- A worked request: the one that docs/pipe.md shows with its response.
+-- A worked request: the request and response in docs/pipe.md.
 use Rattle.std.specs.Prelude.{ℕ, ◌≡◌, List, [], ◌∷◌, ◌++◌, codes}
 use Rattle.cell_core.specs.Shelf.{ShelfValue}
 use Rattle.rcell_script.specs.declared.statement.Statement.{Statement}
@@ -9,7 +9,7 @@ use Rattle.rcell_pipe_response.specs.RunEnds.{done_end, GivesAll}
 use Rattle.rcell_plan_response.specs.Responses.{AsksForFrames}
 use Rattle.rcell_worked.specs.WorkedRuns.{given}
 
--- the response to a request for frames, as the theorem of `respond` has it
+-- the response to a request for frames, as in the theorem of `respond`
 pub record Responds (request response : List ℕ) : Type 0 where
   pub shelf : ShelfValue
   pub statements : List Statement

@@ -3,7 +3,7 @@ use Rattle.std.specs.Prelude.{[], ◌∷◌, codes}
 use Rattle.rcell_worked.specs.WorkedRuns.{Prints, land, zone}
 
 pub record WorkedTables : Type 0 where
-  -- the first example of the documents: each category with its cells, null last
+  -- the first example of the documents: the count of each category, with null last
   pub counted : Prints (land ∷ []) (codes "r.stats -c input=land\n") (codes "1 5\n2 4\n3 2\n* 1\n")
   -- without null
   pub without_null : Prints (land ∷ []) (codes "r.stats -c -n input=land\n") (codes "1 5\n2 4\n3 2\n")
@@ -11,13 +11,13 @@ pub record WorkedTables : Type 0 where
   pub crossed : Prints (land ∷ zone ∷ [])
       (codes "r.stats -c input=zone,land separator=comma null_value=NA\nr.stats -c -n input=zone,land after=7,2\n")
       (codes "7,1,3\n7,2,1\n7,3,1\n8,1,2\n8,2,3\n8,NA,1\nNA,3,1\n7 3 1\n8 1 2\n8 2 3\n")
-  -- a line for each cell
+  -- one line per cell
   pub each_cell : Prints (land ∷ []) (codes "r.stats -1 -n input=land\n") (codes "1\n1\n2\n1\n2\n2\n2\n3\n3\n1\n1\n")
-  -- new classes, and a cell of no class
+  -- new categories, and a cell that no rule covers
   pub grouped : Prints (land ∷ [])
       (codes "r.reclass input=land output=wood\n1 3 = 7 wood\n* = 8\nend\nr.stats -c input=wood\n")
       (codes "7 7\n8 4\n* 1\n")
-  -- the labels of these classes
+  -- the labels of the new categories
   pub labelled : Prints (land ∷ [])
       (codes "r.reclass input=land output=wood\n1 3 = 7 wood\n* = 8\nend\nr.stats -c -l input=wood\n")
       (codes "7 wood 7\n8  4\n* no data 1\n")

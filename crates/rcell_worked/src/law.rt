@@ -1,4 +1,4 @@
-//! What the definitions give for worked runs.
+//! Outputs of worked runs, as the specification defines them.
 
 ghost use Rattle.rcell_worked.specs.WorkedClumps.{WorkedClumps};
 ghost use Rattle.rcell_worked.specs.WorkedGrids.{WorkedGrids};
@@ -7,25 +7,25 @@ ghost use Rattle.rcell_worked.specs.WorkedTables.{WorkedTables};
 
 use rcell_script::law::script_reading_denotes;
 
-/// Tables: the first example of the documents, without null, of two maps, after a combination, cell by cell, of new
-/// classes, with their labels.
+/// Tables: the first example of the documents, without null, of two maps, after a combination, cell by cell, and of
+/// reclassified maps with their labels.
 pub fn tables()
     ensures { WorkedTables }
 {
     script_reading_denotes();
 }
 
-/// Grids: a map with another text for null, and an expression with an offset, which is null beyond the edge.
+/// Grids: a map with a different null text, and an expression with an offset, which is null beyond the edge.
 pub fn grids()
     ensures { WorkedGrids }
 {
     script_reading_denotes();
 }
 
-/// Numbers of r.clump, on a map where connectivity makes a difference.
+/// Clump numbers of r.clump, on a map where the connectivity matters.
 ///
-/// The checker cannot compute them: `IsClumping` states which map of numbers is right, and makes none. So this law
-/// states the bytes, and its proof shows that the two maps of numbers are right.
+/// The checker cannot compute them, because `IsClumping` states which map of numbers is correct but does not construct
+/// one. Therefore this law states the bytes, and its proof shows that the two maps of numbers are correct.
 pub fn clumps()
     ensures { WorkedClumps }
 {

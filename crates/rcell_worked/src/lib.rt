@@ -1,8 +1,9 @@
-//! Worked runs: what the definitions give for some grids, scripts and a request, computed by the checker. No code runs.
+//! Worked runs: the outputs that the specification defines for some grids, scripts and a request, computed by the
+//! checker. This crate contains only proofs.
 //!
-//! - `law`: `tables` of r.stats, `grids` of r.out.ascii, `clumps` of r.clump, `requests` of rcell-pipe with their
+//! - `law`: `tables` of r.stats, `grids` of r.out.ascii, `clumps` of r.clump, and `requests` of rcell-pipe with their
 //!   frames
-//! - specs/WorkedRuns.antt: what a worked run is; a definition that is empty or wrong fails to give these outputs
+//! - specs/WorkedRuns.antt: what a worked run is; if a definition is empty or wrong, these outputs cannot be proved
 #![tactic(auto)]
 
 pub mod law;

@@ -1,11 +1,11 @@
--- How far the source of a script was read.
+-- How far the source of a script has been read.
 use Rattle.std.specs.Prelude.{Result, Ok, Err}
 use Rattle.cell_core_devices.specs.declared.source.Asked.{Asked}
 use Rattle.cell_core_devices.specs.declared.source.Asked.TheVariants.{Going, Ended, Failed}
 use Rattle.rcell.specs.declared.run_fault.RunFault.{RunFault}
 use Rattle.rcell.specs.declared.run_fault.RunFault.TheVariants.{ScriptRead}
 
--- to the end of its text, to an `Err`, or less far
+-- to its end, to a read error, or neither
 abbrev pub asked_by : {X : Type 0} → Result X RunFault → Asked
 asked_by (Ok text) = Ended
 asked_by (Err ScriptRead) = Failed

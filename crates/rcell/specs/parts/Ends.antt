@@ -19,14 +19,14 @@ abbrev pub fault_of_end : RunStop → RunFault
 fault_of_end (stops.Memory line) = faults.Memory line
 fault_of_end stops.Write = faults.Write
 
--- the outcome of an execution and a flush that fails or not: a failed flush turns a finished run into a failed write,
--- and changes no other outcome
+-- the outcome of an execution, given whether the flush failed: a failed flush turns a finished run into a failed write,
+-- and does not change any other outcome
 abbrev pub run_ended : Result ℕ Stopped → Bool → Outcome
 run_ended (Ok written) false = record { status = 0; written = written; fault = None }
 run_ended (Ok written) true = record { status = 4; written = written; fault = Some faults.Write }
 run_ended (Err stopped) fails = record { status = fault_status (fault_of_end stopped.stop); written = stopped.written; fault = Some (fault_of_end stopped.stop) }
 
--- the sink is flushed, unless a put failed
+-- the sink after a stopped execution: it is flushed unless a write failed
 abbrev pub after_stop : Faults → RunStop → Bool → Faults
 after_stop old (stops.Memory line) fails = after_flush old fails
 after_stop old stops.Write fails = old
@@ -35,13 +35,13 @@ abbrev pub after_execution : Faults → Result ℕ Stopped → Bool → Faults
 after_execution old (Ok written) fails = after_flush old fails
 after_execution old (Err stopped) fails = after_stop old stopped.stop fails
 
--- a run has its outcome, and its sink was flushed
+-- a run has the outcome of its execution, and its sink was flushed unless a write failed
 pub record Ends (executed : Result ℕ Stopped) (old new : Faults) (outcome : Outcome) : Type 0 where
   pub fails : Bool
   pub answer : outcome ≡ run_ended executed fails
   pub after : new ≡ after_execution old executed fails
 
--- what holds after statements were executed and the sink was flushed
+-- what holds after the statements were executed and the sink was flushed
 pub record IsRunEnd (shelf : ShelfValue) (statements : List Statement) (before now : Option (List ℕ)) (old new : Faults) (outcome : Outcome) : Type 0 where
   pub done : IsNone outcome.fault → IsDone shelf statements before now outcome.written
   pub late : IfSome outcome.fault IsInExecution

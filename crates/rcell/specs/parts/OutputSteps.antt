@@ -1,4 +1,4 @@
--- One statement of an execution, and the bytes around it.
+-- The state of an execution after some statements.
 use Rattle.std.specs.Prelude.{ℕ, List, Option}
 use Rattle.cell_core_devices.specs.Device.{Faults}
 use Rattle.cell_core_devices.specs.Blocks.{BlockValue, Appended}

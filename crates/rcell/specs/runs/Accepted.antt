@@ -1,4 +1,5 @@
--- An accepted script over grids of one region (r.in.ascii manual, r.stats manual, r.out.ascii manual; names, the one region and the form of a script are the profile's).
+-- An accepted script over grids of one region (r.in.ascii, r.stats and r.out.ascii manuals; the profile defines names,
+-- the common region and the form of a script).
 use Rattle.std.specs.Prelude.{◌≡◌, ◌<◌, ◌≤◌, false, List, length, map, All}
 use Rattle.std.specs.List.{AllZip}
 use Rattle.cell_core_devices.specs.Device.{Coming}
@@ -9,7 +10,7 @@ use Rattle.rcell.specs.Sources.{Named}
 use Rattle.rcell_script.specs.Scripts.{IsScript}
 use Rattle.rcell_script.specs.declared.statement.Statement.{Statement}
 
--- the maps that the grids' texts denote, each in its place, with distinct names and one region
+-- the shelf contains the maps that the grids' texts denote, in order, with distinct names and one region
 pub record AreGrids (grids : List Named) (shelf : ShelfValue) : Type 0 where
   pub some : 0 < length grids
   pub denote : AllZip (λ g m. Denotes g.1 m) grids shelf.maps
@@ -17,7 +18,7 @@ pub record AreGrids (grids : List Named) (shelf : ShelfValue) : Type 0 where
   pub distinct : AreDistinct shelf.names
   pub one_region : All (λ m. m.region ≡ shelf.region) shelf.maps
 
--- grids of one region, and a script of at most 1048576 bytes that denotes statements over their names
+-- the grids have one region, and the script has at most 1048576 bytes and denotes statements over the grids' names
 pub record IsAccepted (grids : List Named) (script : Coming) (shelf : ShelfValue) (statements : List Statement) : Type 0 where
   pub loaded : AreGrids grids shelf
   pub ends : script.fails ≡ false

@@ -1,4 +1,5 @@
--- How a run ends: done, rejected at the first error of its input (in the profile's order), or stopped in execution.
+-- How a run ends: it succeeds, is rejected with the first error in its input (in the profile's order), or stops during
+-- execution.
 use Rattle.std.specs.Prelude.{ℕ, ◌≡◌, List, Option, Some, None, Result, Ok, Err}
 use Rattle.cell_core_devices.specs.Device.{Coming}
 use Rattle.cell_core.specs.Shelf.{ShelfValue}
@@ -14,44 +15,44 @@ use Rattle.rcell.specs.declared.run_fault.RunFault.TheVariants.{GridTwice, GridR
 use Rattle.rcell.specs.runs.Execution.{IsShelfBefore, IsWithin}
 use Rattle.rcell.specs.runs.Outcomes.{IsDone}
 
--- the script denotes the statements over maps of these names
+-- the script denotes these statements over maps with these names
 pub record ReadsScript (known : List (List ℕ)) (script : Coming) (statements : List Statement) : Type 0 where
   pub text : List ℕ
   pub bytes : script_text script ≡ Ok text
   pub denoted : IsScript known text statements
 
--- the error of a script's text, if it has one
+-- the error in a script's text, if it has one
 abbrev pub IsTextRefusal : List (List ℕ) → Result (List ℕ) RunFault → RunFault → Type 0
 IsTextRefusal known (Err first) fault = fault ≡ first
 IsTextRefusal known (Ok text) fault = (inner : ScriptFault) × (IsScriptFault known text inner × (fault ≡ Script inner))
 
--- the error of a script: of its bytes, or else of its lines
+-- the error of a script: in reading its bytes, or else in its lines
 abbrev pub IsScriptRefusal : List (List ℕ) → Coming → RunFault → Type 0
 IsScriptRefusal known script fault = IsTextRefusal known (script_text script) fault
 
--- the error of the grids, or else of the script over their names
+-- the error in the grids, or else in the script over their names
 abbrev pub IsRefusalAfter : Coming → Result (Option ShelfValue) RunFault → RunFault → Type 0
 IsRefusalAfter script (Err first) fault = fault ≡ first
 IsRefusalAfter script (Ok None) fault = ⊥
 IsRefusalAfter script (Ok (Some shelf)) fault = IsScriptRefusal shelf.names script fault
 
--- the first error of the grids and the script
+-- the first error in the grids and the script
 abbrev pub IsRefusal : List Named → Coming → RunFault → Type 0
 IsRefusal grids script fault = IsRefusalAfter script (shelf_of grids) fault
 
--- the shelf is made from the grids, and the script denotes the statements over it
+-- the shelf contains the grids, and the script denotes the statements over it
 pub record IsReadScript (grids : List Named) (script : Coming) (shelf : ShelfValue) (statements : List Statement) : Type 0 where
   pub loaded : shelf_of grids ≡ Ok (Some shelf)
   pub reads : ReadsScript shelf.names script statements
 
--- a run of a script over grids is done
+-- a run of a script over grids succeeded
 pub record IsRunDone (grids : List Named) (script : Coming) (before now : Option (List ℕ)) (written : ℕ) : Type 0 where
   pub shelf : ShelfValue
   pub statements : List Statement
   pub read : IsReadScript grids script shelf statements
   pub done : IsDone shelf statements before now written
 
--- a run stopped in execution: out of memory before a statement, or at a failing sink
+-- a run stopped during execution: memory ran out before a statement, or the sink failed
 abbrev pub RunStopsAt : ShelfValue → List Statement → Option (List ℕ) → Option (List ℕ) → ℕ → RunFault → Type 0
 RunStopsAt shelf statements before now written (Memory line) = IsShelfBefore shelf statements before now written line
 RunStopsAt shelf statements before now written Write = IsWithin shelf statements before now written
@@ -62,7 +63,7 @@ RunStopsAt shelf statements before now written ScriptRead = ⊥
 RunStopsAt shelf statements before now written ScriptSize = ⊥
 RunStopsAt shelf statements before now written (Script fault) = ⊥
 
--- a run of a script over grids stopped in execution
+-- a run of a script over grids stopped during execution
 pub record IsRunStopped (grids : List Named) (script : Coming) (before now : Option (List ℕ)) (written : ℕ) (fault : RunFault) : Type 0 where
   pub shelf : ShelfValue
   pub statements : List Statement

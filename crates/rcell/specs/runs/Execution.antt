@@ -1,4 +1,4 @@
--- What has been written when the execution of statements stops (profile).
+-- What has been written when the execution of statements stops (see the profile).
 use Rattle.std.specs.Prelude.{ℕ, ◌≡◌, Bool, true, false, List, ◌∷◌, ◌++◌, length, Option, Result, Ok, Err}
 use Rattle.cell_core_devices.specs.Device.{append_known}
 use Rattle.cell_core.specs.Shelf.{ShelfValue}
@@ -9,17 +9,17 @@ use Rattle.rcell.specs.declared.execution.RunStop.{RunStop}
 use Rattle.rcell.specs.declared.execution.RunStop.TheVariants.{Memory, Write}
 use Rattle.rcell.specs.declared.execution.Stopped.{Stopped}
 
--- whether the sink failed
+-- the sink failed
 abbrev pub is_write : RunStop → Bool
 is_write (Memory line) = false
 is_write Write = true
 
--- whether the sink failed, given the result of an execution
+-- the execution stopped because the sink failed
 abbrev pub stops_write : {A : Type 0} → Result A Stopped → Bool
 stops_write (Ok x) = false
 stops_write (Err stopped) = is_write stopped.stop
 
--- the sink took the full output of the statements before one, which was not begun
+-- the sink accepted the full output of the statements before the one at `line`, which was not started
 pub record IsShelfBefore (shelf : ShelfValue) (statements : List Statement) (before now : Option (List ℕ)) (written line : ℕ) : Type 0 where
   pub first : List Statement
   pub statement : Statement
@@ -32,7 +32,7 @@ pub record IsShelfBefore (shelf : ShelfValue) (statements : List Statement) (bef
   pub taken : now ≡ append_known before text
   pub count : written ≡ capped_count (length text)
 
--- the sink took a prefix of the output of the first statements
+-- the sink accepted a prefix of the output of the first statements
 pub record IsWithin (shelf : ShelfValue) (statements : List Statement) (before now : Option (List ℕ)) (written : ℕ) : Type 0 where
   pub first : List Statement
   pub others : List Statement
@@ -44,7 +44,7 @@ pub record IsWithin (shelf : ShelfValue) (statements : List Statement) (before n
   pub taken : now ≡ append_known before prefix
   pub count : written ≡ capped_count (length prefix)
 
--- an execution stopped: out of memory before a statement's first byte, or at a failing sink
+-- an execution stopped: memory ran out before a statement's first byte, or the sink failed
 abbrev pub Stops : ShelfValue → List Statement → Option (List ℕ) → Option (List ℕ) → ℕ → RunStop → Type 0
 Stops shelf statements before now written (Memory line) = IsShelfBefore shelf statements before now written line
 Stops shelf statements before now written Write = IsWithin shelf statements before now written

@@ -1,4 +1,4 @@
--- The exit statuses of a run (profile).
+-- The exit statuses of a run (see the profile).
 use Rattle.std.specs.Prelude.{ℕ, Option, Some, None}
 use Rattle.cell_ascii_meaning.specs.declared.grid_fault.GridKind.{GridKind}
 use Rattle.cell_ascii_meaning.specs.declared.grid_fault.GridKind.TheVariants as grid_kinds
@@ -7,18 +7,18 @@ use Rattle.rcell_script_commands.specs.declared.script_fault.ScriptKind.TheVaria
 use Rattle.rcell.specs.declared.run_fault.RunFault.{RunFault}
 use Rattle.rcell.specs.declared.run_fault.RunFault.TheVariants.{GridTwice, GridRegion, Grid, ScriptRead, ScriptSize, Script, Memory, Write}
 
--- 4 if a read failed, 3 if memory ran out, 1 if a text is wrong
+-- 4 if a read failed, 3 if memory ran out, 1 if the text is invalid
 abbrev pub grid_status : GridKind → ℕ
 grid_status grid_kinds.Read = 4
 grid_status grid_kinds.Memory = 3
 grid_status kind = 1
 
--- 3 if memory ran out, 1 if a script is wrong
+-- 3 if memory ran out, 1 if the script is invalid
 abbrev pub script_status : ScriptKind → ℕ
 script_status script_kinds.Memory = 3
 script_status kind = 1
 
--- the exit status of an error
+-- the exit status for an error
 abbrev pub fault_status : RunFault → ℕ
 fault_status (GridTwice grid) = 1
 fault_status (GridRegion grid) = 1

@@ -1,4 +1,4 @@
--- The command line as clap defines it.
+-- The command line as it is defined for clap.
 use Rattle.std.specs.Prelude.{◌≡◌, List, ◌∷◌, true, Some, codes, drop, is_some, option_map}
 use Rattle.clap.specs.Lexer.{usize_max}
 use Rattle.clap.specs.Words.{App, Rule, Text, first_value, found_of, matched_of, new_app}
@@ -8,7 +8,7 @@ use Rattle.clap.specs.declared.builder.range.ValueRange.{ValueRange}
 use Rattle.clap.specs.declared.parser.matches.ArgMatches.{ArgMatches}
 use Rattle.rcell_command.specs.CommandWords.{is_command}
 
--- the first word; words after it may begin with a hyphen
+-- the first word; the words after it may begin with hyphens
 abbrev pub first_rule : Rule
 first_rule = record (new_rule (codes "FIRST")) { required = true; action = Some Set; trailing_var_arg = true }
 
@@ -24,11 +24,11 @@ rest_rule = record (new_rule (codes "REST")) {
   range = Some any_number;
 }
 
--- for a program with this name: a word, and then one or more
+-- the command line of the program with this name: one word, and then one or more words
 abbrev pub command_line : Text → App
 command_line program = with_rule (with_rule (new_app program) first_rule) rest_rule
 
--- clap finds all words after the program's own name, in their order, if there are enough
+-- if there are enough words, clap finds all words after the program's own name, in order
 pub record FindsAll (words : List Text) (matches : ArgMatches) : Type 0 where
   pub all : (first : Text) (rest : List Text) → is_command (drop 1 words) ≡ true
       → first_value (found_of matches) (codes "FIRST") ≡ Some first

@@ -1,4 +1,4 @@
--- What a rejected border is compared with (profile).
+-- What a rejected border is compared with (see the profile).
 use Rattle.std.specs.Prelude.{ℕ, zero, suc, ◌-◌, Bool, true, false, List, [], codes, if◌then◌else◌}
 use Rattle.cell_cats_areas.specs.declared.clump.Joining.TheVariants as joinings
 use Rattle.cell_join_clumps.specs.declared.clumps_fault.ClumpsFault.{ClumpsFault}
@@ -7,15 +7,15 @@ use Rattle.cell_join_clumps.specs.declared.clumps_fault.Misfit.{Misfit}
 use Rattle.cell_join_clumps.specs.declared.clumps_fault.Misfit.TheVariants.{WestEast, NorthSouth}
 use Rattle.rcell_join.specs.ErrorPlaces.{path_at}
 
--- a tile of the first row that is neither right of the last tile nor below the first begins the next row: the first tile ends where it
--- begins
+-- a tile of the first row, neither right of the last tile nor below the first, starts the next row if the first tile
+-- ends where it starts
 abbrev pub begins_row : (beside below : Misfit) → Bool
 begins_row (WestEast west east) (NorthSouth north south) = false
 begins_row (WestEast west east) below = true
 begins_row beside below = false
 
--- what the border is compared with: the first border, or for that one the command; the border on the left or above; or
--- the one without a border below it
+-- what the rejected border is compared with: the first border or, if the rejected border is the first, the command; the
+-- border on the left or above; or the border below which one is missing
 abbrev pub clumps_other : List (List ℕ) → ClumpsFault → List ℕ
 clumps_other paths (clumps.Connectivity zero joinings.Edges) = codes "clumps -d"
 clumps_other paths (clumps.Connectivity zero joinings.EdgesAndCorners) = codes "clumps without -d"

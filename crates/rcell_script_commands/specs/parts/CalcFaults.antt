@@ -1,10 +1,10 @@
--- The errors of expressions as errors of a script.
+-- Converts errors of expressions to errors of a script.
 use Rattle.std.specs.Prelude.{◌≡◌, ◌≢◌, ◌⊎◌}
 use Rattle.cell_calc_grammar.specs.declared.calc_fault.CalcFault.{CalcFault}
 use Rattle.cell_calc_grammar.specs.declared.calc_fault.CalcKind.TheVariants as calc
 use Rattle.rcell_script_commands.specs.declared.script_fault.ScriptKind.{ScriptKind}
 use Rattle.rcell_script_commands.specs.declared.script_fault.ScriptKind.TheVariants.{Calc, Memory}
 
--- an error of an expression as an error of a script
+-- the script error for an error of an expression
 abbrev pub IsOfCalc : CalcFault → ScriptKind → Type 0
 IsOfCalc fault kind = ((fault.kind ≡ calc.Memory) × (kind ≡ Memory)) ⊎ ((fault.kind ≢ calc.Memory) × (kind ≡ Calc fault))

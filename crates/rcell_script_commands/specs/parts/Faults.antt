@@ -1,10 +1,10 @@
--- The errors of names as errors of options.
+-- Converts errors of names to errors of options.
 use Rattle.cell_core_values.specs.declared.name.NameFault.{NameFault}
 use Rattle.cell_core_values.specs.declared.name.NameFault.TheVariants as name
 use Rattle.rcell_script_commands.specs.declared.option_fault.OptionFault.{OptionFault}
 use Rattle.rcell_script_commands.specs.declared.option_fault.OptionFault.TheVariants.{BadName, Memory}
 
--- an error of a name as an error of options
+-- the option error for an error of a name
 abbrev pub of_name : NameFault → OptionFault
 of_name name.BadName = BadName
 of_name name.Memory = Memory

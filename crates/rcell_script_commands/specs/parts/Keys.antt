@@ -1,10 +1,10 @@
--- Which keys were given.
+-- Which keys are given.
 use Rattle.std.specs.Prelude.{Bool, is_some}
 use Rattle.rcell_script_commands.specs.OptionReading.{Given}
 use Rattle.rcell_script_commands.specs.declared.options.OptionKey.{OptionKey}
 use Rattle.rcell_script_commands.specs.declared.options.OptionKey.TheVariants.{Input, Inputs, Output, Separator, NullText, TableNullText, After}
 
--- a key has a value
+-- the key has been given a value
 abbrev pub is_given : Given → OptionKey → Bool
 is_given given Input = is_some given.input
 is_given given Inputs = is_some given.inputs
