@@ -23,16 +23,16 @@ names =
     ∷ (codes "nmode", KnownMode)
     ∷ []
 
--- the function with a name among these
+-- the function with this name in a list
 abbrev pub named_among : List (List ℕ × Function) → List ℕ → Option Function
 named_among [] name = None
 named_among (f ∷ fs) name = cond (bytes_eq name f.0) (Some f.1) (named_among fs name)
 
--- the function with a name
+-- the function with this name
 abbrev pub function_of : List ℕ → Option Function
 function_of name = named_among names name
 
--- whether a function accepts n arguments
+-- the function accepts n arguments
 abbrev pub accepts : Function → ℕ → Bool
 accepts If n = nat_le 1 n && nat_le n 3
 accepts IsNull n = n == 1

@@ -1,4 +1,5 @@
--- Which lists of tokens stand for which expressions and assignments (r.mapcalc manual; the order of `?` and `:` is the profile's).
+-- Which lists of tokens stand for which expressions and assignments (r.mapcalc manual; the order of `?` and `:` is our
+-- own choice).
 use Rattle.std.specs.Prelude.{◌≡◌, ◌≤◌, ℕ, zero, suc, ℤ, pos, List, [], ◌∷◌, ◌++◌, Some, true}
 use Rattle.std.proofs.Common.{neg_ℤ}
 use Rattle.cell_calc_grammar.specs.declared.function.Function.{Function}
@@ -11,7 +12,7 @@ use Rattle.cell_calc_grammar.specs.Operator.{operator_of, level_of, top}
 use Rattle.cell_calc_grammar.specs.Term.{Term, Number, Map, Negated, Not, Binary, Call, Terms, NoTrees, Then, count, map_name}
 use Rattle.cell_calc_grammar.specs.Token.{token_number_at, name_at, sign_at}
 
--- off = NUMBER | "-" NUMBER | "+" NUMBER, where the number is at most 255
+-- off = NUMBER | "-" NUMBER | "+" NUMBER, where NUMBER is at most 255
 pub data IsOffset : List Placed → ℤ → Type 0 where
   plain : {n c : ℕ} → n ≤ 255 → IsOffset (token_number_at n c ∷ []) (pos n)
   minus : {n c d : ℕ} → n ≤ 255 → IsOffset (sign_at Minus c ∷ token_number_at n d ∷ []) (neg_ℤ (pos n))
@@ -23,7 +24,8 @@ pub data AreOffsets : List Placed → ℤ → ℤ → Type 0 where
       → AreOffsets (ts ++ sign_at Comma c ∷ (us ++ sign_at CloseBracket d ∷ [])) down right
 
 mutual
-  -- level 0: operands; any other: an expression of the level below, or one of its own, its operator and one below
+  -- level 0 contains operands; each other level contains the level below it, and an expression of its own level, an
+  -- operator, and an expression of the level below
   pub data Stands : ℕ → List Placed → Term → Type 0 where
     number : {n c : ℕ} → Stands zero (token_number_at n c ∷ []) (Number n)
     map : {name : List ℕ} {c : ℕ} → Stands zero (name_at name c ∷ []) (Map (map_name name c) (pos 0) (pos 0))
@@ -41,18 +43,18 @@ mutual
         → operator_of s.token ≡ Some op → level_of op ≡ k → Stands (suc k) ts a → Stands k us b
         → Stands (suc k) (ts ++ s ∷ us) (Binary op a b)
 
-  -- expr = or | or "?" expr ":" expr; the choice is a call of `if`
+  -- expr = or | or "?" expr ":" expr, where the second form is a call of `if`
   pub data IsExpression : List Placed → Term → Type 0 where
     plain : {ts : List Placed} {a : Term} → Stands top ts a → IsExpression ts a
     choice : {ts us vs : List Placed} {x a b : Term} (c d : ℕ) → Stands top ts x → IsExpression us a → IsExpression vs b
         → IsExpression (ts ++ sign_at Question c ∷ (us ++ sign_at Colon d ∷ vs)) (Call If (Then x (Then a (Then b NoTrees))))
 
-  -- what follows the opening parenthesis of a call, including the closing one
+  -- the tokens after the opening parenthesis of a call, including the closing one
   pub data AreCalled : List Placed → Terms → Type 0 where
     none : {c : ℕ} → AreCalled (sign_at CloseParenthesis c ∷ []) NoTrees
     some : {ts : List Placed} {xs : Terms} → AreArguments ts xs → AreCalled ts xs
 
-  -- one or more arguments, and the closing parenthesis
+  -- one or more arguments, followed by the closing parenthesis
   pub data AreArguments : List Placed → Terms → Type 0 where
     last : {ts : List Placed} {a : Term} (c : ℕ) → IsExpression ts a
         → AreArguments (ts ++ sign_at CloseParenthesis c ∷ []) (Then a NoTrees)

@@ -1,6 +1,5 @@
--- Tokens, how they are spelled, operators and functions.
--- The grammar of r.mapcalc: expressions as trees, what tokens stand for, and their reading.
--- Expressions as lists of steps.
+-- Tokens and their spelling, operators and functions; the grammar of r.mapcalc, with expressions as trees, and how
+-- tokens are read; expressions as lists of steps.
 pub mod Function
 pub mod Operator
 pub mod TokenSpelling

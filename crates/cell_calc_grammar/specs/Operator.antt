@@ -6,7 +6,7 @@ use Rattle.cell_calc_grammar.specs.declared.token.Sign.TheVariants as sign
 use Rattle.cell_calc_grammar.specs.declared.token.Token.{Token}
 use Rattle.cell_calc_grammar.specs.declared.token.Token.TheVariants as token
 
--- the operator that a token is between two operands
+-- the operator that the token stands for between two operands
 abbrev pub operator_of : Token → Option Operator
 operator_of (token.Sign sign.Star) = Some operator.Times
 operator_of (token.Sign sign.Slash) = Some operator.Divide
@@ -25,7 +25,8 @@ operator_of (token.Sign sign.KnownAnd) = Some operator.KnownAnd
 operator_of (token.Sign sign.KnownOr) = Some operator.KnownOr
 operator_of _ = None
 
--- the level of an operator's right operand, which is one below its own: 0 binds tightest
+-- the level of an operator's right operand, which is one below the operator's own level; operators of level 0 bind most
+-- tightly
 abbrev pub level_of : Operator → ℕ
 level_of operator.Times = 0
 level_of operator.Divide = 0
@@ -43,6 +44,6 @@ level_of operator.KnownAnd = 4
 level_of operator.Or = 5
 level_of operator.KnownOr = 5
 
--- the level of expressions with operators between operands that are not choices
+-- the highest level below choices
 abbrev pub top : ℕ
 top = 6

@@ -1,11 +1,11 @@
--- What the laws of reading state.
+-- Laws about reading expressions.
 use Rattle.std.specs.Prelude.{◌≡◌, List, []}
 use Rattle.cell_calc_grammar.specs.declared.token.Placed.{Placed}
 use Rattle.cell_calc_grammar.specs.Grammar.{IsExpression}
 use Rattle.cell_calc_grammar.specs.TokensRead.{Expression, Got, ReadOutcome, GrammarReads, State}
 use Rattle.cell_calc_grammar.specs.Term.{Term}
 
--- tokens are read to their end as an expression exactly if they stand for it
+-- tokens are read to their end as an expression if and only if they stand for it
 abbrev pub ExpressionReadingAgrees : Type 0
 ExpressionReadingAgrees =
     (ts : List Placed) (a : Term)

@@ -17,17 +17,17 @@ name_at n c = record { token = token.Name n; column = c }
 abbrev pub sign_at : (sign : Sign) (column : ℕ) → Placed
 sign_at s c = record { token = token.Sign s; column = c }
 
--- the token at the start
+-- the first token
 abbrev pub head : List Placed → Option Token
 head [] = None
 head (s ∷ ts) = Some s.token
 
--- a number is a category
+-- a number token is a category
 abbrev pub IsCategory : Token → Type 0
 IsCategory (token.Number n) = n ≤ 2147483647
 IsCategory _ = Unit {0}
 
--- the numbers among the tokens are categories
+-- all number tokens are categories
 abbrev pub AreCategories : List Placed → Type 0
 AreCategories [] = Unit {0}
 AreCategories (s ∷ ts) = IsCategory s.token × AreCategories ts

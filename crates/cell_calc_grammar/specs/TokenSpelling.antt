@@ -1,4 +1,4 @@
--- How a text spells its tokens (r.mapcalc manual; the limits are the profile's).
+-- How a text spells its tokens (r.mapcalc manual; the limits are our own choice).
 use Rattle.std.specs.Prelude.{◌≡◌, ℕ, ◌+◌, ◌<◌, ◌≤◌, Bool, false, ◌||◌, IsTrue, List, [], ◌∷◌, ◌++◌, length, Some, Ok, ◌↔◌}
 use Rattle.std.specs.List.{list_all}
 use Rattle.std.specs.Option.{is_some}
@@ -10,21 +10,22 @@ use Rattle.cell_calc_grammar.specs.declared.token.Placed.{Placed}
 use Rattle.cell_calc_grammar.specs.declared.token.Token.{Token}
 use Rattle.cell_calc_grammar.specs.declared.token.Token.TheVariants.{Number, Name, Sign}
 
--- these bytes spell a token: a number in digits, perhaps with leading zeros, a name as it is, a sign as its own bytes
+-- the bytes spell the token: a number in digits, with optional leading zeros; a name as it is; a sign as its own bytes
 abbrev pub SpellsToken : List ℕ → Token → Type 0
 SpellsToken bytes (Number n) = (0 < length bytes) × IsTrue (list_all is_digit bytes) × (value_of_digits bytes ≡ n) × (n ≤ 2147483647)
 SpellsToken bytes (Name name) = (bytes ≡ name) × IsTrue (is_name name)
 SpellsToken bytes (Sign s) = sign_of bytes ≡ Some s
 
--- a word (letters, digits, underscores and points), or the bytes of a sign
+-- the bytes are a word (letters, digits, underscores and points) or a sign
 abbrev pub is_piece : List ℕ → Bool
 is_piece bytes = list_all is_name_byte bytes || is_some (sign_of bytes)
 
--- whatever follows, it does not continue the word or sign that the bytes spell
+-- no prefix of the following text continues the word or sign that these bytes spell
 abbrev pub IsLongestToken : (bytes text : List ℕ) → Type 0
 IsLongestToken bytes text = (more rest : List ℕ) → text ≡ more ++ rest → 0 < length more → is_piece (bytes ++ more) ≡ false
 
--- a text from a column on spells tokens, each at its own column and as long as possible, with only blanks between
+-- a text, beginning at a column, spells these tokens: each is at its column and as long as possible, and only blanks
+-- are between them
 pub data AreSpelled : ℕ → List ℕ → List Placed → Type 0 where
   ends : {column : ℕ} → AreSpelled column [] []
   blank : {column b : ℕ} {text : List ℕ} {tokens : List Placed} →

@@ -1,4 +1,4 @@
--- The tokens of an assignment (operators: r.mapcalc manual; limits and errors: profile).
+-- Splitting an assignment into tokens (operators: r.mapcalc manual; limits and errors: profile).
 use Rattle.std.specs.Prelude.{◌≡◌, ◌⊎◌, ℕ, zero, suc, ◌+◌, ◌-◌, Bool, ◌++◌, ◌||◌, ◌==◌, nat_le, nat_lt, List, [], ◌∷◌, length, take, map, find, codes, bytes_eq, nat_eq, Option, Result, Ok, Err, if◌then◌else◌}
 use Rattle.std.specs.List.{prefix_len, list_all, list_any, starts_with}
 use Rattle.std.specs.Option.{option_map, option_map_or, ok_or}
@@ -19,11 +19,11 @@ use Rattle.cell_calc_grammar.specs.declared.token.Token.TheVariants as token
 abbrev pub token_fault : CalcKind → ℕ → CalcFault
 token_fault kind column = record { kind = kind; column = column }
 
--- out of memory, without a column
+-- the error of running out of memory, which has no column
 abbrev pub no_memory : CalcFault
 no_memory = token_fault Memory 0
 
--- an error that may be reported in place of this: the expected one, or lack of memory
+-- the reported error is the expected one, or memory ran out
 abbrev pub IsTokenFault : {T : Type 0} → Result T CalcFault → CalcFault → Type 0
 IsTokenFault wanted reported = (reported ≡ no_memory) ⊎ (wanted ≡ Err reported)
 
@@ -45,7 +45,7 @@ single_signs =
     ∷ (codes "?", sign.Question) ∷ (codes ":", sign.Colon) ∷ (codes "(", sign.OpenParenthesis) ∷ (codes ")", sign.CloseParenthesis)
     ∷ (codes "[", sign.OpenBracket) ∷ (codes "]", sign.CloseBracket) ∷ (codes ",", sign.Comma) ∷ (codes "=", sign.Assign) ∷ []
 
--- the signs and their spellings
+-- all signs and their spellings
 abbrev pub signs : List (List ℕ × Sign)
 signs = triple_signs ++ (double_signs ++ single_signs)
 
@@ -53,31 +53,31 @@ signs = triple_signs ++ (double_signs ++ single_signs)
 abbrev pub sign_of : List ℕ → Option Sign
 sign_of bytes = option_map (λ s. s.1) (find (λ s. bytes_eq s.0 bytes) signs)
 
--- a point or an exponent, as in numbers that are not whole
+-- the byte is a point or an exponent, as in numbers that are not whole
 abbrev pub is_float_byte : ℕ → Bool
 is_float_byte b = (b == byte (codes ".") || b == byte (codes "e")) || b == byte (codes "E")
 
--- what is wrong with a number that does not consist of digits
+-- the error of a number that does not consist of digits
 abbrev pub not_whole : List ℕ → CalcKind
 not_whole bytes = if list_any is_float_byte bytes then FloatNumber else BadNumber
 
--- a name has at most 64 bytes
+-- a name, which may have at most 64 bytes
 abbrev pub token_name : ℕ → List ℕ → Result Token CalcFault
 token_name column bytes = if nat_le (length bytes) 64 then Ok (token.Name bytes) else Err (token_fault BadName column)
 
--- a number is at most the largest category
+-- a number, which may be at most the largest category
 abbrev pub token_number : ℕ → List ℕ → Result Token CalcFault
 token_number column digits =
     if nat_le (value_of_digits digits) 2147483647 then Ok (token.Number (value_of_digits digits)) else Err (token_fault BadNumber column)
 
--- a word is a name if it begins with a letter or an underscore, and else a number
+-- a word: a name if it starts with a letter or an underscore, otherwise a number
 unfoldable pub word_of : ℕ → List ℕ → Result Token CalcFault
 word_of column bytes =
     if starts_name bytes then token_name column bytes
     else (if list_all is_digit bytes then token_number column bytes
     else Err (token_fault (not_whole bytes) column))
 
--- other bytes are a sign, or bad
+-- a sign, or an error for any other bytes
 abbrev pub mark_of : ℕ → List ℕ → Result Token CalcFault
 mark_of column bytes = ok_or (option_map token.Sign (sign_of bytes)) (token_fault BadByte column)
 
@@ -85,11 +85,11 @@ mark_of column bytes = ok_or (option_map token.Sign (sign_of bytes)) (token_faul
 abbrev pub token_of : ℕ → List ℕ → Result Token CalcFault
 token_of column bytes = if list_all is_name_byte bytes then word_of column bytes else mark_of column bytes
 
--- the length of the longest spelling that a text begins with; 1 if there is none
+-- the length of the longest sign at the start of the text, or 1 if there is none
 unfoldable pub mark_length : List ℕ → ℕ
 mark_length text = option_map_or length (find (starts_with nat_eq text) (map (λ s. s.0) (triple_signs ++ double_signs))) 1
 
--- the length of a text's first piece: a longest run of letters, digits, underscores and points, or a mark
+-- the length of the first piece of a text: the longest run of letters, digits, underscores and points, or a sign
 unfoldable pub piece_length : List ℕ → ℕ
 piece_length text =
     let run = prefix_len is_name_byte text in
@@ -100,11 +100,11 @@ pub record Piece : Type 0 where
   pub column : ℕ
   pub bytes : List ℕ
 
--- these bytes as a piece at a column
+-- the piece with these bytes at this column
 abbrev pub piece_at : ℕ → List ℕ → Piece
 piece_at column bytes = record { column = column; bytes = bytes }
 
--- the pieces of a text that begins at a column, if its first `begun` bytes belong to the piece before
+-- the pieces of a text that begins at a column and whose first `begun` bytes belong to the previous piece
 unfoldable pub pieces : ℕ → ℕ → List ℕ → List Piece
 pieces begun column [] = []
 pieces (suc begun) column (b ∷ bs) = pieces begun (column + 1) bs
@@ -112,28 +112,29 @@ pieces zero column (b ∷ bs) =
     if is_blank b then pieces zero (column + 1) bs
     else piece_at column (take (piece_length (b ∷ bs)) (b ∷ bs)) ∷ pieces (piece_length (b ∷ bs) - 1) (column + 1) bs
 
--- a token at its column
+-- the token with its column, or its error
 abbrev pub token_at : ℕ → Result Token CalcFault → Result Placed CalcFault
 token_at column (Ok t) = Ok (record { token = t; column = column })
 token_at column (Err f) = Err f
 
--- what a piece is after count tokens: its token or its error; after 1000 tokens, the expression is too long
+-- the token of a piece that follows `count` tokens, or its error; the expression is too long if there are already 1000
+-- tokens
 abbrev pub next_token : ℕ → Piece → Result Placed CalcFault
 next_token count piece =
     if nat_lt count 1000 then token_at piece.column (token_of piece.column piece.bytes)
     else Err (token_fault TooLong piece.column)
 
--- a token followed by other tokens; the first error counts
+-- a token followed by others, or the first error
 abbrev pub before : Result Placed CalcFault → Result (List Placed) CalcFault → Result (List Placed) CalcFault
 before (Ok t) (Ok ts) = Ok (t ∷ ts)
 before (Ok t) (Err f) = Err f
 before (Err f) following = Err f
 
--- the tokens of pieces, after a given number of tokens
+-- the tokens of pieces that follow `count` tokens, or the first error
 unfoldable pub tokens_of : ℕ → List Piece → Result (List Placed) CalcFault
 tokens_of count [] = Ok []
 tokens_of count (piece ∷ following) = before (next_token count piece) (tokens_of (count + 1) following)
 
--- the tokens of a text, with columns from 1, or its first error
+-- the tokens of a text, with columns counted from 1, or its first error
 unfoldable pub token_list : List ℕ → Result (List Placed) CalcFault
 token_list text = tokens_of 0 (pieces 0 1 text)

@@ -1,8 +1,8 @@
-//! Why a text is not an assignment.
+//! Errors in assignments.
 
 use thiserror::Error;
 
-/// What is wrong with an assignment.
+/// The kind of an error in an assignment.
 #[derive(Clone, Copy, Debug, PartialEq, Eq, Error)]
 pub enum CalcKind {
     #[error("bad byte")]
@@ -29,7 +29,7 @@ pub enum CalcKind {
     UnknownMap,
 }
 
-/// What is wrong, and the column, counted in bytes from 1; 0 if memory ran out.
+/// An error and its column, counted in bytes from 1. The column is 0 if memory ran out.
 #[derive(Clone, Copy, Debug, PartialEq, Eq, Error)]
 #[error("{kind} at column {column}")]
 pub struct CalcFault {

@@ -26,7 +26,7 @@ pub enum Function {
     KnownMode,
 }
 
-// The functions with their names.
+// All functions with their names.
 const NAMES: [(&[u8], Function); 15] = [
     (b"if", Function::If),
     (b"isnull", Function::IsNull),
@@ -45,7 +45,7 @@ const NAMES: [(&[u8], Function); 15] = [
     (b"nmode", Function::KnownMode),
 ];
 
-/// The function with this name, if there is one.
+/// Returns the function with this name, if there is one.
 pub fn function_of(name: &[u8]) -> Option<Function>
     ensures { result ≡ function_of name.now }
 {
@@ -57,7 +57,7 @@ pub fn function_of(name: &[u8]) -> Option<Function>
     None
 }
 
-/// Whether a function accepts `count` arguments.
+/// Returns whether a function accepts `count` arguments.
 pub fn accepts(function: Function, count: usize) -> bool
     ensures { result ≡ accepts function count }
 {

@@ -1,8 +1,8 @@
-//! What reading tokens means.
+//! Laws about reading tokens.
 
 ghost use Rattle.cell_calc_grammar.specs.ReadingLaw.{OneExpression, OneReading, ExpressionReadingAgrees};
 
-/// Reading ends with an expression exactly if the tokens stand for it (r.mapcalc manual).
+/// Reading ends with an expression if and only if the tokens stand for it (r.mapcalc manual).
 pub fn expression_reading_denotes()
     ensures { ExpressionReadingAgrees }
 {}

@@ -1,8 +1,8 @@
-//! Names of maps in expressions.
+//! Map names in expressions.
 
 use cell_core_values::name::Name;
 
-/// The name of a map, and the column where it begins.
+/// The name of a map, and the column at which it begins.
 #[derive(Drop)]
 pub struct MapName {
     pub name: Name,

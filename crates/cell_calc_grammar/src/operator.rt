@@ -1,4 +1,4 @@
-//! The operators between two operands.
+//! Operators between two operands.
 
 ghost use Rattle.std.specs.Prelude.{◌≡◌};
 ghost use Rattle.cell_calc_grammar.specs.Operator.{operator_of, level_of};
@@ -21,13 +21,13 @@ pub enum Operator {
     NotEqual,
     And,
     Or,
-    /// `&&&`: 0 if one operand is 0, whatever the other one is.
+    /// `&&&`: 0 if either operand is 0, even if the other is null.
     KnownAnd,
-    /// `|||`: 1 if one operand is a number other than 0, whatever the other one is.
+    /// `|||`: 1 if either operand is a number other than 0, even if the other is null.
     KnownOr,
 }
 
-/// The operator that a token is, if it is between two operands.
+/// Returns the operator that a token stands for between two operands.
 pub fn operator_of(token: &Token) -> Option<Operator>
     ensures { result ≡ operator_of token.now }
 {
@@ -54,10 +54,11 @@ pub fn operator_of(token: &Token) -> Option<Operator>
     }
 }
 
-/// The level of expressions that may have any operator between operands.
+/// The highest level, at which any operator may occur between operands.
 pub const TOP_LEVEL: u32 = 6;
 
-/// The level of an operator's right operand, which is one below its own: 0 binds tightest.
+/// Returns the level of an operator's right operand, which is one below the operator's own level. Operators of level 0
+/// bind most tightly.
 pub fn level_of(operator: Operator) -> u32
     ensures { result ≡ level_of operator }
 {

@@ -1,9 +1,9 @@
-//! The steps of an expression.
+//! Steps of expressions.
 
 use crate::function::Function;
 use crate::operator::Operator;
 
-/// A step of an expression in postfix order, generic over its maps: operands come before it.
+/// A step of an expression in postfix order, after the steps of its operands. `L` identifies a map.
 #[derive(Clone, Copy, Drop)]
 pub enum Step<L> {
     Number(u32),

@@ -1,4 +1,4 @@
-//! The tokens of an assignment.
+//! Tokens of assignments.
 
 use cell_core_values::name::Name;
 

@@ -1,4 +1,4 @@
-//! Cuts an assignment into its tokens.
+//! Splits an assignment into tokens.
 
 ghost use Rattle.std.specs.Prelude.{◌≡◌, ◌+◌, ◌<◌, ◌≤◌, IfOk, IfErr, IsTrue, Ok, true, length, false, nat_eq, [], ◌∷◌, ◌||◌, ◌==◌};
 ghost use Rattle.std.specs.List.{list_all, list_any, prefix_len, starts_with};
@@ -15,13 +15,13 @@ use cell_core_values::name::{Name, NameFault, is_name_byte, starts_name};
 use cell_core_values::whole_numbers::{are_digits, value_of_digits};
 use std::alloc::Global;
 
-/// The largest number of tokens of an assignment (profile).
+/// The maximum number of tokens in an assignment (profile).
 const TOKEN_LIMIT: usize = 1000;
 
-/// The largest category, as in GRASS's CELL type.
+/// The largest category, as in the CELL type of GRASS.
 const GREATEST_NUMBER: u64 = 2147483647;
 
-/// Out of memory, without a column.
+/// The error of running out of memory, which has no column.
 const NO_MEMORY: CalcFault = CalcFault {
     kind: CalcKind::Memory,
     column: 0,
@@ -227,7 +227,7 @@ fn token_of(alloc: Global, bytes: &[u8], column: u32) -> Result<Token, CalcFault
     }
 }
 
-// The token of a piece that comes after `count` other tokens.
+// Returns the token of a piece that follows `count` other tokens.
 fn next_token(alloc: Global, count: usize, bytes: &[u8], column: u32) -> Result<Placed, CalcFault>
     ensures { ReportsToken result
         (next_token count (record { column = column; bytes = bytes.now })) }
@@ -239,12 +239,12 @@ fn next_token(alloc: Global, count: usize, bytes: &[u8], column: u32) -> Result<
     Ok(Placed { token, column })
 }
 
-/// The tokens of a text, each with the column of its first byte, counted in bytes from 1.
+/// Returns the tokens of a text, each with the column of its first byte, counted in bytes from 1.
 ///
 /// # Errors
 ///
-/// The first error of the text, read from the left, with its column; `Memory`, with column 0, where out of
-/// memory. A text has at most 1000 tokens (profile).
+/// The first error of the text, read from the left, with its column; or `Memory`, with column 0, if memory
+/// runs out. A text has at most 1000 tokens (profile).
 pub fn tokens(alloc: Global, text: &[u8]) -> Result<Vec<Placed>, CalcFault>
     requires { length text.now ≤ 65535 }
     ensures ok { IfOk result (λ found. token_list text.now ≡ Ok found.items) }
@@ -274,7 +274,7 @@ pub fn tokens(alloc: Global, text: &[u8]) -> Result<Vec<Placed>, CalcFault>
     Ok(found)
 }
 
-/// A text spells exactly one list of at most 1000 tokens: a law of the definitions.
+/// A law of the definitions: a text spells exactly one list of at most 1000 tokens.
 pub fn list_is_spelled()
     ensures { ListIsSpelled }
 {}

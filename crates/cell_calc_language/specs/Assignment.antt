@@ -11,6 +11,6 @@ use Rattle.cell_calc_grammar.specs.Tokens.{token_list}
 abbrev pub IsAssignment : List Placed → Assignment → Type 0
 IsAssignment ts a = (c d : ℕ) × (us : List Placed) × (ts ≡ name_at a.target c ∷ sign_at Assign d ∷ us) × IsExpression us a.expr
 
--- a text stands for an assignment if its tokens do
+-- the tokens of the text stand for the assignment
 abbrev pub IsAssignmentText : List ℕ → Assignment → Type 0
 IsAssignmentText text a = IsOkAnd (token_list text) (λ ts. IsAssignment ts a)

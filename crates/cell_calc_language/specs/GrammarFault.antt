@@ -1,4 +1,4 @@
--- Why a list of tokens stands for no assignment, and which error it shows first (profile).
+-- Why a list of tokens does not stand for an assignment, and which error it shows first (profile).
 use Rattle.std.specs.Prelude.{◌≡◌, ◌<◌, ◌+◌, ℕ, ℤ, List, [], ◌∷◌, ◌++◌, length, Some, None, false, ◌⊎◌, MatchResult}
 use Rattle.cell_calc_language.specs.declared.assignment.Assignment.{Assignment}
 use Rattle.cell_calc_grammar.specs.declared.calc_fault.CalcFault.{CalcFault}
@@ -15,64 +15,64 @@ use Rattle.cell_calc_grammar.specs.Term.{Terms, count}
 use Rattle.cell_calc_grammar.specs.Token.{token_number_at, name_at, sign_at}
 use Rattle.cell_calc_grammar.specs.Tokens.{token_fault, no_memory, token_list}
 
--- the column of the first of the tokens, or the end of the text
+-- the column of the first token, or the end of the text
 abbrev pub column_of : (end : ℕ) → List Placed → ℕ
 column_of end [] = end
 column_of end (s ∷ rest) = s.column
 
--- a list can continue, judged by its shape: some assignment begins in the same way, with other names and numbers (so
--- any name before `(` is called, with any number of arguments, and any number is an offset)
+-- some assignment begins with tokens of the same shape, with any names and numbers; so any name before `(` may be
+-- called with any number of arguments, and any number may be an offset
 abbrev pub CanGoOn : List Placed → Type 0
 CanGoOn ts =
     (us after : List Placed) × (a : Assignment) × (shape us ≡ shape ts) × IsAssignment (us ++ after) a
 
--- the list stands for no assignment
+-- the list does not stand for an assignment
 abbrev pub IsNone : List Placed → Type 0
 IsNone ts = (a : Assignment) → IsAssignment ts a → ⊥
 
--- the tokens end with a name that is not a function, and an opening parenthesis
+-- the tokens end with a name that is not a function, followed by an opening parenthesis
 abbrev pub IsUnknown : (column : ℕ) → List Placed → Type 0
 IsUnknown column ts =
     (front : List Placed) × (name : List ℕ) × (d : ℕ)
     × (ts ≡ front ++ name_at name column ∷ sign_at OpenParenthesis d ∷ []) × (function_of name ≡ None)
 
--- the tokens end with a call whose function does not accept that number of arguments
+-- the tokens end with a call whose function does not accept its number of arguments
 abbrev pub IsMiscounted : (column : ℕ) → List Placed → Type 0
 IsMiscounted column ts =
     (front inside : List Placed) × (name : List ℕ) × (d : ℕ) × (f : Function) × (xs : Terms)
     × (ts ≡ front ++ name_at name column ∷ sign_at OpenParenthesis d ∷ inside)
     × (function_of name ≡ Some f) × AreCalled inside xs × (accepts f (count xs) ≡ false)
 
--- the sign before the number of an offset, or none
+-- an optional sign before the number of an offset
 pub data IsOffsetSign : List Placed → Type 0 where
   unsigned : IsOffsetSign []
   minus : (c : ℕ) → IsOffsetSign (sign_at Minus c ∷ [])
   plus : (c : ℕ) → IsOffsetSign (sign_at Plus c ∷ [])
 
--- what is between an opening bracket and the number of the first offset, or of the second
+-- the tokens between an opening bracket and the number of the first or second offset
 pub data IsBeforeNumber : List Placed → Type 0 where
   first : {ts : List Placed} → IsOffsetSign ts → IsBeforeNumber ts
   second : {ts us : List Placed} {down : ℤ} (c : ℕ) → IsOffset ts down → IsOffsetSign us
       → IsBeforeNumber (ts ++ sign_at Comma c ∷ us)
 
--- the tokens end inside the brackets of a map, where the number of an offset comes next
+-- the tokens end inside the brackets of a map, just before the number of an offset
 abbrev pub IsInBrackets : List Placed → Type 0
 IsInBrackets before =
     (front inner : List Placed) × (name : List ℕ) × (c d : ℕ)
     × (before ≡ front ++ name_at name c ∷ sign_at OpenBracket d ∷ inner) × IsBeforeNumber inner
 
--- the tokens end with the number of an offset, which is over 255
+-- the tokens end with the number of an offset that is above 255
 abbrev pub IsFar : (column : ℕ) → List Placed → Type 0
 IsFar column ts =
     (before : List Placed) × (n : ℕ) × (ts ≡ before ++ token_number_at n column ∷ []) × (255 < n)
     × IsInBrackets before
 
--- the earlier tokens can continue, and with the next one they cannot
+-- the tokens so far can continue, but not with the next token
 abbrev pub IsUnexpected : (column : ℕ) → (before : List Placed) → Placed → Type 0
 IsUnexpected column before next =
     (next.column ≡ column) × CanGoOn before × (CanGoOn (before ++ next ∷ []) → ⊥)
 
--- reading from the left, an error of this kind is reported at the next token, with the column
+-- reading from the left reports an error of this kind at the next token, with this column
 abbrev pub Reports : CalcKind → (column : ℕ) → (before : List Placed) → Placed → Type 0
 Reports Expected column before next = IsUnexpected column before next
 Reports UnknownFunction column before next =
@@ -83,31 +83,31 @@ Reports BadOffset column before next =
     IsFar column (before ++ next ∷ []) × CanGoOn (before ++ next ∷ [])
 Reports _ column before next = ⊥
 
--- none of the tokens shows an error
+-- no token shows an error
 abbrev pub ReportsNone : List Placed → Type 0
 ReportsNone ts =
     (before rest : List Placed) (next : Placed) (kind : CalcKind) (column : ℕ)
     → ts ≡ before ++ next ∷ rest → Reports kind column before next → ⊥
 
--- a token shows the error, and none before it shows any
+-- a token shows the error, and no earlier token shows any
 abbrev pub IsReportedFirst : List Placed → CalcFault → Type 0
 IsReportedFirst ts token_fault =
     (before rest : List Placed) × (next : Placed) × (ts ≡ before ++ next ∷ rest)
     × Reports token_fault.kind token_fault.column before next × ReportsNone before
 
--- no token shows an error, and the list can continue: more is expected at the end
+-- no token shows an error, but the list is incomplete, so more is expected at the end
 abbrev pub IsReportedAtEnd : (end : ℕ) → List Placed → CalcFault → Type 0
 IsReportedAtEnd end ts reported = (reported ≡ token_fault Expected end) × CanGoOn ts × ReportsNone ts
 
--- the list stands for no assignment, and this is the first error that reading from the left can show
+-- the list does not stand for an assignment, and this is the first error that reading from the left can show
 abbrev pub IsGrammarFault : (end : ℕ) → List Placed → CalcFault → Type 0
 IsGrammarFault end ts token_fault = (IsReportedFirst ts token_fault ⊎ IsReportedAtEnd end ts token_fault) × IsNone ts
 
--- the error is one of the grammar, unless memory runs out
+-- the error is an error in the grammar, or memory ran out
 abbrev pub IsFaultOf : (end : ℕ) → List Placed → CalcFault → Type 0
 IsFaultOf end ts token_fault = (token_fault ≡ no_memory) ⊎ IsGrammarFault end ts token_fault
 
--- the error is the first of the text's tokens, or else one of the grammar, unless memory runs out
+-- the error is the first error in the text's tokens, otherwise an error in the grammar, or memory ran out
 abbrev pub IsTextFault : (text : List ℕ) → CalcFault → Type 0
 IsTextFault text token_fault =
     (token_fault ≡ no_memory)

@@ -1,5 +1,4 @@
--- The language of r.mapcalc: assignments, the errors of the grammar.
--- Laws of the errors of the grammar.
+-- The language of r.mapcalc: assignments, errors in the grammar, and laws about these errors.
 pub mod Assignment
 pub mod GrammarFault
 pub mod Grammatical

@@ -1,2 +1,2 @@
--- Definitions that only bodies and proofs use.
+-- Definitions that only function bodies and proofs use.
 pub mod Waiting

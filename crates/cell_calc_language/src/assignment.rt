@@ -1,4 +1,4 @@
-//! Assignments.
+//! Parses assignments.
 
 ghost use Rattle.std.specs.Prelude.{◌≡◌, ◌≤◌, List, length, IfOk, IfErr};
 ghost use Rattle.cell_calc_language.specs.declared.assignment.Assignment.{Assignment};
@@ -13,20 +13,21 @@ use cell_calc_grammar::tokens::tokens;
 use cell_core_values::name::Name;
 use std::alloc::Global;
 
-/// `NAME = EXPRESSION`: the map that r.mapcalc makes, and its expression.
+/// `NAME = EXPRESSION`: the name of the map that r.mapcalc creates, and its expression.
 #[derive(Drop)]
 pub struct Assignment {
     pub target: Name,
     pub expr: Expr,
 }
 
-/// Reads `NAME = EXPRESSION` (r.mapcalc manual; whole numbers, the operators and functions of specs/Operator and specs/Function).
+/// Parses `NAME = EXPRESSION` (r.mapcalc manual; whole numbers, the operators and functions of specs/Operator and
+/// specs/Function).
 ///
 /// # Errors
 ///
-/// The first error of the text's tokens, or else of its grammar, read from the left; columns count bytes
-/// from 1, and the end of the text is the column after its last byte. `Memory`, with column 0, where out of
-/// memory.
+/// The first error in the text's tokens, otherwise the first error in its grammar, both read from the left. Columns
+/// count bytes from 1, and the end of the text is the column after its last byte. `Memory`, with column 0, if memory
+/// runs out.
 pub fn parse(alloc: Global, text: &[u8]) -> Result<Assignment, CalcFault>
     requires { length text.now ≤ 65535 }
     ensures ok { IfOk result (λ a. IsAssignmentText text.now a) }

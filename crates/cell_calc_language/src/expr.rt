@@ -11,8 +11,8 @@ use cell_calc_grammar::step::Step;
 use cell_core_values::name::Names;
 use std::marker::Model;
 
-/// An expression of r.mapcalc: its numbers are categories, its offsets are from -255 to 255, and each call has a number
-/// of arguments that its function accepts.
+/// An expression of r.mapcalc. Its numbers are categories, its offsets are from -255 to 255, and each function accepts
+/// its number of arguments.
 #[derive(Drop)]
 pub struct Expr {
     pub(crate) steps: Vec<Step<MapName>>,
@@ -38,14 +38,14 @@ impl Model for Expr {
 }
 
 impl Expr {
-    /// The column of the first map name, in the order of the text, that is not among the names. Takes no memory.
+    /// Returns the column of the first map name, in the order of the text, that is not in the list. Does not allocate.
     pub fn first_unknown(&self, names: &Names) -> Option<u32>
         ensures { result ≡ first_unknown names.now self.now }
     {
         first_unplaced(self.steps(), names)
     }
 
-    /// The steps of the expression in postfix order. Takes no memory.
+    /// Returns the steps of the expression in postfix order. Does not allocate.
     pub fn steps(&self) -> &[Step<MapName>]
         ensures steps { result.now ≡ postfix self.now }
         ensures grammatical { IsGrammatical self.now }

@@ -1,4 +1,4 @@
-//! Expressions, read with an explicit stack.
+//! Parses expressions with an explicit stack.
 
 ghost use Rattle.std.specs.Prelude.{◌≡◌, ◌<◌, ◌+◌, ◌*◌, ◌++◌, [], ◌∷◌, length, vec_len, IfOk, IfErr};
 ghost use Rattle.cell_calc_language.specs.declared.token_parsing.ParseStop.TheVariants.{Memory};
@@ -21,24 +21,24 @@ use cell_calc_grammar::token::{Placed, Sign, Token};
 use cell_core_values::name::Name;
 use std::alloc::Global;
 
-/// What waits for the operand or the expression that is being read.
+/// An unfinished part of an expression, which waits for the operand or expression that is being read.
 #[derive(Clone, Copy)]
 enum Frame<'a> {
     Negated,
     Not,
-    /// An expression of the level; its first operand is being read.
+    /// An expression of this level, whose first operand is being read.
     Level(u32),
-    /// An expression of the level; its right operand is being read, and the left one is among the steps.
+    /// An expression of this level, whose right operand is being read. The steps already contain the left operand.
     Joined(u32, Operator),
-    /// An expression that `?` may follow.
+    /// A condition or a complete expression: `?` may follow it.
     Choice,
-    /// The choice for a true condition is being read.
+    /// A choice, whose value for a true condition is being read.
     AfterQuestion,
-    /// The choice for a false condition is being read.
+    /// A choice, whose value for a false condition is being read.
     AfterColon,
-    /// An expression in parentheses is being read.
+    /// An expression in parentheses, which is being read.
     Parenthesis,
-    /// The argument after the first `count` is being read; the call begins at `from`.
+    /// A call with `count` complete arguments, whose next argument is being read. The call begins at `from`.
     Call {
         function: Function,
         from: &'a [Placed],
@@ -46,18 +46,18 @@ enum Frame<'a> {
     },
 }
 
-/// What comes next, and the tokens from there.
+/// The next action of the reader, and the remaining tokens.
 #[derive(Clone, Copy)]
 enum Turn<'a> {
-    /// An operand is to be read.
+    /// Read an operand.
     Operand(&'a [Placed]),
-    /// An operand, or more, has been read.
+    /// Continue after an operand or a larger part.
     After(&'a [Placed]),
 }
 
-/// What has been read of an expression: its steps so far, and what waits for more.
+/// The state of the reader: the steps so far, and the unfinished parts.
 ///
-/// The waiting frames are in a list, since a recursive reader took stack for each level: 1.7 MB for 998 open
+/// The unfinished parts are in a list, because a recursive reader needed stack for each level: 1.7 MB for 998 open
 /// parentheses.
 #[derive(Drop)]
 struct Reader<'a> {
@@ -88,7 +88,7 @@ fn push_step<'a>(steps: &mut Vec<Step<MapName>>, step: Step<MapName>) -> Result<
 }
 
 impl<'a> Reader<'a> {
-    // An expression begins.
+    // Begins to read an expression.
     fn enter(&mut self, tokens: &'a [Placed]) -> Result<Turn<'a>, ParseStop<'a>>
         ensures goes { ReadsOn self.old (Expression tokens.now) self.new result }
         ensures lighter { LeavesWork (work tokens.now self.old + 2) self.new result }
@@ -98,7 +98,7 @@ impl<'a> Reader<'a> {
         Ok(Turn::Operand(tokens))
     }
 
-    // Ends what is being read with a step.
+    // Finishes the current part with a step.
     fn end(&mut self, step: Step<MapName>, tokens: &'a [Placed]) -> Result<Turn<'a>, ParseStop<'a>>
         ensures goes { (s : State)
             → IsReadExpression s (waiting self.old) (self.old.steps.items ++ step ∷ []) tokens.now
@@ -127,7 +127,7 @@ impl<'a> Reader<'a> {
         }
     }
 
-    // An operand that begins with a sign, or an error.
+    // Reads an operand that begins with a sign, or returns an error.
     fn read_signed(
         &mut self,
         sign: Sign,
@@ -155,7 +155,7 @@ impl<'a> Reader<'a> {
         }
     }
 
-    // A map with its offsets, if they follow its name.
+    // Reads a map operand, with its offsets if they follow the name.
     fn read_map_operand(
         &mut self,
         alloc: Global,
@@ -183,7 +183,7 @@ impl<'a> Reader<'a> {
         self.end(map, rest)
     }
 
-    // A call, from its name on; the opening parenthesis comes before its arguments.
+    // Reads a call, after its name and the opening parenthesis.
     fn read_call(
         &mut self,
         name: &Name,
@@ -217,7 +217,7 @@ impl<'a> Reader<'a> {
         }
     }
 
-    // Continues the frame that waited for what has been read.
+    // Continues with the frame that waited for the part that was just read.
     fn resume(&mut self, frame: Frame<'a>, tokens: &'a [Placed]) -> Result<Turn<'a>, ParseStop<'a>>
         ensures goes { Resumes self.old frame.entry tokens.now self.new result }
         ensures lighter { LeavesWork (work tokens.now self.old) self.new result }
@@ -245,7 +245,7 @@ impl<'a> Reader<'a> {
         }
     }
 
-    // After an expression of the level, which an operator may continue.
+    // Continues an expression of this level, if an operator follows.
     fn level(&mut self, level: u32, tokens: &'a [Placed]) -> Result<Turn<'a>, ParseStop<'a>>
         ensures goes { Resumes self.old (frame.Level level) tokens.now self.new result }
         ensures lighter { LeavesWork (work tokens.now self.old) self.new result }
@@ -258,7 +258,7 @@ impl<'a> Reader<'a> {
         Ok(Turn::Operand(rest))
     }
 
-    // After a condition, or an expression that is not a condition.
+    // Continues after a condition or a complete expression.
     fn choice(&mut self, tokens: &'a [Placed]) -> Result<Turn<'a>, ParseStop<'a>>
         ensures goes { Resumes self.old frame.Choice tokens.now self.new result }
         ensures lighter { LeavesWork (work tokens.now self.old) self.new result }
@@ -270,7 +270,7 @@ impl<'a> Reader<'a> {
         self.enter(rest)
     }
 
-    // After the choice for a true condition.
+    // Continues after the choice for a true condition.
     fn otherwise(&mut self, tokens: &'a [Placed]) -> Result<Turn<'a>, ParseStop<'a>>
         ensures goes { Resumes self.old frame.AfterQuestion tokens.now self.new result }
         ensures lighter { LeavesWork (work tokens.now self.old) self.new result }
@@ -282,7 +282,7 @@ impl<'a> Reader<'a> {
         self.enter(rest)
     }
 
-    // After an argument; the call had `before` arguments already.
+    // Continues after an argument that follows `before` other arguments of the call.
     fn argument(
         &mut self,
         function: Function,
@@ -294,7 +294,7 @@ impl<'a> Reader<'a> {
             result }
         ensures lighter { LeavesWork (work tokens.now self.old) self.new result }
     {
-        // Each argument has taken a step, so memory runs out before the count overflows.
+        // Each argument has added a step, so memory runs out before this count overflows.
         let Some(count) = before.checked_add(1) else {
             return Err(ParseStop::Memory);
         };
@@ -319,7 +319,7 @@ impl<'a> Reader<'a> {
     }
 }
 
-/// The steps of the expression that is read, and the tokens after it.
+/// Reads an expression. Returns its steps and the tokens after it.
 pub(crate) fn expression<'a>(
     alloc: Global,
     tokens: &'a [Placed],

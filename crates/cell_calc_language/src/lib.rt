@@ -1,13 +1,13 @@
-//! The parser of r.mapcalc: from a line of text to an assignment, or its first error (GRASS manual:
-//! r.mapcalc). `cell_calc_grammar` defines expressions, and how they are read.
+//! Parses a line of text into an r.mapcalc assignment, or returns its first error (GRASS manual:
+//! r.mapcalc). `cell_calc_grammar` defines expressions and how they are read.
 //!
-//! - `assignment`: `parse`, from `NAME = EXPRESSION` to an `Assignment`
-//! - `expr`: `Expr`, an expression; `first_unknown`, its first map that is not among some names
-//! - `language_law`: tokens are one assignment or have one first error; both definitions agree
+//! - `assignment`: `parse` reads `NAME = EXPRESSION` into an `Assignment`
+//! - `expr`: `Expr`, an expression; `first_unknown` finds its first map that is not in a list of names
+//! - `language_law`: tokens stand for one assignment or have one first error
 //! - private: `expression_reader`, `token_parsing`, `unknown`
 //! - re-exported from `cell_calc_grammar`: `calc_fault`, `function`, `operator`, `token`, `tokens`
 //!
-//! Texts, and the kind and column of the error of each:
+//! Texts, each with the kind and column of its error:
 //!
 //! ```
 //! (b"x = 1.5", CalcKind::FloatNumber, 5),

@@ -1,4 +1,4 @@
-//! From tokens to an assignment.
+//! Parses tokens into an assignment.
 
 ghost use Rattle.std.specs.Prelude.{◌≡◌, ◌<◌, ◌≤◌, [], ◌∷◌, None, length, IfOk, IfErr, IfSome, IfNone};
 ghost use Rattle.cell_calc_language.specs.declared.assignment.Assignment.{Assignment};
@@ -18,11 +18,11 @@ use cell_calc_grammar::token::{Placed, Sign, Token};
 use cell_core_values::name::Name;
 use std::alloc::Global;
 
-/// Why reading stops.
+/// Why the parser stopped.
 #[derive(Clone, Copy)]
 pub(crate) enum ParseStop<'a> {
     Memory,
-    /// An error, and the tokens from its place on.
+    /// An error, and the tokens from its position on.
     At(CalcKind, &'a [Placed]),
 }
 
@@ -50,7 +50,7 @@ fn fault_of(end: u32, stop: ParseStop) -> CalcFault
     }
 }
 
-// The first token, and those after it.
+// Returns the first token and the remaining tokens.
 pub(crate) fn first_token<'a>(tokens: &'a [Placed]) -> Option<(&'a Placed, &'a [Placed])>
     ensures some { IfSome result (λ x. tokens.now ≡ x.0.now ∷ x.1.now) }
     ensures none { IfNone result (tokens.now ≡ []) }
@@ -61,7 +61,7 @@ pub(crate) fn first_token<'a>(tokens: &'a [Placed]) -> Option<(&'a Placed, &'a [
     }
 }
 
-// What comes after a sign, if it is at the start.
+// Returns the tokens after a sign, if the first token is this sign.
 pub(crate) fn after_sign<'a>(sign: Sign, tokens: &'a [Placed]) -> Option<&'a [Placed]>
     ensures some { IfSome result (λ rest. FollowsSign sign tokens.now rest.now) }
     ensures none { IfNone result (IsNot sign (head tokens.now)) }
@@ -74,7 +74,7 @@ pub(crate) fn after_sign<'a>(sign: Sign, tokens: &'a [Placed]) -> Option<&'a [Pl
     }
 }
 
-// The operator at the start and what comes after it, if an expression of the level continues with it.
+// Returns the first token as an operator, if it continues an expression of this level, and the remaining tokens.
 pub(crate) fn next_operator<'a>(
     level: u32,
     tokens: &'a [Placed],
@@ -138,7 +138,7 @@ fn read_offset<'a>(tokens: &'a [Placed]) -> Result<(i32, &'a [Placed]), ParseSto
     Ok((n as i32, rest))
 }
 
-// Both offsets and the closing bracket.
+// Reads both offsets and the closing bracket.
 pub(crate) fn offsets<'a>(tokens: &'a [Placed]) -> Result<((i32, i32), &'a [Placed]), ParseStop<'a>>
     ensures reported { IsPartRead (offsets tokens.now) result }
     ensures shorter { IfOk result (λ x. length x.1.now < length tokens.now) }
@@ -154,7 +154,7 @@ pub(crate) fn offsets<'a>(tokens: &'a [Placed]) -> Result<((i32, i32), &'a [Plac
     Ok(((down, right), after))
 }
 
-/// The assignment that the tokens of a text stand for; `end` is the column after the text.
+/// Returns the assignment that the tokens of a text stand for. `end` is the column after the text.
 pub(crate) fn assignment(
     alloc: Global,
     end: u32,

@@ -1,4 +1,4 @@
-//! Map names that are not known.
+//! Finds unknown map names.
 
 ghost use Rattle.std.specs.Prelude.{◌≡◌, None};
 ghost use Rattle.cell_calc_language.specs.Unknown.{unknown_at, first_column};
@@ -8,7 +8,7 @@ use cell_calc_grammar::map_name::MapName;
 use cell_calc_grammar::step::Step;
 use cell_core_values::name::Names;
 
-// The column of a map name that has no place among the names.
+// Returns the column of a map name that is not in the list of names.
 fn unplaced_column(step: &Step<MapName>, names: &Names) -> Option<u32>
     ensures { result ≡ at_step (unknown_at names.now) None step.now }
 {
@@ -21,7 +21,7 @@ fn unplaced_column(step: &Step<MapName>, names: &Names) -> Option<u32>
     }
 }
 
-/// The column of the first map name that has no place among the names.
+/// Returns the column of the first map name that is not in the list of names.
 pub(crate) fn first_unplaced(steps: &[Step<MapName>], names: &Names) -> Option<u32>
     ensures { result ≡ fold_steps (unknown_at names.now) None first_column steps.now }
 {

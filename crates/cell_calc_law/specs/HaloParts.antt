@@ -1,5 +1,5 @@
--- Values of parts: an expression has the same value over a part of maps if the part contains all that it reads, or ends
--- where the map ends.
+-- Values over tiles: an expression has the same value over a tile as over the full map, if the tile contains everything
+-- that it reads, or ends where the map ends.
 use Rattle.std.specs.Prelude.{ℕ, ℤ, pos, ◌+ℤ◌, Some, slice_get, [], ◌∷◌, Bool, true, false, ◌||◌, ◌==◌, ◌≡◌, ◌≤◌, ◌<◌, ◌+◌, ◌⊎◌, max, List, All, if◌then◌else◌}
 use Rattle.cell_core_values.specs.Region.{RegionValue}
 use Rattle.cell_core.specs.Grid.{Grid, CellValue, IsFilled}
@@ -14,29 +14,30 @@ use Rattle.cell_calc_binding.specs.Reach.{up_of, down_of}
 use Rattle.cell_calc_binding.specs.Value.{value}
 use Rattle.cell_parts.specs.Parts.{Rectangle, AreCutOut}
 
--- the columns to the left that an offset of the map at a place asks for
+-- the number of columns to the left in an offset, if it is an offset of map i
 abbrev pub left_at : ℕ → (place : ℕ) (down right : ℤ) → ℕ
 left_at i j down right = if i == j then up_by right else 0
 
--- the columns to the right
+-- the number of columns to the right in an offset, if it is an offset of map i
 abbrev pub right_at : ℕ → (place : ℕ) (down right : ℤ) → ℕ
 right_at i j down right = if i == j then down_by right else 0
 
--- the largest number of columns to the left in an offset of the map at a place
+-- the largest number of columns to the left in an offset of map i
 abbrev pub left_of : ℕ → Formula → ℕ
 left_of i f = fold_maps (left_at i) 0 max f
 
 abbrev pub left_of_all : ℕ → Formulas → ℕ
 left_of_all i xs = fold_all (left_at i) 0 max xs
 
--- the largest number of columns to the right
+-- the largest number of columns to the right in an offset of map i
 abbrev pub right_of : ℕ → Formula → ℕ
 right_of i f = fold_maps (right_at i) 0 max f
 
 abbrev pub right_of_all : ℕ → Formulas → ℕ
 right_of_all i xs = fold_all (right_at i) 0 max xs
 
--- all that an expression reads at a cell of a rectangle is inside the rectangle, or beyond a side where the region ends
+-- everything that an expression reads at a cell of a rectangle is inside the rectangle, or beyond a side that is the
+-- border of the region
 pub record ReadsWithin (f : Formula) (region : RegionValue) (r : Rectangle) (row col : ℕ) : Type 0 where
   pub up : (place : ℕ) → (r.top ≡ 0) ⊎ (up_of place f ≤ row)
   pub down : (place : ℕ) → (region.rows ≤ r.top + r.rows) ⊎ (row + down_of place f < r.rows)
@@ -44,7 +45,7 @@ pub record ReadsWithin (f : Formula) (region : RegionValue) (r : Rectangle) (row
   pub right : (place : ℕ) → (region.cols ≤ r.left + r.cols) ⊎ (col + right_of place f < r.cols)
 
 abbrev mutual
-  -- whether one of these functions is called
+  -- the expression calls one of these functions
   pub calls : (Function → Bool) → Formula → Bool
   calls these (Number n) = false
   calls these (Map i down right) = false
@@ -57,7 +58,7 @@ abbrev mutual
   call_any these NoTrees = false
   call_any these (Then a xs) = calls these a || call_any these xs
 
--- row() and nrows(), and col() and ncols()
+-- the function is row() or nrows(); the function is col() or ncols()
 abbrev pub asks_rows : Function → Bool
 asks_rows Row = true
 asks_rows RowCount = true
@@ -68,18 +69,20 @@ asks_cols Column = true
 asks_cols ColumnCount = true
 asks_cols f = false
 
--- the expression does not ask for rows, or the rectangle has all of them; the same for columns
+-- the rectangle contains everything that the expression reads, and all rows of the region if the expression uses row
+-- numbers, and all columns if it uses column numbers
 pub record HasHalo (f : Formula) (region : RegionValue) (r : Rectangle) (row col : ℕ) : Type 0 where
   pub reads : ReadsWithin f region r row col
   pub rows : (calls asks_rows f ≡ false) ⊎ ((r.top ≡ 0) × (r.rows ≡ region.rows))
   pub cols : (calls asks_cols f ≡ false) ⊎ ((r.left ≡ 0) × (r.cols ≡ region.cols))
 
--- a halo is enough: the value over the part is that over the full map
+-- a halo is enough: the value over the tile equals the value over the full map
 abbrev pub HaloIsEnough : Type 0
 HaloIsEnough = (f : Formula) (whole part : List Grid) (region : RegionValue) (r : Rectangle) (row col : ℕ) → All (λ m. IsFilled region m.rows) whole → AreCutOut r whole part → HasHalo f region r row col → value f part (record { rows = r.rows; cols = r.cols; row = row; col = col }) ≡ value f whole (grid_position region (r.top + row) (r.left + col))
 
 abbrev mutual
-  -- the value if row() and similar functions report a different position from the one that offsets are counted from
+  -- the value of an expression in which row() and similar functions return the position `reported`, while offsets are
+  -- counted from `here`
   pub value_seen_from : Formula → List Grid → (here reported : GridPosition) → CellValue
   value_seen_from (Number n) maps here reported = Some (pos n)
   value_seen_from (Map i down right) maps here reported = cell_in (slice_get maps i) (pos here.row +ℤ down) (pos here.col +ℤ right)
@@ -92,6 +95,6 @@ abbrev mutual
   values_seen_from NoTrees maps here reported = []
   values_seen_from (Then a xs) maps here reported = value_seen_from a maps here reported ∷ values_seen_from xs maps here reported
 
--- if they report the position in the full map, any expression has the value over the full map
+-- if these functions return the position in the full map, every expression has the same value as over the full map
 abbrev pub ReachIsEnough : Type 0
 ReachIsEnough = (f : Formula) (whole part : List Grid) (region : RegionValue) (r : Rectangle) (row col : ℕ) → All (λ m. IsFilled region m.rows) whole → AreCutOut r whole part → ReadsWithin f region r row col → value_seen_from f part (record { rows = r.rows; cols = r.cols; row = row; col = col }) (grid_position region (r.top + row) (r.left + col)) ≡ value f whole (grid_position region (r.top + row) (r.left + col))

@@ -1,4 +1,4 @@
--- What the laws of values of expressions state.
+-- Laws about the values of expressions.
 pub mod HaloParts
 pub mod LocalLaw
 pub mod ReachParts

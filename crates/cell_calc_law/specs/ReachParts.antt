@@ -1,4 +1,4 @@
--- Parts with a halo: a rectangle with the rows and columns around it that an expression reaches.
+-- Tiles with a halo: a rectangle with the surrounding rows and columns that an expression reaches.
 use Rattle.std.specs.Prelude.{ℕ, ◌≤◌, ◌<◌, ◌+◌, ◌-◌, max, min}
 use Rattle.cell_core_values.specs.Region.{RegionValue}
 use Rattle.cell_calc_language.specs.Grammatical.{up_by, down_by}
@@ -7,7 +7,7 @@ use Rattle.cell_calc_binding.specs.Reach.{up_of, down_of}
 use Rattle.cell_calc_law.specs.HaloParts.{left_of, right_of}
 use Rattle.cell_parts.specs.Parts.{Rectangle}
 
--- a number of rows up and down, and of columns to the left and to the right
+-- a halo: numbers of rows up and down, and of columns to the left and right
 pub record Halo : Type 0 where
   pub up : ℕ
   pub down : ℕ
@@ -41,7 +41,7 @@ abbrev mutual
   reach_of_all NoTrees = no_halo
   reach_of_all (Then a xs) = wider (reach_of a) (reach_of_all xs)
 
--- an expression reads no map beyond its reach
+-- the expression reads no map beyond its reach
 pub record IsWithinReach (f : Formula) (place : ℕ) : Type 0 where
   pub up : up_of place f ≤ (reach_of f).up
   pub down : down_of place f ≤ (reach_of f).down
@@ -51,7 +51,7 @@ pub record IsWithinReach (f : Formula) (place : ℕ) : Type 0 where
 abbrev pub MapsAreWithinReach : Type 0
 MapsAreWithinReach = (f : Formula) (place : ℕ) → IsWithinReach f place
 
--- a rectangle with its halo, as far as the region goes
+-- a rectangle with its halo, limited to the region
 abbrev pub with_halo : RegionValue → Halo → Rectangle → Rectangle
 with_halo region h r = record {
   top = r.top - h.up;
@@ -60,7 +60,7 @@ with_halo region h r = record {
   cols = min region.cols (r.left + r.cols + h.right) - (r.left - h.left);
 }
 
--- a rectangle of a region, and a cell of it
+-- the rectangle is inside the region, and the cell is inside the rectangle
 pub record IsCellInside (region : RegionValue) (r : Rectangle) (row col : ℕ) : Type 0 where
   pub high : r.top + r.rows ≤ region.rows
   pub wide : r.left + r.cols ≤ region.cols

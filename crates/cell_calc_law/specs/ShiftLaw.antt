@@ -1,4 +1,5 @@
--- Neighbours are shifts: a map at an offset is the map moved (r.mapcalc manual; null outside is the profile's).
+-- Neighbours are shifts: a map at an offset is a shifted map (r.mapcalc manual; null outside the region is our own
+-- choice).
 use Rattle.std.specs.Prelude.{ℕ, ℤ, pos, ◌≡◌, ◌+ℤ◌, ◌<◌, ◌≤◌, ◌⊎◌, List, [], ◌∷◌, length, All, Some, None}
 use Rattle.cell_core.specs.Grid.{Grid, IsFilled, cell_at}
 use Rattle.cell_core.specs.Shelf.{ShelfValue}
@@ -7,7 +8,7 @@ use Rattle.cell_stats_counts.specs.Counts.{count_of}
 use Rattle.rcell.specs.Making.{AreValues, with_map}
 use Rattle.cell_calc_law.specs.LocalLaw.{cells_alone, cells_of_shelf}
 
--- after `x = g[a,b]`, `y = x[c,d]`, `z = g[a+c,b+d]`: y equals z at each cell from which the step (c,d) stays in the
+-- after `x = g[a,b]`, `y = x[c,d]` and `z = g[a+c,b+d]`, y equals z at each cell from which the step (c,d) stays in the
 -- region
 abbrev pub ShiftsAddUp : Type 0
 ShiftsAddUp =
@@ -20,7 +21,7 @@ ShiftsAddUp =
     → pos col +ℤ d ≡ pos to_col → to_col < shelf.region.cols
     → cell_at y row col ≡ cell_at z row col
 
--- after `x = g[a,b]`: x is null if the step (a,b) leaves the region
+-- after `x = g[a,b]`, x is null where the step (a,b) leaves the region
 abbrev pub NullBeyondTheEdge : Type 0
 NullBeyondTheEdge =
     (shelf : ShelfValue) (place : ℕ) (a b : ℤ) (x : Grid)

@@ -1,4 +1,5 @@
--- Values by tiles: the map made from a tile with its halo agrees, in the tile, with the map made from the full map.
+-- Values over tiles: an expression computed over a tile with its halo agrees, in the tile, with the expression computed
+-- over the full map.
 use Rattle.std.specs.Prelude.{ℕ, ◌≡◌, ◌≤◌, ◌-◌, false, All}
 use Rattle.cell_core_values.specs.Region.{RegionValue, most_cells}
 use Rattle.cell_core.specs.Grid.{Grid, IsFilled, cell_at}
@@ -12,18 +13,19 @@ use Rattle.cell_parts.specs.Parts.{Rectangle, AreCutOut}
 use Rattle.cell_calc_law.specs.ReachParts.{reach_of, with_halo, IsCellInside}
 use Rattle.rcell.specs.Making.{AreValues}
 
--- a tile with its halo: the rows and columns around it that an expression reaches, as far as the region goes
+-- a tile with its halo: the surrounding rows and columns that the expression reaches, limited to the region
 abbrev pub haloed_rectangle : Formula → ShelfValue → Rectangle → Rectangle
 haloed_rectangle f whole r = with_halo whole.region (reach_of f) r
 
--- the maps of a tile with its halo, cut out of the full maps
+-- the maps of a tile with its halo are cut out of the full maps
 pub record IsHaloedTile (f : Formula) (r : Rectangle) (whole tile : ShelfValue) : Type 0 where
   pub filled : All (λ m. IsFilled whole.region m.rows) whole.maps
   pub cells : AreCutOut (haloed_rectangle f whole r) whole.maps tile.maps
   pub rows : tile.region.rows ≡ (haloed_rectangle f whole r).rows
   pub cols : tile.region.cols ≡ (haloed_rectangle f whole r).cols
 
--- `x = f` over the full map, `y = f` over a tile with its halo: y has the cells of x in the tile, if f asks for no row or column
+-- if `x = f` is computed over the full map and `y = f` over a tile with its halo, y equals x in the tile, unless f uses
+-- a row or column number
 abbrev pub TilesMakeTheMap : Type 0
 TilesMakeTheMap =
     (f : Formula) (whole tile : ShelfValue) (r : Rectangle) → IsHaloedTile f r whole tile
@@ -32,8 +34,8 @@ TilesMakeTheMap =
     → (row col : ℕ) → IsCellInside whole.region r row col
     → cell_at y (row - (haloed_rectangle f whole r).top) (col - (haloed_rectangle f whole r).left) ≡ cell_at x row col
 
--- a call as it is written for a part of a region: row() and col() continue from the part's first row and column, and
--- nrows() and ncols() are the numbers of the region
+-- a call rewritten for a tile: row() and col() count from the tile's first row and column, and nrows() and ncols()
+-- become the numbers of the region
 abbrev pub placed_call : RegionValue → Rectangle → Function → Formulas → Formula
 placed_call region r Row xs = Binary Plus (Call Row xs) (Number r.top)
 placed_call region r Column xs = Binary Plus (Call Column xs) (Number r.left)
@@ -42,7 +44,7 @@ placed_call region r ColumnCount xs = Number region.cols
 placed_call region r f xs = Call f xs
 
 abbrev mutual
-  -- an expression with all of its calls written that way
+  -- the expression with all of its calls rewritten for a tile
   pub placed : RegionValue → Rectangle → Formula → Formula
   placed region r (Number n) = Number n
   placed region r (Map i down right) = Map i down right
@@ -55,8 +57,8 @@ abbrev mutual
   all_placed region r NoTrees = NoTrees
   all_placed region r (Then a xs) = Then (placed region r a) (all_placed region r xs)
 
--- `x = f` over the full map, and `y = f` with its calls rewritten over a tile with its halo, with `row() + t` for
--- `row()` if t rows are above it: y has the cells of x in the tile, whatever expression f is
+-- if `x = f` is computed over the full map, and `y = f`, rewritten for a tile, over the tile with its halo, y equals x
+-- in the tile for every expression f
 abbrev pub PlacedTilesMakeTheMap : Type 0
 PlacedTilesMakeTheMap =
     (f : Formula) (whole tile : ShelfValue) (r : Rectangle) → IsHaloedTile f r whole tile

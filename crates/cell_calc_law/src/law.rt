@@ -1,4 +1,4 @@
-//! Local expressions, shifts and expressions over tiles, stated in the terms of map algebra.
+//! Laws about local expressions, shifts, and expressions over tiles, in the terms of map algebra.
 
 ghost use Rattle.cell_calc_law.specs.HaloParts.{HaloIsEnough, ReachIsEnough};
 ghost use Rattle.cell_calc_law.specs.LocalLaw.{CountsFollow, LocalGoesByCombinations, OneValueACombination};
@@ -6,18 +6,18 @@ ghost use Rattle.cell_calc_law.specs.ReachParts.{MapsAreWithinReach};
 ghost use Rattle.cell_calc_law.specs.ShiftLaw.{NullBeyondTheEdge, ShiftsAddUp};
 ghost use Rattle.cell_calc_law.specs.TileLaw.{PlacedTilesMakeTheMap, TilesMakeTheMap};
 
-/// At all cells with one combination of the maps that it reads, a local expression has one value.
+/// A local expression has the same value at all cells with the same combination of the maps that it reads.
 pub fn one_value_a_combination()
     ensures { OneValueACombination }
 {}
 
-/// A function of the combination gives the values of a local expression, at each cell of any maps.
+/// For every local expression, a function of the combination gives its values at all cells of all maps.
 pub fn local_goes_by_combinations()
     ensures { LocalGoesByCombinations }
 {}
 
-/// After `x = f`, the number of cells of x with a value is the sum of the counts of the combinations that give this
-/// value, in the table of the maps that f reads.
+/// After `x = f` with a local expression f, the number of cells of x with a given value is the sum of the counts of the
+/// combinations that give this value, in the table of the maps that f reads.
 pub fn counts_follow()
     ensures { CountsFollow }
 {}
@@ -28,18 +28,18 @@ pub fn shifts_add_up()
     ensures { ShiftsAddUp }
 {}
 
-/// After `x = g[a,b]`, x is null if the step (a,b) leaves the region.
+/// After `x = g[a,b]`, x is null where the step (a,b) leaves the region.
 pub fn null_beyond_the_edge()
     ensures { NullBeyondTheEdge }
 {}
 
-/// A halo is enough: an expression has the same value over a part of maps as over the full map, if the part contains
-/// all that the expression reads, or ends where the map ends.
+/// An expression has the same value over a tile as over the full map, if the tile contains everything that the
+/// expression reads, or ends where the map ends.
 pub fn halo_is_enough()
     ensures { HaloIsEnough }
 {}
 
-/// If `row()` and similar functions report the position in the full map, the same holds for any expression.
+/// If `row()` and similar functions return the position in the full map, the same holds for all expressions.
 pub fn reach_is_enough()
     ensures { ReachIsEnough }
 {}
@@ -49,15 +49,15 @@ pub fn maps_are_within_reach()
     ensures { MapsAreWithinReach }
 {}
 
-/// `x = f` over the full map and `y = f` over a tile with its halo: in the tile, y has the cells of x, if f asks for no
-/// row or column.
+/// If `x = f` is computed over the full map and `y = f` over a tile with its halo, y equals x in the tile, unless f
+/// uses a row or column number.
 pub fn tiles_make_the_map()
     ensures { TilesMakeTheMap }
 {}
 
-/// `x = f` over the full map; over a tile with its halo, `y = f` with `row() + t` for `row()`, t the number of rows
-/// above it, and similarly for `col()`, `nrows()` and `ncols()`: in the tile, y has the cells of x, whatever expression
-/// f is.
+/// If `x = f` is computed over the full map, and `y = f` over a tile with its halo, y equals x in the tile for every
+/// expression f, provided that f is rewritten for the tile: `row()` becomes `row() + t` with t rows above the tile, and
+/// `col()`, `nrows()` and `ncols()` are adapted similarly.
 pub fn placed_tiles_make_the_map()
     ensures { PlacedTilesMakeTheMap }
 {}

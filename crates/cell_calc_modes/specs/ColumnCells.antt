@@ -3,7 +3,7 @@ use Rattle.std.specs.Prelude.{ℕ, ◌≡◌, ◌<◌, All, List, Vec, None, len
 use Rattle.std.specs.Global.{Global}
 use Rattle.cell_core.specs.Grid.{CellValue}
 
--- the cell of a row at a column, null outside
+-- the cell of a row at a column; null outside the row
 abbrev pub at : List CellValue → ℕ → CellValue
 at cells c = slice_index_or cells c None
 
@@ -11,7 +11,7 @@ at cells c = slice_index_or cells c None
 abbrev pub column : ℕ → List (List CellValue) → List CellValue
 column c rows = map (λ row. slice_index_or row c None) rows
 
--- the arguments at a column
+-- the cells of arguments at a column
 abbrev pub arguments_at : ℕ → List (Vec CellValue Global) → List CellValue
 arguments_at c rows = column c (map (λ cells. cells.items) rows)
 
@@ -19,6 +19,6 @@ arguments_at c rows = column c (map (λ cells. cells.items) rows)
 abbrev pub AreWide : ℕ → List (Vec CellValue Global) → Type 0
 AreWide width rows = All (λ cells. length cells.items ≡ width) rows
 
--- a row has this cell at each column
+-- the row contains this cell at each column
 abbrev pub Becomes : List CellValue → List CellValue → (ℕ → CellValue) → Type 0
 Becomes old new cell = (c : ℕ) → c < length old → at new c ≡ cell c

@@ -1,5 +1,5 @@
-//! The most frequent cells of columns, with vector instructions, 16 columns at a time: each argument is compared with
-//! those before it.
+//! Finds the most frequent cells of columns with vector instructions, 16 columns at a time. Each argument is compared
+//! with all earlier ones.
 
 ghost use Rattle.std.specs.Prelude.{◌≡◌, ◌≤◌, ◌<◌, ◌+◌, ◌==◌, ℕ, length, slice_index_or, All, OnOk, nat_lt, if◌then◌else◌};
 ghost use Rattle.cell_calc_binding.specs.CellOperators.{most_frequent, known_cells, occurrences};
@@ -14,10 +14,10 @@ use std::simd::prelude::*;
 /// Number of columns processed at a time.
 pub(crate) const BLOCK: usize = 16;
 
-// The number for a category is the category plus this.
+// A category is stored as its sum with this number.
 const OFFSET: i64 = 2147483648;
 
-// The number that stands for a cell.
+// Returns the number that stands for a cell.
 #[inline(always)]
 fn key_of_cell(cell: Cell) -> u32
     ensures { key_cell result ≡ cell }
@@ -28,7 +28,7 @@ fn key_of_cell(cell: Cell) -> u32
     }
 }
 
-// The cell that a number stands for.
+// Returns the cell that a number stands for.
 #[inline(always)]
 fn cell_of_key(key: u32) -> Cell
     ensures { result ≡ key_cell key }
@@ -39,7 +39,7 @@ fn cell_of_key(key: u32) -> Cell
     }
 }
 
-// The numbers that stand for the cells of a row, from a column on.
+// Returns the numbers that stand for the cells of a row, starting at column `c`.
 #[inline(always)]
 fn keys_at(cells: &[Cell], c: usize) -> u32x16
     requires { c + 16 ≤ length cells.now }
@@ -53,7 +53,7 @@ fn keys_at(cells: &[Cell], c: usize) -> u32x16
     u32x16::from_array(keys)
 }
 
-// Writes the cells that numbers stand for to a row, from a column on.
+// Writes the cells that numbers stand for to a row, starting at column `c`.
 #[inline(always)]
 fn write_keys(keys: u32x16, row: &mut [Cell], c: usize)
     requires { c + 16 ≤ length row.old }
@@ -74,7 +74,7 @@ fn vector_at(vectors: &[u32x16], i: usize) -> u32x16
     vectors[i]
 }
 
-// Adds one in each lane in which two numbers are equal.
+// Increments the count in each lane in which two numbers are equal.
 #[inline(always)]
 fn count_same(count: u32x16, key: u32x16, other: u32x16) -> u32x16
     requires { (k : ℕ) → k < 16 → lane k count + 1 < 4294967296 }
@@ -88,7 +88,7 @@ fn count_same(count: u32x16, key: u32x16, other: u32x16) -> u32x16
             .select(u32x16::splat(1), u32x16::splat(0))
 }
 
-// How often the cells of a vector occur among those so far; 0 for null.
+// Counts how often each lane's cell occurs up to and including itself; 0 for null.
 #[inline(always)]
 fn occurrences(before: &[u32x16], key: u32x16) -> u32x16
     requires { length before.now < 65536 }
@@ -104,7 +104,7 @@ fn occurrences(before: &[u32x16], key: u32x16) -> u32x16
         .select(u32x16::splat(0), count)
 }
 
-// The number that occurs more often; the smaller one if both occur equally often.
+// Selects, in each lane, the number that occurs more often, or the smaller one if both occur equally often.
 #[inline(always)]
 fn better(best: u32x16, most: u32x16, key: u32x16, count: u32x16) -> u32x16
     ensures long { length result ≡ 16 }
@@ -119,7 +119,7 @@ fn better(best: u32x16, most: u32x16, key: u32x16, count: u32x16) -> u32x16
     most.simd_lt(count).select(key, tied)
 }
 
-// The larger of two counts.
+// Returns the larger count in each lane.
 #[inline(always)]
 fn larger(most: u32x16, count: u32x16) -> u32x16
     ensures long { length result ≡ 16 }
@@ -129,7 +129,7 @@ fn larger(most: u32x16, count: u32x16) -> u32x16
     most.simd_lt(count).select(count, most)
 }
 
-// The most frequent category in each lane.
+// Returns the most frequent category in each lane.
 fn most_frequent(keys: &[u32x16]) -> u32x16
     requires { length keys.now < 65536 }
     ensures { (k : ℕ) → k < 16
@@ -157,8 +157,8 @@ fn gather(arguments: &[Vec<Cell>], c: usize, keys: &mut [u32x16])
     }
 }
 
-/// The most frequent categories of the columns of rows with at least one block. The last block may overlap the one
-/// before.
+/// Writes the most frequent category of each column. The rows must have at least one block of columns. The last block
+/// may overlap the one before it.
 pub(crate) fn known_mode(
     alloc: Global,
     arguments: &[Vec<Cell>],

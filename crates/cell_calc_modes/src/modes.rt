@@ -1,5 +1,5 @@
-//! The most frequent cells of rows. Few arguments are compared with vector instructions (`mode_lanes`). If there are
-//! many, the categories of a column are sorted, and the longest run of equal ones is found.
+//! Finds the most frequent cells of columns. Few arguments are compared with vector instructions (`mode_lanes`). If
+//! there are many, the categories of each column are sorted, and the longest run of equal categories is found.
 
 ghost use Rattle.std.specs.Prelude.{◌≡◌, ◌≤◌, ◌<◌, ◌+◌, List, length, take, All, IsPermutation, IsSorted, OnOk, nat_lt, if◌then◌else◌, false};
 ghost use Rattle.cell_core_values.specs.Cell.{cell_cmp, cell_eq};
@@ -14,7 +14,7 @@ use cell_core::cell::Cell;
 use cell_core::memory::Memory;
 use std::alloc::Global;
 
-// Above this many arguments, sorting takes fewer steps than comparing each one with those before it.
+// With more arguments than this, sorting takes fewer steps than comparing each argument with all earlier ones.
 const MOST_COMPARED: usize = 128;
 
 fn argument_at(cells: &[Cell], c: usize) -> Cell
@@ -24,14 +24,14 @@ fn argument_at(cells: &[Cell], c: usize) -> Cell
     cells[c]
 }
 
-// 1 for a category, 0 for null.
+// Returns 1 for a category and 0 for null.
 fn category_count(cell: Cell) -> usize
     ensures { result ≡ (if is_null cell then 0 else 1) }
 {
     if is_null(cell) { 0 } else { 1 }
 }
 
-// Moves the categories of a column to the start, and counts them.
+// Moves the categories of a column to the start of `cells` and returns their number.
 fn gather_column(arguments: &[Vec<Cell>], c: usize, cells: &mut [Cell]) -> usize
     requires column { All (λ row. c < length row.items) arguments.now }
     requires room { length cells.old ≡ length arguments.now }
@@ -47,21 +47,21 @@ fn gather_column(arguments: &[Vec<Cell>], c: usize, cells: &mut [Cell]) -> usize
     count
 }
 
-// The length of a run whose last cell comes before the given place.
+// Returns the length of the run that continues with `cell`, or 0 if `cell` differs from the run's last cell.
 fn longer_run(run: usize, last: Cell, cell: Cell) -> usize
     ensures { result ≡ (if cell_eq cell last then run else 0) }
 {
     if cell == last { run } else { 0 }
 }
 
-// The cell of the longer of two runs; of the first if both have the same length.
+// Returns the cell of the longer run, or of the first one if both have the same length.
 fn longer(best: Cell, most: usize, cell: Cell, run: usize) -> Cell
     ensures { result ≡ (if nat_lt most run then cell else best) }
 {
     if most < run { cell } else { best }
 }
 
-// The category of the longest run; of the first if there are several.
+// Returns the category of the longest run, or of the first one if several have this length.
 fn longest_run(cells: &[Cell]) -> Cell
     requires known { All (λ cell. is_null cell ≡ false) cells.now }
     requires sorted { IsSorted cell_cmp cells.now }
@@ -82,7 +82,7 @@ fn longest_run(cells: &[Cell]) -> Cell
     best
 }
 
-// The category of the longest run when they are in order.
+// Sorts the categories and returns the category of the longest run.
 fn most_frequent(cells: &mut [Cell]) -> Cell
     requires { All (λ cell. is_null cell ≡ false) cells.old }
     ensures { result ≡ most_frequent cells.old }
@@ -100,7 +100,7 @@ fn known_mode_at(arguments: &[Vec<Cell>], c: usize, cells: &mut [Cell]) -> Cell
     most_frequent(&mut cells[..count])
 }
 
-// The most frequent categories of the columns, one after another.
+// Writes the most frequent category of each column, one column after another.
 fn sorted_modes(alloc: Global, arguments: &[Vec<Cell>], row: &mut [Cell]) -> Result<(), Memory>
     requires { AreWide (length row.old) arguments.now }
     ensures { OnOk result (Becomes row.old row.new
@@ -114,7 +114,7 @@ fn sorted_modes(alloc: Global, arguments: &[Vec<Cell>], row: &mut [Cell]) -> Res
     Ok(())
 }
 
-/// The most frequent categories of the columns.
+/// Writes the most frequent category of each column, ignoring null.
 pub fn known_mode(alloc: Global, arguments: &[Vec<Cell>], row: &mut [Cell]) -> Result<(), Memory>
     requires { AreWide (length row.old) arguments.now }
     ensures { OnOk result (Becomes row.old row.new
@@ -127,7 +127,7 @@ pub fn known_mode(alloc: Global, arguments: &[Vec<Cell>], row: &mut [Cell]) -> R
     }
 }
 
-// A cell, null if another is null.
+// Returns `cell`, or null if `other` is null.
 #[inline(always)]
 fn unless_null(cell: Cell, other: Cell) -> Cell
     ensures { result ≡ unless_null cell other }
@@ -144,7 +144,7 @@ fn pass_null(row: &mut [Cell], other: &[Cell])
     }
 }
 
-/// The most frequent cells of the columns, null if one is null.
+/// Writes the most frequent cell of each column, or null if any cell of the column is null.
 pub fn mode(alloc: Global, arguments: &[Vec<Cell>], row: &mut [Cell]) -> Result<(), Memory>
     requires { AreWide (length row.old) arguments.now }
     ensures { OnOk result (Becomes row.old row.new

@@ -1,4 +1,4 @@
-//! Values along a row, and what is left there if memory runs out.
+//! Evaluates expressions along a row for tests, and checks the row if memory runs out.
 
 ghost use Rattle.std.specs.Prelude.{◌≡◌, ◌<◌, ◌≤◌, ℕ, length, slice_get, IfOk};
 ghost use Rattle.cell_calc_binding.specs.Reach.{top_of, up_of, down_of};
@@ -13,7 +13,7 @@ use cell_core::memory::Memory;
 use cell_core::shelf::Shelf;
 use std::alloc::Global;
 
-// A window over a map that was moved down to a row.
+// Returns a window over a map, moved down to `row`.
 fn moved(
     alloc: Global,
     map: &CellMap,
@@ -33,7 +33,7 @@ fn moved(
     Ok(window)
 }
 
-// A window for each map that is read, at a row.
+// Returns a window at `row` for each map that the expression reads.
 fn open(alloc: Global, bound: &Bound, shelf: &Shelf, row: u32) -> Result<Vec<RowWindow>, Memory>
     requires maps { top_of bound.now ≤ length shelf.now.maps }
     requires row { row < shelf.now.region.rows }
@@ -48,8 +48,8 @@ fn open(alloc: Global, bound: &Bound, shelf: &Shelf, row: u32) -> Result<Vec<Row
     Ok(windows)
 }
 
-/// Writes the values along a row into a slice, and does so again if memory runs out. Returns, if it ran out,
-/// whether the slice was unchanged before that.
+/// Writes the values along a row into a slice, and tries again if memory runs out. Returns `None` if it did not run
+/// out, otherwise whether the failed call left the slice unchanged.
 ///
 /// # Errors
 ///

@@ -1,4 +1,4 @@
-//! Errors and their columns, and how many arguments each function takes.
+//! Tests of errors and their columns, and of how many arguments each function accepts.
 
 use crate::assertions::assert_same;
 use cell_calc_language::assignment::parse;
@@ -14,7 +14,7 @@ pub(crate) fn fault_of(alloc: Global, text: &[u8]) -> Option<CalcFault> {
     parse(alloc, text).err()
 }
 
-// Texts, and the kind and the column of the error of each.
+// Texts, each with the kind and column of its error.
 const FAULTS: [(&[u8], CalcKind, u32); 34] = [
     (b"x = 1.5", CalcKind::FloatNumber, 5),
     (b"x = 1 +", CalcKind::Expected, 8),
@@ -70,7 +70,7 @@ fn texts_without_a_fault(rt: HostRuntime) -> Result<(), Fail> {
     Ok(())
 }
 
-// `x = NAME(1,1, .. ,1)` with `count` arguments.
+// Returns `x = NAME(1,1, .. ,1)` with `count` arguments.
 fn call(alloc: Global, name: &[u8], count: usize) -> Result<Vec<u8>, Fail> {
     let mut text = b"x = ".to_vec(alloc)?;
     text.extend_from_slice(name)?;
@@ -82,7 +82,7 @@ fn call(alloc: Global, name: &[u8], count: usize) -> Result<Vec<u8>, Fail> {
     Ok(text)
 }
 
-// Functions, and the smallest and the largest number of arguments of each.
+// Functions, each with its smallest and largest number of arguments.
 const FUNCTIONS: [(&[u8], usize, usize); 15] = [
     (b"if", 1, 3),
     (b"isnull", 1, 1),
@@ -120,7 +120,7 @@ fn functions_and_their_numbers_of_arguments(rt: HostRuntime) -> Result<(), Fail>
     Ok(())
 }
 
-// Assignments over the names g and if, and the column of the first name that is unknown.
+// Assignments over maps named g and if, each with the column of its first unknown name.
 const UNKNOWN_NAMES: [(&[u8], Option<u32>); 6] = [
     (b"x = h", Some(5)),
     (b"x = g + if", None),

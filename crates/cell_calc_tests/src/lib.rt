@@ -1,4 +1,4 @@
-//! Tests of expressions over worked texts: tokens, trees, errors, values and windows.
+//! Tests expressions with worked texts: tokens, trees, errors, values and windows.
 #![tactic(auto)]
 
 #[cfg(test)]

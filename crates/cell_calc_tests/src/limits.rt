@@ -1,4 +1,4 @@
-//! Texts of a thousand tokens, and longer ones.
+//! Tests of texts with a thousand tokens, and of longer ones.
 
 use crate::assertions::assert_same;
 use crate::faults::fault_of;
@@ -6,7 +6,7 @@ use cell_calc_language::calc_fault::{CalcFault, CalcKind};
 use std::alloc::Global;
 use std::test::Fail;
 
-// `x =`, the text `before` `first` times, a 1, and the text `after` `second` times.
+// Returns `x =`, followed by `before` repeated `first` times, a 1, and `after` repeated `second` times.
 fn repeated(
     alloc: Global,
     before: &[u8],
@@ -25,7 +25,7 @@ fn repeated(
     Ok(text)
 }
 
-// The texts before and after a 1 with their repetitions, and the column of the first token beyond the limit.
+// Texts before and after a 1 and how often each is repeated, with the column of the first token beyond the limit.
 const REPEATED: [(&[u8], u32, &[u8], u32, Option<u32>); 7] = [
     (b"-", 1, b" + 1", 498, None),
     (b"-", 2, b" + 1", 498, Some(1999)),
@@ -61,7 +61,7 @@ fn what_follows_a_thousand_tokens_is_too_long(rt: HostRuntime) -> Result<(), Fai
     Ok(())
 }
 
-// The longest text, of 999 tokens and blanks after them, a hundred times: bench/parse.py times this test.
+// Parses the longest text, of 999 tokens with blanks after them, a hundred times. bench/parse.py times this test.
 #[test]
 fn the_longest_text(rt: HostRuntime) -> Result<(), Fail> {
     let mut text = repeated(rt.alloc(), b"", 0, b" + 1", 498)?;

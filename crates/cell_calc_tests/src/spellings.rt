@@ -1,4 +1,4 @@
-//! Tokens and the errors of their spelling.
+//! Tests of tokens and of errors in their spelling.
 
 use crate::assertions::assert_same;
 use cell_calc_language::calc_fault::{CalcFault, CalcKind};
@@ -14,7 +14,7 @@ fn fault_of(alloc: Global, text: &[u8]) -> Option<CalcFault> {
     tokens(alloc, text).err()
 }
 
-// Texts, and the kind and the column of the error of each.
+// Texts, each with the kind and column of its error.
 const FAULTS: [(&[u8], CalcKind, u32); 7] = [
     (b"x = 1e3", CalcKind::FloatNumber, 5),
     (b"x = .", CalcKind::FloatNumber, 5),
@@ -40,7 +40,7 @@ fn faults_of_tokens(rt: HostRuntime) {
     assert_same!(rt; fault_of(rt.alloc(), &name[1..]), None);
 }
 
-// The column and the sign of a token, if it is one.
+// Returns the column and the sign of a token, if it is a sign.
 fn sign_of(placed: &Placed) -> Option<(u32, Sign)> {
     match &placed.token {
         Token::Sign(sign) => Some((placed.column, *sign)),

@@ -1,4 +1,4 @@
-//! Worked values of expressions over a map of three rows.
+//! Tests of worked values of expressions over a map with three rows.
 
 use crate::assertions::assert_same;
 use crate::evaluation::values_along;
@@ -15,7 +15,7 @@ use std::test::Fail;
 
 pub(crate) const NULL: i32 = i32::MIN;
 
-// The worked map: three rows of four cells.
+// The worked map, with three rows of four cells.
 const ROWS: [[i32; 4]; 3] = [[1, 1, 2, NULL], [1, 2, 2, 2], [3, 3, 1, 1]];
 
 fn cell_of(number: i32) -> Cell {
@@ -56,7 +56,7 @@ pub(crate) fn worked_map(alloc: Global) -> Result<CellMap, Fail> {
     Ok(builder.finish())
 }
 
-// The worked map under the name g.
+// Returns a shelf with the worked map, named g.
 pub(crate) fn worked_shelf(alloc: Global) -> Result<Shelf, Fail> {
     let map = worked_map(alloc)?;
     let mut shelf = Shelf::new(alloc, map.region());
@@ -88,13 +88,13 @@ pub(crate) fn expression(alloc: Global, text: &[u8]) -> Result<Expr, Fail> {
     }
 }
 
-// An expression over the places of names.
+// Parses an expression and replaces its map names with indices.
 pub(crate) fn bound_of(alloc: Global, names: &Names, text: &[u8]) -> Result<Bound, Fail> {
     let expr = expression(alloc, text)?;
     Ok(resolve(alloc, &expr, names)?)
 }
 
-// The map of an expression over a shelf.
+// Evaluates an expression over a shelf.
 pub(crate) fn map_of(alloc: Global, bound: &Bound, shelf: &Shelf) -> Result<CellMap, Fail> {
     if bound.top() > shelf.len() {
         return Err("no such map".into());
@@ -102,7 +102,7 @@ pub(crate) fn map_of(alloc: Global, bound: &Bound, shelf: &Shelf) -> Result<Cell
     Ok(evaluate(alloc, bound, shelf)?)
 }
 
-// The map of an expression over the worked map.
+// Evaluates an expression over the worked map.
 pub(crate) fn values(alloc: Global, text: &[u8]) -> Result<CellMap, Fail> {
     let bound = bound_of(alloc, &worked_names(alloc)?, text)?;
     map_of(alloc, &bound, &worked_shelf(alloc)?)
@@ -116,7 +116,7 @@ pub(crate) fn at(map: &CellMap, row: u32, col: u32) -> i32 {
     NULL
 }
 
-// Expressions and the one value that each has everywhere.
+// Expressions whose value is the same at every cell, each with this value.
 const VALUES: [(&str, i32); 41] = [
     ("2147483647 + 1", NULL),
     ("2147483647 + 2", NULL),
@@ -178,7 +178,7 @@ fn expressions_have_one_value_everywhere(rt: HostRuntime) -> Result<(), Fail> {
     Ok(())
 }
 
-// Expressions, and the column of the first name that is unknown.
+// Expressions, each with the column of its first unknown name.
 const UNKNOWN_NAMES: [(&[u8], Option<u32>); 4] = [
     (b"g + 1", None),
     (b"h", Some(5)),
@@ -202,8 +202,7 @@ fn unknown_names_are_found(rt: HostRuntime) -> Result<(), Fail> {
     Ok(())
 }
 
-// Writes an expression's values along a row into a slice, again if memory runs out, and returns what
-// [`values_along`] does.
+// Parses an expression and evaluates it along a row of the worked map with [`values_along`].
 fn worked_row(
     alloc: Global,
     text: &[u8],
@@ -219,7 +218,7 @@ fn worked_row(
     Ok(values_along(alloc, &bound, &shelf, row, cells)?)
 }
 
-// In a normal run every allocation succeeds. tools/hostile makes them fail in turn, one in each run, and checks that
+// In a normal run every allocation succeeds. tools/hostile makes allocations fail in turn, one per run, and checks that
 // the row is evaluated again in some of the runs.
 #[test]
 fn a_refused_row_is_evaluated_again(rt: HostRuntime) -> Result<(), Fail> {

@@ -1,4 +1,4 @@
-//! Trees of texts: levels, directions, calls and offsets.
+//! Tests of the trees of texts: levels, directions, calls and offsets.
 
 use crate::assertions::assert_same;
 use cell_calc_grammar::map_name::MapName;
@@ -72,7 +72,7 @@ fn write_map(
     write_number(alloc, i64::from(column), out)
 }
 
-// A sign before the operand on top of the stack.
+// Writes a sign and the operand on top of the stack, in parentheses.
 fn write_unary(sign: u8, stack: &mut Vec<Vec<u8>>, out: &mut Vec<u8>) -> Result<(), Fail> {
     let operand = stack.pop().ok_or("no operand")?;
     out.push(b'(')?;
@@ -119,7 +119,7 @@ fn write_call(
     Ok(())
 }
 
-// The tree that steps build, with a parenthesis for each operator.
+// Returns the tree that steps build, as text with parentheses around each operator.
 fn tree_of(alloc: Global, steps: &[Step<MapName>]) -> Result<Vec<u8>, Fail> {
     let mut stack = Vec::new(alloc);
     for step in steps {
