@@ -1,4 +1,4 @@
--- Keys that are given, or why they are rejected.
+-- The values of header keys, or the errors in them.
 use Rattle.std.specs.Prelude.{ℕ, ℤ, Bool, unwrap_or, true, List, Option, Some, None, Result, Ok, Err, if◌then◌else◌}
 use Rattle.cell_core_values.specs.Region.{RegionValue}
 use Rattle.cell_core_values.specs.declared.region.RegionFault.{RegionFault}
@@ -6,21 +6,21 @@ use Rattle.cell_ascii_meaning.specs.Header.{HeaderValue, has_colon, is_int, usua
 use Rattle.cell_ascii_meaning.specs.declared.grid_fault.GridKind.{GridKind}
 use Rattle.cell_ascii_meaning.specs.declared.grid_fault.GridKind.TheVariants.{BadHeader, TwiceKey, BadNumber, BadType, Region}
 
--- its value, if it was not given before and the value is a number
+-- the value, if it is a number and the first value of its key
 abbrev pub given_value : {X : Type 0} → Option X → Option X → Result X GridKind
 given_value (Some old) value = Err TwiceKey
 given_value None None = Err BadNumber
 given_value None (Some x) = Ok x
 
--- a null text, if none was given before and it has no colon
+-- the null text, if it is the first one and does not contain a colon
 abbrev pub given_null : Option (List ℕ) → List ℕ → Result (List ℕ) GridKind
 given_null old text = if has_colon text then Err BadHeader else given_value old (Some text)
 
--- that the type is given now, if it was not given before and is the type of whole numbers
+-- true, if the type is the first one and `int`
 abbrev pub given_type : Bool → List ℕ → Result Bool GridKind
 given_type old text = if old then Err TwiceKey else (if is_int text then Ok true else Err BadType)
 
--- the header over a region, if there is one
+-- the header over a region, or an error if there is no region
 abbrev pub keys_judged : Result RegionValue RegionFault → Option (List ℕ) → Option ℤ → Result HeaderValue GridKind
 keys_judged (Ok region) null multiplier = Ok (record { region = region; null_text = unwrap_or null usual_null; multiplier = unwrap_or multiplier usual_multiplier })
 keys_judged (Err f) null multiplier = Err (Region f)

@@ -1,4 +1,4 @@
--- The cell of a number.
+-- The cells of numbers in range.
 use Rattle.std.specs.Prelude.{ℤ, ◌≡◌, false, Some, Result, Ok, Err, if◌then◌else◌}
 use Rattle.std.specs.List.{list_all}
 use Rattle.cell_core.specs.Grid.{CellValue}
@@ -8,11 +8,11 @@ use Rattle.cell_ascii_meaning.specs.GridWords.{HeaderValue, usual_multiplier}
 use Rattle.cell_ascii_meaning.specs.declared.grid_fault.GridKind.{GridKind}
 use Rattle.cell_ascii_meaning.specs.declared.grid_fault.GridKind.TheVariants.{CellRange}
 
--- the cell of a number
+-- the cell of a number, or an error if it is out of range
 abbrev pub cell_in_range : ℤ → Result CellValue GridKind
 cell_in_range n = if is_in_range n then Ok (Some n) else Err CellRange
 
--- a header under which each word of digits denotes its own number, if this is in range
+-- under this header, each word of digits denotes its own number, if this is in range
 pub record HasPlainNumbers (h : HeaderValue) : Type 0 where
   pub null : list_all is_digit h.null_text ≡ false
   pub multiplier : h.multiplier ≡ usual_multiplier

@@ -1,5 +1,5 @@
--- The bytes that a source has left, and the place of a scanner of words. The cell of a number, the values of keys, a
--- header line by line.
+-- The bytes ahead of a source, the position of a scanner, the cell of a number, the values of keys, and headers line by
+-- line.
 pub mod Ahead
 pub mod Scan
 pub mod InRange

@@ -1,4 +1,4 @@
-//! What the header of a grid text says about its cells.
+//! Reads words under the header of a grid text.
 
 ghost use Rattle.std.specs.Prelude.{◌≡◌, Some, true, bytes_eq};
 ghost use Rattle.cell_ascii_meaning.specs.CellTexts.{cell_of_word, cell_of_number};
@@ -13,15 +13,16 @@ use cell_core::region::Region;
 use cell_core_values::whole_numbers;
 use std::marker::Model;
 
-/// The region, the text that stands for null, and the number that each cell is multiplied by.
+/// The region, the null text, and the multiplier of the cells.
 #[derive(Drop)]
 pub struct Header {
     region: Region,
     null_text: HeaderNull,
-    // The null text as a number, if it is one: words of other numbers in range are then not compared with the text.
+    // The null text as a number, if it is one. A word of any other number in range need not be compared with the null
+    // text.
     null_number: Option<i64>,
     multiplier: i32,
-    // Whether the null text is not a number and the multiplier is 1, so that each number in range is its own cell.
+    // Whether the null text is not a number and the multiplier is 1, so that every number in range denotes itself.
     is_plain: bool,
 }
 
@@ -50,7 +51,7 @@ fn in_range(number: i64) -> Result<Cell, GridKind>
     }
 }
 
-// The cell of a number, by the multiplier.
+// Returns the cell of a number, multiplied by the multiplier.
 #[inline(always)]
 fn multiplied_cell(multiplier: i32, number: i64) -> Result<Cell, GridKind>
     ensures { result ≡ cell_of_number multiplier (Some number) }
@@ -58,7 +59,7 @@ fn multiplied_cell(multiplier: i32, number: i64) -> Result<Cell, GridKind>
     if !whole_numbers::is_in_range(number) {
         return Err(GridKind::CellRange);
     }
-    // With the usual multiplier, the range need not be checked again.
+    // Without a multiplier, the range is checked only once.
     if multiplier == 1 {
         return in_range(number);
     }
@@ -66,7 +67,7 @@ fn multiplied_cell(multiplier: i32, number: i64) -> Result<Cell, GridKind>
 }
 
 impl Header {
-    /// The header with these values.
+    /// Returns the header with these values.
     pub fn new(region: Region, null_text: HeaderNull, multiplier: i32) -> Header
         ensures { result
             ≡ record { region = region; null_text = null_text; multiplier = multiplier } }
@@ -82,14 +83,14 @@ impl Header {
         }
     }
 
-    /// The region of the header.
+    /// Returns the region of the header.
     pub fn region(&self) -> Region
         ensures { result ≡ self.now.region }
     {
         self.region
     }
 
-    /// The cell that the word of a number denotes. Inlined, since it is called for each cell.
+    /// Returns the cell that the word of a number denotes. Inlined, because it is called for each cell.
     #[inline(always)]
     pub fn cell_of_number(&self, word: &[u8], number: i64) -> Result<Cell, GridKind>
         requires { whole_number word.now ≡ Some number }
@@ -105,7 +106,8 @@ impl Header {
         }
     }
 
-    // Whether the word of a number is the null text. The texts are compared only if the numbers do not decide it.
+    // Returns whether the word of a number is the null text. The texts are compared only if the numbers do not decide
+    // it.
     #[inline(always)]
     fn spells_null(&self, word: &[u8], number: i64) -> bool
         requires { whole_number word.now ≡ Some number }
@@ -120,21 +122,21 @@ impl Header {
         self.null_text.is(word)
     }
 
-    /// Whether each word of digits in range denotes its own number.
+    /// Returns whether each word of digits denotes its own number, if this is in range.
     pub fn has_plain_numbers(&self) -> bool
         ensures { result ≡ true → HasPlainNumbers self.now }
     {
         !self.null_text.has_only_digits() && self.multiplier == 1
     }
 
-    /// Whether a star is null.
+    /// Returns whether a star denotes null.
     pub fn is_star_null(&self) -> bool
         ensures { result ≡ true → self.now.null_text ≡ usual_null }
     {
         self.null_text.is(b"*")
     }
 
-    /// The cell that a word denotes.
+    /// Returns the cell that a word denotes.
     pub fn cell_of_word(&self, word: &[u8]) -> Result<Cell, GridKind>
         ensures { result ≡ cell_of_word self.now word.now }
     {

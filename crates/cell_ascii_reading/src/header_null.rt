@@ -1,4 +1,4 @@
-//! The text that stands for null.
+//! Stores the text that denotes null.
 
 ghost use Rattle.std.specs.Prelude.{◌≡◌, ◌≤◌, length, bytes_eq};
 ghost use Rattle.std.specs.List.{list_all};
@@ -9,7 +9,7 @@ ghost use Rattle.cell_core_values.specs.Capped.{capped_number};
 use cell_core_values::whole_numbers;
 use std::marker::Model;
 
-/// A text of at most 64 bytes.
+/// A null text of at most 64 bytes.
 #[derive(Drop)]
 pub struct HeaderNull {
     bytes: [u8; 64],
@@ -27,7 +27,7 @@ impl Model for HeaderNull {
 }
 
 impl HeaderNull {
-    /// An asterisk.
+    /// Returns the default null text, an asterisk.
     pub fn usual() -> HeaderNull
         ensures { result ≡ usual_null }
     {
@@ -37,7 +37,7 @@ impl HeaderNull {
         }
     }
 
-    /// A copy of a text.
+    /// Copies a text.
     pub fn new(text: &[u8]) -> HeaderNull
         requires { length text.now ≤ 64 }
         ensures { result ≡ text.now }
@@ -50,21 +50,21 @@ impl HeaderNull {
         }
     }
 
-    /// Whether a word equals this text byte for byte.
+    /// Returns whether a word equals the null text byte for byte.
     pub fn is(&self, word: &[u8]) -> bool
         ensures { result ≡ bytes_eq word.now self.now }
     {
         word == &self.bytes[..self.len]
     }
 
-    /// Whether this text has only digits.
+    /// Returns whether the null text consists only of digits.
     pub fn has_only_digits(&self) -> bool
         ensures { result ≡ list_all is_digit self.now }
     {
         whole_numbers::are_digits(&self.bytes[..self.len])
     }
 
-    /// This text as a number, if it is one. Numbers beyond -10^18 or 10^18 are returned as that bound.
+    /// Returns the null text as a number, capped at -10^18 and 10^18, if it is one.
     pub fn as_number(&self) -> Option<i64>
         ensures { result ≡ capped_number self.now }
     {

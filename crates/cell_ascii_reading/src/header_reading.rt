@@ -1,4 +1,4 @@
-//! The header of a grid text, line by line.
+//! Reads the header of a grid text line by line.
 
 ghost use Rattle.std.specs.Prelude.{◌≡◌, ◌+◌, ◌^◌, ◌<◌, ◌≤◌, false, drop, length, Ok, OnOk, IfOk};
 ghost use Rattle.std.specs.List.{position_or_len};
@@ -15,17 +15,17 @@ use crate::{key_names, number};
 use cell_ascii_meaning::grid_fault::{GridFault, GridKind};
 use cell_core::source::Source;
 
-// One line more than the number of keys.
+// One more than the number of keys.
 const LINES: u32 = 10;
 
-/// What ends a header line.
+/// The end of a header line: a line feed, or the end of the text.
 #[derive(Clone, Copy)]
 pub enum Ending {
     Feed,
     Text,
 }
 
-/// The result of a line: a key, the first word of the data, or the end of the text.
+/// The result of reading a header line: a key, the first word of the data, or the end of the text.
 #[derive(Clone, Copy)]
 pub enum HeaderLine {
     Key,
@@ -42,7 +42,7 @@ fn bad_header(line: u64) -> GridFault
     }
 }
 
-// Reads the value of a header line. Returns the place in the word where it begins.
+// Reads the value of a header line. Returns the index in the scanner's word at which the value begins.
 fn read_value<R: Source>(scanner: &mut Scanner<R>, start: usize) -> Result<usize, GridFault>
     requires room { scanner.old.line + 1048576 < 2 ^ 64 }
     requires run { scanner.old.run ≡ 0 }
@@ -86,7 +86,7 @@ fn end_line<R: Source>(scanner: &mut Scanner<R>) -> Result<Ending, GridFault>
     }
 }
 
-// Reads a header line after its first word, given the place of the word's first colon.
+// Reads a header line after its first word, given the index of the word's first colon.
 fn read_key<R: Source>(
     scanner: &mut Scanner<R>,
     keys: &mut HeaderKeys,
@@ -113,7 +113,7 @@ fn read_key<R: Source>(
     }
 }
 
-// Reads a line of the header, or the first word of the data.
+// Reads a header line, or the first word of the data.
 fn read_line<R: Source>(
     scanner: &mut Scanner<R>,
     keys: &mut HeaderKeys,
@@ -148,7 +148,8 @@ fn read_line<R: Source>(
     }
 }
 
-/// Reads the lines of a header up to the first word of the data, or to the end of the text. Returns whether that word was read.
+/// Reads the lines of a header up to the first word of the data, or to the end of the text. Returns whether it found a
+/// first word.
 pub fn read_header<R: Source>(
     scanner: &mut Scanner<R>,
     keys: &mut HeaderKeys,

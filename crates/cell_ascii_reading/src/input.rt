@@ -1,4 +1,4 @@
-//! Bytes of a source, one at a time.
+//! Reads a source through a buffer, one byte at a time.
 
 ghost use Rattle.std.specs.Prelude.{◌≡◌, ◌<◌, ◌≤◌, [], drop, length, OnErr, IfOk, IfSome, IfNone, Ok, Some, None, slice_get, true, false, is_err};
 ghost use Rattle.cell_core_devices.specs.Asking.{hears, heard_first};
@@ -10,7 +10,7 @@ use cell_core::source::Source;
 use std::alloc::Global;
 use std::marker::Model;
 
-// Number of bytes requested at a time.
+// Number of bytes requested from the source per call.
 const BLOCK: usize = 65536;
 
 /// A source with a buffer.
@@ -44,7 +44,7 @@ impl<R: Source> Model for Input<R> {
 }
 
 impl<R: Source> Input<R> {
-    /// An input of which nothing was read. It takes the memory of a block.
+    /// Returns an input at the first byte of a source. Allocates a buffer of one block.
     ///
     /// # Errors
     ///
@@ -70,8 +70,8 @@ impl<R: Source> Input<R> {
         })
     }
 
-    /// The next byte, or `None` at the end. The source is not asked again after its end or after an `Err`, which is
-    /// then returned from every call.
+    /// Returns the next byte, or `None` at the end. Does not ask the source again after its end or an `Err`. After an
+    /// `Err`, every call returns an error.
     pub fn peek(&mut self) -> Result<Option<u8>, DeviceFault>
         ensures same { bytes_to_come self.new ≡ bytes_to_come self.old }
         ensures byte { IfOk result (λ o. IfSome o (λ b. slice_get self.new.buffered 0 ≡ Some b)) }
@@ -106,14 +106,14 @@ impl<R: Source> Input<R> {
         Ok(Some(self.buffer[0]))
     }
 
-    /// The bytes in the buffer.
+    /// Returns the bytes in the buffer.
     pub fn buffered_bytes(&self) -> &[u8]
         ensures { result.now ≡ self.now.buffered }
     {
         &self.buffer[self.at..self.filled]
     }
 
-    /// Skips bytes of the buffer.
+    /// Skips `n` buffered bytes.
     pub fn pass(&mut self, n: usize)
         requires { n ≤ length self.old.buffered }
         ensures { self.new ≡ record self.old { buffered = drop n self.old.buffered } }

@@ -1,11 +1,11 @@
-//! The names of the keys of a header.
+//! The names of header keys.
 
 ghost use Rattle.std.specs.Prelude.{◌≡◌, Option};
 ghost use Rattle.cell_ascii_meaning.specs.KeyNames.{header_key_of};
 
 use cell_ascii_meaning::header_key::HeaderKey;
 
-/// The key with this name.
+/// Returns the key with this name.
 pub fn header_key_of(name: &[u8]) -> Option<HeaderKey>
     ensures { result ≡ header_key_of name.now }
 {

@@ -1,4 +1,4 @@
-//! The keys of a header that were given so far.
+//! Collects the keys of a header.
 
 ghost use Rattle.std.specs.Prelude.{◌≡◌, ◌≤◌, length, Ok, Err, OnOk, IfErr, Option};
 ghost use Rattle.cell_ascii_meaning.specs.Header.{no_keys, with_header_key, header_of};
@@ -13,7 +13,7 @@ use cell_core::region::{Region, RegionFault};
 use cell_core_values::whole_numbers;
 use std::marker::Model;
 
-/// The keys given so far, with their values.
+/// The keys read so far, with their values.
 #[derive(Drop)]
 pub struct HeaderKeys {
     north: Option<i64>,
@@ -35,7 +35,7 @@ impl Model for HeaderKeys {
     ghost view = { λ k. record { north = k.north; south = k.south; east = k.east; west = k.west; rows = k.rows; cols = k.cols; null = k.null; kind = k.kind; multiplier = k.multiplier } };
 }
 
-// The value of a key: it must be a number, and the first one given.
+// Returns the value of a key. It must be a number, and the first value of this key.
 fn value_given<T: Copy>(old: Option<T>, value: Option<T>) -> Result<T, GridKind>
     ensures { result ≡ given_value old value }
 {
@@ -46,7 +46,7 @@ fn value_given<T: Copy>(old: Option<T>, value: Option<T>) -> Result<T, GridKind>
     }
 }
 
-// The null text: it must be the first one given, and have no colon.
+// Returns the null text. It must be the first one, and must not contain a colon.
 fn given_null(old: &Option<HeaderNull>, text: &[u8]) -> Result<HeaderNull, GridKind>
     requires { length text.now ≤ 64 }
     ensures { result ≡ given_null old.now text.now }
@@ -60,7 +60,7 @@ fn given_null(old: &Option<HeaderNull>, text: &[u8]) -> Result<HeaderNull, GridK
     }
 }
 
-// The type: it must be the first one given, and the type of whole numbers.
+// Checks the type, which must be the first one and `int`.
 fn given_type(old: bool, text: &[u8]) -> Result<bool, GridKind>
     ensures { result ≡ given_type old text.now }
 {
@@ -73,7 +73,7 @@ fn given_type(old: bool, text: &[u8]) -> Result<bool, GridKind>
     Ok(true)
 }
 
-// The header over a region, if there is one.
+// Returns the header over a region, or an error if there is no region.
 fn header_of_region(
     region: Result<Region, RegionFault>,
     null: Option<HeaderNull>,
@@ -92,7 +92,7 @@ fn header_of_region(
 }
 
 impl HeaderKeys {
-    /// No keys yet.
+    /// Returns an empty collection of keys.
     pub fn new() -> HeaderKeys
         ensures { result ≡ no_keys }
     {
@@ -147,7 +147,7 @@ impl HeaderKeys {
         Ok(())
     }
 
-    /// The header that the keys give.
+    /// Returns the header that the keys define.
     pub fn into_header(self) -> Result<Header, GridKind>
         ensures { result ≡ header_of self }
     {

@@ -1,10 +1,10 @@
-//! The reader of a grid below its rows: words, their lines, the header, and the cell that a word
+//! Reads the parts of a grid below its rows: words, their lines, the header, and the cell that a word
 //! denotes (GRASS manual: r.in.ascii).
 //!
-//! - `scanner`: `Scanner`, the words of a source with their lines, from 1; a word has at most 64
-//!   bytes, blanks in a row at most 1,048,576 (profile)
-//! - `header_reading`: `read_header`, which gives each header line to `HeaderKeys`
-//! - `keys`: `HeaderKeys`, the lines so far; `key_names`: the nine keys
+//! - `scanner`: `Scanner` reads the words of a source with their lines, from 1; a word has at most 64
+//!   bytes, and a run of blanks at most 1,048,576 (profile)
+//! - `header_reading`: `read_header` passes each header line to `HeaderKeys`
+//! - `keys`: `HeaderKeys`, the keys read so far; `key_names`: the nine keys
 //! - `header`: `Header`, the region, null text and multiplier; `cell_of_word`
 //! - `number`: `side`, a number of rows or columns; `coordinate`, in units of 10^-8
 //! - private: `input`, a source with a buffer of 65,536 bytes; `header_null`, the null text

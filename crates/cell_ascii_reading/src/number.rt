@@ -1,4 +1,4 @@
-//! Sides and coordinates in decimal.
+//! Reads numbers of rows and columns, and coordinates.
 
 ghost use Rattle.std.specs.Prelude.{◌≡◌, ◌&&◌, ◌==◌, ◌+◌, ◌<◌, ◌≤◌, nat_le, length, IfSome};
 ghost use Rattle.std.specs.List.{position_or_len};
@@ -6,10 +6,10 @@ ghost use Rattle.cell_ascii_meaning.specs.EdgeNumbers.{in_units, unsigned_coordi
 
 use cell_core_values::whole_numbers::{are_digits, value_of_digits, whole_in_range};
 
-// Larger than any coordinate in units.
+// A bound above all coordinates, in units of 10^-8.
 const UNITS_CAP: u64 = 1000000000000000000;
 
-/// A number of rows or columns: a whole number in range; a negative one counts none.
+/// Reads a number of rows or columns: a whole number in range, with 0 for negative numbers.
 pub fn side(text: &[u8]) -> Option<u32>
     ensures { result ≡ side text.now }
 {
@@ -22,7 +22,7 @@ fn are_short(whole: usize, part: usize) -> bool
     whole <= 10 && part <= 8 && 1 <= whole + part
 }
 
-// In units of 10^-8.
+// Reads the digits before and after a point as a number in units of 10^-8.
 fn in_units(whole: &[u8], part: &[u8]) -> Option<u64>
     ensures value { result ≡ in_units whole.now part.now }
     ensures most { IfSome result (λ n. n < UNITS_CAP) }
@@ -34,7 +34,7 @@ fn in_units(whole: &[u8], part: &[u8]) -> Option<u64>
     Some(value_of_digits(whole) * 100000000 + value_of_digits(part) * scale)
 }
 
-/// The place of the first such byte, or the length if there is none.
+/// Returns the index of the first such byte, or the length of the text if there is none.
 pub fn byte_place(byte: u8, text: &[u8]) -> usize
     ensures place { result ≡ position_or_len (λ b. b == byte) text.now }
     ensures within { result ≤ length text.now }
@@ -59,7 +59,7 @@ fn unsigned_coordinate(text: &[u8]) -> Option<u64>
     }
 }
 
-/// A coordinate in units of 10^-8: an optional sign, digits, and optionally a point with further digits.
+/// Reads a coordinate in units of 10^-8: an optional sign, digits, and optionally a point with more digits.
 pub fn coordinate(text: &[u8]) -> Option<i64>
     ensures { result ≡ coordinate text.now }
 {

@@ -1,4 +1,4 @@
-//! Words of a text, with their lines.
+//! Reads the words of a text with their lines.
 
 ghost use Rattle.std.specs.Prelude.{true, false, ◌≡◌, ◌+◌, ◌-◌, ◌^◌, ◌<◌, ◌≤◌, [], length, drop, Ok, Some, IfOk, IfErr, OnErr, IfSome, IfNone, slice_get};
 ghost use Rattle.cell_core_devices.specs.Asking.{heard_first};
@@ -14,7 +14,7 @@ use cell_core::source::Source;
 use std::alloc::Global;
 use std::marker::Model;
 
-/// A text that is read word by word.
+/// Reads a text word by word.
 #[derive(Drop)]
 pub struct Scanner<R: Source> {
     input: Input<R>,
@@ -35,14 +35,14 @@ impl<R: Source> Model for Scanner<R> {
     ghost invariant = { λ s. (s.run ≤ 1048576) × (s.len ≤ 64) };
 }
 
-/// A blank or a line feed.
+/// Returns whether a byte is a blank or a line feed.
 pub fn is_space(b: u8) -> bool
     ensures { result ≡ is_space b }
 {
     b == b' ' || b == b'\t' || b == b'\r' || b == b'\n'
 }
 
-// The result of a step.
+// The result of one step over blanks and line feeds.
 #[derive(Clone, Copy)]
 enum ScanStep {
     Blank,
@@ -51,14 +51,14 @@ enum ScanStep {
     End,
 }
 
-/// What comes after blanks and line feeds.
+/// The result of skipping blanks and line feeds: the start of a word, or the end of the text.
 #[derive(Clone, Copy)]
 pub enum Next {
     Word,
     End,
 }
 
-/// What comes after the blanks of a line.
+/// The result of skipping the blanks of a line: the start of a word, a line feed, or the end of the text.
 #[derive(Clone, Copy)]
 pub enum InLine {
     Word,
@@ -70,7 +70,7 @@ impl<R: Source> Scanner<R> {
     ghost use Rattle.cell_ascii_reading.specs.parts.ScanSteps.{IsStep};
     ghost use Rattle.cell_ascii_reading.specs.Scan.{start_seen, gap_seen, line_count_seen, word_seen, part_seen};
 
-    // The next byte, or `None` at the end. A failing device is an error at the current line.
+    // Returns the next byte, or `None` at the end. Reports a failed source as an error at the current line.
     #[inline(always)]
     fn peek(&mut self) -> Result<Option<u8>, GridFault>
         ensures same { bytes_to_come self.new.ahead ≡ bytes_to_come self.old.ahead }
@@ -91,7 +91,7 @@ impl<R: Source> Scanner<R> {
         }
     }
 
-    // Skips one blank or line feed if it is next.
+    // Skips the next byte if it is a blank or a line feed.
     fn step(&mut self) -> Result<ScanStep, GridFault>
         requires room { self.old.line + 1048576 < 2 ^ 64 + self.old.run }
         requires run { self.old.run ≤ 1048576 }
@@ -169,7 +169,7 @@ impl<R: Source> Scanner<R> {
         }
     }
 
-    // Reads one byte of a word if it is next.
+    // Reads the next byte if it continues the word. Returns whether it does.
     fn grow(&mut self) -> Result<bool, GridFault>
         requires { length self.old.word ≤ 64 }
         ensures word { Agrees (word_from self.old.line self.old.word) self.old.ahead
@@ -199,7 +199,7 @@ impl<R: Source> Scanner<R> {
         Ok(true)
     }
 
-    /// Reads the next word. No space comes before it.
+    /// Reads the next word. The next byte must not be a blank or a line feed.
     pub fn read_word(&mut self) -> Result<(), GridFault>
         ensures word { Agrees (word_from self.old.line []) self.old.ahead
             (word_seen result self.new.word) self.new.ahead }
@@ -226,21 +226,21 @@ impl<R: Source> Scanner<R> {
         self.run = 0;
     }
 
-    /// The bytes in the buffer.
+    /// Returns the bytes in the buffer.
     pub fn buffered_bytes(&self) -> &[u8]
         ensures { result.now ≡ self.now.ahead.buffered }
     {
         self.input.buffered_bytes()
     }
 
-    /// Whether no blank was skipped since the last word.
+    /// Returns whether no blank or line feed was skipped since the last word.
     pub fn is_behind_word(&self) -> bool
         ensures { result ≡ true → self.now.run ≡ 0 }
     {
         self.run == 0
     }
 
-    /// Counts line feeds among skipped bytes.
+    /// Adds `count` line feeds among skipped bytes to the line number.
     pub fn count_lines(&mut self, count: u64)
         requires { self.old.line + count < 2 ^ 64 }
         ensures { self.new ≡ record self.old { line = self.old.line + count } }
@@ -248,7 +248,7 @@ impl<R: Source> Scanner<R> {
         self.line += count;
     }
 
-    /// Skips bytes of the buffer that end with a word.
+    /// Skips `n` buffered bytes, which end with a word.
     pub fn pass(&mut self, n: usize)
         requires { n ≤ length self.old.ahead.buffered }
         ensures { self.new ≡ record self.old {
@@ -260,14 +260,14 @@ impl<R: Source> Scanner<R> {
         self.input.pass(n);
     }
 
-    /// The scanner's line, from 1.
+    /// Returns the line of the scanner, from 1.
     pub fn line(&self) -> u64
         ensures { result ≡ self.now.line }
     {
         self.line
     }
 
-    /// The word that was read.
+    /// Returns the last word that was read.
     pub fn word(&self) -> &[u8]
         ensures value { result.now ≡ self.now.word }
         ensures short { length result.now ≤ 64 }
@@ -275,7 +275,7 @@ impl<R: Source> Scanner<R> {
         &self.word[..self.len]
     }
 
-    /// A scanner at the first byte of a source.
+    /// Returns a scanner at the first byte of a source.
     ///
     /// # Errors
     ///

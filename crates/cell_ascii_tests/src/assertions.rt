@@ -1,9 +1,10 @@
-//! `assert_same!` is `assert_eq!` as a call: the comparison and its message are proved once, and not at each use.
+//! Defines `assert_same!`, which is `assert_eq!` as a call, so that the comparison and its message are proved once and
+//! not at each use.
 
 use std::fmt::{Debug, Display};
 use std::process::Abort;
 
-/// The result equals the expected one.
+/// Asserts that the result equals the expected one.
 pub(crate) fn same<R: Abort, N: Display + Drop, T: PartialEq + Debug>(
     rt: &R,
     note: N,

@@ -1,4 +1,4 @@
-//! Whole texts, read in pieces of seven bytes.
+//! Tests of complete texts, read in pieces of seven bytes.
 
 ghost use Rattle.cell_ascii_meaning.specs.Writing.{IsNullText};
 
@@ -49,7 +49,7 @@ fn read<R: AllocGlobal>(rt: &R, text: &[u8]) -> Result<Result<CellMap, GridFault
     Ok(read_map(rt.alloc(), MemorySource::new(bytes, 7, false)))
 }
 
-// The map of a text without an error.
+// Reads the map of a valid text.
 fn read_good<R: AllocGlobal>(rt: &R, text: &[u8]) -> Result<CellMap, Fail> {
     Ok(read(rt, text)??)
 }
@@ -75,7 +75,7 @@ fn expect_faults<R: Abort + AllocGlobal>(
     Ok(())
 }
 
-// The category of a cell of a map; None if it is null or outside.
+// Returns the category of a cell, or `None` if the cell is null or outside the map.
 fn category(map: &CellMap, row: u32, col: u32) -> Option<i32> {
     let region = map.region();
     if row < region.rows() && col < region.cols() {
@@ -84,14 +84,14 @@ fn category(map: &CellMap, row: u32, col: u32) -> Option<i32> {
     None
 }
 
-// The map has these cells with these categories.
+// Checks the categories of these cells.
 fn expect_categories<R: Abort>(rt: &R, map: &CellMap, cells: &[(u32, u32, Option<i32>)]) {
     for (row, col, wanted) in cells {
         assert_same!(rt; category(map, *row, *col), *wanted, "{row} {col}");
     }
 }
 
-// The text of a map with this null text, put in pieces of a given size; its length is what the call returns.
+// Writes a map with this null text to a sink, checks the returned length, and returns the text.
 fn written<R: Abort + AllocGlobal>(
     rt: &R,
     map: &CellMap,
@@ -106,7 +106,7 @@ fn written<R: Abort + AllocGlobal>(
     Ok(sink.bytes().to_vec(rt.alloc())?)
 }
 
-// A text followed by more bytes, all equal.
+// Returns a text followed by `count` equal bytes.
 fn followed_by<R: AllocGlobal>(rt: &R, text: &[u8], byte: u8, count: u32) -> Result<Vec<u8>, Fail> {
     let mut bytes = text.to_vec(rt.alloc())?;
     for _ in 0..count {
@@ -124,7 +124,7 @@ fn reads_a_grid(rt: HostRuntime) -> Result<(), Fail> {
     Ok(())
 }
 
-// Texts whose header has an error, and its line.
+// Texts with an error in the header, with its kind and line.
 const HEADER_FAULTS: [(&[u8], GridKind, u64); 8] = [
     (b"", GridKind::MissingKey, 1),
     (b"north: 3 4\n", GridKind::BadHeader, 1),
@@ -153,7 +153,7 @@ fn reports_faults_of_a_header(rt: HostRuntime) -> Result<(), Fail> {
     expect_faults(&rt, &HEADER_FAULTS)
 }
 
-// Texts whose region has an error.
+// Texts with an error in the region, with its kind and line.
 const REGION_FAULTS: [(&[u8], GridKind, u64); 3] = [
     (
         b"north: 3\nsouth: 0\neast: 4\nwest: 0\nrows: -1\ncols: 4\n1 1 2 *\n1 2 2 2\n3 3 1 1\n",
@@ -177,7 +177,7 @@ fn reports_faults_of_a_region(rt: HostRuntime) -> Result<(), Fail> {
     expect_faults(&rt, &REGION_FAULTS)
 }
 
-// Regions with more cells than there are categories above 0, and regions with just that many.
+// Regions with more cells than there are categories above 0, and a region with exactly as many.
 const SIZE_FAULTS: [(&[u8], GridKind, u64); 3] = [
     (
         b"north: 1\nsouth: 0\neast: 1\nwest: 0\nrows: 65535\ncols: 65535\n7\n",
@@ -201,7 +201,7 @@ fn reports_too_many_cells(rt: HostRuntime) -> Result<(), Fail> {
     expect_faults(&rt, &SIZE_FAULTS)
 }
 
-// A row of 65535 cells of 7.
+// Returns a text with a single row of 65535 cells of category 7.
 fn widest_row<R: AllocGlobal>(rt: &R) -> Result<Vec<u8>, Fail> {
     let mut text = b"north: 1\nsouth: 0\neast: 1\nwest: 0\nrows: 1\ncols: 65535\n".to_vec(
         rt.alloc(),
@@ -213,7 +213,7 @@ fn widest_row<R: AllocGlobal>(rt: &R) -> Result<Vec<u8>, Fail> {
     Ok(text)
 }
 
-// The widest row, of equal cells: it is written as it was read.
+// Reading and writing the widest row, of equal cells, reproduces its text.
 #[test]
 fn reads_the_widest_row(rt: HostRuntime) -> Result<(), Fail> {
     let text = widest_row(&rt)?;
@@ -224,7 +224,7 @@ fn reads_the_widest_row(rt: HostRuntime) -> Result<(), Fail> {
     Ok(())
 }
 
-// Texts with too few cells or too many.
+// Texts with too few or too many cells, with the kind and line of the error.
 const CELL_FAULTS: [(&[u8], GridKind, u64); 3] = [
     (
         b"north: 3\nsouth: 0\neast: 4\nwest: 0\nrows: 3\ncols: 4\n",
@@ -248,7 +248,7 @@ fn reports_faults_of_cells(rt: HostRuntime) -> Result<(), Fail> {
     expect_faults(&rt, &CELL_FAULTS)
 }
 
-// Texts with cells that are invalid because of their null text or multiplier.
+// Texts with cells that are invalid because of the null text or the multiplier.
 const NULL_FAULTS: [(&[u8], GridKind, u64); 2] = [
     (
         b"north: 1\nsouth: 0\neast: 3\nwest: 0\nrows: 1\ncols: 3\nnull: -9\nmultiplier: 3\n* 9 -2\n",
@@ -276,7 +276,7 @@ fn reads_null_and_multiplier(rt: HostRuntime) -> Result<(), Fail> {
     expect_faults(&rt, &NULL_FAULTS)
 }
 
-// Texts that become invalid if a byte is repeated: the byte, the number of repetitions, and the error.
+// Texts followed by a repeated byte: the text, the byte, the number of repetitions, and the error.
 const LIMITS: [(&[u8], u8, u32, Option<GridFault>); 5] = [
     (GRID, b' ', 1048575, None),
     (
@@ -326,7 +326,7 @@ fn limits_words_and_blanks(rt: HostRuntime) -> Result<(), Fail> {
     Ok(())
 }
 
-// A text is written in blocks, and never flushed.
+// A text is written in blocks and never flushed.
 #[test]
 fn writes_without_a_flush(rt: HostRuntime) -> Result<(), Fail> {
     let map = read_good(&rt, GRID)?;
@@ -340,7 +340,7 @@ fn writes_without_a_flush(rt: HostRuntime) -> Result<(), Fail> {
     Ok(())
 }
 
-// The text written for this one.
+// Reads a text and returns the text written for its map.
 fn written_again<R: Abort + AllocGlobal>(rt: &R, text: &[u8]) -> Result<Vec<u8>, Fail> {
     let map = read_good(rt, text)?;
     let sink = MemorySink::new(vec![in rt.alloc(); 0u8; 100]?, 3, false);

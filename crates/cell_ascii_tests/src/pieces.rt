@@ -1,5 +1,5 @@
-//! Texts whose bytes come in pieces of many sizes, so that each place of a text is at the end of a piece, and of a
-//! block of the reader, at least once.
+//! Tests of texts read in pieces of many sizes, so that each byte of a text is the last of a piece, and of the reader's
+//! buffer, at least once.
 
 ghost use Rattle.std.specs.Prelude.{◌<◌};
 
@@ -26,7 +26,7 @@ const TEXTS: [&[u8]; 9] = [
     b"north: 1\nsouth: 0\neast: 3\nwest: 0\nrows: 2\ncols: 3\n1 2 3\n4 5 6 7\n",
 ];
 
-// Reads a text after `spaces` spaces from a source that gives `piece` bytes at a time.
+// Reads a text after `spaces` spaces from a source that returns `piece` bytes per call.
 fn read_behind<R: AllocGlobal>(
     rt: &R,
     spaces: usize,
@@ -40,7 +40,7 @@ fn read_behind<R: AllocGlobal>(
     Ok(read_map(rt.alloc(), MemorySource::new(bytes, piece, false)))
 }
 
-// The cells of a map, row by row.
+// Returns the cells of a map, row by row.
 fn cells_of(alloc: Global, map: &CellMap) -> Result<Vec<Cell>, Memory> {
     let region = map.region();
     let mut found = Vec::new(alloc);
@@ -52,7 +52,7 @@ fn cells_of(alloc: Global, map: &CellMap) -> Result<Vec<Cell>, Memory> {
     Ok(found)
 }
 
-// Both are the same map, or the same error.
+// Checks that both are the same map or the same error.
 fn expect_same<R: Abort + AllocGlobal>(
     rt: &R,
     answer: &Result<CellMap, GridFault>,
@@ -73,7 +73,7 @@ fn expect_same<R: Abort + AllocGlobal>(
     }
 }
 
-// Each text gives the same result in one piece and in pieces that end at any of its places.
+// Checks that each text is read the same in one piece and in pieces that end at any of its bytes.
 fn agrees_in_pieces<R: Abort + AllocGlobal>(rt: &R, piece: usize) -> Result<(), Fail>
     requires { 0 < piece }
 {
@@ -97,7 +97,7 @@ fn each_place_ends_a_piece(rt: HostRuntime) -> Result<(), Fail> {
     agrees_in_pieces(&rt, 65)
 }
 
-// The size of the reader's block, minus one and plus one.
+// Uses the size of the reader's buffer, one byte less, and one byte more.
 #[test]
 fn each_place_ends_a_block(rt: HostRuntime) -> Result<(), Fail> {
     agrees_in_pieces(&rt, 65535)?;

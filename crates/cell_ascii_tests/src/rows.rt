@@ -1,4 +1,4 @@
-//! Grids read call by call, in pieces of seven bytes.
+//! Tests of grids read call by call, in pieces of seven bytes.
 
 ghost use Rattle.std.specs.Prelude.{◌≡◌, ◌<◌, ◌≤◌, length, IfOk};
 
@@ -80,7 +80,7 @@ fn reads_rows_to_the_end(rt: HostRuntime) -> Result<(), Fail> {
     Ok(())
 }
 
-// A source that gives one byte per call and fails at a place, or else continues forever. It counts its calls.
+// A source that returns one byte per call and fails at an index, or otherwise continues forever. It counts its calls.
 #[derive(Drop)]
 struct Counting<'a> {
     text: &'a [u8],
@@ -90,7 +90,7 @@ struct Counting<'a> {
 }
 
 impl<'a> Counting<'a> {
-    // What a call returns.
+    // Returns the next byte, or fails.
     fn give(&mut self, buf: &mut [u8]) -> Result<usize, DeviceFault>
         requires { 0 < length buf.old }
         ensures count { IfOk result (λ n. n ≤ length buf.new) }

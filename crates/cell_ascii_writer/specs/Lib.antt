@@ -1,4 +1,4 @@
--- The written cells of a row, run by run.
+-- The text of a row's cells, run by run.
 pub mod WrittenRuns
 pub mod Fields
 pub mod parts

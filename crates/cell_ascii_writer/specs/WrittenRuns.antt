@@ -1,4 +1,4 @@
--- The written cells of a row, run by run.
+-- The text of a row's cells, run by run.
 use Rattle.std.specs.Prelude.{ℕ, List, ◌∷◌, map, flat_map, replicate, codes}
 use Rattle.std.specs.List.{join_with_byte}
 use Rattle.cell_core_values.specs.Letters.{byte}
@@ -9,10 +9,10 @@ use Rattle.cell_core.specs.Text.{cell_text}
 abbrev pub times : ℕ → List ℕ → List ℕ
 times n text = flat_map (λ t. t) (replicate n text)
 
--- a space and a cell, for each cell
+-- a space and the text of each cell
 abbrev pub spaced_cells : List ℕ → List CellValue → List ℕ
 spaced_cells null_text cells = flat_map (λ cell. byte (codes " ") ∷ cell_text null_text cell) cells
 
--- the cells, separated by spaces
+-- the texts of cells, separated by spaces
 abbrev pub joined_cells : List ℕ → List CellValue → List ℕ
 joined_cells null_text cells = join_with_byte (byte (codes " ")) (map (cell_text null_text) cells)

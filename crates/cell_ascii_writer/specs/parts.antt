@@ -1,2 +1,2 @@
--- What is prepared to write a map.
+-- Data prepared before a map is written.
 pub mod MadeFields

@@ -1,4 +1,4 @@
-//! The cells of a row, written into a line.
+//! Writes the cells of a row into a line.
 
 ghost use Rattle.std.specs.Prelude.{◌≡◌, ℕ, ◌+◌, ◌*◌, ◌<◌, ◌≤◌, ◌∷◌, ◌++◌, codes, length, replicate, take};
 ghost use Rattle.cell_core_values.specs.Letters.{byte};
@@ -12,16 +12,16 @@ use cell_core::cell::Cell;
 use cell_core_values::small_cells::cell_of_byte;
 use itoa::Buffer;
 
-// Maximum number of cells gathered before they are pushed.
+// Maximum number of cells gathered before they are written.
 pub(crate) const CELLS: usize = 128;
 
-// Room for a cell: its text has at most 64 bytes, after a space. Multiplying by 72 is faster than by 65.
+// Number of bytes reserved for a cell: a space and at most 64 bytes of text. Multiplying by 72 is faster than by 65.
 pub(crate) const ROOM: usize = 72;
 
-// Bytes of a line of CELLS cells.
+// Number of bytes in a line of CELLS cells.
 pub(crate) const LINE: usize = CELLS * ROOM;
 
-// Writes a space and a cell into a line from `start`, and returns where they end. The cell's text may be long.
+// Writes a space and a cell, whose text may be long, into a line at index `at`. Returns where they end.
 fn put_long_cell(line: &mut [u8], at: usize, cell: Cell, fields: &Fields<'_>) -> usize
     requires { at + 72 ≤ length line.old }
     ensures end { result ≤ at + 72 }
@@ -34,7 +34,7 @@ fn put_long_cell(line: &mut [u8], at: usize, cell: Cell, fields: &Fields<'_>) ->
     }
 }
 
-// Writes a field `count` times into a line from `start`, and returns where the last one ends.
+// Writes a field `count` times into a line, starting at index `start`. Returns where the last one ends.
 #[inline(always)]
 fn put_fields(line: &mut [u8], start: usize, field: Field, count: usize) -> usize
     requires room { start + 8 * count ≤ length line.old }
@@ -50,7 +50,7 @@ fn put_fields(line: &mut [u8], start: usize, field: Field, count: usize) -> usiz
     end
 }
 
-// Writes a space and a cell `count` times in the same way. The cell's text may be long.
+// Writes a space and a cell, whose text may be long, `count` times into a line. Returns where the last one ends.
 fn put_long_cells(
     line: &mut [u8],
     start: usize,
@@ -70,8 +70,8 @@ fn put_long_cells(
     end
 }
 
-// Writes a space and a cell `count` times in the same way, if the cell is null or its text is long. Not inlined, since
-// it would take registers from the loops over cells.
+// Writes a space and a cell `count` times into a line, if the cell is null or its text is long. Not inlined, because it
+// would take registers from the loops over cells.
 #[inline(never)]
 fn put_other_cells(
     line: &mut [u8],
@@ -91,7 +91,8 @@ fn put_other_cells(
     }
 }
 
-// Writes a space and a cell `count` times in the same way. Tests for numbers of few digits first, since most cells are.
+// Writes a space and a cell `count` times into a line. Checks for numbers with few digits first, because most cells are
+// such numbers.
 #[inline(always)]
 pub(crate) fn put_run(
     line: &mut [u8],
@@ -113,7 +114,7 @@ pub(crate) fn put_run(
     put_fields(line, start, field, count)
 }
 
-// Writes a space and a cell, for each cell, into a line, and returns where the last one ends.
+// Writes a space and the text of each cell into a line. Returns where the last one ends.
 #[inline(never)]
 pub(crate) fn put_cells(line: &mut [u8], cells: &[Cell], fields: &Fields<'_>) -> usize
     requires { 72 * length cells.now ≤ length line.old }
@@ -127,7 +128,7 @@ pub(crate) fn put_cells(line: &mut [u8], cells: &[Cell], fields: &Fields<'_>) ->
     end
 }
 
-// The same for the cells that bytes stand for.
+// Like `put_cells`, for the cells that bytes stand for.
 #[inline(never)]
 fn put_byte_cells(line: &mut [u8], bytes: &[u8], fields: &Fields<'_>) -> usize
     requires { 72 * length bytes.now ≤ length line.old }
@@ -141,7 +142,7 @@ fn put_byte_cells(line: &mut [u8], bytes: &[u8], fields: &Fields<'_>) -> usize
     end
 }
 
-// The same. If null has a field, every one of these cells has one.
+// Like `put_byte_cells`, but faster if null has a field, because then every one of these cells has a field.
 #[inline(never)]
 pub(crate) fn put_bytes(line: &mut [u8], bytes: &[u8], fields: &Fields<'_>) -> usize
     requires { 72 * length bytes.now ≤ length line.old }

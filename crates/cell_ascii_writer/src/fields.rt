@@ -1,4 +1,4 @@
-//! Fields of a grid text: a space and the text of a cell, as the lowest bytes of a number.
+//! Stores fields of a grid text, each a space and the text of a cell, in the lowest bytes of a number.
 
 ghost use Rattle.std.specs.Prelude.{pos, negsuc, ◌≤ℤ◌, ◌≡◌, ◌+◌, ◌<◌, ◌≤◌, ◌∷◌, ◌++◌, ◌^◌, true, codes, decimal, length, take};
 ghost use Rattle.std.specs.Fmt.{signed_decimal};
@@ -11,7 +11,7 @@ ghost use Rattle.cell_ascii_writer.specs.parts.MadeFields.{AreTriples};
 use std::marker::Model;
 use std::simd::prelude::*;
 
-// The number of bytes, and the byte that stands for null.
+// Number of different bytes.
 const BYTES: usize = 256;
 
 const NULL: usize = 255;
@@ -20,20 +20,20 @@ const THOUSAND: usize = 1000;
 
 const MILLION: u32 = 1_000_000;
 
-// Maximum length of a text that has a field.
+// Maximum length of a text that fits into a field.
 const MOST_TEXT: usize = 7;
 
-// Six digits 0.
+// Six bytes of the digit 0.
 const ZEROS: u64 = 0x3030_3030_3030;
 
-// A space and a text, as the lowest bytes of a number, and their length.
+// A space and a text, stored in the lowest bytes of a number, and their length.
 #[derive(Clone, Copy)]
 pub(crate) struct Field {
     pub(crate) bytes: u64,
     pub(crate) size: usize,
 }
 
-// The three digits of each number below a thousand, one per byte, the first one in the lowest.
+// The three digits of each number below 1000, one per byte, with the first digit in the lowest byte.
 #[derive(Drop)]
 pub(crate) struct Triples {
     digits: [u32; THOUSAND],
@@ -52,7 +52,7 @@ impl Triples {
         Triples { digits }
     }
 
-    // The six digits of a number, in the same way.
+    // Returns the six digits of a number, one per byte, with the first digit in the lowest byte.
     #[inline(always)]
     fn six_digits(&self, number: u32) -> u64
         requires { number < 1000000 }
@@ -63,7 +63,7 @@ impl Triples {
         upper as u64 + lower as u64 * 0x100_0000
     }
 
-    // The digits of a number, as the lowest bytes of another number, and how many they are.
+    // Returns the digits of a number in the lowest bytes of the result, and how many digits there are.
     #[inline(always)]
     fn digits_of(&self, number: u32) -> (u64, usize)
         requires some { 0 < number }
@@ -77,7 +77,7 @@ impl Triples {
         ((digits + ZEROS) >> (8 * zeros), 6 - zeros as usize)
     }
 
-    // The field of a category from 1 to 999,999.
+    // Returns the field of a category from 1 to 999,999.
     #[inline(always)]
     fn field(&self, category: i32) -> Field
         requires least { pos 1 ≤ℤ category }
@@ -91,7 +91,7 @@ impl Triples {
         }
     }
 
-    // The field of a category from -999,999 to -1.
+    // Returns the field of a category from -999,999 to -1.
     #[inline(always)]
     fn negative_field(&self, category: i32) -> Field
         requires least { negsuc 999998 ≤ℤ category }
@@ -105,7 +105,7 @@ impl Triples {
         }
     }
 
-    // The field of a number of seven digits.
+    // Returns the field of a number with seven digits.
     fn long_field(&self, number: u32) -> Field
         requires many { 1000000 ≤ number }
         requires few { number < 10000000 }
@@ -120,7 +120,7 @@ impl Triples {
     }
 }
 
-// Whether a category is from 0 to 999,999.
+// Returns whether a category is from 0 to 999,999.
 #[inline(always)]
 pub(crate) fn is_short_number(category: i32) -> bool
     ensures { result ≡ true → (pos 0 ≤ℤ category) × (category ≤ℤ pos 999999) }
@@ -128,7 +128,7 @@ pub(crate) fn is_short_number(category: i32) -> bool
     category >= 0 && category < MILLION as i32
 }
 
-// Writes a space and a text into a line from a place on, and returns where they end.
+// Writes a space and a text into a line at index `at`. Returns where they end.
 pub(crate) fn put_text(line: &mut [u8], at: usize, text: &[u8]) -> usize
     requires { at + 1 + length text.now ≤ length line.old }
     ensures end { result ≡ at + 1 + length text.now }
@@ -140,7 +140,7 @@ pub(crate) fn put_text(line: &mut [u8], at: usize, text: &[u8]) -> usize
     end
 }
 
-// The field of a short text.
+// Returns the field of a short text.
 fn text_field(text: &[u8]) -> Field
     requires { length text.now ≤ 7 }
     ensures { IsFieldOf text.now result }
@@ -151,11 +151,11 @@ fn text_field(text: &[u8]) -> Field
     Field { bytes, size }
 }
 
-// Made once for each map that is written. In contracts it is just the null text.
+// The fields for a map, prepared once per map. In contracts, the value is the null text.
 #[derive(Drop)]
 pub(crate) struct Fields<'a> {
     null_text: &'a [u8],
-    // The fields of cells kept as bytes; the field of null only if its text is short.
+    // The fields of cells stored as bytes. The field of null is valid only if the null text is short.
     small: [Field; BYTES],
     triples: Triples,
 }
@@ -172,7 +172,7 @@ impl<'a> Model for Fields<'a> {
 }
 
 impl<'a> Fields<'a> {
-    // The fields for a map with this null text.
+    // Returns the fields for a map with this null text.
     pub(crate) fn new(null_text: &'a [u8]) -> Fields<'a>
         requires { length null_text.now ≤ 64 }
         ensures { result ≡ null_text.now }
@@ -192,7 +192,7 @@ impl<'a> Fields<'a> {
         }
     }
 
-    // The null text.
+    // Returns the null text.
     pub(crate) fn null_text(&self) -> &'a [u8]
         ensures value { result.now ≡ self.now }
         ensures few { length self.now ≤ 64 }
@@ -200,7 +200,7 @@ impl<'a> Fields<'a> {
         self.null_text
     }
 
-    // Whether null has a field.
+    // Returns whether null has a field.
     #[inline(always)]
     pub(crate) fn has_null(&self) -> bool
         ensures { result ≡ true → length self.now ≤ 7 }
@@ -208,7 +208,7 @@ impl<'a> Fields<'a> {
         self.null_text.len() <= MOST_TEXT
     }
 
-    // The field of the cell that a byte stands for.
+    // Returns the field of the cell that a byte stands for.
     #[inline(always)]
     pub(crate) fn of_byte(&self, byte: u8) -> Field
         requires { length self.now ≤ 7 }
@@ -217,7 +217,7 @@ impl<'a> Fields<'a> {
         self.small[byte as usize]
     }
 
-    // The field of a category from 0 to 999,999.
+    // Returns the field of a category from 0 to 999,999.
     #[inline(always)]
     pub(crate) fn of_number(&self, category: i32) -> Field
         requires least { pos 0 ≤ℤ category }
@@ -230,7 +230,7 @@ impl<'a> Fields<'a> {
         self.triples.field(category)
     }
 
-    // The field of a category from -999,999 to 9,999,999.
+    // Returns the field of a category from -999,999 to 9,999,999.
     #[inline(always)]
     pub(crate) fn of_category(&self, category: i32) -> Field
         requires least { negsuc 999998 ≤ℤ category }
@@ -245,7 +245,7 @@ impl<'a> Fields<'a> {
     }
 }
 
-// Writes a field into a line from `start`, and returns where it ends. Always writes eight bytes.
+// Writes a field into a line at index `at`. Returns where it ends. Always writes eight bytes.
 #[inline(always)]
 pub(crate) fn put_field(line: &mut [u8], at: usize, field: Field) -> usize
     requires room { at + 8 ≤ length line.old }

@@ -1,10 +1,10 @@
-//! Writing a map as a grid (GRASS manual: r.out.ascii).
+//! Writes maps as grids (GRASS manual: r.out.ascii).
 //!
-//! - `writer`: `write_map`, the grid of a map on a sink, which returns the number of bytes;
-//!   `write_grid`, the same through an `OutputBlock`; digits of a coordinate
-//! - private: `cells_in_line`, the cells of a row, one after another; `fields`, a space and the text of a cell as eight bytes
+//! - `writer`: `write_map` writes a map to a sink and returns the number of bytes; `write_grid` writes it
+//!   through an `OutputBlock`
+//! - private: `cells_in_line` writes the cells of a row; `fields` stores a space and the text of a cell in eight bytes
 //!
-//! `map` was read from `GRID`, which it reproduces:
+//! `map` was read from `GRID`, and writing it reproduces this text:
 //!
 //! ```
 //! let length = write_map(&map, b"*", &mut sink)?;

@@ -1,4 +1,4 @@
-//! Writing a map as a grid text.
+//! Writes maps as grid texts.
 
 ghost use Rattle.std.specs.Prelude.{◌≡◌, ◌+◌, ◌<◌, ◌≤◌, ◌==◌, ◌++◌, codes, decimal, drop, flat_map, All, length, replicate, reverse, take, OnOk, IfOk, IfErr, is_err};
 ghost use Rattle.std.specs.List.{prefix_len};
@@ -24,10 +24,10 @@ use cell_core::stretches::Stretches;
 use cell_core_values::small_cells::cell_of_byte;
 use itoa::Buffer;
 
-/// Units per coordinate 1.
+/// Number of units in a coordinate of 1.
 pub const UNIT: u64 = 100000000;
 
-// The number of trailing zeros.
+// Returns the number of trailing zeros.
 fn zeros_at_end(digits: &[u8]) -> usize
     ensures count { result ≡ prefix_len (λ b. b == byte (codes "0")) (reverse digits.now) }
     ensures within { result ≤ length digits.now }
@@ -35,7 +35,7 @@ fn zeros_at_end(digits: &[u8]) -> usize
     digits.iter().rev().take_while(|b| **b == b'0').count()
 }
 
-/// The digits without trailing zeros.
+/// Returns the digits without trailing zeros.
 pub fn without_zeros(digits: &[u8]) -> &[u8]
     ensures value { result.now ≡ without_zeros digits.now }
     ensures len { length result.now ≤ length digits.now }
@@ -43,7 +43,7 @@ pub fn without_zeros(digits: &[u8]) -> &[u8]
     &digits[..digits.len() - zeros_at_end(digits)]
 }
 
-/// The eight digits of a part: the digits of the part plus 10^8, without the leading 1.
+/// Returns the eight digits of a fraction of 10^8: the digits of 10^8 plus the fraction, without the leading 1.
 #[tactic(auto, using(std::proofs::lemmas::Fmt::decimal_nonempty))]
 pub fn eight_digits(buffer: &mut Buffer, part: u64) -> &[u8]
     requires { part < 100000000 }
@@ -54,7 +54,7 @@ pub fn eight_digits(buffer: &mut Buffer, part: u64) -> &[u8]
     &digits[1..]
 }
 
-// Writes a point and the eight digits of a part, without trailing zeros, or nothing if the part is 0.
+// Writes a point and up to eight digits of a fraction of 10^8, without trailing zeros, or nothing if it is 0.
 fn write_fraction<W: Sink>(out: &mut W, block: &mut OutputBlock, part: u64)
     requires { part < 100000000 }
     ensures { Appends W.taken W.faults out.old block.old (fraction_text part) out.new block.new }
@@ -66,7 +66,7 @@ fn write_fraction<W: Sink>(out: &mut W, block: &mut OutputBlock, part: u64)
     block.push(out, without_zeros(eight_digits(&mut Buffer::new(), part)));
 }
 
-// Writes a non-negative number of units.
+// Writes a non-negative coordinate, given in units of 10^-8.
 fn write_units<W: Sink>(out: &mut W, block: &mut OutputBlock, units: u64)
     ensures { Appends W.taken W.faults out.old block.old (units_text units) out.new block.new }
 {
@@ -74,7 +74,7 @@ fn write_units<W: Sink>(out: &mut W, block: &mut OutputBlock, units: u64)
     write_fraction(out, block, units % UNIT);
 }
 
-// Writes a coordinate, in units of 10^-8.
+// Writes a coordinate, given in units of 10^-8.
 fn write_coordinate<W: Sink>(out: &mut W, block: &mut OutputBlock, units: i64)
     ensures { Appends W.taken W.faults out.old block.old (coordinate_text units) out.new block.new }
 {
@@ -84,7 +84,7 @@ fn write_coordinate<W: Sink>(out: &mut W, block: &mut OutputBlock, units: i64)
     write_units(out, block, units.unsigned_abs());
 }
 
-// Writes a key and the separator after it.
+// Writes a key and its separator.
 fn write_key<W: Sink>(out: &mut W, block: &mut OutputBlock, key: &[u8])
     ensures { Appends W.taken W.faults out.old block.old (key.now ++ codes ": ") out.new block.new }
 {
@@ -92,7 +92,7 @@ fn write_key<W: Sink>(out: &mut W, block: &mut OutputBlock, key: &[u8])
     block.push(out, b": ");
 }
 
-// Writes the header line of an edge, in units of 10^-8.
+// Writes the header line of an edge, given in units of 10^-8.
 fn write_edge<W: Sink>(out: &mut W, block: &mut OutputBlock, key: &[u8], edge: i64)
     ensures { Appends W.taken W.faults out.old block.old
         (line_of_key key.now (coordinate_text edge)) out.new block.new }
@@ -120,7 +120,7 @@ fn write_side<W: Sink>(out: &mut W, block: &mut OutputBlock, key: &[u8], count: 
     write_line(out, block, key, Buffer::new().format(count).as_bytes());
 }
 
-// Writes the six lines of a region.
+// Writes the six header lines of a region.
 fn write_region<W: Sink>(out: &mut W, block: &mut OutputBlock, region: Region)
     ensures { Appends W.taken W.faults out.old block.old (region_text region) out.new block.new }
 {
@@ -132,7 +132,7 @@ fn write_region<W: Sink>(out: &mut W, block: &mut OutputBlock, region: Region)
     write_side(out, block, b"cols", region.cols());
 }
 
-// Writes the line of the null text, unless it is the usual one.
+// Writes the header line of the null text, unless it is the default.
 fn write_null_line<W: Sink>(out: &mut W, block: &mut OutputBlock, null_text: &[u8])
     ensures { Appends W.taken W.faults out.old block.old (null_line null_text.now)
         out.new block.new }
@@ -143,7 +143,8 @@ fn write_null_line<W: Sink>(out: &mut W, block: &mut OutputBlock, null_text: &[u
     write_line(out, block, b"null", null_text);
 }
 
-// Pushes the bytes of a line up to a place. Not inlined, since it would take registers from the loops over cells.
+// Writes the first `end` bytes of a line to the block. Not inlined, because it would take registers from the loops over
+// cells.
 #[inline(never)]
 fn push_line<W: Sink>(out: &mut W, block: &mut OutputBlock, line: &[u8], end: usize)
     requires { end ≤ length line.now }
@@ -152,8 +153,8 @@ fn push_line<W: Sink>(out: &mut W, block: &mut OutputBlock, line: &[u8], end: us
     block.push(out, &line[..end]);
 }
 
-// Writes a space and a cell, for each cell of a run, after the bytes of a line that are still to be pushed. If the line
-// has no room, pushes it first. Returns where the remaining bytes end.
+// Writes a space and a cell for each cell of a run that does not fit into the line after its first `start` bytes.
+// Writes the full parts of the line to the block, and returns the number of remaining bytes.
 #[inline(never)]
 fn write_long_run<W: Sink>(
     out: &mut W,
@@ -180,7 +181,7 @@ fn write_long_run<W: Sink>(
     put_run(line, 0, run.0, left, fields)
 }
 
-// The same, whether the line has room or not.
+// Like `write_long_run`, for runs of any length.
 #[inline(always)]
 fn write_run<W: Sink>(
     out: &mut W,
@@ -203,7 +204,7 @@ fn write_run<W: Sink>(
     write_long_run(out, block, line, start, run, fields)
 }
 
-// Writes a space and a cell, for each cell of the runs, after the bytes of a line up to a place.
+// Writes a space and a cell for each cell of the runs, after the first `start` bytes of a line.
 fn write_runs<W: Sink>(
     out: &mut W,
     block: &mut OutputBlock,
@@ -225,7 +226,7 @@ fn write_runs<W: Sink>(
     push_line(out, block, line, end);
 }
 
-// Writes the cells of the runs of a row, separated by spaces.
+// Writes the cells of a row given as runs, separated by spaces.
 fn write_run_row<W: Sink>(
     out: &mut W,
     block: &mut OutputBlock,
@@ -275,7 +276,7 @@ fn write_cell_row<W: Sink>(
     push_line(out, block, line, end);
 }
 
-// Writes cells kept as bytes, separated by spaces.
+// Writes cells stored as bytes, separated by spaces.
 fn write_byte_row<W: Sink>(
     out: &mut W,
     block: &mut OutputBlock,
@@ -302,7 +303,7 @@ fn write_byte_row<W: Sink>(
     push_line(out, block, line, end);
 }
 
-// Writes the cells of a row, in the way that suits how they are stored.
+// Writes the cells of a row in its stored form.
 fn write_row_cells<W: Sink>(
     out: &mut W,
     block: &mut OutputBlock,
@@ -344,10 +345,10 @@ fn write_rows<W: Sink>(out: &mut W, block: &mut OutputBlock, map: &CellMap, null
 
 /// Writes the grid text of a map through a block.
 ///
-/// It has the six lines of the region, the line of the null text if that is not `*`, and a line for each row, with one
-/// space between the cells (r.out.ascii manual). A coordinate is printed exactly, a category in decimal, and null as
-/// the null text: 1 to 64 bytes, none of them a blank, a line feed or a colon (profile). Takes no memory. After a
-/// failed put nothing more is written.
+/// The text consists of the six header lines of the region, a header line for the null text if that is not `*`, and a
+/// line for each row, with a space between cells (r.out.ascii manual). Coordinates are exact, categories are decimal,
+/// and null is the null text, which must have 1 to 64 bytes without blanks, line feeds and colons (profile). Does not
+/// allocate. After a failed put, nothing more is written.
 pub fn write_grid<W: Sink>(out: &mut W, block: &mut OutputBlock, map: &CellMap, null_text: &[u8])
     requires { length null_text.now ≤ 64 }
     ensures { Appends W.taken W.faults out.old block.old (grid_text null_text.now map.now)
@@ -358,7 +359,7 @@ pub fn write_grid<W: Sink>(out: &mut W, block: &mut OutputBlock, map: &CellMap, 
     write_rows(out, block, map, null_text);
 }
 
-// States that the lines of a region are short, and its sides. Does nothing.
+// Provides the facts that the header lines and the numbers of rows and columns are small. Does nothing at run time.
 fn region_is_short(region: Region)
     ensures lines { length (region_text region) ≤ 256 }
     ensures rows { region.rows ≤ 65535 }
@@ -369,11 +370,12 @@ fn region_is_short(region: Region)
     let _ = region.rows();
 }
 
-/// Writes the grid text of a map to a sink, and returns its number of bytes. Each put carries a few KiB. Takes no memory.
+/// Writes the grid text of a map to a sink and returns its number of bytes. Passes a few KiB per put. Does not
+/// allocate.
 ///
 /// # Errors
 ///
-/// [`WriteFault`] if the sink fails: exactly the first `written` bytes of the text went out, and not all of it.
+/// [`WriteFault`] if the sink fails; exactly the first `written` bytes of the text were written, and not all of it.
 pub fn write_map<W: Sink>(map: &CellMap, null_text: &[u8], out: &mut W) -> Result<u64, WriteFault>
     requires null { IsNullText null_text.now }
     ensures ok { OnOk result

@@ -1,4 +1,4 @@
--- Laws of parts of maps.
+-- Laws about tiles of maps.
 pub mod AreaParts
 pub mod Merging
 pub mod Parts

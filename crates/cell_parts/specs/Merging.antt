@@ -1,4 +1,4 @@
--- Tables that are merged, and merges of merges.
+-- Merged tables, and merges of merges.
 use Rattle.std.specs.Prelude.{List, All, map, flat_map}
 use Rattle.std.specs.List.Sorted.{IsStrictlySortedBy}
 use Rattle.cell_stats_combinations.specs.Combinations.{combination_cmp}
@@ -6,7 +6,7 @@ use Rattle.cell_stats_counts.specs.Listed.{HasNoZero}
 use Rattle.cell_stats.specs.CategoryTables.{Pairs}
 use Rattle.cell_parts.specs.TableParts.{IsMerge}
 
--- entries as tables list them: the combinations strictly ascend, and no count is 0
+-- entries as tables list them: combinations in strictly ascending order, without counts of 0
 pub record IsListing (pairs : Pairs) : Type 0 where
   pub ascending : IsStrictlySortedBy combination_cmp (map (λ pair. pair.0) pairs)
   pub no_zero : HasNoZero pairs
@@ -16,6 +16,6 @@ pub record PartGroup : Type 0 where
   pub tables : List Pairs
   pub merged : Pairs
 
--- merging the merges of groups merges all tables
+-- merging the merges of groups of tables is the same as merging all tables
 abbrev pub MergesMerge : Type 0
 MergesMerge = (groups : List PartGroup) → All (λ group. IsMerge group.tables group.merged) groups → (pairs : Pairs) → IsMerge (map (λ group. group.merged) groups) pairs → IsMerge (flat_map (λ group. group.tables) groups) pairs

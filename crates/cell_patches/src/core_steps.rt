@@ -1,6 +1,6 @@
-//! How far inside their patches cells are. A diamond has all cells within a number of steps of its centre. The largest
-//! diamond within a patch whose lowest cell is a given cell follows from the largest ones whose lowest cells are in the
-//! two rows above.
+//! Computes how many steps each cell is inside its patch. A diamond contains all cells within a number of steps of its
+//! centre. The largest diamond in a patch with a given lowest cell follows from the largest diamonds whose lowest cells
+//! are in the two rows above.
 
 ghost use Rattle.std.specs.Prelude.{◌≡◌, ℕ, ◌+◌, ◌<◌, ◌≤◌, length, min, slice_index_or, nat_le, if◌then◌else◌, IfOk};
 ghost use Rattle.cell_patches.specs.parts.Passes.{is_pure, GivesSteps, GivesAllSteps};
@@ -9,7 +9,7 @@ use crate::near_rows::{NearRows, cell_in};
 use cell_core::memory::Memory;
 use std::alloc::Global;
 
-// The steps at a column of a row, 0 off the map.
+// Returns the steps at a column of a row, or 0 outside the map.
 #[inline(always)]
 pub(crate) fn steps_in(steps: &[u32], col: usize) -> u32
     ensures value { result ≡ slice_index_or steps.now col 0 }
@@ -20,7 +20,7 @@ pub(crate) fn steps_in(steps: &[u32], col: usize) -> u32
     }
 }
 
-// Whether the cell to the right of a column equals the next ones to the north.
+// Returns whether the cell to the right of column `west` equals the three cells above it and the cell two rows above.
 #[inline(always)]
 fn is_pure(lines: &NearRows<'_>, west: usize) -> bool
     requires { west + 2 < 18446744073709551616 }
@@ -33,8 +33,8 @@ fn is_pure(lines: &NearRows<'_>, west: usize) -> bool
         && cell_in(lines.second_above, west + 1) == cell
 }
 
-// The steps of the largest diamond whose lowest cell is at a column: 1 more than the smallest number at
-// the cells to the upper left, to the upper right and two rows above.
+// Returns the steps of the largest diamond whose lowest cell is at column `col`: one more than the smallest number of
+// steps at the cells to the upper left, to the upper right, and two rows above.
 #[inline(always)]
 fn steps_at(lines: &NearRows<'_>, col: usize, above: &[u32], second_above: &[u32]) -> u32
     requires { col < length lines.now.here.now }
@@ -61,7 +61,7 @@ fn write_steps(lines: &NearRows<'_>, above: &[u32], second_above: &[u32], here: 
     }
 }
 
-// The steps for each cell of a row.
+// Returns the steps of each cell of a row.
 pub(crate) fn steps_of(
     alloc: Global,
     lines: &NearRows<'_>,
@@ -76,7 +76,8 @@ pub(crate) fn steps_of(
     Ok(steps)
 }
 
-// 1 if a diamond has at least `depth` steps, and 0 otherwise: its centre is then `depth` steps inside.
+// Returns 1 if a diamond has at least `depth` steps, so that its centre is `depth` steps inside the patch, and 0
+// otherwise.
 #[inline(always)]
 pub(crate) fn core_of(depth: u32, steps: u32) -> u64
     ensures { result ≡ (if nat_le depth steps then 1 else 0) }

@@ -1,15 +1,15 @@
-//! The measures of a map's patches: the clumps of `cell_cats_areas`, by the same numbers (GRASS
-//! manual: r.clump; the measures are the profile's).
+//! Measures the patches of a map, which are the clumps of `cell_cats_areas` with the same numbers
+//! (GRASS manual: r.clump; the measures are our own choice).
 //!
-//! - `measuring`: `patches_of`, the measures of all patches of a map
+//! - `measuring`: `patches_of` measures all patches of a map
 //! - `patch`: `Patch`, class, cells, ends and flanks, core, first and last rows and columns
-//! - `zones`: `zones_of`, the main zone of each patch, by a second map whose categories are zones
-//! - specs/Patches.antt: what the measures are; specs/Zones.antt: what main zones are
-//! - private, in the order of work: `near_rows`, rows of numbers with those above and below;
+//! - `zones`: `zones_of` finds the main zone of each patch, given a second map whose categories are zones
+//! - specs/Patches.antt defines the measures, and specs/Zones.antt main zones
+//! - private, in the order of work: `near_rows`, rows of numbers with the rows above and below;
 //!   `core_steps`, how far inside its patch a cell is; `read_rows`, the cells of a row;
 //!   `zone_counts`, how many cells of patches are in zones
 //!
-//! The perimeter of a patch is its ends times the width of a cell, and its flanks times the height
+//! The perimeter of a patch is its ends times the width of a cell, plus its flanks times the height
 //! of a cell. Categories 5 5 5 over 5 null 5 are one patch:
 //!
 //! ```

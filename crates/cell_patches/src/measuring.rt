@@ -1,4 +1,4 @@
-//! The patches of a map.
+//! Measures the patches of a map.
 
 ghost use Rattle.std.specs.Prelude.{◌<◌, IfOk};
 ghost use Rattle.cell_cats_areas.specs.Areas.{IsClumping};
@@ -12,11 +12,11 @@ use cell_core::map::CellMap;
 use cell_core::memory::Memory;
 use std::alloc::Global;
 
-/// The measures of a map's patches, in the order of their numbers from 1 on. `numbers` is the map of
-/// these numbers, which `clump_with` returns. The core of a patch is its cells that are at least
+/// Returns the measures of all patches, in the order of their numbers, which start at 1. `numbers` is the map of
+/// these numbers, as `clump_with` returns it. The core of a patch is its cells that are at least
 /// `depth` steps inside it.
 ///
-/// Besides the result, it needs the memory of a few rows.
+/// In addition to the result, it needs memory for a few rows.
 ///
 /// # Errors
 ///

@@ -1,4 +1,4 @@
-//! A row of numbers, and the rows next to it.
+//! A row of patch numbers and its neighbouring rows.
 
 ghost use Rattle.std.specs.Prelude.{◌≡◌, ℕ, ◌+◌, ◌<◌, ◌≤◌, length, None, slice_index_or};
 ghost use Rattle.cell_core.specs.Grid.{cell_at};
@@ -7,7 +7,7 @@ ghost use Rattle.cell_patches.specs.parts.Passes.{above_by, leads_from, west_in}
 use cell_core::cell::Cell;
 use cell_core::map::CellMap;
 
-// A row of numbers, and the rows above and below it, null off the map.
+// A row of patch numbers, the two rows above it and the row below it; null outside the map.
 #[derive(Clone, Copy)]
 pub(crate) struct NearRows<'a> {
     pub(crate) second_above: &'a [Cell],
@@ -16,7 +16,7 @@ pub(crate) struct NearRows<'a> {
     pub(crate) below: &'a [Cell],
 }
 
-// Writes null into each cell.
+// Sets all cells to null.
 fn clear(cells: &mut [Cell])
     ensures { (c : ℕ) → slice_index_or cells.new c None ≡ None }
 {
@@ -25,7 +25,7 @@ fn clear(cells: &mut [Cell])
     }
 }
 
-// Copies the row `steps` rows above `row`, null off the map.
+// Copies the row `steps` rows above `row`, or nulls outside the map.
 pub(crate) fn copy_above(numbers: &CellMap, row: u32, steps: u32, cells: &mut [Cell])
     requires row { row < numbers.now.region.rows }
     requires wide { length cells.old ≡ numbers.now.region.cols }
@@ -38,7 +38,7 @@ pub(crate) fn copy_above(numbers: &CellMap, row: u32, steps: u32, cells: &mut [C
     }
 }
 
-// Copies the row below a row, null off the map.
+// Copies the row below `row`, or nulls outside the map.
 pub(crate) fn copy_below(numbers: &CellMap, row: u32, cells: &mut [Cell])
     requires row { row < numbers.now.region.rows }
     requires wide { length cells.old ≡ numbers.now.region.cols }
@@ -52,7 +52,7 @@ pub(crate) fn copy_below(numbers: &CellMap, row: u32, cells: &mut [Cell])
     }
 }
 
-// The cell at a column of a row, null off the map.
+// Returns the cell at a column of a row, or null outside the map.
 #[inline(always)]
 pub(crate) fn cell_in(line: &[Cell], col: usize) -> Cell
     ensures { result ≡ slice_index_or line.now col None }
@@ -63,7 +63,7 @@ pub(crate) fn cell_in(line: &[Cell], col: usize) -> Cell
     }
 }
 
-// 1 if a side leads out of the patch of a cell.
+// Returns 1 if the side between `cell` and `beyond` leads out of the patch of `cell`, otherwise 0.
 #[inline(always)]
 fn leads_from(cell: Cell, beyond: Cell) -> u64
     ensures value { result ≡ leads_from cell beyond }
@@ -72,7 +72,7 @@ fn leads_from(cell: Cell, beyond: Cell) -> u64
     if beyond == cell { 0 } else { 1 }
 }
 
-// The cell to the west; null in the first column.
+// Returns the cell to the west, or null in the first column.
 #[inline(always)]
 fn west_in(line: &[Cell], col: usize) -> Cell
     ensures { result ≡ west_in line.now col }
@@ -84,7 +84,7 @@ fn west_in(line: &[Cell], col: usize) -> Cell
     }
 }
 
-// The north and south sides of a cell that lead out of its patch.
+// Counts the north and south sides of a cell that lead out of its patch.
 #[inline(always)]
 pub(crate) fn ends_of(lines: &NearRows<'_>, cell: Cell, col: usize) -> u64
     ensures { result ≡ leads_from cell (slice_index_or lines.now.above.now col None)
@@ -95,7 +95,7 @@ pub(crate) fn ends_of(lines: &NearRows<'_>, cell: Cell, col: usize) -> u64
     north + south
 }
 
-// The west and east sides of a cell that lead out of its patch.
+// Counts the west and east sides of a cell that lead out of its patch.
 #[inline(always)]
 pub(crate) fn flanks_of(lines: &NearRows<'_>, cell: Cell, col: usize) -> u64
     requires { col < length lines.now.here.now }

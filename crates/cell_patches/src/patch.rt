@@ -3,31 +3,31 @@
 ghost use Rattle.std.specs.Prelude.{◌≡◌};
 ghost use Rattle.cell_patches.specs.parts.Passes.{unread, with_one_more, HasRoomForCell};
 
-/// The measures of a patch: equal cells, joined by adjacency.
+/// The measures of a patch, which is a connected component of equal cells.
 #[derive(Clone, Copy, Debug, PartialEq, Eq)]
 pub struct Patch {
     /// The category of its cells.
     pub class: i32,
-    /// How many cells it has.
+    /// The number of its cells.
     pub cells: u64,
-    /// North and south sides of its cells that lead out of it.
+    /// The number of north and south sides of its cells that lead out of it.
     pub ends: u64,
-    /// West and east sides of its cells that lead out of it.
+    /// The number of west and east sides of its cells that lead out of it.
     pub flanks: u64,
-    /// The number of cells that are a given number of steps inside the patch.
+    /// The number of its cells that are at least a given number of steps inside it.
     pub core: u64,
-    /// Its first row, from 0.
+    /// Its first row, counted from 0.
     pub first_row: u32,
     /// Its last row.
     pub last_row: u32,
-    /// Its first column, from 0.
+    /// Its first column, counted from 0.
     pub first_col: u32,
     /// Its last column.
     pub last_col: u32,
 }
 
 impl Patch {
-    // A patch of which no cell was read yet.
+    // Returns the measures of a patch of which no cell was read.
     pub(crate) fn unread() -> Patch
         ensures { result ≡ unread }
     {
@@ -44,7 +44,7 @@ impl Patch {
         }
     }
 
-    // The measures with one more cell.
+    // Adds a cell to the measures.
     #[inline(always)]
     pub(crate) fn add(&mut self, found: Found)
         requires { HasRoomForCell self.old found }
@@ -62,7 +62,7 @@ impl Patch {
     }
 }
 
-// What is found at a cell.
+// The contribution of a cell to the measures of its patch.
 #[derive(Clone, Copy, Debug)]
 pub(crate) struct Found {
     pub(crate) class: i32,

@@ -1,4 +1,4 @@
-//! The measures of patches, added up over the cells of a row.
+//! Adds up the measures of patches over the cells of a row.
 
 ghost use Rattle.std.specs.Prelude.{◌≡◌, ℕ, ℤ, pos, Some, None, slice_index_or, ◌+◌, ◌-◌, ◌<◌, ◌≤◌, length, max, OnOk, IfOk};
 ghost use Rattle.std.specs.Option.{is_none};
@@ -13,7 +13,7 @@ use cell_core::map::CellMap;
 use cell_core::memory::Memory;
 use std::alloc::Global;
 
-// Makes room for `count` patches.
+// Extends the list to at least `count` patches.
 #[inline(always)]
 fn make_room(patches: &mut Vec<Patch>, count: usize) -> Result<(), Memory>
     ensures same { OnOk result ((k : ℕ)
@@ -27,7 +27,7 @@ fn make_room(patches: &mut Vec<Patch>, count: usize) -> Result<(), Memory>
     Ok(())
 }
 
-// Adds a cell to the patch with a number.
+// Adds a cell to the patch with this number.
 #[inline(always)]
 fn add_found(patches: &mut Vec<Patch>, number: u32, found: Found) -> Result<(), Memory>
     requires least { 1 ≤ number }
@@ -40,7 +40,7 @@ fn add_found(patches: &mut Vec<Patch>, number: u32, found: Found) -> Result<(), 
     Ok(())
 }
 
-// The category of a cell, or 0 for null.
+// Returns the category of a cell, or 0 for null.
 #[inline(always)]
 fn category_of(cell: Cell) -> i32
     ensures { (v : ℤ) → cell ≡ Some v → result ≡ v }
@@ -51,7 +51,7 @@ fn category_of(cell: Cell) -> i32
     }
 }
 
-// The number that a cell has, or 0 for null.
+// Returns the patch number of a cell, or 0 for null.
 #[inline(always)]
 fn number_of(cell: Cell) -> u32
     ensures { (n : ℕ) → cell ≡ Some (pos n) → result ≡ n }
@@ -62,7 +62,7 @@ fn number_of(cell: Cell) -> u32
     }
 }
 
-// Whether a cell is null.
+// Returns whether a cell is null.
 #[inline(always)]
 fn is_null(cell: Cell) -> bool
     ensures { result ≡ is_none cell }
@@ -70,7 +70,7 @@ fn is_null(cell: Cell) -> bool
     cell.get().is_none()
 }
 
-// What is found at a cell.
+// Returns the contribution of a cell to its patch.
 #[inline(always)]
 fn found_at(
     lines: &NearRows<'_>,
@@ -151,7 +151,7 @@ fn add_row(
     Ok(())
 }
 
-// A row of a map.
+// Returns a row of a map.
 pub(crate) fn line_of(alloc: Global, map: &CellMap, row: u32) -> Result<Vec<Cell>, Memory>
     requires { row < map.now.region.rows }
     ensures line { IfOk result (λ line. line.items ≡ row_at map.now row) }
@@ -162,7 +162,7 @@ pub(crate) fn line_of(alloc: Global, map: &CellMap, row: u32) -> Result<Vec<Cell
     Ok(line)
 }
 
-// The row `steps` rows above `row`, null off the map.
+// Returns the row `steps` rows above `row`, with nulls outside the map.
 fn line_above(alloc: Global, numbers: &CellMap, row: u32, steps: u32) -> Result<Vec<Cell>, Memory>
     requires { row < numbers.now.region.rows }
     ensures { IfOk result (λ line. (c : ℕ)
@@ -173,7 +173,7 @@ fn line_above(alloc: Global, numbers: &CellMap, row: u32, steps: u32) -> Result<
     Ok(line)
 }
 
-// The row below a row, null off the map.
+// Returns the row below `row`, with nulls outside the map.
 fn line_below(alloc: Global, numbers: &CellMap, row: u32) -> Result<Vec<Cell>, Memory>
     requires { row < numbers.now.region.rows }
     ensures { IfOk result (λ line. (c : ℕ)
@@ -184,7 +184,7 @@ fn line_below(alloc: Global, numbers: &CellMap, row: u32) -> Result<Vec<Cell>, M
     Ok(line)
 }
 
-// Adds the cells of a row of a map. Returns the steps of its cells, of the steps of the two rows above.
+// Adds the cells of a row of a map. Returns the steps of its cells, given the steps of the two rows above.
 pub(crate) fn measure_row(
     alloc: Global,
     map: &CellMap,

@@ -1,4 +1,4 @@
-//! Counts of the cells that patches have in zones, and the zone that leads in each patch.
+//! Counts the cells of each patch in each zone, and tracks the leading zone of each patch.
 
 ghost use Rattle.std.specs.Prelude.{◌≡◌, ℕ, ℤ, ◌+◌, ◌<◌, ◌≤◌, length, MatchBool, OnOk, IfOk, if◌then◌else◌};
 ghost use Rattle.cell_patches.specs.parts.Leads.{AreLeads, IsOvertaken, HasRoomFor, LeadsAfter, RaisesLeads, StaysAhead, cells_in_table, counted, no_lead, one_pair, same_pair};
@@ -8,7 +8,7 @@ use cell_core::memory::Memory;
 use std::alloc::Global;
 use std::collections::HashMap;
 
-// The zone that leads in a patch so far, and how many cells of the patch are in it.
+// The leading zone of a patch so far, and the number of the patch's cells in it.
 #[derive(Clone, Copy)]
 pub(crate) struct Lead {
     pub(crate) zone: Option<i32>,
@@ -16,8 +16,8 @@ pub(crate) struct Lead {
 }
 
 impl Lead {
-    // Whether the leading zone, `first`, stays ahead of a zone with `cells` cells: it has more cells, or equally many
-    // and a smaller or equal number.
+    // Returns whether the leading zone `first` stays ahead of a zone with `cells` cells: it has more cells, or as many
+    // and a number that is not larger.
     fn stays_ahead(&self, first: i32, zone: i32, cells: u64) -> bool
         ensures { MatchBool result (StaysAhead self.now.cells first zone cells)
             (IsOvertaken self.now.cells first zone cells) }
@@ -25,7 +25,7 @@ impl Lead {
         cells < self.cells || (cells == self.cells && first <= zone)
     }
 
-    // Gives the lead to a zone with `cells` cells, unless the leading zone stays ahead.
+    // Makes a zone with `cells` cells the leading zone, unless the current one stays ahead.
     fn meet(&mut self, zone: i32, cells: u64)
         requires { 0 < cells }
         ensures { LeadsAfter self.old zone cells self.new }
@@ -40,8 +40,8 @@ impl Lead {
     }
 }
 
-// Gives the lead in the patch of a pair, if its number is one of a patch, to the zone of the pair, which has `cells`
-// cells there, unless the leading zone stays ahead.
+// Updates the lead in the patch of a pair, whose zone has `cells` cells there. Ignores numbers that are not patch
+// numbers.
 fn raise(leads: &mut Vec<Lead>, pair: (i32, i32), cells: u64)
     requires { 0 < cells }
     ensures { RaisesLeads leads.old.items pair cells leads.new.items }
@@ -56,7 +56,7 @@ fn raise(leads: &mut Vec<Lead>, pair: (i32, i32), cells: u64)
     }
 }
 
-// Adds `cells` cells of a pair to a table, and returns the pair's new count.
+// Adds `cells` cells to the count of a pair in a table. Returns the new count.
 fn add_cells(
     table: &mut HashMap<(i32, i32), u64>,
     pair: (i32, i32),
@@ -72,8 +72,8 @@ fn add_cells(
     Ok(count)
 }
 
-// How many cells there are of each pair of a number and a zone: those in the table, and a run of equal
-// pairs that is still to be added to it. Most cells are like the one before, so they need no look-up.
+// Counts cells for each pair of a patch number and a zone, in a table and in a run of equal pairs that is not in the
+// table yet. Most cells continue the run, so they need no lookup.
 #[derive(Drop)]
 pub(crate) struct ZoneCounts {
     pub(crate) table: HashMap<(i32, i32), u64>,
@@ -83,7 +83,7 @@ pub(crate) struct ZoneCounts {
 }
 
 impl ZoneCounts {
-    // Empty counts for `patches` patches.
+    // Returns empty counts for `patches` patches.
     pub(crate) fn new(alloc: Global, patches: usize) -> Result<ZoneCounts, Memory>
         ensures none { IfOk result (λ counts. (v z : ℤ) → counted counts v z ≡ 0) }
         ensures leads { IfOk result AreLeads }
@@ -101,7 +101,7 @@ impl ZoneCounts {
         })
     }
 
-    // Adds the run to the table.
+    // Adds the run to the table, and empties it.
     #[inline(never)]
     pub(crate) fn close(&mut self) -> Result<(), Memory>
         requires leads { AreLeads self.old }
@@ -120,7 +120,7 @@ impl ZoneCounts {
         Ok(())
     }
 
-    // Begins a run of a pair, unless the run is of this pair already.
+    // Starts a new run for a pair, unless the current run is for this pair.
     #[inline(always)]
     fn turn_to(&mut self, pair: (i32, i32)) -> Result<(), Memory>
         requires leads { AreLeads self.old }

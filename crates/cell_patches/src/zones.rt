@@ -1,4 +1,4 @@
-//! The main zone of each patch.
+//! Finds the main zone of each patch.
 
 ghost use Rattle.std.specs.Prelude.{◌≡◌, ℕ, ◌+◌, ◌<◌, length, map, OnOk, IfOk};
 ghost use Rattle.cell_core_values.specs.Region.{IsRegion};
@@ -37,7 +37,7 @@ fn add_row(
     Ok(())
 }
 
-// Counts the cells of a row of two maps.
+// Reads a row of both maps and counts its cells.
 fn count_row(
     alloc: Global,
     counts: &mut ZoneCounts,
@@ -59,7 +59,7 @@ fn count_row(
     add_row(counts, &number_line, &zone_line, row)
 }
 
-// Counts the cells of two maps.
+// Counts all cells of both maps.
 fn count_zones(
     alloc: Global,
     numbers: &CellMap,
@@ -80,7 +80,7 @@ fn count_zones(
     Ok(counts)
 }
 
-// The zones that lead.
+// Returns the zone of each lead.
 fn zones_in(alloc: Global, leads: &[Lead]) -> Result<Vec<Option<i32>>, Memory>
     ensures { IfOk result (λ main. main.items ≡ map (λ lead. lead.zone) leads.now) }
 {
@@ -88,15 +88,15 @@ fn zones_in(alloc: Global, leads: &[Lead]) -> Result<Vec<Option<i32>>, Memory>
     Ok(main)
 }
 
-/// The main zones of patches, in the order of their numbers in the map `numbers`, from 1 on. Zones are
-/// the categories of a second map: the main zone of a patch has most of its cells, and of zones with
-/// equally many cells it is the smallest. It is None if no cell of the patch has a zone.
+/// Returns the main zone of each patch, in the order of the patch numbers in `numbers`, which start at 1. Zones are
+/// the categories of a second map. The main zone of a patch contains most of its cells; if several zones contain
+/// equally many, it is the smallest of them. It is `None` if no cell of the patch is in a zone.
 ///
-/// It takes the memory of a table of the pairs of a number and a zone that occur.
+/// It needs memory for a table of the pairs of a patch number and a zone that occur.
 ///
 /// # Errors
 ///
-/// [`Memory`] when out of memory.
+/// [`Memory`] if memory runs out.
 pub fn zones_of(
     alloc: Global,
     numbers: &CellMap,

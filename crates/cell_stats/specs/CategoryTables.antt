@@ -13,24 +13,25 @@ use Rattle.cell_stats_combinations.specs.LeftOut.{is_left_out, kept_cells}
 abbrev pub Pairs : Type 0
 Pairs = List (Combination × ℕ)
 
--- combinations strictly ascend; one is paired with n exactly if it is not left out, n cells have it, and n is above 0
+-- combinations are in strictly ascending order; a combination has the count n if and only if it is not left out and n
+-- cells have it, and n is above 0
 pub record IsTable (skip : Skip) (cells : List Combination) (pairs : Pairs) : Type 0 where
   pub ascending : IsStrictlySortedBy combination_cmp (map (λ pair. pair.0) pairs)
   pub counted : (k : Combination) (n : ℕ) → Contains pairs (k, n) ↔ ((is_left_out skip k ≡ false) × ((0 < n) × (n ≡ count_of k cells)))
 
--- the map from each combination that occurs to its count, listed in ascending order
+-- each combination that occurs with its count, in ascending order
 unfoldable pub counts_of : List Combination → Pairs
 counts_of cells = finmap.entries (finmap.from_entries {R = combination_cmp} (map (λ k. (k, count_of k cells)) cells))
 
--- the one table of the cells
+-- the table of the cells
 abbrev pub table_of : Skip → List Combination → Pairs
 table_of skip cells = counts_of (kept_cells skip cells)
 
--- the pairs of a table after a combination
+-- the entries of a table after a combination
 abbrev pub rest_after : Combination → Pairs → Pairs
 rest_after k pairs = filter (λ pair. is_lt (combination_cmp k pair.0)) pairs
 
--- a table, and its number of maps
+-- a table and its number of maps
 pub record TableValue : Type 0 where
   pub width : ℕ
   pub pairs : Pairs

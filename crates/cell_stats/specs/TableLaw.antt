@@ -1,4 +1,4 @@
--- What a table means: there is exactly one, its counts add up, and a skip rule only leaves entries out of it.
+-- Laws about tables: there is exactly one, its counts add up, and a skip rule only leaves out entries.
 use Rattle.std.specs.Prelude.{◌≡◌, ℕ, ◌*◌, List, [], ◌∷◌, filter, sum_by, not, None}
 use Rattle.std.specs.Ordering.{eq_by_cmp}
 use Rattle.cell_core.specs.Grid.{Grid}
@@ -8,7 +8,7 @@ use Rattle.cell_stats_combinations.specs.Combinations.{Combination, combination_
 use Rattle.cell_stats.specs.CategoryTables.{Pairs, IsTable, table_of}
 use Rattle.cell_stats_combinations.specs.LeftOut.{is_left_out}
 
--- it is a table of the cells, and the only one
+-- `table_of` is a table of the cells, and no other list is
 abbrev pub TableAgrees : Type 0
 TableAgrees = (skip : Skip) (cells : List Combination) → IsTable skip cells (table_of skip cells) × ((pairs : Pairs) → IsTable skip cells pairs → pairs ≡ table_of skip cells)
 
@@ -16,10 +16,10 @@ TableAgrees = (skip : Skip) (cells : List Combination) → IsTable skip cells (t
 abbrev pub CountsAddUp : Type 0
 CountsAddUp = (maps : List Grid) (picks : List ℕ) (rows cols : ℕ) → sum_by (λ pair. pair.1) (table_of Nothing (all_combinations maps picks rows cols)) ≡ rows * cols
 
--- the entries that a rule leaves out are missing from the full table, and no count changes
+-- a table under a skip rule is the full table without the entries that the rule leaves out
 abbrev pub RuleLeavesOut : Type 0
 RuleLeavesOut = (skip : Skip) (cells : List Combination) → table_of skip cells ≡ filter (λ pair. not (is_left_out skip pair.0)) (table_of Nothing cells)
 
--- the table of one map without null cells is the full table without the entry of null
+-- the table of one map that leaves out null is the full table without the entry of null
 abbrev pub NullLeftOut : Type 0
 NullLeftOut = (maps : List Grid) (place rows cols : ℕ) → table_of AnyNull (all_combinations maps (place ∷ []) rows cols) ≡ filter (λ pair. not (eq_by_cmp combination_cmp (None ∷ []) pair.0)) (table_of Nothing (all_combinations maps (place ∷ []) rows cols))

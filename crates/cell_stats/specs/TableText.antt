@@ -10,23 +10,23 @@ use Rattle.cell_stats_combinations.specs.Combinations.{Combination, all_combinat
 use Rattle.cell_stats.specs.CategoryTables.{Pairs, rest_after}
 use Rattle.cell_stats_combinations.specs.LeftOut.{kept_cells}
 
--- the byte between two fields, the null text, and whether labels and counts are printed
+-- a format: the byte between fields, the null text, and whether labels and counts are printed
 pub record FormatValue : Type 0 where
   pub separator : ℕ
   pub null_text : List ℕ
   pub labels : Bool
   pub counts : Bool
 
--- the label of a category of a map, empty if it has none; the label of null is no data
+-- the label of a category, empty if it has none; the label of null is `no data`
 abbrev pub label_text : Grid → CellValue → List ℕ
 label_text map None = codes "no data"
 label_text map (Some category) = unwrap_or (finmap.get map.labels category) []
 
--- the label of a cell of the map in a place
+-- the label of a cell of the map at index `place`
 abbrev pub label_of_cell : List Grid → ℕ → CellValue → List ℕ
 label_of_cell maps place cell = option_map_or (λ map. label_text map cell) (slice_get maps place) []
 
--- the category in decimal or the null text, followed by its label if labels are printed
+-- the fields of a cell: its category in decimal or the null text, followed by its label if labels are printed
 abbrev pub cell_fields : FormatValue → List Grid → ℕ → CellValue → List (List ℕ)
 cell_fields format maps place cell = cell_text format.null_text cell ∷ (if format.labels then label_of_cell maps place cell ∷ [] else [])
 
@@ -42,7 +42,7 @@ count_fields format n = if format.counts then decimal n ∷ [] else []
 abbrev pub line_text : FormatValue → List (List ℕ) → List ℕ
 line_text format fields = join_with_byte format.separator fields ++ codes "\n"
 
--- the line of a pair: its combination, then its count
+-- the line of a table entry: its combination, followed by its count
 abbrev pub pair_line : FormatValue → List Grid → List ℕ → Combination × ℕ → List ℕ
 pair_line format maps picks pair = line_text format (combination_fields format maps picks pair.0 ++ count_fields format pair.1)
 
@@ -50,12 +50,12 @@ pair_line format maps picks pair = line_text format (combination_fields format m
 abbrev pub cell_line : FormatValue → List Grid → List ℕ → Combination → List ℕ
 cell_line format maps picks k = line_text format (combination_fields format maps picks k)
 
--- the pairs that are printed: all, or those after a combination
+-- the entries that are printed: all, or the entries after a combination
 abbrev pub printed_pairs : Option Combination → Pairs → Pairs
 printed_pairs None pairs = pairs
 printed_pairs (Some k) pairs = rest_after k pairs
 
--- a line for each pair of the picked maps
+-- a line for each table entry
 abbrev pub table_text : FormatValue → List Grid → List ℕ → Pairs → List ℕ
 table_text format maps picks pairs = flat_map (pair_line format maps picks) pairs
 

@@ -1,4 +1,4 @@
--- Fields of a line.
+-- The fields of a line, and helper definitions.
 pub mod OfPicks
 pub mod PairsCode
 pub mod Preceded

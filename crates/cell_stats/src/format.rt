@@ -1,10 +1,10 @@
-//! How a table is printed.
+//! The format of printed tables.
 
 ghost use Rattle.std.specs.Prelude.{◌≡◌};
 
 use std::marker::Model;
 
-/// How lines are printed: the byte between two fields, the null text, and whether labels and counts are printed
+/// The format of printed lines: the byte between fields, the null text, and whether labels and counts are printed
 /// (r.stats manual, flags `-l` and `-c`).
 #[derive(Drop)]
 pub struct Format<'a> {
@@ -26,7 +26,7 @@ impl<'a> Model for Format<'a> {
 }
 
 impl<'a> Format<'a> {
-    /// A format of these four.
+    /// Returns the format with these options.
     pub fn new(separator: u8, null_text: &'a [u8], labels: bool, counts: bool) -> Format<'a>
         ensures { result ≡ record {
           separator = separator;
@@ -43,28 +43,28 @@ impl<'a> Format<'a> {
         }
     }
 
-    /// The byte between two fields.
+    /// Returns the byte between fields.
     pub fn separator(&self) -> u8
         ensures { result ≡ self.now.separator }
     {
         self.separator
     }
 
-    /// The null text.
+    /// Returns the null text.
     pub fn null_text(&self) -> &[u8]
         ensures { result.now ≡ self.now.null_text }
     {
         self.null_text
     }
 
-    /// Whether each category is followed by its label.
+    /// Returns whether each category is followed by its label.
     pub fn labels(&self) -> bool
         ensures { result ≡ self.now.labels }
     {
         self.labels
     }
 
-    /// Whether the count is printed.
+    /// Returns whether counts are printed.
     pub fn counts(&self) -> bool
         ensures { result ≡ self.now.counts }
     {

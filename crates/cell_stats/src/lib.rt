@@ -1,15 +1,15 @@
-//! Tables of several maps, and how tables and cells are printed (GRASS manual: r.stats).
+//! Counts combinations of several maps in tables, and prints tables and cells (GRASS manual: r.stats).
 //!
-//! - `tallying`: `tally`, the table of some maps of a shelf, by their indices
-//! - `table`: `Table`, each combination that occurs with its count, in order; `all`, its entries;
-//!   `after`, the entries after a combination
+//! - `tallying`: `tally` returns the table of some maps of a shelf, given by their indices
+//! - `table`: `Table` contains each combination that occurs with its count, in order; `all` returns its
+//!   entries, and `after` the entries after a combination
 //! - `format`: `Format`, the separator, the null text, labels (`-l`) and counts (`-c`)
-//! - `printing`: `write_table`; `printed_cells`: `write_cells`, one line a cell (`-1`)
-//! - `law`: there is one table; if nothing is left out, its counts add up to the cells of the
-//!   region
+//! - `printing`: `write_table`; `printed_cells`: `write_cells`, one line per cell (`-1`)
+//! - `law`: there is exactly one table; if nothing is left out, its counts add up to the number of
+//!   cells in the region
 //! - re-exported from `cell_stats_combinations`: `combination`, `combination_text`, `skip`
 //!
-//! One map of four cells, picked 16 times; an entry has its count and its combination:
+//! A map of four cells, picked 16 times. Each entry has a count and a combination:
 //!
 //! ```
 //! let shelf = shelf_of(rt.alloc(), &[&[5, NULL, 5, -3]], 2)?;

@@ -1,4 +1,4 @@
-//! The printed form of cells, line by line.
+//! Prints cells, one line per cell.
 
 ghost use Rattle.std.specs.Prelude.{◌≡◌, ◌<◌, length, replicate, IfOk};
 ghost use Rattle.cell_core_devices.specs.Blocks.{Appends};
@@ -20,10 +20,11 @@ use cell_stats_combinations::skip::{Skip, is_left_out};
 use std::alloc::Global;
 use std::marker::Model;
 
-/// The memory for a walk over the cells of several maps of a shelf. In contracts it is their number.
+/// Holds the memory for a walk over the cells of several maps of a shelf. In contracts, its value is the number of
+/// maps.
 ///
-/// It is taken before the walk, since `-1` of r.stats prints during it, and a statement that runs out of memory has written
-/// nothing.
+/// It is allocated before the walk, because `-1` of r.stats prints during the walk, and a statement that runs out of
+/// memory must not have written anything.
 #[derive(Drop)]
 pub struct CellWalk<'a> {
     cursors: Vec<Cursor<'a>>,
@@ -41,7 +42,7 @@ impl<'a> Model for CellWalk<'a> {
 }
 
 impl<'a> CellWalk<'a> {
-    /// The memory for a walk over the picked maps, given by their places on the shelf.
+    /// Allocates the memory for a walk over the picked maps, given by their indices on the shelf.
     ///
     /// # Errors
     ///
@@ -77,7 +78,7 @@ fn write_lines<W: Sink>(
     }
 }
 
-// Writes the lines of the cells of a row.
+// Writes a line for each cell of a row.
 fn write_cell_lines<'a, W: Sink>(
     out: &mut W,
     block: &mut OutputBlock,
@@ -105,10 +106,10 @@ fn write_cell_lines<'a, W: Sink>(
     }
 }
 
-/// Writes a line for each cell of the picked maps that is not left out, row by row from the top left. Takes no memory,
-/// since the walk has it.
+/// Writes a line for each cell of the picked maps that is not left out, row by row from the top left. Does not
+/// allocate, because the walk holds the memory.
 ///
-/// The block keeps the last part of the text. After a failed put nothing more is written.
+/// The block keeps the last part of the text. After a failed put, nothing more is written.
 pub fn write_cells<'a, W: Sink>(
     out: &mut W,
     block: &mut OutputBlock,

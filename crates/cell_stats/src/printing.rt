@@ -1,4 +1,4 @@
-//! The printed form of tables and of cells.
+//! Prints tables and cells.
 
 ghost use Rattle.std.specs.Prelude.{◌≡◌, ◌<◌, ◌∷◌, length, IfSome};
 ghost use Rattle.std.specs.List.{join_with_byte};
@@ -19,7 +19,7 @@ use cell_core::sink::Sink;
 use cell_stats_combinations::combination::Combo;
 use itoa::Buffer;
 
-// The label of a cell of a map.
+// Returns the label of a cell of the map at index `place`.
 fn label_of<'a>(shelf: &'a Shelf, place: usize, cell: Cell) -> &'a [u8]
     requires { place < length shelf.now.maps }
     ensures { result.now ≡ label_of_cell shelf.now.maps place cell }
@@ -78,7 +78,7 @@ fn write_next_pick<W: Sink>(
     write_pick(out, block, shelf, place, cell, format);
 }
 
-// Writes the cells of all maps but the first, each after a separator.
+// Writes the cells of all maps except the first, each after a separator.
 fn write_others<W: Sink>(
     out: &mut W,
     block: &mut OutputBlock,
@@ -132,7 +132,7 @@ fn write_count<W: Sink>(out: &mut W, block: &mut OutputBlock, count: u64, format
     );
 }
 
-// Writes the line of a pair.
+// Writes the line of a combination and its count.
 fn write_pair<W: Sink>(
     out: &mut W,
     block: &mut OutputBlock,
@@ -168,9 +168,10 @@ pub(crate) fn write_cell_line<W: Sink>(
     block.push(out, b"\n");
 }
 
-/// Writes a line for each entry of a table of the picked maps, or for each entry after a given one. Takes no memory.
+/// Writes a line for each entry of a table of the picked maps, or only for the entries after a combination. Does not
+/// allocate.
 ///
-/// The block keeps the last part of the text. After a failed put nothing more is written.
+/// The block keeps the last part of the text. After a failed put, nothing more is written.
 pub fn write_table<W: Sink>(
     out: &mut W,
     block: &mut OutputBlock,

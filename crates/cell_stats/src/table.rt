@@ -1,4 +1,4 @@
-//! Tables, and listings of their entries.
+//! Tables, and iterators over their entries.
 
 ghost use Rattle.std.specs.Prelude.{◌≡◌, ◌≤◌, length, map, drop, All, IfSome};
 ghost use Rattle.std.specs.Iterator.{YieldsFirstBy, item_count};
@@ -13,7 +13,7 @@ use cell_stats_combinations::combination::Combo;
 use std::cmp::Ordering;
 use std::marker::Model;
 
-/// The combinations that occur in several maps and are not left out, each once and in ascending order, with their counts.
+/// The combinations of several maps that occur and are not left out, in ascending order, each with its count.
 #[derive(Drop)]
 pub struct Table {
     width: usize,
@@ -36,7 +36,7 @@ impl Model for Table {
     ghost invariant = { λ t. IsStrictlySortedBy combination_cmp (map (λ pair. pair.0) t.entries.items) × All (λ pair. length pair.0 ≡ t.width) t.entries.items };
 }
 
-// The place of the first entry after a combination, found by bisection.
+// Returns the index of the first entry after a combination, using binary search.
 fn place_after(entries: &[(Combo, u64)], combo: &Combo) -> usize
     requires { AreAscending entries.now }
     ensures rest { drop result entries.now ≡ rest_after combo.now entries.now }
@@ -55,7 +55,7 @@ fn place_after(entries: &[(Combo, u64)], combo: &Combo) -> usize
 }
 
 impl Table {
-    // The table of these entries.
+    // Returns the table with these entries.
     pub(crate) fn of(width: usize, entries: Vec<(Combo, u64)>) -> Table
         requires ascending { AreAscending entries.items }
         requires wide { All (λ pair. length pair.0 ≡ width) entries.items }
@@ -64,14 +64,14 @@ impl Table {
         Table { width, entries }
     }
 
-    /// The number of entries.
+    /// Returns the number of entries.
     pub fn len(&self) -> usize
         ensures { result ≡ length self.now.pairs }
     {
         self.entries.len()
     }
 
-    /// The number of maps of the table: each combination has this many cells.
+    /// Returns the number of maps, which is the number of cells in each combination.
     pub fn width(&self) -> usize
         ensures value { result ≡ self.now.width }
         ensures wide { All (λ pair. length pair.0 ≡ self.now.width) self.now.pairs }
@@ -79,7 +79,7 @@ impl Table {
         self.width
     }
 
-    /// Its entries in ascending order.
+    /// Iterates over all entries in ascending order.
     pub fn all(&self) -> Listing<'_>
         ensures { result ≡ self.now.pairs }
     {
@@ -88,7 +88,7 @@ impl Table {
         }
     }
 
-    /// Its entries after a combination, which need not occur but must have one cell per map.
+    /// Iterates over the entries after a combination. The combination must have one cell per map, but need not occur.
     pub fn after(&self, combo: &Combo) -> Listing<'_>
         requires { length combo.now ≡ self.now.width }
         ensures { result ≡ rest_after combo.now self.now.pairs }
@@ -99,7 +99,7 @@ impl Table {
         }
     }
 
-    // Its entries, or its entries after a combination.
+    // Returns all entries, or the entries after a combination.
     pub(crate) fn printed_entries(&self, after: Option<&Combo>) -> &[(Combo, u64)]
         requires { IfSome after (λ k. length k.now ≡ self.now.width) }
         ensures value { result.now
@@ -113,16 +113,16 @@ impl Table {
     }
 }
 
-/// A combination, and how many cells have it.
+/// A combination and how often it occurs.
 #[derive(Clone, Copy)]
 pub struct Entry<'a> {
     /// The combination.
     pub combo: &'a Combo,
-    /// The number of cells that have it.
+    /// The number of cells with this combination.
     pub count: u64,
 }
 
-/// Entries of a table, in ascending order. In contracts it is the list of those still to come.
+/// Iterates over entries of a table in ascending order. In contracts, its value is the list of remaining entries.
 #[derive(Drop)]
 pub struct Listing<'a> {
     rest: &'a [(Combo, u64)],

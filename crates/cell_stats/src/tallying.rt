@@ -1,4 +1,4 @@
-//! The table of maps.
+//! Counts the combinations of maps.
 
 ghost use Rattle.std.specs.Prelude.{◌≡◌, ◌<◌, ◌≤◌, IfOk, length};
 ghost use Rattle.cell_stats_combinations.specs.Combinations.{ArePicks, shelf_combinations};
@@ -11,8 +11,8 @@ use cell_stats_combinations::skip::Skip;
 use cell_stats_counts::counts::count_cells;
 use std::alloc::Global;
 
-/// The table of the combinations of the cells of the picked maps, given by their places on the shelf. There are 1 to 16
-/// picks, and a map may be picked twice.
+/// Returns the table of the combinations of the picked maps, given by their indices on the shelf. There must be 1 to 16
+/// picks; a map may be picked twice.
 ///
 /// # Errors
 ///

@@ -1,4 +1,4 @@
--- The combinations of the cells of several maps, and their order (r.stats manual; null last is the profile's).
+-- The combinations of the cells of several maps, and their order (r.stats manual; null last is our own choice).
 use Rattle.std.specs.Prelude.{ℕ, ◌<◌, All, List, length, map, None, flat_map, slice_get}
 use Rattle.std.specs.Option.{option_map_or}
 use Rattle.std.specs.declared.cmp.Ordering.{Ordering}
@@ -13,7 +13,7 @@ use Rattle.cell_core.specs.Shelf.{ShelfValue}
 abbrev pub Combination : Type 0
 Combination = List CellValue
 
--- ascending by the first cell, then by the second, and so on; null is last (profile)
+-- combinations in ascending order of their first cell, then of their second, and so on; null is last (profile)
 abbrev pub combination_cmp : Combination → Combination → Ordering
 combination_cmp = slice_cmp cell_cmp
 
@@ -21,11 +21,11 @@ combination_cmp = slice_cmp cell_cmp
 pub combination_cmp_total : IsTotalOrder combination_cmp
 combination_cmp_total = lists_total cell_cmp_total
 
--- the cell at a row and a column of the map in a place
+-- the cell at a row and a column of the map at index `place`
 abbrev pub cell_of_map : List Grid → ℕ → ℕ → ℕ → CellValue
 cell_of_map maps row col place = option_map_or (λ m. cell_at m row col) (slice_get maps place) None
 
--- the combination at a row and a column
+-- the combination at a row and a column of the picked maps
 abbrev pub combination_at : List Grid → List ℕ → ℕ → ℕ → Combination
 combination_at maps picks row col = map (cell_of_map maps row col) picks
 
@@ -37,10 +37,10 @@ row_combinations maps picks cols row = map (combination_at maps picks row) (rang
 abbrev pub all_combinations : List Grid → List ℕ → ℕ → ℕ → List Combination
 all_combinations maps picks rows cols = flat_map (row_combinations maps picks cols) (range_with_len 0 rows)
 
--- the combinations of all cells of the maps of a shelf in these places
+-- the combinations of all cells of the picked maps of a shelf
 abbrev pub shelf_combinations : ShelfValue → List ℕ → List Combination
 shelf_combinations shelf picks = all_combinations shelf.maps picks shelf.region.rows shelf.region.cols
 
--- they are places of maps on the shelf
+-- all picks are indices of maps on the shelf
 abbrev pub ArePicks : ShelfValue → List ℕ → Type 0
 ArePicks shelf picks = All (λ i. i < length shelf.maps) picks

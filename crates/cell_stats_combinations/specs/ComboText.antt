@@ -1,4 +1,4 @@
--- A combination as a text: its cells between commas (profile).
+-- A combination as a text: its cells, separated by commas (profile).
 use Rattle.std.specs.Prelude.{ℕ, ◌≡◌, List, Some, None, codes}
 use Rattle.std.specs.List.{AllZip}
 use Rattle.cell_core.specs.Grid.{CellValue}
@@ -6,11 +6,11 @@ use Rattle.cell_core_values.specs.WholeNumbers.{whole_in_range}
 use Rattle.cell_core_values.specs.Words.{parts_of}
 use Rattle.cell_stats_combinations.specs.Combinations.{Combination}
 
--- an asterisk spells null, and a whole number in range a category
+-- the part spells the cell: an asterisk for null, or a whole number in range
 abbrev pub SpellsCell : List ℕ → CellValue → Type 0
 SpellsCell part None = part ≡ codes "*"
 SpellsCell part (Some category) = whole_in_range part ≡ Some category
 
--- the parts of the text spell the cells, one each
+-- each part of the text spells one of the cells, in order
 abbrev pub SpellsCombination : List ℕ → Combination → Type 0
 SpellsCombination text combination = AllZip SpellsCell (parts_of text) combination

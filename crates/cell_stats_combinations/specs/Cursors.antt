@@ -1,4 +1,4 @@
--- A place in the row of a map, as seen by a walk over its runs.
+-- Positions in a row of a map, for walking over its runs.
 use Rattle.std.specs.Prelude.{ℕ, ◌≡◌, ◌<◌, List, [], ◌++◌, length, All, replicate, slice_get, refl}
 use Rattle.std.specs.Coded.{Coded, code_by, coded×, coded_ℕ, coded_ℤ, coded_list, coded_option}
 use Rattle.std.specs.Option.{option_map_or}
@@ -6,13 +6,13 @@ use Rattle.cell_core.specs.Grid.{Grid, CellValue, row_at}
 use Rattle.cell_core.specs.Runs.{RunValue, written_out}
 use Rattle.cell_core.specs.Shelf.{ShelfValue}
 
--- the cell at the place, the number of columns from there on that have the same cell, and the runs after these
+-- the remaining runs, the current cell, and the number of columns from the position on with this cell
 pub record CursorValue : Type 0 where
   pub runs : List RunValue
   pub cell : CellValue
   pub left : ℕ
 
--- the cells from the place on
+-- the cells from the position on
 abbrev pub to_come : CursorValue → List CellValue
 to_come c = replicate c.left c.cell ++ written_out c.runs
 
@@ -21,15 +21,15 @@ pub record AreCursorsReady (c : CursorValue) : Type 0 where
   pub runs : All (λ run. 0 < run.1) c.runs
   pub present : c.left ≡ 0 → c.runs ≡ []
 
--- the row of the map in a place
+-- a row of the map at index `place`
 abbrev pub row_in : List Grid → ℕ → ℕ → List CellValue
 row_in maps row place = option_map_or (λ m. row_at m row) (slice_get maps place) []
 
--- the rows of the maps in these places are as wide as the region
+-- the rows of the picked maps are as wide as the region
 abbrev pub AreWideRows : ShelfValue → ℕ → List ℕ → Type 0
 AreWideRows shelf row picks = All (λ place. length (row_in shelf.maps row place) ≡ shelf.region.cols) picks
 
--- how a cursor is stored
+-- the encoding of a cursor
 abbrev pub cursor_code : Coded CursorValue
 cursor_code =
     code_by (List RunValue × (CellValue × ℕ)) (coded× (coded_list (coded× (coded_option coded_ℤ) coded_ℕ)) (coded× (coded_option coded_ℤ) coded_ℕ))

@@ -6,12 +6,12 @@ use Rattle.cell_stats_combinations.specs.declared.skip.Skip.{Skip}
 use Rattle.cell_stats_combinations.specs.declared.skip.Skip.TheVariants.{Nothing, AnyNull, AllNull}
 use Rattle.cell_stats_combinations.specs.Combinations.{Combination}
 
--- which combinations are left out: none, those with a null, or those that consist of nulls
+-- the combination is left out
 abbrev pub is_left_out : Skip → Combination → Bool
 is_left_out Nothing k = false
 is_left_out AnyNull k = list_any is_none k
 is_left_out AllNull k = list_all is_none k
 
--- the cells whose combination is not left out
+-- the combinations that are not left out
 abbrev pub kept_cells : Skip → List Combination → List Combination
 kept_cells skip cells = filter (λ k. not (is_left_out skip k)) cells

@@ -1,4 +1,4 @@
--- The combinations of categories over several maps. Walks along the rows of several maps at once.
+-- Combinations of the categories of several maps, and walks along the rows of several maps at once.
 pub mod Combinations
 pub mod ComboText
 pub mod ComboReading

@@ -1,3 +1,3 @@
--- How combinations are kept, and when two are equal.
+-- How combinations are stored, and when two are equal.
 pub mod Few
 pub mod Same

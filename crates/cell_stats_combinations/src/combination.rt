@@ -1,4 +1,4 @@
-//! One cell from each of several maps.
+//! Combinations: one cell from each of several maps.
 
 ghost use Rattle.std.specs.Prelude.{◌≡◌, ◌<◌, ◌↔◌, IfOk, IsTrue, Some, length, slice_get};
 ghost use Rattle.cell_stats_combinations.specs.Combinations.{combination_cmp};
@@ -9,10 +9,10 @@ use std::alloc::Global;
 use std::cmp::Ordering;
 use std::marker::Model;
 
-// Number of cells that are kept without an allocation.
+// Maximum number of cells stored without an allocation.
 const FEW: usize = 4;
 
-// The cells of a combination: a few of them with their number, or many.
+// The cells of a combination: a few cells with their number, or many.
 #[derive(Debug, Drop)]
 enum Cells {
     Few([Cell; FEW], usize),
@@ -20,7 +20,7 @@ enum Cells {
 }
 
 /// One cell from each of several maps, in the order in which the maps were picked. Combinations are ordered by their
-/// first cell, then by the second, and so on (r.stats manual; null is last: profile).
+/// first cell, then by their second, and so on (r.stats manual; null is last: profile).
 #[derive(Debug, Drop)]
 pub struct Combo {
     cells: Cells,
@@ -37,7 +37,7 @@ impl Model for Combo {
 }
 
 impl Combo {
-    // A combination of these cells.
+    // Returns the combination of these cells.
     pub(crate) fn of(cells: Vec<Cell>) -> Combo
         ensures { result ≡ cells.items }
     {
@@ -46,7 +46,7 @@ impl Combo {
         }
     }
 
-    /// The combination of these cells, which are copied.
+    /// Returns a combination with copies of these cells.
     ///
     /// # Errors
     ///
@@ -67,14 +67,14 @@ impl Combo {
         })
     }
 
-    /// The number of its cells.
+    /// Returns the number of cells.
     pub fn len(&self) -> usize
         ensures { result ≡ length self.now }
     {
         self.cells().len()
     }
 
-    /// The cell of the map that was picked at a place, from 0.
+    /// Returns the cell of the map that was picked at index `i`.
     pub fn get(&self, i: usize) -> Cell
         requires { i < length self.now }
         ensures { slice_get self.now i ≡ Some result }
@@ -82,7 +82,7 @@ impl Combo {
         self.cells()[i]
     }
 
-    /// Its cells in order.
+    /// Returns the cells in order.
     #[inline(always)]
     pub fn cells(&self) -> &[Cell]
         ensures { result.now ≡ self.now }
@@ -93,7 +93,7 @@ impl Combo {
         }
     }
 
-    /// Overwrites its cells with others of the same number.
+    /// Overwrites the cells with the same number of other cells.
     #[inline(always)]
     pub fn write(&mut self, cells: &[Cell])
         requires { length cells.now ≡ length self.old }

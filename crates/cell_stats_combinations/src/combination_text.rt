@@ -1,4 +1,4 @@
-//! A combination read from a text.
+//! Reads combinations from texts.
 
 ghost use Rattle.std.specs.Prelude.{◌≡◌, ◌≤◌};
 ghost use Rattle.cell_core_values.specs.Answers.{Answers};
@@ -11,7 +11,7 @@ use cell_core_values::whole_numbers::whole_in_range;
 use cell_core_values::words::parts_of;
 use std::alloc::{AllocFailed, Global};
 
-/// Why a text is not a combination: the first reason in this order (profile).
+/// Why a text is not a combination. If several reasons apply, the first in this order is reported (profile).
 #[derive(Clone, Copy, Debug, PartialEq, Eq)]
 pub enum ComboFault {
     /// A part is neither an asterisk nor a whole number in range.
@@ -44,7 +44,7 @@ impl<T: Drop> From<AllocFailed<T>> for ComboFault {
     }
 }
 
-// The cell of a part.
+// Reads a part as a cell.
 fn cell_of_part(part: &[u8]) -> Option<Cell>
     ensures { result ≡ cell_of_part part.now }
 {
@@ -58,12 +58,12 @@ fn cell_of_part(part: &[u8]) -> Option<Cell>
 }
 
 impl Combo {
-    /// The combination that a text spells: its cells between commas, each an asterisk, which is null, or a whole number
-    /// in range. The width is 1 to 16.
+    /// Reads a combination from a text: cells separated by commas, each an asterisk for null or a whole number
+    /// in range. `width` must be 1 to 16.
     ///
     /// # Errors
     ///
-    /// The first [`ComboFault`] in the order of its variants.
+    /// The first [`ComboFault`] that applies, in the order of its variants.
     pub fn read(alloc: Global, text: &[u8], width: usize) -> Result<Combo, ComboFault>
         requires { (1 ≤ width) × (width ≤ 16) }
         ensures { Answers ComboFault.Memory (λ combo. combo) result (combo_of width text.now) }

@@ -1,4 +1,4 @@
-//! A walk along the rows of several maps, run by run.
+//! Walks along the rows of several maps, run by run.
 
 ghost use Rattle.std.specs.Prelude.{◌≡◌, ◌<◌, ◌≤◌, length, map, drop, All, OnOk, IfOk};
 ghost use Rattle.cell_core.specs.Grid.{row_at};
@@ -14,8 +14,7 @@ use cell_core::stretches::Stretches;
 use std::alloc::Global;
 use std::marker::Model;
 
-/// A place in a row: the cell there, the number of columns from there on that have the same cell, and the runs after
-/// these.
+/// A position in a row: its cell, the number of columns from there on with the same cell, and the runs after them.
 #[derive(Drop)]
 pub struct Cursor<'a> {
     runs: Stretches<'a>,
@@ -34,7 +33,7 @@ impl<'a> Model for Cursor<'a> {
 }
 
 impl<'a> Cursor<'a> {
-    // At the first cell of a row.
+    // Returns a cursor at the first cell of a row.
     fn over(mut runs: Stretches<'a>) -> Cursor<'a>
         requires { All (λ run. 0 < run.1) runs }
         ensures cells { to_come result ≡ written_out runs.entry }
@@ -50,7 +49,7 @@ impl<'a> Cursor<'a> {
         }
     }
 
-    // Moves on by some columns of the current run.
+    // Moves by `count` columns of the current run.
     #[inline(always)]
     fn pass(&mut self, count: u32)
         requires within { count ≤ self.old.left }
@@ -68,7 +67,7 @@ impl<'a> Cursor<'a> {
     }
 }
 
-/// The place of the first cell in a row of a map.
+/// Returns a cursor at the first cell of a row of a map.
 pub fn start<'a>(map: &'a CellMap, row: u32) -> Cursor<'a>
     requires { row < map.now.region.rows }
     ensures cells { to_come result ≡ row_at map.now row }
@@ -78,7 +77,7 @@ pub fn start<'a>(map: &'a CellMap, row: u32) -> Cursor<'a>
     Cursor::over(map.stretches(row))
 }
 
-// The first cells of a row of the picked maps.
+// Returns cursors at the first cell of a row of each picked map.
 fn start_all<'a>(
     alloc: Global,
     shelf: &'a Shelf,
@@ -99,7 +98,8 @@ fn start_all<'a>(
     Ok(cursors)
 }
 
-/// Cursors over the picked maps, in the last row. They are moved from row to row, so that memory is allocated once.
+/// Returns cursors over the picked maps, in the last row. They are then moved from row to row, so that memory is
+/// allocated once.
 ///
 /// # Errors
 ///
@@ -116,7 +116,7 @@ pub fn cursors_of<'a>(
     start_all(alloc, shelf, picks, row)
 }
 
-/// Moves all cursors to the first cells of a row.
+/// Moves all cursors to the first cell of a row.
 pub fn restart_all<'a>(cursors: &mut [Cursor<'a>], shelf: &'a Shelf, picks: &[usize], row: u32)
     requires picked { ArePicks shelf.now picks.now }
     requires row_in_range { row < shelf.now.region.rows }
@@ -130,7 +130,7 @@ pub fn restart_all<'a>(cursors: &mut [Cursor<'a>], shelf: &'a Shelf, picks: &[us
     }
 }
 
-// The smaller of two numbers of columns.
+// Returns the smaller of two numbers of columns.
 fn lesser(a: u32, b: u32) -> u32
     ensures first { result ≤ a }
     ensures second { result ≤ b }
@@ -139,8 +139,8 @@ fn lesser(a: u32, b: u32) -> u32
     a.min(b)
 }
 
-/// Moves all cursors on by `count` columns of their present runs, and writes the cells there. Returns for how many of
-/// the `left` columns from there on they are the same.
+/// Moves all cursors by `count` columns of their current runs, and writes the cells there. Returns for how many of the
+/// next `left` columns all cells stay the same.
 #[inline(always)]
 pub fn pass_all(cursors: &mut [Cursor], count: u32, left: u32, cells: &mut [Cell]) -> u32
     requires within { All (λ c. count ≤ c.left) cursors.old }

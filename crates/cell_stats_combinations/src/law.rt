@@ -1,8 +1,8 @@
-//! How combinations are read.
+//! Laws about reading combinations.
 
 ghost use Rattle.cell_stats_combinations.specs.ComboReading.{CombinationsAreRead};
 
-/// A text is read as a combination exactly if it spells the combination, and has its width.
+/// A text is read as a combination if and only if it spells this combination with the expected width.
 pub fn combinations_are_read()
     ensures { CombinationsAreRead }
 {}

@@ -1,12 +1,12 @@
-//! Combinations of the categories of several maps, and walks along the rows of these maps (GRASS
+//! Defines combinations of the categories of several maps, and walks along the rows of these maps (GRASS
 //! manual: r.stats). Null is last in the order (profile).
 //!
 //! - `combination`: `Combo`, one cell of each map, ordered by the first, then the second, ..
-//! - `combination_text`: `Combo::read`, its cells between commas, or a `ComboFault`
+//! - `combination_text`: `Combo::read` reads cells separated by commas, or returns a `ComboFault`
 //! - `skip`: `Skip`, which combinations a table leaves out (flags `-n` and `-N`)
-//! - `selection`: `Selection`, the maps of a shelf that are looked at, and the `Skip`
-//! - `cursor`: `Cursor`, a walk along a row by runs; `pass_all`, over several maps at once
-//! - `law`: a text is read as a combination exactly if it spells one
+//! - `selection`: `Selection`, the maps of a shelf that are tabulated, and the `Skip`
+//! - `cursor`: `Cursor` walks along a row by runs; `pass_all` walks over several maps at once
+//! - `law`: a text is read as a combination if and only if it spells one
 //!
 //! Two categories, or null, from `text`:
 //!

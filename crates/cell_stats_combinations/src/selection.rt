@@ -1,4 +1,4 @@
-//! The maps of a shelf that are tabulated.
+//! Selections of maps to tabulate.
 
 use crate::skip::Skip;
 use cell_core::shelf::Shelf;
@@ -8,7 +8,7 @@ use cell_core::shelf::Shelf;
 pub struct Selection<'a, 'b> {
     /// The shelf.
     pub shelf: &'a Shelf,
-    /// The places of the maps on the shelf.
+    /// The indices of the maps on the shelf.
     pub picks: &'b [usize],
     /// Which combinations are left out.
     pub skip: Skip,

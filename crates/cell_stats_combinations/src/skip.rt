@@ -10,15 +10,15 @@ use cell_core::cell::Cell;
 /// Which combinations a table leaves out (r.stats manual, flags `-n` and `-N`).
 #[derive(Clone, Copy, Debug, PartialEq, Eq)]
 pub enum Skip {
-    /// None.
+    /// Leave out nothing.
     Nothing,
-    /// Combinations with a null.
+    /// Leave out combinations that contain null.
     AnyNull,
-    /// Combinations that consist of nulls.
+    /// Leave out combinations in which all cells are null.
     AllNull,
 }
 
-// Whether a cell is null.
+// Returns whether a cell is null.
 #[inline(always)]
 fn is_null_cell(cell: &Cell) -> bool
     ensures { result ≡ is_none cell.now }
@@ -26,7 +26,7 @@ fn is_null_cell(cell: &Cell) -> bool
     cell.get().is_none()
 }
 
-// Whether any cell is null.
+// Returns whether any cell is null.
 #[inline(always)]
 fn has_null(cells: &[Cell]) -> bool
     ensures { result ≡ list_any is_none cells.now }
@@ -34,7 +34,7 @@ fn has_null(cells: &[Cell]) -> bool
     cells.iter().any(|cell| is_null_cell(cell))
 }
 
-// Whether all cells are null.
+// Returns whether all cells are null.
 #[inline(always)]
 fn has_nulls_only(cells: &[Cell]) -> bool
     ensures { result ≡ list_all is_none cells.now }
@@ -42,7 +42,7 @@ fn has_nulls_only(cells: &[Cell]) -> bool
     cells.iter().all(|cell| is_null_cell(cell))
 }
 
-/// Whether the combination is left out. Inlined, since it is called for each run.
+/// Returns whether a combination is left out. Inlined, because it is called for each run.
 #[inline(always)]
 pub fn is_left_out(skip: Skip, cells: &[Cell]) -> bool
     ensures { result ≡ is_left_out skip cells.now }

@@ -1,4 +1,4 @@
-//! Areas compared with a plain, slow search, on all small maps and on random ones.
+//! Tests of clumps against a plain, slow search, on all small maps and on random ones.
 
 ghost use Rattle.std.specs.Prelude.{◌<◌};
 
@@ -23,7 +23,7 @@ fn expect_as_by_flood<R: Abort + AllocGlobal>(
     expect_numbers(rt, categories, cols, Joining::EdgesAndCorners, &by_corners)
 }
 
-// The nine categories of a map, given its number: the number's digits in base three.
+// Returns the nine categories of map number `code`: the digits of the number in base three.
 fn nine_categories(alloc: Global, code: u32) -> Result<Vec<i32>, Fail> {
     let mut rest = code;
     let mut categories = Vec::new(alloc);
@@ -47,13 +47,13 @@ fn all_maps_of_3_by_3(rt: HostRuntime) -> Result<(), Fail> {
     Ok(())
 }
 
-// The next pseudo-random number (Knuth's multiplier).
+// Returns the next pseudo-random number (Knuth's multiplier).
 fn next_random(seed: u64) -> u64 {
     seed.wrapping_mul(6364136223846793005)
         .wrapping_add(1442695040888963407)
 }
 
-// `count` random categories below `kinds`, at most 4; 3 stands for null.
+// Returns `count` random categories below `kinds`, which is at most 4; 3 stands for null.
 fn random_categories(
     alloc: Global,
     seed: &mut u64,

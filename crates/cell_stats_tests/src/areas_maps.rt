@@ -1,4 +1,4 @@
-//! The areas of maps that are given as lists of categories.
+//! Checks the clumps of maps that are given as lists of categories.
 
 ghost use Rattle.std.specs.Prelude.{◌<◌};
 
@@ -9,7 +9,7 @@ use std::alloc::AllocGlobal;
 use std::process::Abort;
 use std::test::Fail;
 
-// The map has the region of another, and the expected numbers.
+// Checks that the clump map has the region of the map, and the expected numbers.
 fn expect_map<R: Abort + AllocGlobal>(
     rt: &R,
     clumps: &CellMap,
@@ -27,7 +27,7 @@ fn expect_map<R: Abort + AllocGlobal>(
     Ok(())
 }
 
-/// Checks the numbers of the areas of a map of these categories; by edges, also those that `clump` returns.
+/// Checks the clump numbers of a map with these categories. By edges, it also checks the numbers that `clump` returns.
 pub(crate) fn expect_numbers<R: Abort + AllocGlobal>(
     rt: &R,
     categories: &[i32],

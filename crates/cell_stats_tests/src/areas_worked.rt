@@ -1,4 +1,4 @@
-//! Worked maps, whose numbers were found by hand.
+//! Tests with worked maps, whose clump numbers were found by hand.
 
 ghost use Rattle.std.specs.Prelude.{◌<◌, IfOk};
 
@@ -12,7 +12,7 @@ use std::alloc::{AllocGlobal, Global};
 use std::process::Abort;
 use std::test::Fail;
 
-// A map, and the numbers of its areas by edges and by edges and corners; a stroke ends a row.
+// Maps, each with its clump numbers by edges and by edges and corners. A slash ends a row.
 const WORKED: [(&str, &str, &str); 13] = [
     (
         "1 1 2 * / 1 2 2 2 / 3 3 1 1",
@@ -57,7 +57,7 @@ const WORKED: [(&str, &str, &str); 13] = [
     ),
 ];
 
-// The categories that a text names.
+// Parses the categories in a text.
 fn categories_in(alloc: Global, text: &str) -> Result<Vec<i32>, Fail> {
     let mut categories = Vec::new(alloc);
     for word in text.split_whitespace() {
@@ -70,7 +70,7 @@ fn categories_in(alloc: Global, text: &str) -> Result<Vec<i32>, Fail> {
     Ok(categories)
 }
 
-// The columns of the first row of a text.
+// Returns the number of columns in the first row of a text.
 fn cols_in(text: &str) -> u32
     ensures { 0 < result }
 {
@@ -84,7 +84,7 @@ fn cols_in(text: &str) -> u32
     if cols == 0 { 1 } else { cols }
 }
 
-// The areas of the map that a text spells have the numbers of another text.
+// Checks that the clumps of the map in one text have the numbers in another text.
 fn expect_worked<R: Abort + AllocGlobal>(
     rt: &R,
     map: &str,

@@ -1,12 +1,12 @@
-//! `assert_same!` and `assert_holds!` are `assert_eq!` and `assert!` as calls: the comparison and its message are
-//! proved once, and not at each use.
+//! Defines `assert_same!` and `assert_holds!`, which are `assert_eq!` and `assert!` as calls, so that the comparison
+//! and its message are proved once and not at each use.
 
 ghost use Rattle.std.specs.Prelude.{◌≡◌, true};
 
 use std::fmt::{Debug, Display};
 use std::process::Abort;
 
-/// The result equals the expected one.
+/// Asserts that the result equals the expected one.
 pub(crate) fn same<R: Abort, N: Display + Drop, T: PartialEq + Debug>(
     rt: &R,
     note: N,
@@ -27,7 +27,7 @@ macro_rules! assert_same {
 
 pub(crate) use assert_same;
 
-/// The assertion holds.
+/// Asserts that the condition holds.
 pub(crate) fn holds<R: Abort, N: Display + Drop>(rt: &R, note: N, truth: bool)
     ensures { truth ≡ true }
 {

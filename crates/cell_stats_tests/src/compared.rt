@@ -1,4 +1,4 @@
-//! Random rules, compared with a plain look at every rule: overlapping ranges in either order, rules for `*` in any
+//! Tests random rules against a plain check of every rule: overlapping ranges in either order, rules for `*` in any
 //! place, and the smallest and the largest category.
 
 use crate::assertions::{assert_holds, assert_same};
@@ -10,7 +10,7 @@ use std::alloc::{AllocGlobal, Global};
 use std::process::Abort;
 use std::test::Fail;
 
-// The ends of the ranges, and the cells of the map.
+// The possible ends of ranges, and the cells of the map.
 const NUMBERS: [i32; 16] = [
     -2147483647,
     -2147483646,
@@ -30,14 +30,14 @@ const NUMBERS: [i32; 16] = [
     NULL,
 ];
 
-// A rule has fewer items than this.
+// Each rule has fewer items than this.
 const ITEMS: usize = 5;
 
 const MOST_RULES: u32 = 12;
 
 const ROUNDS: u32 = 600;
 
-// The next pseudo-random number (Knuth's multiplier).
+// Returns the next pseudo-random number (Knuth's multiplier).
 fn next_random(seed: &mut u64, count: usize) -> usize {
     *seed = seed
         .wrapping_mul(6364136223846793005)
@@ -45,7 +45,7 @@ fn next_random(seed: &mut u64, count: usize) -> usize {
     (*seed >> 33) as usize % count.max(1)
 }
 
-// One of the numbers that are categories.
+// Returns a random category from the list.
 fn one_category(seed: &mut u64) -> i32 {
     match NUMBERS.get(next_random(seed, NUMBERS.len() - 1)) {
         Some(number) => *number,
@@ -67,7 +67,7 @@ fn items(alloc: Global, seed: &mut u64) -> Result<String, Fail> {
     Ok(text)
 }
 
-// The line of a rule; few other rules have the same output.
+// Returns the line of a random rule. Few rules have the same output.
 fn rule(alloc: Global, seed: &mut u64) -> Result<String, Fail> {
     let output = next_random(seed, 100000);
     let line = match next_random(seed, 10) {
@@ -90,7 +90,7 @@ fn plainly(rules: &Rules, category: i32) -> i32 {
     rules.apply(cell).get().unwrap_or(NULL)
 }
 
-// The reclassified map has at each cell what a look at every rule gives.
+// Checks that every cell of the reclassified map equals the result of checking every rule.
 fn expect_as_plainly<R: Abort + AllocGlobal>(rt: &R, rules: &Rules) -> Result<(), Fail> {
     let alloc = rt.alloc();
     let map = map_of(alloc, &NUMBERS, 4)?.ok_or("no map")?;

@@ -1,4 +1,4 @@
-//! The numbers of areas by a plain, slow search: an area grows from its first cell until no cell can be added.
+//! Finds clump numbers with a plain, slow search: a clump grows from its first cell until no cell can be added.
 
 ghost use Rattle.std.specs.Prelude.{◌<◌};
 
@@ -6,7 +6,7 @@ use cell_core::memory::Memory;
 use cell_core_test_maps::maps::NULL;
 use std::alloc::Global;
 
-// Whether two places of a map of `cols` columns are adjacent, by edges, or also by corners.
+// Returns whether two cells of a map with `cols` columns are adjacent, by edges or also by corners.
 fn are_adjacent(one: usize, other: usize, cols: usize, corners: bool) -> bool
     requires { 0 < cols }
 {
@@ -19,7 +19,7 @@ fn are_adjacent(one: usize, other: usize, cols: usize, corners: bool) -> bool
     }
 }
 
-// Whether a cell with this category at a place touches a cell of the area with this number.
+// Returns whether a cell with this category at this place touches a cell of the clump with this number.
 fn touches(
     categories: &[i32],
     numbers: &[i32],
@@ -42,8 +42,8 @@ fn touches(
     false
 }
 
-// Gives the number to each cell that touches a cell of the area, in one pass over the map. Returns whether any cell
-// did.
+// Assigns the number to each cell that touches a cell of the clump, in one pass over the map. Returns whether it
+// changed any cell.
 fn grow(categories: &[i32], numbers: &mut [i32], cols: usize, corners: bool, number: i32) -> bool
     requires { 0 < cols }
 {
@@ -57,7 +57,7 @@ fn grow(categories: &[i32], numbers: &mut [i32], cols: usize, corners: bool, num
     grew
 }
 
-/// The clump numbers of a map of these categories in rows of `cols` columns.
+/// Returns the clump numbers of a map with these categories in rows of `cols` columns.
 pub(crate) fn numbers_by_flood(
     alloc: Global,
     categories: &[i32],

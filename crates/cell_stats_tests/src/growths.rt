@@ -1,6 +1,6 @@
-//! A rule for which memory runs out leaves the rules unchanged, and the same line can be added again.
+//! Tests that a rule for which memory runs out leaves the rules unchanged, and that its line can be added again.
 //!
-//! In a normal run every allocation succeeds. tools/hostile makes allocations fail in turn, one in each run, and checks
+//! In a normal run every allocation succeeds. tools/hostile makes allocations fail in turn, one per run, and checks
 //! that the call is repeated in some of the runs.
 
 use crate::assertions::{assert_holds, assert_same};
@@ -10,7 +10,7 @@ use std::alloc::AllocGlobal;
 use std::process::Abort;
 use std::test::Fail;
 
-// Each rule gives the category of its place, from 1 on, a new category.
+// Rules, each with the new category of the category that equals the rule's position, from 1.
 const LINES: [(&[u8], i32); 6] = [
     (b"1 = 9 low", 9),
     (b"2 thru 3 , 5 = 7", 7),
@@ -20,7 +20,7 @@ const LINES: [(&[u8], i32); 6] = [
     (b"-7 thru -6 6 = 0 zero", 0),
 ];
 
-// The new category of a category, if it has one.
+// Returns the new category of a category, if it has one.
 pub(crate) fn new_category(rules: &Rules, category: i32) -> Option<i32> {
     rules.apply(Cell::value(category)?).get()
 }

@@ -1,7 +1,6 @@
-//! Tests of the rules of r.reclass: each form of a line, worked maps, and random rules. Tests of the connected areas of
-//! a map: worked maps, shapes, and comparisons with a plain, slow search. Tests of the patches of a map and their
-//! measures: a worked map. Tests of tables and of their printed text: worked maps, wide picks and a table with very
-//! many combinations.
+//! Tests the rules of r.reclass (each form of a line, worked maps, and random rules), the clumps of a map (worked maps,
+//! shapes, and comparisons with a plain, slow search), patches and their measures (a worked map), and tables and their
+//! printed text (worked maps, wide picks, and a table with many combinations).
 #![tactic(auto)]
 
 #[cfg(test)]

@@ -1,4 +1,4 @@
-//! Each form of a rule line.
+//! Tests of each form of a rule line.
 
 use crate::assertions::{assert_holds, assert_same};
 use crate::growths::new_category;
@@ -83,7 +83,7 @@ fn good_lines(rt: HostRuntime) -> Result<(), Fail> {
     Ok(())
 }
 
-// A rule that is added after a bad line is the only rule.
+// Checks that a rule that is added after an invalid line is the only rule.
 fn expect_one_rule<R: Abort>(rt: &R, rules: &mut Rules, line: &[u8]) {
     assert_holds!(rt;
         rules.add_line(b"1 = 2") == Ok(LineKind::Rule),

@@ -1,4 +1,4 @@
-//! Worked maps, and shelves of maps.
+//! Builds worked maps, and shelves of maps.
 
 ghost use Rattle.std.specs.Prelude.{◌<◌, ◌≤◌, ◌↔◌, All, IsTrue, length};
 
@@ -9,10 +9,10 @@ use cell_core_test_maps::maps::{NULL, map_of};
 use std::alloc::Global;
 use std::test::Fail;
 
-/// A worked map of four columns.
+/// A worked map with four columns.
 pub(crate) const G: [i32; 12] = [1, 1, 2, NULL, 1, 2, 2, 2, 3, 3, 1, 1];
 
-/// Each cell has what is one column to its right in `G`.
+/// The map `G`, shifted to the left by one column.
 pub(crate) const X: [i32; 12] = [1, 2, NULL, NULL, 2, 2, 2, NULL, 3, 1, 1, NULL];
 
 /// Adds a map to the shelf.
@@ -24,7 +24,7 @@ pub(crate) fn add(alloc: Global, shelf: &mut Shelf, name: &[u8], map: CellMap) -
     }
 }
 
-/// A map with these categories; an `Err` if they do not fill whole rows.
+/// Returns a map with these categories, or an `Err` if the last row is not full.
 pub(crate) fn filled(alloc: Global, categories: &[i32], cols: u32) -> Result<CellMap, Fail>
     requires { 0 < cols }
 {
@@ -33,7 +33,7 @@ pub(crate) fn filled(alloc: Global, categories: &[i32], cols: u32) -> Result<Cel
 
 const NAMES: [&[u8]; 3] = [b"a", b"b", b"c"];
 
-/// The shelf of the maps `a`, `b` and so on, each of `cols` columns.
+/// Returns a shelf with maps named `a`, `b` and so on, each with `cols` columns.
 pub(crate) fn shelf_of(alloc: Global, maps: &[&[i32]], cols: u32) -> Result<Shelf, Fail>
     requires { 0 < cols }
 {
@@ -48,7 +48,7 @@ pub(crate) fn shelf_of(alloc: Global, maps: &[&[i32]], cols: u32) -> Result<Shel
     Ok(shelf)
 }
 
-// Whether all are places on the shelf.
+// Returns whether all picks are indices on the shelf.
 fn are_places(shelf: &Shelf, picks: &[usize]) -> bool
     ensures { IsTrue result ↔ All (λ i. i < length shelf.now.maps) picks.now }
 {
@@ -56,7 +56,7 @@ fn are_places(shelf: &Shelf, picks: &[usize]) -> bool
     picks.iter().all(|i| *i < count)
 }
 
-/// Whether they may be picked: 1 to 16 places on the shelf.
+/// Returns whether the picks are valid: 1 to 16 indices on the shelf.
 pub(crate) fn are_picks(shelf: &Shelf, picks: &[usize]) -> bool
     ensures picked { IsTrue result → All (λ i. i < length shelf.now.maps) picks.now }
     ensures some { IsTrue result → 0 < length picks.now }

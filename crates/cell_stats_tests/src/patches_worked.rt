@@ -1,4 +1,4 @@
-//! The patches of a worked map, whose measures were found by hand.
+//! Tests of the patches of a worked map, whose measures were found by hand.
 
 use crate::assertions::assert_same;
 use crate::maps::filled;
@@ -11,7 +11,7 @@ use std::alloc::AllocGlobal;
 use std::process::Abort;
 use std::test::Fail;
 
-// Rows of seven columns. By edges, each class has two patches; by edges and corners, only class 3.
+// Rows of seven columns. By edges, each class has two patches; by edges and corners, only class 3 has two.
 const WORKED: [i32; 42] = [
     1, 1, 1, 1, 1, 2, 2, //
     1, 1, 1, 1, 1, NULL, 2, //
@@ -21,7 +21,7 @@ const WORKED: [i32; 42] = [
     NULL, 3, 3, 3, 3, 1, 1, //
 ];
 
-// A patch: its class; its cells, ends, flanks and core; its first and last rows and columns.
+// Builds a patch from its class; its cells, ends, flanks and core; and its first and last rows and columns.
 fn patch(class: i32, counts: [u64; 4], reach: [u32; 4]) -> Patch {
     let [cells, ends, flanks, core] = counts;
     let [first_row, last_row, first_col, last_col] = reach;
@@ -104,9 +104,9 @@ fn sides_to_null_are_counted(rt: HostRuntime) -> Result<(), Fail> {
     Ok(())
 }
 
-// Zones of the worked map's cells. By edges, the first patch has 9 cells in 10, 10 in 20 and 7 in none;
-// the second 2 in 10 and 1 in 20; the third 1 in 20; the fourth 1 in 20 and 1 in 30; the fifth none; the
-// sixth 4 in 30.
+// Zones of the worked map's cells. By edges, the patches have this many cells: the first 9 in zone 10, 10 in zone 20
+// and 7 outside all zones; the second 2 in zone 10 and 1 in zone 20; the third 1 in zone 20; the fourth 1 in zone 20
+// and 1 in zone 30; the fifth none; the sixth 4 in zone 30.
 const ZONES: [i32; 42] = [
     10, 10, 10, 10, 10, 10, 10, //
     10, 10, 10, 10, NULL, 20, 20, //

@@ -1,4 +1,4 @@
-//! The printed text of tables and cells: worked maps.
+//! Tests of the printed text of tables and cells, with worked maps.
 
 use crate::assertions::assert_same;
 use crate::maps::{G, X, add, are_picks, filled, shelf_of};
@@ -16,10 +16,10 @@ use std::alloc::{AllocGlobal, Global};
 use std::process::Abort;
 use std::test::Fail;
 
-// The areas of the first worked map.
+// The clump map of the first worked map.
 const AREAS: [i32; 12] = [1, 1, 2, NULL, 1, 2, 2, 2, 3, 3, 4, 4];
 
-// The part of the table that a sink with this much room takes, and whether the sink failed.
+// Returns the text of a table that a sink with this much room accepts, and whether the sink failed.
 fn table_in_room(
     alloc: Global,
     shelf: &Shelf,
@@ -54,7 +54,7 @@ fn table_in_room(
     Ok((bytes, block.outcome()))
 }
 
-// The table's text is the expected one.
+// Checks the text of a table.
 fn expect_table<R: Abort + AllocGlobal>(
     rt: &R,
     shelf: &Shelf,
@@ -70,7 +70,7 @@ fn expect_table<R: Abort + AllocGlobal>(
     Ok(())
 }
 
-// The text of the cells is the expected one.
+// Checks the text of cells.
 fn expect_cells<R: Abort + AllocGlobal>(
     rt: &R,
     shelf: &Shelf,
@@ -91,7 +91,7 @@ fn expect_cells<R: Abort + AllocGlobal>(
     Ok(())
 }
 
-// Checks the text of each table: picks, skip rule, the combination that it comes after, and text.
+// Checks the text of several tables, each with its picks, its skip rule, and the combination that it starts after.
 fn expect_tables<R: Abort + AllocGlobal>(
     rt: &R,
     shelf: &Shelf,
@@ -221,7 +221,7 @@ fn tables_of_two_maps(rt: HostRuntime) -> Result<(), Fail> {
     expect_tables(&rt, &shelf, &format, &OF_TWO_MAPS)
 }
 
-// A map and one of its classes; one class has a label.
+// Returns a shelf with a map and its reclassified map, in which one category has a label.
 fn labelled_shelf(alloc: Global) -> Result<Shelf, Fail> {
     let mut shelf = shelf_of(alloc, &[&[1, 2, 3, 9, NULL]], 5)?;
     let mut made = filled(alloc, &[7, NULL, 7, 9, NULL], 5)?;
@@ -297,7 +297,7 @@ fn sink_without_room(rt: HostRuntime) -> Result<(), Fail> {
     Ok(())
 }
 
-// The cells that a sink with this much room takes, in blocks; then the block puts nothing more.
+// Returns the cells that a sink with this much room accepts, in blocks, and checks that the block writes nothing more.
 fn expect_cells_cut<R: Abort + AllocGlobal>(
     rt: &R,
     shelf: &Shelf,
@@ -320,7 +320,7 @@ fn expect_cells_cut<R: Abort + AllocGlobal>(
     Ok(Vec::from_slice(rt.alloc(), out.bytes())?)
 }
 
-// The shelf of a map of one row of the category 12.
+// Returns a shelf with a map of one row, in which all cells are 12.
 fn shelf_of_one_row(alloc: Global) -> Result<Shelf, Fail> {
     let row = vec![in alloc; 12; 3000]?;
     shelf_of(alloc, &[row.as_slice()], 3000)

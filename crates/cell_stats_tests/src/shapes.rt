@@ -1,4 +1,4 @@
-//! Shapes whose labels are joined late, and wide rows.
+//! Tests of shapes whose labels are joined late, and of wide rows.
 
 ghost use Rattle.std.specs.Prelude.{◌<◌};
 
@@ -9,7 +9,7 @@ use std::test::Fail;
 
 const WIDEST: u32 = 65535;
 
-// A row of teeth above one bar: its categories, and the numbers of its areas.
+// Returns the categories of a row of teeth above a bar, and their clump numbers.
 fn comb(alloc: Global, rows: u32, cols: u32) -> Result<(Vec<i32>, Vec<i32>), Fail>
     requires { cols < 64 }
 {
@@ -37,7 +37,7 @@ fn combs(rt: HostRuntime) -> Result<(), Fail> {
     Ok(())
 }
 
-// The numbers from 1 to `count`.
+// Returns the numbers from 1 to `count`.
 fn counted(alloc: Global, count: u32) -> Result<Vec<i32>, Fail>
     requires { count < 65536 }
 {
@@ -48,7 +48,7 @@ fn counted(alloc: Global, count: u32) -> Result<Vec<i32>, Fail>
     Ok(numbers)
 }
 
-// A checkerboard of 1 and 2.
+// Returns a checkerboard of 1 and 2.
 fn board(alloc: Global, rows: u32, cols: u32) -> Result<Vec<i32>, Fail> {
     let mut categories = Vec::new(alloc);
     for r in 0..rows {

@@ -1,4 +1,4 @@
-//! Counting: many maps, and very many combinations.
+//! Tests of counting, with many maps and with many combinations.
 
 ghost use Rattle.std.specs.Prelude.{◌<◌};
 
@@ -21,7 +21,7 @@ fn table_of(alloc: Global, shelf: &Shelf, picks: &[usize]) -> Result<Table, Fail
     Ok(tally(alloc, shelf, picks, Skip::Nothing)?)
 }
 
-// The two categories of a combination that a text spells.
+// Reads a combination of two categories from a text.
 fn pair_of(alloc: Global, text: &[u8]) -> Result<[i32; 2], ComboFault> {
     let combo = Combo::read(alloc, text, 2)?;
     if combo.len() != 2 {
@@ -32,7 +32,7 @@ fn pair_of(alloc: Global, text: &[u8]) -> Result<[i32; 2], ComboFault> {
     Ok([first, second])
 }
 
-// Texts, and the two categories or the error of each.
+// Texts, each with its two categories or its error.
 const TEXTS: [(&[u8], Result<[i32; 2], ComboFault>); 12] = [
     (b"1,*", Ok([1, NULL])),
     (b"*,*", Ok([NULL, NULL])),
@@ -56,7 +56,7 @@ fn texts_of_combinations(rt: HostRuntime) -> Result<(), Fail> {
     Ok(())
 }
 
-// The count of the first entry after the combination that a text spells, and the number of entries after it.
+// Returns the count of the first entry after the combination in a text, and the number of entries after it.
 fn after(alloc: Global, table: &Table, text: &[u8]) -> Result<(Option<u64>, usize), Fail> {
     let combo = Combo::read(alloc, text, 2)?;
     if combo.len() != table.width() {
@@ -73,7 +73,7 @@ fn after(alloc: Global, table: &Table, text: &[u8]) -> Result<(Option<u64>, usiz
     Ok((first, many))
 }
 
-// Combinations, the count of the first entry after each, and the number of entries after it.
+// Combinations, each with the count of the first entry after it and the number of entries after it.
 const ENTRIES_AFTER: [(&[u8], Option<u64>, usize); 10] = [
     (b"0,9", Some(2), 8),
     (b"1,1", Some(2), 7),
@@ -114,7 +114,7 @@ fn sixteen_picks_of_one_map(rt: HostRuntime) -> Result<(), Fail> {
     Ok(())
 }
 
-// The table of a map with the categories from 199999 down to 0.
+// Returns the table of a map with the categories from 199999 down to 0.
 fn table_of_many(alloc: Global) -> Result<Table, Fail> {
     let mut falling = Vec::new(alloc);
     for i in 0..200000i32 {
@@ -137,7 +137,7 @@ fn each_cell_another_combination(rt: HostRuntime) -> Result<(), Fail> {
     Ok(())
 }
 
-// The categories of the first two maps of a combination.
+// Returns the categories of the first two maps of a combination.
 fn first_two(combo: &Combo) -> [i32; 2] {
     match combo.cells() {
         [first, second, ..] => [first.get().unwrap_or(NULL), second.get().unwrap_or(NULL)],
@@ -148,7 +148,7 @@ fn first_two(combo: &Combo) -> [i32; 2] {
 // Numbers of combinations near the limits at which the table grows.
 const AT_GROWTH: [u32; 8] = [1, 47, 48, 49, 64, 193, 3072, 3073];
 
-// A table of `many` combinations, each of which is in two rows.
+// Returns a table of `many` combinations, each of which occurs in two rows.
 fn table_of_twice(alloc: Global, many: u32) -> Result<Table, Fail>
     requires { 0 < many }
 {
@@ -176,10 +176,10 @@ fn combinations_where_places_become_more(rt: HostRuntime) -> Result<(), Fail> {
     Ok(())
 }
 
-// The random categories of two maps are below this.
+// The random categories of two maps are below this number.
 const SIDE: u64 = 300;
 
-// `many` random categories.
+// Returns `many` random categories.
 fn random_categories(alloc: Global, seed: u64, many: usize) -> Result<Vec<i32>, Fail> {
     let mut number = seed;
     let mut categories = Vec::new(alloc);
@@ -192,7 +192,7 @@ fn random_categories(alloc: Global, seed: u64, many: usize) -> Result<Vec<i32>, 
     Ok(categories)
 }
 
-// Counts a combination by its place.
+// Adds `more` to the count of a combination, which is stored at the index computed from its categories.
 fn add_at(counts: &mut [u64], [first, second]: [i32; 2], more: u64) {
     let place = first.wrapping_mul(SIDE as i32).wrapping_add(second);
     if let Some(count) = counts.get_mut(place.unsigned_abs() as usize) {

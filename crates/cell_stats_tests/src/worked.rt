@@ -1,4 +1,4 @@
-//! Worked maps.
+//! Tests with worked maps.
 
 use crate::assertions::{assert_holds, assert_same};
 use cell_cats::reclassing::reclass;
@@ -8,7 +8,8 @@ use std::alloc::AllocGlobal;
 use std::process::Abort;
 use std::test::Fail;
 
-// Lines, the categories of a map in rows of four, its new categories, and the label of a category of it.
+// A test case: rule lines, the categories of a map in rows of four, its new categories, and a new category with its
+// label.
 struct Case {
     lines: &'static [&'static [u8]],
     given: &'static [i32],
@@ -131,7 +132,7 @@ const CASES: [Case; 15] = [
     },
 ];
 
-// Checks the map that the rules of a case make.
+// Checks the map that the rules of a case produce.
 fn expect_case<R: Abort + AllocGlobal>(rt: &R, case: &Case) -> Result<(), Fail> {
     let mut rules = Rules::new(rt.alloc());
     for line in case.lines {

@@ -1,16 +1,16 @@
--- How tables and formats are stored.
+-- Encodings of tables and formats.
 use Rattle.std.specs.Prelude.{ℕ, Bool, List, refl}
 use Rattle.std.specs.Coded.{Coded, code_by, coded×, coded_ℕ, coded_ℤ, coded_bool, coded_list, coded_option}
 use Rattle.cell_stats.specs.TableText.{FormatValue}
 use Rattle.cell_stats.specs.CategoryTables.{Pairs, TableValue}
 
--- how a table is stored
+-- the encoding of a table
 abbrev pub table_code : Coded TableValue
 table_code =
     code_by (ℕ × Pairs) (coded× coded_ℕ (coded_list (coded× (coded_list (coded_option coded_ℤ)) coded_ℕ)))
     (λ t. (t.width, t.pairs)) (λ p. record { width = p.0; pairs = p.1 }) (λ _. refl)
 
--- how a format is stored
+-- the encoding of a format
 abbrev pub format_code : Coded FormatValue
 format_code =
     code_by (ℕ × (List ℕ × (Bool × Bool))) (coded× coded_ℕ (coded× (coded_list coded_ℕ) (coded× coded_bool coded_bool)))

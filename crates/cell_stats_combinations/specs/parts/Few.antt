@@ -1,10 +1,10 @@
--- The cells of a combination as they are kept.
+-- The stored cells of a combination.
 use Rattle.std.specs.Prelude.{take, min}
 use Rattle.cell_stats_combinations.specs.declared.combination.Cells.{Cells}
 use Rattle.cell_stats_combinations.specs.declared.combination.Cells.TheVariants.{Few, Many}
 use Rattle.cell_stats_combinations.specs.Combinations.{Combination}
 
--- the cells, of which at most four are kept without an allocation
+-- the cells of a combination; at most four cells are stored without an allocation
 abbrev pub cells_of_few : Cells → Combination
 cells_of_few (Few cells count) = take (min count 4) cells
 cells_of_few (Many cells) = cells.items

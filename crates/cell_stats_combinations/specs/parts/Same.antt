@@ -3,6 +3,6 @@ use Rattle.std.specs.Prelude.{Bool}
 use Rattle.std.specs.Ordering.{eq_by_cmp}
 use Rattle.cell_stats_combinations.specs.Combinations.{Combination, combination_cmp}
 
--- whether two combinations are equal
+-- the two combinations are equal
 abbrev pub is_same : Combination → Combination → Bool
 is_same = eq_by_cmp combination_cmp
