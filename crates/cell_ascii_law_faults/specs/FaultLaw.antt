@@ -49,6 +49,6 @@ pub record IsFaultText (c : Coming) : Type 0 where
   pub reported : text_fault c ≡ Some fault
   pub none : (map : Grid) → Denotes c map → ⊥
 
--- each text is a map text or a fault text
+-- each text denotes exactly one map without an error, or has an error and denotes no map
 abbrev pub GridTextsAreJudged : Type 0
 GridTextsAreJudged = (c : Coming) → IsMapText c ⊎ IsFaultText c

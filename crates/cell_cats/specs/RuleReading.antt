@@ -30,7 +30,7 @@ is_null_word word = bytes_eq word (codes "NULL") || bytes_eq word (codes "null")
 abbrev pub is_end : List ℕ → Bool
 is_end word = not (is_thru word) && not (is_star word)
 
--- the items with one more in front, if both of its ends stand for numbers
+-- the items with one more at the start, if both of its ends stand for numbers
 abbrev pub with_item : List ℕ → List ℕ → Option (List (List ℕ × List ℕ)) → Option (List (List ℕ × List ℕ))
 with_item a b items = if is_end a && is_end b then option_map (λ more. (a, b) ∷ more) items else None
 

@@ -181,7 +181,7 @@ impl MapBuilder {
         self.rows.region().rows() - self.rows.len()
     }
 
-    /// Appends a row at the bottom, with one cell per column. At least one row must be missing.
+    /// Appends a row at the bottom, with one cell per column. There must be a row left to push.
     ///
     /// # Errors
     ///

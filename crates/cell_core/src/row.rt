@@ -17,7 +17,7 @@ use std::marker::Model;
 // A run takes as much memory as this many cells.
 const CELLS_A_RUN: usize = 2;
 
-/// A row of cells, stored in the form that takes the least memory.
+/// A row of cells, stored in its smallest form.
 #[derive(Debug, Drop)]
 pub(crate) struct Row {
     kept: RowForm,
