@@ -36,7 +36,7 @@ from rcell.core.tiling import work, working
 
 TASKS = ("reading", "composition", "cross", "change", "majority", "patches", "summary")
 # The side of tiles that calls with four workers choose.
-TILE = 3840
+TILE = 3328
 CLASSES = 13
 
 

@@ -266,12 +266,25 @@ def tile_size(
     high, wide = getattr(first, "block_shape", (LEAST_SIDE, LEAST_SIDE))
     if wide >= cols > side and cols + left + right <= SIDE_LIMIT:
         return (_multiple(max(side * side // cols, 1), high), cols), workers
-    return (_multiple(side, high), _multiple(side, wide)), workers
+    return (_even_side(rows, side, high), _even_side(cols, side, wide)), workers
 
 
 def _multiple(side: int, block: int) -> int:
     """Return a side of about this length, a multiple of the blocks' sides if these are smaller."""
     return side if block > side else side // block * block
+
+
+def _even_side(length: int, most: int, block: int) -> int:
+    """Return the side of tiles of about equal size: a narrow last tile costs the program as much per row as a wide one.
+
+    Examples
+    --------
+    >>> _even_side(16000, 4001, 256), _even_side(1000, 4096, 256), _even_side(1000, 700, 2000)
+    (3328, 1024, 500)
+    """
+    most = _multiple(most, block)
+    side = -(-length // -(-length // most))
+    return side if block > most else -(-side // block) * block
 
 
 def _too_little(needed: int, side: int, free: int) -> OutOfMemory:
