@@ -5,7 +5,7 @@ const FIRST_WAIT: usize = 16;
 
 const LAST_WAIT: usize = 4096;
 
-// Waits before rows are read as bytes again.
+// Like FIRST_WAIT and LAST_WAIT, for rows that are read as bytes.
 const FIRST_BYTES_WAIT: usize = 1 << 14;
 
 const LAST_BYTES_WAIT: usize = 1 << 18;

@@ -29,7 +29,7 @@ const MOST_CREDIT: usize = 8;
 
 const COST_OF_A_WORD: usize = 2;
 
-// Number of ways tried before reading gives up.
+// Number of tries without a cell before `cells_in` gives up.
 const MOST_TRIES: usize = 3;
 
 // Reads one to three digits followed by a blank or line feed from the start of four bytes. Returns the value and the

@@ -112,7 +112,8 @@ static DIGITS: [u8; 64] = [
     0, 0, 0, 0, 0, 255, 255, 255, 255, 255, 255, 255, 255, 255, 255, 0, 0, 0, 0, 0, 0,
 ];
 
-// Blanks and line feeds, indexed by the low four bits of their bytes. All other entries are 0.
+// Blanks and line feeds, indexed by the low four bits of their bytes. All other entries are 0, and no byte with these
+// low bits is 0.
 static SPACES: [u8; 64] = [
     32, 0, 0, 0, 0, 0, 0, 0, 0, 9, 10, 0, 0, 13, 0, 0, 32, 0, 0, 0, 0, 0, 0, 0, 0, 9, 10, 0, 0, 13,
     0, 0, 32, 0, 0, 0, 0, 0, 0, 0, 0, 9, 10, 0, 0, 13, 0, 0, 32, 0, 0, 0, 0, 0, 0, 0, 0, 9, 10, 0,

@@ -17,7 +17,7 @@ use Rattle.cell_ascii_meaning.specs.declared.grid_fault.GridKind.{GridKind}
 use Rattle.cell_ascii_meaning.specs.declared.grid_fault.GridKind.TheVariants.{BadHeader, TwiceKey, BadNumber, BadType, LongToken, ReaderStuck, TooFew, TooMany, Read}
 use Rattle.cell_ascii_meaning.specs.declared.grid_fault.GridFault.{GridFault}
 
--- what is at a place
+-- a place: a byte, the end of the text, or a failing read
 pub data FaultPlace : Type 0 where
   Byte : ℕ → FaultPlace
   End : FaultPlace
@@ -91,13 +91,13 @@ abbrev pub ◌or◌ : {X : Type 0} → Option X → Option X → Option X
 (Some x) or other = Some x
 None or other = other
 
--- the 65th byte of a token
+-- `LongToken` at the 65th byte of a token
 abbrev pub long_token : List ℕ → FaultPlace → Option GridKind
 long_token token (Byte b) = when (is_word_byte b && length token == 64) LongToken
 long_token token End = None
 long_token token Fails = None
 
--- the 1,048,577th blank or line feed in a row
+-- `ReaderStuck` at the 1,048,577th blank or line feed in a row
 abbrev pub stuck : ℕ → FaultPlace → Option GridKind
 stuck gap (Byte b) = when (is_space b && gap == 1048576) ReaderStuck
 stuck gap End = None
@@ -107,18 +107,18 @@ stuck gap Fails = None
 abbrev pub in_header_line : List (List (List ℕ)) → List (List ℕ) → Bool
 in_header_line earlier line = not (list_any is_data_line earlier) && is_header_line line
 
--- the first byte of a second value
+-- `BadHeader` at the first byte of a second value
 abbrev pub second_value : Bool → List (List ℕ) → List ℕ → FaultPlace → Option GridKind
 second_value inside line token (Byte b) = when (((is_word_byte b && is_empty token) && inside) && not (is_empty (line_values line))) BadHeader
 second_value inside line token End = None
 second_value inside line token Fails = None
 
--- a null text with a colon
+-- `BadHeader` for a null text with a colon
 abbrev pub bad_null : HeaderKey → List ℕ → Option GridKind
 bad_null Null value = unless (null_text value) BadHeader
 bad_null other value = None
 
--- a value that its key does not allow
+-- the error of a value that its key does not allow
 abbrev pub bad_value : HeaderKey → List ℕ → Option GridKind
 bad_value North value = unless (coordinate value) BadNumber
 bad_value South value = unless (coordinate value) BadNumber
@@ -130,7 +130,7 @@ bad_value Null value = None
 bad_value CellType value = unless (int_type value) BadType
 bad_value Multiplier value = unless (whole_in_range value) BadNumber
 
--- an unknown key, no value, or a null text with a colon; a repeated key; a bad value
+-- the first error of a header line: `BadHeader`, then `TwiceKey`, then the error of its value
 abbrev pub line_fault : Bool → Option HeaderKey → List (List ℕ) → Option GridKind
 line_fault twice None line_values = Some BadHeader
 line_fault twice (Some key) [] = Some BadHeader
@@ -140,7 +140,7 @@ line_fault twice (Some key) (value ∷ line_values) = bad_null key value or when
 abbrev pub has_key_of : List (List ℕ) → List (List (List ℕ)) → Bool
 has_key_of line earlier = list_any (λ l. bytes_eq (key_text line) (key_text l)) earlier
 
--- the end of a header line
+-- the error of a header line, at its end
 abbrev pub header_line_ends : Bool → List (List (List ℕ)) → List (List ℕ) → FaultPlace → Option GridKind
 header_line_ends inside earlier line place =
     if ends_line place && inside then line_fault (has_key_of line (header_lines earlier)) (header_key_of (key_text line)) (line_values line) else None
@@ -168,18 +168,18 @@ abbrev pub why_not : {X : Type 0} → Result X GridKind → Option GridKind
 why_not (Ok x) = None
 why_not (Err kind) = Some kind
 
--- the end of the first token of the data, or the end of the text before it
+-- the error of the header, at the end of the first data token or at the end of the text before it
 abbrev pub header_ends : Result HeaderValue GridKind → List (List ℕ) → List ℕ → FaultPlace → Option GridKind
 header_ends header words token place =
     if (is_end_of_words place && is_empty words) || ((ends_token place && is_word token) && length words == 1) then why_not header else None
 
--- why a token of the data is not a cell, if the header is valid
+-- why a data token is not a cell, if the header is valid
 abbrev pub cell_fault : Result HeaderValue GridKind → List (List ℕ) → List ℕ → Option GridKind
 cell_fault (Err kind) words token = None
 cell_fault (Ok h) [] token = None
 cell_fault (Ok h) (word ∷ words) token = why_not (cell_of_word h token)
 
--- the end of a data token that is not a cell
+-- the error of a data token, at its end
 abbrev pub bad_cell : Result HeaderValue GridKind → List (List ℕ) → List ℕ → FaultPlace → Option GridKind
 bad_cell header words token place = if ends_token place && is_word token then cell_fault header words token else None
 
@@ -193,19 +193,19 @@ abbrev pub has_all : Result HeaderValue GridKind → List (List ℕ) → Bool
 has_all (Err kind) words = false
 has_all (Ok h) words = nat_le (h.region.rows * h.region.cols) (length words)
 
--- the end of the text before the last cell
+-- `TooFew` at the end of the text before the last cell
 abbrev pub too_few : Result HeaderValue GridKind → List (List ℕ) → FaultPlace → Option GridKind
 too_few header words (Byte b) = None
 too_few header words End = when (has_fewer header words) TooFew
 too_few header words Fails = None
 
--- the first byte of a token after the last cell
+-- `TooMany` at the first byte of a token after the last cell
 abbrev pub too_many : Result HeaderValue GridKind → List (List ℕ) → List ℕ → FaultPlace → Option GridKind
 too_many header words token (Byte b) = when ((is_word_byte b && is_empty token) && has_all header words) TooMany
 too_many header words token End = None
 too_many header words token Fails = None
 
--- a failing read
+-- `Read` at a failing read
 abbrev pub read_fails : FaultPlace → Option GridKind
 read_fails (Byte b) = None
 read_fails End = None

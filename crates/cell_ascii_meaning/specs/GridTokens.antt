@@ -7,7 +7,7 @@ use Rattle.cell_ascii_meaning.specs.declared.grid_fault.GridKind.{GridKind}
 use Rattle.cell_ascii_meaning.specs.declared.grid_fault.GridKind.TheVariants.{Read, ReaderStuck, LongToken}
 use Rattle.cell_ascii_meaning.specs.declared.grid_fault.GridFault.{GridFault}
 
--- a byte that is neither a blank nor a line feed
+-- the byte is neither a blank nor a line feed
 abbrev pub is_word_byte : ℕ → Bool
 is_word_byte b = not (is_space b)
 

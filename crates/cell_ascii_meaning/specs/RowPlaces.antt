@@ -17,13 +17,13 @@ use Rattle.cell_ascii_meaning.specs.declared.grid_fault.GridFault.{GridFault}
 abbrev pub RowTable : Type 0
 RowTable = ℕ → List ℕ → List (List ℕ) → FaultPlace → Option GridKind
 
--- the end of the text before `count` cells were read
+-- `TooFew` at the end of the text before `count` cells were read
 abbrev pub ends_early : ℕ → List (List ℕ) → FaultPlace → Option GridKind
 ends_early count words (Byte b) = None
 ends_early count words End = when (nat_lt (length words) count) TooFew
 ends_early count words Fails = None
 
--- the first byte of a token
+-- `TooMany` at the first byte of a token
 abbrev pub token_begins : List ℕ → FaultPlace → Option GridKind
 token_begins token (Byte b) = when (is_word_byte b && is_empty token) TooMany
 token_begins token End = None

@@ -1,4 +1,4 @@
-//! Reads words under the header of a grid text.
+//! The header of a grid text, which determines the cell that each word denotes.
 
 ghost use Rattle.std.specs.Prelude.{◌≡◌, Some, true, bytes_eq};
 ghost use Rattle.cell_ascii_meaning.specs.CellTexts.{cell_of_word, cell_of_number};
@@ -59,7 +59,7 @@ fn multiplied_cell(multiplier: i32, number: i64) -> Result<Cell, GridKind>
     if !whole_numbers::is_in_range(number) {
         return Err(GridKind::CellRange);
     }
-    // Without a multiplier, the range is checked only once.
+    // With a multiplier of 1, the range is checked only once.
     if multiplier == 1 {
         return in_range(number);
     }

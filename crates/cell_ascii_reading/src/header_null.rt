@@ -37,7 +37,7 @@ impl HeaderNull {
         }
     }
 
-    /// Copies a text.
+    /// Returns a null text with a copy of these bytes.
     pub fn new(text: &[u8]) -> HeaderNull
         requires { length text.now ≤ 64 }
         ensures { result ≡ text.now }
