@@ -23,7 +23,7 @@ IsCategoryStep (step.Map i down right) = (i ≡ 0) × ((down ≡ pos 0) × (righ
 IsCategoryStep (step.Call f n) = asks_place f ≡ false
 IsCategoryStep _ = Unit {0}
 
--- every step of the expression is of this kind
+-- every step reads at most the first map, at the cell itself, and does not use the cell's position
 abbrev pub IsByCategory : Formula → Type 0
 IsByCategory f = All IsCategoryStep (postfix f)
 

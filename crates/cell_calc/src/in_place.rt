@@ -11,7 +11,7 @@ use cell_calc_grammar::step::Step;
 use cell_core::memory::Memory;
 use std::alloc::Global;
 
-// Number of steps per map from which spans save more than finding them costs.
+// If an expression has at least this many steps per map, spans save more than finding them costs.
 const STEPS_A_WINDOW: usize = 16;
 
 // Returns whether an expression has enough steps per map.

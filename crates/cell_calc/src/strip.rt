@@ -1,4 +1,4 @@
-//! Strips, which are some columns of a row, and the data for evaluating expressions along them.
+//! Strips of a row, and the data for evaluating expressions along them.
 
 use cell_core::cell::Cell;
 use cell_core::region::Region;

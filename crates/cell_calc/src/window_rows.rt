@@ -122,7 +122,7 @@ fn put_row_last(ring: &mut HeapCircularBuffer<Vec<Cell>>, row: Vec<Cell>)
     ring.push_back(row);
 }
 
-// Copies a row of a map into `cells`, and returns it.
+// Copies a row of a map into `cells`, and returns `cells`.
 fn row_copy(map: &CellMap, row: u32, mut cells: Vec<Cell>) -> Vec<Cell>
     requires row_in_range { row < map.now.region.rows }
     requires width { length cells.items ≡ map.now.region.cols }

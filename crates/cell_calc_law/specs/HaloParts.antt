@@ -95,6 +95,7 @@ abbrev mutual
   values_seen_from NoTrees maps here reported = []
   values_seen_from (Then a xs) maps here reported = value_seen_from a maps here reported ∷ values_seen_from xs maps here reported
 
--- if these functions return the position in the full map, every expression has the same value as over the full map
+-- if row() and similar functions return the position in the full map, every expression has the same value over the tile
+-- as over the full map
 abbrev pub ReachIsEnough : Type 0
 ReachIsEnough = (f : Formula) (whole part : List Grid) (region : RegionValue) (r : Rectangle) (row col : ℕ) → All (λ m. IsFilled region m.rows) whole → AreCutOut r whole part → ReadsWithin f region r row col → value_seen_from f part (record { rows = r.rows; cols = r.cols; row = row; col = col }) (grid_position region (r.top + row) (r.left + col)) ≡ value f whole (grid_position region (r.top + row) (r.left + col))

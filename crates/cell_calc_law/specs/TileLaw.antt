@@ -57,8 +57,8 @@ abbrev mutual
   all_placed region r NoTrees = NoTrees
   all_placed region r (Then a xs) = Then (placed region r a) (all_placed region r xs)
 
--- if `x = f` is computed over the full map, and `y = f`, rewritten for a tile, over the tile with its halo, y equals x
--- in the tile for every expression f
+-- an expression has the same values in a tile, whether it is computed over the full map or, rewritten for the tile,
+-- over the tile with its halo
 abbrev pub PlacedTilesMakeTheMap : Type 0
 PlacedTilesMakeTheMap =
     (f : Formula) (whole tile : ShelfValue) (r : Rectangle) → IsHaloedTile f r whole tile

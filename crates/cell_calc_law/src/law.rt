@@ -39,7 +39,8 @@ pub fn halo_is_enough()
     ensures { HaloIsEnough }
 {}
 
-/// If `row()` and similar functions return the position in the full map, the same holds for all expressions.
+/// An expression that calls `row()` or similar functions also has the same value over a tile, if these functions return
+/// the position in the full map.
 pub fn reach_is_enough()
     ensures { ReachIsEnough }
 {}
@@ -55,9 +56,9 @@ pub fn tiles_make_the_map()
     ensures { TilesMakeTheMap }
 {}
 
-/// If `x = f` is computed over the full map, and `y = f` over a tile with its halo, y equals x in the tile for every
-/// expression f, provided that f is rewritten for the tile: `row()` becomes `row() + t` with t rows above the tile, and
-/// `col()`, `nrows()` and `ncols()` are adapted similarly.
+/// An expression has the same values in a tile, whether it is computed over the full map or, rewritten for the tile,
+/// over the tile with its halo. Rewriting replaces `row()` with `row() + t`, where t rows are above the tile, and
+/// adapts `col()`, `nrows()` and `ncols()`.
 pub fn placed_tiles_make_the_map()
     ensures { PlacedTilesMakeTheMap }
 {}

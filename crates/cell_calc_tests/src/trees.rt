@@ -145,7 +145,7 @@ fn tree_of(alloc: Global, steps: &[Step<MapName>]) -> Result<Vec<u8>, Fail> {
     }
 }
 
-// The tree of `x = EXPRESSION`.
+// Parses `x = EXPRESSION` and returns its tree as text.
 fn written(alloc: Global, expression: &[u8]) -> Result<Vec<u8>, Fail> {
     let mut text = b"x = ".to_vec(alloc)?;
     text.extend_from_slice(expression)?;
@@ -156,7 +156,7 @@ fn written(alloc: Global, expression: &[u8]) -> Result<Vec<u8>, Fail> {
     tree_of(alloc, read.expr.steps())
 }
 
-// Each expression has its tree.
+// Checks the tree of each expression.
 fn expect_trees<R: Abort + AllocGlobal>(rt: &R, table: &[(&[u8], &[u8])]) -> Result<(), Fail> {
     for (text, tree) in table {
         let found = written(rt.alloc(), text)?;
@@ -165,7 +165,7 @@ fn expect_trees<R: Abort + AllocGlobal>(rt: &R, table: &[(&[u8], &[u8])]) -> Res
     Ok(())
 }
 
-// Expressions of two neighbouring levels, and their trees.
+// Expressions with operators of two adjacent levels, each with its tree.
 const NEIGHBOURING_LEVELS: [(&[u8], &[u8]); 17] = [
     (b"-1 * 2", b"((-1)*2)"),
     (b"1 / !2", b"(1/(!2))"),
@@ -191,7 +191,7 @@ fn neighbouring_levels(rt: HostRuntime) -> Result<(), Fail> {
     expect_trees(&rt, &NEIGHBOURING_LEVELS)
 }
 
-// Expressions of one level, and their trees.
+// Expressions with operators of one level, each with its tree.
 const ONE_LEVEL: [(&[u8], &[u8]); 13] = [
     (b"10 - 4 - 3", b"((10-4)-3)"),
     (b"8 / 2 % 3 * 4", b"(((8/2)%3)*4)"),
@@ -213,7 +213,7 @@ fn one_level_goes_from_the_left(rt: HostRuntime) -> Result<(), Fail> {
     expect_trees(&rt, &ONE_LEVEL)
 }
 
-// Expressions with their operands, and their trees.
+// Expressions with various operands, each with its tree.
 const OPERANDS: [(&[u8], &[u8]); 17] = [
     (b"10 - (4 - 3)", b"(10-(4-3))"),
     (b"(1 + 2) * 3", b"((1+2)*3)"),

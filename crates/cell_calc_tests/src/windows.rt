@@ -1,4 +1,4 @@
-//! Windows over the worked map, row by row, and how far an expression reaches.
+//! Tests of windows over the worked map, row by row, and of how far an expression reaches.
 
 ghost use Rattle.std.specs.Prelude.{◌≡◌};
 
@@ -10,7 +10,8 @@ use std::alloc::Global;
 use std::process::Abort;
 use std::test::Fail;
 
-// The cells of a window that reaches one row up and down: the distance below the centre, the column and the number.
+// Checks cells of a window that reaches one row up and down. Each is given as its distance below the centre, its
+// column, and its number.
 fn expect_window<R: Abort>(
     rt: &R,
     window: &RowWindow,

@@ -1,4 +1,4 @@
-//! Laws about clump maps, their maps, and each other.
+//! Laws about clump maps, compared with each other and with the maps that they number.
 
 ghost use Rattle.cell_cats_law.specs.AreaLaw.{AreasDivideTheirCategory, EntriesAreWhole, NoAreaIsEmpty, OtherAreasStay};
 ghost use Rattle.cell_cats_law.specs.CornerLaw.{CornersAddNoArea, CornersOnlyJoin};

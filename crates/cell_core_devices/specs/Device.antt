@@ -49,7 +49,7 @@ pub record Faults : Type 0 where
   pub unflushed : Bool
   pub flushes : Flushes
 
--- no call failed, and it was never flushed
+-- no call failed, and the sink was never flushed
 abbrev pub no_faults : Faults
 no_faults = record { refused = false; unflushed = false; flushes = Never }
 

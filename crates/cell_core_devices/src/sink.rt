@@ -11,11 +11,11 @@ use std::marker::Model;
 /// How often a sink was flushed. An integer would need a clause that it cannot overflow.
 #[derive(Clone, Copy, Debug, PartialEq, Eq)]
 pub enum Flushes {
-    /// Never.
+    /// The sink was never flushed.
     Never,
-    /// Once.
+    /// The sink was flushed once.
     Once,
-    /// Twice or more.
+    /// The sink was flushed twice or more.
     More,
 }
 
@@ -232,7 +232,7 @@ impl MemorySink {
     }
 }
 
-// Writes bytes into the room, starting at index `at`.
+// Writes bytes into `room`, starting at index `at`.
 fn write_at(room: &mut [u8], at: usize, bytes: &[u8])
     requires { at + length bytes.now ≤ length room.old }
     ensures front { take (at + length bytes.now) room.new ≡ take at room.old ++ bytes.now }

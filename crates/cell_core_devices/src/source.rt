@@ -39,7 +39,7 @@ impl Asked {
     }
 }
 
-/// An origin of bytes.
+/// A source of bytes.
 pub trait Source {
     ghost use Rattle.cell_core_devices.specs.declared.source.Asked.{Asked};
 

@@ -1,4 +1,4 @@
-//! Maps as lists of categories, row by row from the top left.
+//! Converts between maps and lists of categories, row by row from the top left.
 
 ghost use Rattle.std.specs.Prelude.{◌<◌};
 

@@ -12,11 +12,11 @@ pub record RegionValue : Type 0 where
   pub rows : ℕ
   pub cols : ℕ
 
--- the largest number of rows, and of columns (profile)
+-- the maximum number of rows and of columns (profile)
 abbrev pub most_side : ℕ
 most_side = 65535
 
--- the largest number of cells, which is the largest category (profile)
+-- the maximum number of cells, which is the largest category (profile)
 abbrev pub most_cells : ℕ
 most_cells = 2147483647
 

@@ -23,10 +23,10 @@ pub enum RegionFault {
 // The largest edge, in units of 10^-8. Its negative is the smallest.
 const MOST_EDGE: i64 = 999999999999999999;
 
-// The largest number of rows, and of columns.
+// The maximum number of rows and of columns.
 const MOST_SIDE: u32 = 65535;
 
-// The largest number of cells.
+// The maximum number of cells.
 const MOST_CELLS: u32 = 2147483647;
 
 /// A rectangle and its numbers of rows and columns (g.region manual).

@@ -6,23 +6,23 @@ ghost use Rattle.cell_patches.specs.parts.Passes.{unread, with_one_more, HasRoom
 /// The measures of a patch, which is a connected component of equal cells.
 #[derive(Clone, Copy, Debug, PartialEq, Eq)]
 pub struct Patch {
-    /// The category of its cells.
+    /// The category of the patch's cells.
     pub class: i32,
-    /// The number of its cells.
+    /// The number of cells in the patch.
     pub cells: u64,
-    /// The number of north and south sides of its cells that lead out of it.
+    /// The number of north and south sides of cells that lead out of the patch.
     pub ends: u64,
-    /// The number of west and east sides of its cells that lead out of it.
+    /// The number of west and east sides of cells that lead out of the patch.
     pub flanks: u64,
-    /// The number of its cells that are at least a given number of steps inside it.
+    /// The number of cells that are at least a given number of steps inside the patch.
     pub core: u64,
-    /// Its first row, counted from 0.
+    /// The first row of the patch, counted from 0.
     pub first_row: u32,
-    /// Its last row.
+    /// The last row of the patch.
     pub last_row: u32,
-    /// Its first column, counted from 0.
+    /// The first column of the patch, counted from 0.
     pub first_col: u32,
-    /// Its last column.
+    /// The last column of the patch.
     pub last_col: u32,
 }
 

@@ -121,7 +121,7 @@ fn add_cell(
     add_found(patches, number_of(cell), found)
 }
 
-// Adds the cells of a row.
+// Adds the cells of a row to their patches.
 #[inline(never)]
 fn add_row(
     patches: &mut Vec<Patch>,
@@ -184,7 +184,8 @@ fn line_below(alloc: Global, numbers: &CellMap, row: u32) -> Result<Vec<Cell>, M
     Ok(line)
 }
 
-// Adds the cells of a row of a map. Returns the steps of its cells, given the steps of the two rows above.
+// Adds the cells of a row of a map to their patches. Returns the steps of these cells, given the steps of the two rows
+// above.
 pub(crate) fn measure_row(
     alloc: Global,
     map: &CellMap,

@@ -1,4 +1,4 @@
--- The fields of a line, and helper definitions.
+-- Definitions that only private functions and proofs use.
 pub mod OfPicks
 pub mod PairsCode
 pub mod Preceded

@@ -97,7 +97,7 @@ fn write_others<W: Sink>(
     }
 }
 
-// Writes the cells of all maps.
+// Writes the cells of a combination, one per map.
 fn write_combination<W: Sink>(
     out: &mut W,
     block: &mut OutputBlock,

@@ -1,4 +1,4 @@
--- Values along a strip, which is some adjacent columns of a row.
+-- Values along a strip: adjacent columns of a row.
 use Rattle.std.specs.Prelude.{◌≡◌, ◌≤◌, ◌<◌, ◌+◌, ◌-◌, ◌+ℤ◌, ℕ, pos, All, List, [], ◌∷◌, Vec, Some, None, length, take, drop, map, slice_get, slice_index_or}
 use Rattle.std.specs.Global.{Global}
 use Rattle.cell_core.specs.Grid.{CellValue}
@@ -42,7 +42,7 @@ pub record HasCells (strip : Strip) (cell : ℕ → CellValue) (row : Vec CellVa
   pub width : IsAsWide strip row
   pub each : AtColumns strip (λ c. at row.items c ≡ cell c)
 
--- the number is a category, or the map's window reaches the offset
+-- the step can be evaluated: its number is a category, or its map's window reaches the offset
 abbrev pub IsReadyStep : List Window → Step ℕ → Type 0
 IsReadyStep windows (step.Number n) = n ≤ 2147483647
 IsReadyStep windows (step.Map i down right) = IsInReach down (slice_get windows i)

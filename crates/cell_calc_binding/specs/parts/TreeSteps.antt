@@ -45,7 +45,7 @@ IsListed places Not = Unit {0}
 IsListed places (Binary op) = Unit {0}
 IsListed places (Call f n) = Unit {0}
 
--- listed indices keep their positions, and no index becomes listed twice
+-- listed indices keep their positions, and no index is added twice
 pub record KeepsPlaces (old new : List ℕ) : Type 0 where
   pub kept : (i : ℕ) → index_in old i < length old → index_in new i ≡ index_in old i
   pub distinct : AreDistinctPlaces old → AreDistinctPlaces new

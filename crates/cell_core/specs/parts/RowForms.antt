@@ -20,7 +20,7 @@ cells_of_row (kept.Runs runs) = written_out runs.items
 cells_of_row (kept.Bytes bytes) = cells_of_bytes bytes.items
 cells_of_row (kept.Cells cells) = cells.items
 
--- a row stored as runs consists of runs; a row stored as bytes or cells has fewer than 2^32 of them
+-- the stored runs are valid, or there are fewer than 2^32 stored bytes or cells
 abbrev pub IsKept : RowForm → Type 0
 IsKept (kept.Runs runs) = AreRuns runs.items
 IsKept (kept.Bytes bytes) = length bytes.items < 2 ^ 32

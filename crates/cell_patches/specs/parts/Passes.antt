@@ -61,7 +61,7 @@ ComesBefore a b r c = (a < r) ⊎ ((a ≡ r) × (b < c))
 abbrev pub over_earlier : ℕ → (ℕ → ℕ → ℕ) → ℕ → ℕ → ℕ
 over_earlier cols f r c = over_rows f cols r + over_cols (f r) c
 
--- 1 for a cell of the patch, and 1 for a cell that is `depth` steps inside it
+-- 1 for a cell of the patch, and 1 for a cell that is `depth` steps inside it; otherwise 0
 abbrev pub one_of : Grid → ℕ → ℕ → ℕ → ℕ
 one_of numbers n r c = if is_in_patch numbers n r c then 1 else 0
 
