@@ -15,27 +15,27 @@ use Rattle.cell_join_borders.specs.PairFaults.{AreLinesFit, IsFirstPair}
 use Rattle.cell_join_borders.specs.declared.border_fault.BorderFault.{BorderFault}
 use Rattle.cell_join_borders.specs.declared.border_fault.BorderFault.TheVariants.{Text, Rows, Size, Counts, Sum, End, Pair, Memory}
 
--- the largest number of clumps: the largest category
+-- the largest number of clumps, which is the largest category
 abbrev pub most_clumps : ℕ
 most_clumps = 2147483647
 
--- ---- the largest number allowed for a cell of a side: the number of clumps that begin in its row or above it
+-- ---- the largest number allowed for a cell of a side: the number of clumps that begin in the cell's row or above it
 
--- on a row of the tile
+-- for the cells in a row of the tile
 abbrev pub most_in_row : ℕ → List ℕ → ℕ → List ℕ
 most_in_row cols begun row = replicate cols (begun_before begun (row + 1))
 
--- in a column of the tile
+-- for the cells in a column of the tile
 abbrev pub most_down : List ℕ → List ℕ
 most_down begun = map (λ k. begun_before begun (k + 1)) (range_with_len 0 (length begun))
 
--- where each side begins in the text, and the largest numbers allowed for its cells
+-- the row of the border at which each side starts, and the largest numbers allowed for its cells
 abbrev pub side_places : RegionValue → List ℕ → List (ℕ × List ℕ)
 side_places tile begun = (0, most_in_row tile.cols begun 0) ∷ (2, most_in_row tile.cols begun (tile.rows - 1)) ∷ (4, most_down begun) ∷ (6, most_down begun) ∷ []
 
 -- ---- a border whose cells and numbers match
 
--- a side has a cell and a number for each maximum, and they match
+-- a side contains a cell and a number for each maximum, and they match
 pub record IsSideFit (most : List ℕ) (side : Side) : Type 0 where
   pub cells : length side.cells.items ≡ length most
   pub numbers : length side.numbers.items ≡ length most
@@ -51,9 +51,9 @@ pub record IsBorderFit (tile : RegionValue) (border : Border) : Type 0 where
   pub left : IsSideFit (most_down border.begun.items) border.left
   pub right : IsSideFit (most_down border.begun.items) border.right
 
--- ---- what a map of ten rows says
+-- ---- the contents of a map of ten rows
 
--- the ninth row: the size, number of clumps and connectivity of a tile whose border is as wide as the map
+-- the ninth row contains the size, number of clumps and connectivity of a tile whose border has the map's width
 pub record HasSize (m : Grid) (j : Joining) (tile : RegionValue) (clumps : ℕ) : Type 0 where
   pub ten : length m.rows ≡ 10
   pub edges : tile ≡ record m.region { rows = tile.rows; cols = tile.cols }
@@ -65,53 +65,54 @@ pub record HasSize (m : Grid) (j : Joining) (tile : RegionValue) (clumps : ℕ) 
   pub good : region_fault tile ≡ Ok tile
   pub width : m.region.cols ≡ border_width tile
 
--- the tenth row: how many clumps begin in each of the tile's rows
+-- the tenth row contains the number of clumps that begin in each row of the tile
 pub record HasCounts (m : Grid) (rows : ℕ) (begun : List ℕ) : Type 0 where
   pub long : length begun ≡ rows
   pub each : (k : ℕ) → k < rows → cell_at m 9 k ≡ Some (pos (slice_index begun k))
   pub ended : (k : ℕ) → rows ≤ k → cell_at m 9 k ≡ None
 
--- the first cell of a row after the end of a side that is not null
+-- the first non-null cell of a row after the end of a side
 pub record IsFirstBehind (count : ℕ) (cells : List CellValue) (col : ℕ) : Type 0 where
   pub behind : count ≤ col
   pub some : IsSome (slice_index_or cells col None)
   pub before : (k : ℕ) → count ≤ k → k < col → slice_index_or cells k None ≡ None
 
--- all cells of a row from column count on are null
+-- all cells of a row from column `count` on are null
 abbrev pub AreNullFrom : ℕ → List CellValue → Type 0
 AreNullFrom count cells = (k : ℕ) → count ≤ k → slice_index_or cells k None ≡ None
 
--- a row and the one below it are the cells and the numbers of a side
+-- a row and the row below it contain the cells and the numbers of a side
 pub record AreRowsRight (m : Grid) (row : ℕ) (most : List ℕ) : Type 0 where
   pub cells : AreNullFrom (length most) (row_at m row)
   pub numbers : AreNullFrom (length most) (row_at m (row + 1))
   pub fit : AreLinesFit most (row_at m row) (row_at m (row + 1))
 
--- why they are not: a cell after the end; or else a number there; or else a cell and a number that do not match
+-- why the two rows do not contain a side: a cell after the end, or else a number after the end, or else a cell and a
+-- number that do not match
 abbrev pub AreRowsWrong : Grid → (row : ℕ) → (most : List ℕ) → BorderFault → Type 0
 AreRowsWrong m row most (End place) = ((place.row ≡ row) × IsFirstBehind (length most) (row_at m row) place.col) ⊎ ((place.row ≡ row + 1) × AreNullFrom (length most) (row_at m row) × IsFirstBehind (length most) (row_at m (row + 1)) place.col)
 AreRowsWrong m row most (Pair fault) = (fault.row ≡ row + 1) × AreNullFrom (length most) (row_at m row) × AreNullFrom (length most) (row_at m (row + 1)) × IsFirstPair most (row_at m row) (row_at m (row + 1)) fault.col fault.kind
 AreRowsWrong m row most fault = ⊥
 
--- all sides before one are right, and this one is wrong
+-- the first wrong side has this error
 abbrev pub AreSidesWrong : Grid → List (ℕ × List ℕ) → BorderFault → Type 0
 AreSidesWrong m [] fault = ⊥
 AreSidesWrong m (place ∷ places) fault = AreRowsWrong m place.0 place.1 fault ⊎ (AreRowsRight m place.0 place.1 × AreSidesWrong m places fault)
 
--- a map has a valid size, and counts that add up to its number of clumps
+-- the map contains a valid size, and counts that add up to its number of clumps
 pub record HasBoth (m : Grid) (j : Joining) (tile : RegionValue) (begun : List ℕ) : Type 0 where
   pub size : HasSize m j tile (sum begun)
   pub counts : HasCounts m tile.rows begun
 
--- and one of its sides is wrong
+-- the map contains a valid size and valid counts, and one of its sides is wrong
 abbrev pub HasWrongSide : Grid → BorderFault → Type 0
 HasWrongSide m fault = (j : Joining) × (tile : RegionValue) × (begun : List ℕ) × HasBoth m j tile begun × AreSidesWrong m (side_places tile begun) fault
 
--- a map has a valid size, but no counts
+-- the map contains a valid size, but no valid counts
 abbrev pub HasNoCounts : Grid → Type 0
 HasNoCounts m = (j : Joining) × (tile : RegionValue) × (clumps : ℕ) × HasSize m j tile clumps × ((begun : List ℕ) → ¬ HasCounts m tile.rows begun)
 
--- a map has a valid size, and counts that do not add up to its number of clumps
+-- the map contains a valid size, but its counts do not add up to its number of clumps
 abbrev pub HasOtherSum : Grid → Type 0
 HasOtherSum m = (j : Joining) × (tile : RegionValue) × (clumps : ℕ) × (begun : List ℕ) × HasSize m j tile clumps × HasCounts m tile.rows begun × (sum begun ≢ clumps)
 
@@ -126,7 +127,7 @@ IsNoBorderMap m (End place) = HasWrongSide m (End place)
 IsNoBorderMap m (Pair fault) = HasWrongSide m (Pair fault)
 IsNoBorderMap m Memory = Unit {0}
 
--- the first error of a text that is not a grid, or why the map that it denotes is not the map of a border
+-- the first error in a text that is not a grid, or why its map is not the map of a border
 abbrev pub IsBorderFault : Coming → BorderFault → Type 0
 IsBorderFault text (Text fault) = text_fault text ≡ Some fault
 IsBorderFault text Rows = (m : Grid) × Denotes text m × IsNoBorderMap m Rows

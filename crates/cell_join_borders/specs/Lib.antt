@@ -1,4 +1,4 @@
--- The border of a tile as a text, and what is wrong with such texts.
+-- The border of a tile as a text, and the errors of these texts.
 pub mod BorderText
 pub mod PairFaults
 pub mod BorderFaults

@@ -1,4 +1,4 @@
--- The text of the border of a tile, made from the text of its map.
+-- The text of a tile's border, written from the text of the tile's map.
 use Rattle.std.specs.Prelude.{ℕ, ◌≡◌, ◌≤◌, List, length, take, Option, Some}
 use Rattle.cell_core_devices.specs.Device.{Coming, append_known}
 use Rattle.cell_core.specs.Grid.{Grid}
@@ -13,14 +13,15 @@ use Rattle.cell_join_borders.specs.BorderText.{border_text}
 use Rattle.cell_join_borders.specs.declared.map_fault.MapFault.{MapFault}
 use Rattle.cell_join_borders.specs.declared.map_fault.MapFault.TheVariants.{Text, Memory, Write}
 
--- a text denotes a map, and this is the border of the map and of its clump numbers; each cell and its number match
+-- the text denotes a map, and `border` is the border of the map and its clump numbers, in which each cell matches its
+-- number
 pub record IsBorderOfText (j : Joining) (text : Coming) (m : Grid) (border : Border) : Type 0 where
   pub denoted : Denotes text m
   pub numbers : Grid
   pub has : HasBorder j m.region.rows m.region.cols m numbers (border_value border)
   pub fit : IsBorderFit m.region border
 
--- the sink took exactly the text of the border of a map, and its length is reported
+-- the sink accepted exactly the text of the border of a map, and `written` is its length
 pub record HasWrittenBorder (j : Joining) (text : Coming) (before now : Option (List ℕ)) (written : ℕ) : Type 0 where
   pub m : Grid
   pub border : Border
@@ -28,7 +29,7 @@ pub record HasWrittenBorder (j : Joining) (text : Coming) (before now : Option (
   pub taken : now ≡ append_known before (border_text j m.region border)
   pub count : written ≡ length (border_text j m.region border)
 
--- the sink took a prefix of that text, and its length is reported
+-- the sink accepted a prefix of that text, and `written` is its length
 pub record HasBorderPrefix (j : Joining) (text : Coming) (before now : Option (List ℕ)) (written : ℕ) : Type 0 where
   pub m : Grid
   pub border : Border
@@ -36,7 +37,7 @@ pub record HasBorderPrefix (j : Joining) (text : Coming) (before now : Option (L
   pub taken : now ≡ append_known before (take written (border_text j m.region border))
   pub count : written ≤ length (border_text j m.region border)
 
--- why no border is written: the text's first error; lack of memory and a failed write say nothing about the text
+-- why no border is written: the text's first error; a lack of memory or a failed write implies nothing about the text
 abbrev pub IsMapFault : Coming → MapFault → Type 0
 IsMapFault text (Text fault) = text_fault text ≡ Some fault
 IsMapFault text Memory = Unit {0}

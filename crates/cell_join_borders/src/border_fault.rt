@@ -5,20 +5,21 @@ use crate::pair_fault::PairFault;
 use cell_ascii_meaning::grid_fault::GridFault;
 use cell_core::memory::Memory;
 
-/// Why a text is not a border of a tile: the first reason in this order.
+/// Why a text is not a border of a tile. The first variant that applies is reported.
 #[derive(Clone, Copy, Debug, PartialEq, Eq)]
 pub enum BorderFault {
-    /// It is not a grid.
+    /// The text is not a grid.
     Text(GridFault),
-    /// It does not have ten rows.
+    /// The grid does not have ten rows.
     Rows,
-    /// The ninth row is not the size, number of clumps and connectivity of a tile whose border is as wide as the text.
+    /// The ninth row does not contain the size, number of clumps and connectivity of a tile whose border has the grid's
+    /// width.
     Size,
-    /// The tenth row does not have a count for each row of the tile.
+    /// The tenth row does not contain a count for each row of the tile.
     Counts,
     /// The counts do not add up to the number of clumps.
     Sum,
-    /// A cell or a number after the end of a side.
+    /// There is a cell or a number after the end of a side.
     End(CellPlace),
     /// A cell of a side and its number do not match.
     Pair(PairFault),

@@ -1,4 +1,4 @@
-//! The border of a tile, read from a text.
+//! Reads the border of a tile from a text.
 
 ghost use Rattle.std.specs.Prelude.{◌≡◌, ◌≢◌, ◌≤◌, IfErr, IfOk, IfSome, sum};
 ghost use Rattle.cell_cats_areas.specs.declared.clump.Joining.{Joining};
@@ -19,7 +19,7 @@ use cell_core::source::Source;
 use cell_join_tiles::border::Border;
 use std::alloc::Global;
 
-/// The contents of the text of a border: the region of a tile, its connectivity, and its border.
+/// The contents of a border text: the tile's region, its connectivity, and its border.
 #[derive(Debug, Drop)]
 pub struct BorderText {
     /// The region of the tile.
@@ -30,7 +30,7 @@ pub struct BorderText {
     pub border: Border,
 }
 
-// The border of a tile with these counts of clumps by row.
+// Reads the border of a tile in whose rows these numbers of clumps begin.
 fn border_with(
     alloc: Global,
     map: &CellMap,
@@ -66,7 +66,7 @@ fn border_with(
     }
 }
 
-// The same, with the region and the connectivity.
+// Reads the border, and adds the region and the connectivity.
 fn border_sized(
     alloc: Global,
     map: &CellMap,
@@ -90,7 +90,7 @@ fn border_sized(
     }
 }
 
-// The same, if the counts add up to the number of clumps.
+// Reads the border, if the counts add up to the number of clumps.
 fn border_counted(
     alloc: Global,
     map: &CellMap,
@@ -110,11 +110,11 @@ fn border_counted(
     Err(BorderFault::Sum)
 }
 
-/// The border of a tile, from its map.
+/// Reads the border of a tile from its map.
 ///
 /// # Errors
 ///
-/// The first [`BorderFault`] in the order of its variants, but no [`BorderFault::Text`].
+/// Returns the first [`BorderFault`] in the order of its variants, but never [`BorderFault::Text`].
 pub fn border_in(alloc: Global, map: &CellMap) -> Result<BorderText, BorderFault>
     ensures border { IfOk result
         (λ reported. IsGridOf map.now reported.joining reported.region reported.border) }
@@ -134,7 +134,7 @@ pub fn border_in(alloc: Global, map: &CellMap) -> Result<BorderText, BorderFault
     }
 }
 
-// The error of a text that is not a grid, or memory.
+// Converts the error of a text that is not a grid.
 fn of_border_text(fault: GridFault) -> BorderFault
     ensures { result ≡ of_border_text fault.kind fault }
 {
@@ -148,7 +148,8 @@ fn of_border_text(fault: GridFault) -> BorderFault
 ///
 /// # Errors
 ///
-/// [`BorderFault::Text`] with the first error of a text that is not a grid, and then the errors of [`border_in`].
+/// Returns [`BorderFault::Text`] with the first error of a text that is not a grid, and then the errors of
+/// [`border_in`].
 pub fn read_border<R: Source + Drop>(alloc: Global, source: R) -> Result<BorderText, BorderFault>
     ensures spelled { IfOk result (λ reported. IfSome (R.coming source)
         (λ text. SpellsBorder text reported.joining reported.region reported.border)) }

@@ -1,9 +1,9 @@
-//! The place of a cell in a map.
+//! The position of a cell in a map.
 
 use std::error::Error;
 use std::fmt;
 
-/// The place of a cell in a map: its row and its column, from 0. Both are printed counting from 1.
+/// The position of a cell in a map: its row and column, from 0. They are displayed counting from 1.
 #[derive(Clone, Copy, Debug, PartialEq, Eq)]
 pub struct CellPlace {
     /// The row, from 0.

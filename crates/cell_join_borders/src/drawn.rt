@@ -1,4 +1,4 @@
-//! The map of the border of a tile.
+//! Draws the border of a tile as a map.
 
 ghost use Rattle.std.specs.Prelude.{◌≡◌, ◌≤◌, ◌<◌, ◌+◌, ◌++◌, [], ◌∷◌, IfOk, OnOk, None, Some, pos, length, slice_index_or, sum};
 ghost use Rattle.cell_join_borders.specs.BorderText.{border_grid, border_region, border_rows, border_width, connectivity, count_line, filled_row, side_rows, size_line};
@@ -18,14 +18,14 @@ pub(crate) const ROWS: u32 = 10;
 /// The number of non-null cells in the ninth row: rows, columns, number of clumps and connectivity.
 pub(crate) const SIZE_CELLS: u32 = 4;
 
-/// The width of the map of a tile's border.
+/// Returns the width of the map of a tile's border.
 pub(crate) fn border_width(tile: Region) -> u32
     ensures { result ≡ border_width tile }
 {
     tile.rows().max(tile.cols()).max(SIZE_CELLS)
 }
 
-/// The number that stands for a connectivity.
+/// Returns the number that denotes a connectivity.
 pub(crate) fn connectivity(joining: Joining) -> u64
     ensures { result ≡ connectivity joining }
 {
@@ -35,7 +35,7 @@ pub(crate) fn connectivity(joining: Joining) -> u64
     }
 }
 
-/// The number of clumps that begin in all rows.
+/// Returns the number of clumps that begin in all rows together.
 pub(crate) fn clumps_in(begun: &[u64]) -> u64
     requires { sum begun.now ≤ most_clumps }
     ensures { result ≡ sum begun.now }
@@ -47,7 +47,7 @@ pub(crate) fn clumps_in(begun: &[u64]) -> u64
     clumps
 }
 
-// The region of the map of a border.
+// Returns the region of the map of a border.
 fn border_region(tile: Region) -> Region
     ensures { result ≡ border_region tile }
 {
@@ -65,7 +65,7 @@ fn border_region(tile: Region) -> Region
     }
 }
 
-// The cell at a column, or null past the last cell.
+// Returns the cell at a column, or null after the last cell.
 fn cell_at(cells: &[Cell], col: u32) -> Cell
     ensures { result ≡ slice_index_or cells.now col None }
 {
@@ -75,7 +75,7 @@ fn cell_at(cells: &[Cell], col: u32) -> Cell
     }
 }
 
-// Cells, padded with nulls on the right.
+// Returns the cells, padded with nulls on the right.
 fn filled_row(alloc: Global, width: u32, cells: &[Cell]) -> Result<Vec<Cell>, Memory>
     ensures { IfOk result (λ row. row.items ≡ filled_row width cells.now) }
 {
@@ -86,7 +86,7 @@ fn filled_row(alloc: Global, width: u32, cells: &[Cell]) -> Result<Vec<Cell>, Me
     Ok(row)
 }
 
-// A count as a cell.
+// Returns a count as a cell.
 fn count_cell(count: u64) -> Cell
     requires { count ≤ most_clumps }
     ensures { result ≡ Some (pos count) }
@@ -97,7 +97,7 @@ fn count_cell(count: u64) -> Cell
     }
 }
 
-// Counts as cells.
+// Returns counts as cells.
 fn count_line(alloc: Global, begun: &[u64]) -> Result<Vec<Cell>, Memory>
     requires { sum begun.now ≤ most_clumps }
     ensures { IfOk result (λ line. line.items ≡ count_line begun.now) }
@@ -109,7 +109,7 @@ fn count_line(alloc: Global, begun: &[u64]) -> Result<Vec<Cell>, Memory>
     Ok(line)
 }
 
-// Rows, columns, number of clumps and connectivity, as cells.
+// Returns the numbers of rows, columns and clumps and the connectivity, as cells.
 fn size_line(
     alloc: Global,
     joining: Joining,
@@ -127,7 +127,7 @@ fn size_line(
     Ok(line)
 }
 
-// Adds cells, padded with nulls, at the bottom of a map.
+// Adds a row of cells, padded with nulls, at the bottom of a map.
 fn push_line(
     alloc: Global,
     builder: &mut MapBuilder,
@@ -217,11 +217,11 @@ fn draw_rows(
     push_counts(alloc, builder, width, &border.begun)
 }
 
-/// The map of the border of a tile with this region and this connectivity.
+/// Returns the map of the border of a tile with this region and connectivity.
 ///
 /// # Errors
 ///
-/// [`Memory`] if memory runs out.
+/// Returns [`Memory`] if memory runs out.
 pub(crate) fn border_map(
     alloc: Global,
     joining: Joining,

@@ -1,14 +1,14 @@
-//! The border of a tile as a text, written and read. The form is our own (profile): a grid of ten
-//! rows with the four coordinates of the tile.
+//! Writes and reads the border of a tile as a text. Our own format (see the profile) is a grid of ten rows with the
+//! tile's four coordinates.
 //!
-//! Rows 1 to 8: the first row, last row, first column and last column of cells, each with the
-//! numbers of its clumps below. Row 9: rows, columns, number of clumps, connectivity (4 or 8). Row
-//! 10: how many clumps begin in each row of the tile.
+//! Rows 1 to 8: the first row, last row, first column and last column of cells, each followed by a row with its clump
+//! numbers. Row 9: the numbers of rows, columns and clumps, and the connectivity (4 or 8). Row 10: the number of clumps
+//! that begin in each row of the tile.
 //!
-//! - `map_border`: `write_border`, from the grid of a tile to its border; `map_fault`: `MapFault`
-//! - `border_text`: `read_border`, a `BorderText`; `border_fault`: `BorderFault`, the first error
-//! - `pair_fault`: `PairFault`, a cell and a number that can't go together; `cell_place`
-//! - private: `drawn`, the map of a border; `sides` and `size`, what its rows say
+//! - `map_border`: `write_border` writes the border of a tile from its grid; `map_fault`: `MapFault`
+//! - `border_text`: `read_border` reads a `BorderText`; `border_fault`: `BorderFault`, the first error
+//! - `pair_fault`: `PairFault`, a cell and a number that do not match; `cell_place`
+//! - private: `drawn` draws the map of a border; `sides` and `size` read its rows
 //!
 //! ```
 //! /// The border of the rows `1 1` and `1 2`, by edges.

@@ -1,4 +1,4 @@
-//! The text of the border of a tile, made from the text of the tile's map.
+//! Writes the text of a tile's border from the text of the tile's map.
 
 ghost use Rattle.std.specs.Prelude.{ℕ, ◌≡◌, ◌≢◌, ◌<◌, ◌≤◌, true, false, None, Some, IfErr, IfOk, IfSome, length, slice_index_or, sum};
 ghost use Rattle.cell_core_devices.specs.Device.{after_flush, has_failed};
@@ -31,13 +31,13 @@ use std::alloc::Global;
 /// The outcome of writing a border.
 #[derive(Clone, Copy, Debug, PartialEq, Eq)]
 pub struct BorderOutcome {
-    /// The number of bytes that the sink took.
+    /// The number of bytes that the sink accepted.
     pub written: u64,
-    /// Why not everything was written.
+    /// The error, if not everything was written.
     pub fault: Option<MapFault>,
 }
 
-// The cells of a column.
+// Returns the cells of a column.
 fn column_of(alloc: Global, map: &CellMap, col: u32) -> Result<Vec<Cell>, Memory>
     requires { col < map.now.region.cols }
     ensures long { IfOk result (λ cells. length cells.items ≡ map.now.region.rows) }
@@ -51,7 +51,7 @@ fn column_of(alloc: Global, map: &CellMap, col: u32) -> Result<Vec<Cell>, Memory
     Ok(cells)
 }
 
-// A row as a side.
+// Returns a row as a side.
 fn row_side(alloc: Global, map: &CellMap, numbers: &CellMap, row: u32) -> Result<Side, Memory>
     requires row { row < map.now.region.rows }
     requires region { numbers.now.region ≡ map.now.region }
@@ -70,7 +70,7 @@ fn row_side(alloc: Global, map: &CellMap, numbers: &CellMap, row: u32) -> Result
     })
 }
 
-// A column as a side.
+// Returns a column as a side.
 fn column_side(alloc: Global, map: &CellMap, numbers: &CellMap, col: u32) -> Result<Side, Memory>
     requires col { col < map.now.region.cols }
     requires region { numbers.now.region ≡ map.now.region }
@@ -87,7 +87,7 @@ fn column_side(alloc: Global, map: &CellMap, numbers: &CellMap, col: u32) -> Res
     })
 }
 
-// The border of a tile, from its map and the numbers of its clumps.
+// Returns the border of a tile, from its map and its clump numbers.
 fn border_of(
     alloc: Global,
     joining: Joining,
@@ -118,7 +118,7 @@ fn border_of(
     })
 }
 
-// The map of the border of a tile, from its map.
+// Returns the map of the border of a tile, from the tile's map.
 fn border_drawn(alloc: Global, joining: Joining, map: &CellMap) -> Result<CellMap, Memory>
     ensures { IfOk result (IsMapOfBorder joining map.now) }
 {
@@ -128,7 +128,7 @@ fn border_drawn(alloc: Global, joining: Joining, map: &CellMap) -> Result<CellMa
     border_map(alloc, joining, map.region(), &border)
 }
 
-// The error of a text that is not a grid, or memory.
+// Converts the error of a text that is not a grid.
 fn of_map_text(fault: GridFault) -> MapFault
     ensures { result ≡ of_map_text fault.kind fault }
 {
@@ -138,7 +138,7 @@ fn of_map_text(fault: GridFault) -> MapFault
     }
 }
 
-// The map of the border of the tile whose map a text denotes.
+// Returns the map of the border of the tile whose map a text denotes.
 fn border_made<R: Source + Drop>(
     alloc: Global,
     joining: Joining,
@@ -160,27 +160,27 @@ fn border_made<R: Source + Drop>(
     }
 }
 
-/// Writes the text of the border of a tile, from the text of its map: its clumps are numbered as r.clump numbers them.
-/// The sink is flushed once at the end, unless a put failed.
+/// Writes the text of a tile's border from the text of its map. Clumps are numbered as in r.clump. The sink is flushed
+/// once at the end, unless a write fails.
 pub fn write_border<R: Source + Drop, W: Sink>(
     alloc: Global,
     joining: Joining,
     map: R,
     out: &mut W,
 ) -> BorderOutcome
-    // Without an error, the sink has taken exactly the text of the border of the map that the text denotes.
+    // Without an error, the sink has accepted exactly the text of the border of the map that the text denotes.
     ensures written { result.fault ≡ None → IfSome (R.coming map) (λ text.
         HasWrittenBorder joining text (W.taken out.old) (W.taken out.new) result.written) }
-    // Any error other than a failed write is an error of the text, and the sink is unchanged.
+    // Any error other than a failed write is an error in the text, and the sink is then unchanged.
     ensures fault { IfSome result.fault (λ fault. IfSome (R.coming map)
         (λ text. IsMapFault text fault)) }
     ensures untouched { IfSome result.fault (λ fault. fault ≢ MapFault.Write
         → (out.new ≡ out.old) × (result.written ≡ 0)) }
-    // After a failed write, it has taken the first bytes of that text.
+    // After a failed write, the sink has accepted a prefix of that text.
     ensures cut { result.fault ≡ Some MapFault.Write → IfSome (R.coming map) (λ text.
         HasBorderPrefix joining text (W.taken out.old) (W.taken out.new) result.written) }
-    // Without an error, no call of the sink failed and it was flushed once. `Write` means that a call of the sink
-    // failed, if none had failed before.
+    // Without an error, no call of the sink failed, and it was flushed once. If no call had failed before, `Write`
+    // means that a call failed in this run.
     ensures sound { result.fault ≡ None
         → W.faults out.new ≡ after_flush (W.faults out.old) false }
     ensures write { result.fault ≡ Some MapFault.Write → has_failed (W.faults out.new) ≡ true }

@@ -1,4 +1,4 @@
-//! Why no border is written for the text of a map.
+//! Errors of writing a border.
 
 use cell_ascii_meaning::grid_fault::GridFault;
 use cell_core::memory::Memory;
@@ -6,7 +6,7 @@ use cell_core::memory::Memory;
 /// Why no border is written for the text of a map.
 #[derive(Clone, Copy, Debug, PartialEq, Eq)]
 pub enum MapFault {
-    /// The first error of the text.
+    /// The first error in the text.
     Text(GridFault),
     /// Memory ran out.
     Memory,

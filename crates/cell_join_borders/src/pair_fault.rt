@@ -1,4 +1,4 @@
-//! Cells and clump numbers that do not match.
+//! Finds cells and clump numbers that do not match.
 
 ghost use Rattle.std.specs.Prelude.{◌≡◌, None, slice_index_or, IfNone, IfSome};
 ghost use Rattle.cell_join_borders.specs.PairFaults.{AreLinesFit, IsFirstPair, number_fault, pair_fault};
@@ -19,20 +19,20 @@ pub enum PairKind {
     /// The number is below 1.
     #[error("number below 1")]
     BelowOne,
-    /// The number is above the number of clumps that begin in the cell's row or above it.
+    /// The number exceeds the number of clumps that begin in the cell's row or above it.
     #[error("number above the count of clumps that begin up to its row")]
     TooLarge,
 }
 
-/// Where a cell and a number do not match: the row and the column of the number, from 0, and why. Both are printed
-/// counting from 1.
+/// The row and column of a number that does not match its cell, from 0, and the reason. They are displayed counting
+/// from 1.
 #[derive(Clone, Copy, Debug, PartialEq, Eq)]
 pub struct PairFault {
     /// The row, from 0.
     pub row: u64,
     /// The column, from 0.
     pub col: u64,
-    /// Why.
+    /// Why they do not match.
     pub kind: PairKind,
 }
 
@@ -47,7 +47,7 @@ impl fmt::Display for PairFault {
 
 impl Error for PairFault {}
 
-// The cell at a column, or null past the end of the row.
+// Returns the cell at a column, or null after the end of the row.
 fn cell_at(cells: &[Cell], col: usize) -> Cell
     ensures { result ≡ slice_index_or cells.now col None }
 {
@@ -57,7 +57,7 @@ fn cell_at(cells: &[Cell], col: usize) -> Cell
     }
 }
 
-// Why a number is not from 1 to a maximum.
+// Returns why a number is not between 1 and `most`, if it is not.
 fn number_fault(most: u64, number: i32) -> Option<PairKind>
     ensures { result ≡ number_fault most number }
 {
@@ -73,7 +73,7 @@ fn number_fault(most: u64, number: i32) -> Option<PairKind>
     None
 }
 
-// Why a cell and a number do not match.
+// Returns why a cell and a number do not match, if they do not.
 fn pair_fault(most: u64, cell: Cell, number: Cell) -> Option<PairKind>
     ensures { result ≡ pair_fault most cell number }
 {
@@ -89,7 +89,8 @@ fn pair_fault(most: u64, cell: Cell, number: Cell) -> Option<PairKind>
     }
 }
 
-/// The first column in which the cells of two rows do not match, and why. There is one maximum per column.
+/// Returns the first column in which the cells of two rows do not match, and why. `most` contains the maximum for each
+/// column.
 pub fn first_of_lines(most: &[u64], cells: &[Cell], numbers: &[Cell]) -> Option<(usize, PairKind)>
     ensures none { IfNone result (AreLinesFit most.now cells.now numbers.now) }
     ensures some { IfSome result

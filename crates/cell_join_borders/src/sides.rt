@@ -1,4 +1,4 @@
-//! The sides of a tile, read from the map of its border.
+//! Reads the sides of a tile from the map of its border.
 
 ghost use Rattle.std.specs.Prelude.{◌≡◌, ◌≢◌, ◌≤◌, ◌<◌, IfErr, IfOk, OnOk, length, replicate, slice_index, sum, take};
 ghost use Rattle.cell_core.specs.Grid.{row_at};
@@ -17,7 +17,7 @@ use cell_join_tiles::begun::row_of;
 use cell_join_tiles::border::Side;
 use std::alloc::Global;
 
-/// For each cell of the sides of a tile, the largest number allowed: the number of clumps that begin in its row or
+/// The largest number allowed for each cell of a tile's sides: the number of clumps that begin in the cell's row or
 /// above it.
 #[derive(Debug, Drop)]
 pub(crate) struct SideMosts {
@@ -27,7 +27,7 @@ pub(crate) struct SideMosts {
     pub(crate) right: Vec<u64>,
 }
 
-// For each row, the number of clumps that begin in it or above it.
+// Returns, for each row, the number of clumps that begin in it or above it.
 fn most_down(alloc: Global, begun: &[u64]) -> Result<Vec<u64>, Memory>
     requires { sum begun.now ≤ most_clumps }
     ensures { IfOk result (λ most. most.items ≡ most_down begun.now) }
@@ -41,7 +41,7 @@ fn most_down(alloc: Global, begun: &[u64]) -> Result<Vec<u64>, Memory>
     Ok(most)
 }
 
-// The row's number, once for each of its `cols` cells.
+// Returns the row's number, repeated for each of its `cols` cells.
 fn most_of_row(alloc: Global, cols: u32, down: &[u64], row: usize) -> Result<Vec<u64>, Memory>
     requires { row < length down.now }
     ensures { IfOk result (λ line. line.items ≡ replicate cols (slice_index down.now row)) }
@@ -49,7 +49,7 @@ fn most_of_row(alloc: Global, cols: u32, down: &[u64], row: usize) -> Result<Vec
     Ok(vec![in alloc; down[row]; cols as usize]?)
 }
 
-/// The largest numbers allowed in a tile with these counts of clumps by row.
+/// Returns the largest numbers allowed in a tile with these counts of clumps by row.
 pub(crate) fn side_mosts(alloc: Global, tile: Region, begun: &[u64]) -> Result<SideMosts, Memory>
     requires long { length begun.now ≡ tile.rows }
     requires few { sum begun.now ≤ most_clumps }
@@ -68,7 +68,7 @@ pub(crate) fn side_mosts(alloc: Global, tile: Region, begun: &[u64]) -> Result<S
     })
 }
 
-// The first `count` cells and numbers of two rows.
+// Returns the first `count` cells and numbers of two rows as a side.
 fn cut_side(count: usize, cells: Vec<Cell>, numbers: Vec<Cell>) -> Side
     ensures cells { result.cells.items ≡ take count cells.items }
     ensures numbers { result.numbers.items ≡ take count numbers.items }
@@ -80,7 +80,7 @@ fn cut_side(count: usize, cells: Vec<Cell>, numbers: Vec<Cell>) -> Side
     Side { cells, numbers }
 }
 
-// The error of a cell after the end of a side.
+// Builds the error for a cell after the end of a side.
 fn end_fault(row: u32, col: u32) -> BorderFault
     ensures { result ≡ BorderFault.End (record { row = row; col = col }) }
 {
@@ -90,7 +90,7 @@ fn end_fault(row: u32, col: u32) -> BorderFault
     })
 }
 
-/// The side in a row and the row below it, given the largest number allowed for each of its cells.
+/// Reads the side in a row and the row below it, given the largest number allowed for each cell.
 pub(crate) fn side_in(
     alloc: Global,
     map: &CellMap,
@@ -135,7 +135,7 @@ pub(crate) struct FourSides {
     pub(crate) right: Side,
 }
 
-/// The sides in the first eight rows, given the largest number allowed for each of their cells.
+/// Reads the sides in the first eight rows, given the largest number allowed for each cell.
 pub(crate) fn sides_in(
     alloc: Global,
     map: &CellMap,

@@ -1,4 +1,4 @@
-//! The size of a tile and the counts of its clumps by row, read from the map of its border.
+//! Reads the size of a tile and its counts of clumps by row from the map of its border.
 
 ghost use Rattle.std.specs.Prelude.{ℕ, ◌≡◌, ◌≢◌, ◌≤◌, ◌<◌, ◌↔◌, IfNone, IfOk, IfSome, IsTrue, List, None, Some, pos, length, sum};
 ghost use Rattle.cell_core_values.specs.Region.{IsRegion, RegionValue};
@@ -16,12 +16,12 @@ use cell_core::memory::Memory;
 use cell_core::region::Region;
 use std::alloc::Global;
 
-// The rows of the size and of the counts.
+// The indices of the rows with the size and with the counts.
 const SIZE_ROW: u32 = 8;
 
 const COUNTS_ROW: u32 = 9;
 
-/// The contents of the ninth row: the region of the tile, its connectivity, and its number of clumps.
+/// The contents of the ninth row: the tile's region, its connectivity, and its number of clumps.
 #[derive(Clone, Copy, Debug, PartialEq, Eq)]
 pub(crate) struct TileSize {
     pub(crate) region: Region,
@@ -29,7 +29,7 @@ pub(crate) struct TileSize {
     pub(crate) clumps: u64,
 }
 
-/// States that a map is filled, and has a row and a column. Does nothing.
+/// Proves that a map is filled and has at least one row and one column. Does nothing at run time.
 pub(crate) fn map_is_filled(map: &CellMap)
     ensures filled { IsFilled map.now.region map.now.rows }
     ensures wide { 0 < map.now.region.cols }
@@ -39,7 +39,7 @@ pub(crate) fn map_is_filled(map: &CellMap)
     let _ = map.region().cols();
 }
 
-// A cell as a count.
+// Returns a cell as a count, if it is one.
 fn count_of(cell: Cell) -> Option<u64>
     ensures some { IfSome result (λ n. cell ≡ Some (pos n)) }
     ensures few { IfSome result (λ n. n ≤ most_clumps) }
@@ -52,7 +52,7 @@ fn count_of(cell: Cell) -> Option<u64>
     }
 }
 
-// A cell as a connectivity.
+// Returns a cell as a connectivity, if it is one.
 fn joining_of(cell: Cell) -> Option<Joining>
     ensures some { IfSome result (λ j. cell ≡ Some (pos (connectivity j))) }
     ensures none { IfNone result ((j : Joining) → cell ≢ Some (pos (connectivity j))) }
@@ -64,7 +64,7 @@ fn joining_of(cell: Cell) -> Option<Joining>
     }
 }
 
-/// The first column from `count` on whose cell is not null.
+/// Returns the first column, from column `count` on, whose cell is not null.
 pub(crate) fn first_behind(map: &CellMap, row: u32, count: u32) -> Option<u32>
     requires { row < map.now.region.rows }
     ensures none { IfNone result (AreNullFrom count (row_at map.now row)) }
@@ -79,7 +79,7 @@ pub(crate) fn first_behind(map: &CellMap, row: u32, count: u32) -> Option<u32>
     None
 }
 
-// The region of a tile of this size, if the map is as wide as the border of such a tile.
+// Returns the region of a tile of this size, if the border of this tile has the map's width.
 fn tile_of(map: &CellMap, rows: u64, cols: u64) -> Option<Region>
     requires rows { rows ≤ most_clumps }
     requires cols { cols ≤ most_clumps }
@@ -106,7 +106,7 @@ fn tile_of(map: &CellMap, rows: u64, cols: u64) -> Option<Region>
     }
 }
 
-/// The size in the ninth row.
+/// Reads the size in the ninth row.
 pub(crate) fn size_in(map: &CellMap) -> Option<TileSize>
     requires { map.now.region.rows ≡ 10 }
     ensures some { IfSome result (λ size. HasSize map.now size.joining size.region size.clumps) }
@@ -134,7 +134,7 @@ pub(crate) fn size_in(map: &CellMap) -> Option<TileSize>
     })
 }
 
-/// How many clumps begin in each of the tile's rows, from the tenth row of the border.
+/// Reads the number of clumps that begin in each row of the tile, from the tenth row of the border.
 pub(crate) fn counts_in(alloc: Global, map: &CellMap, rows: u32) -> Result<Option<Vec<u64>>, Memory>
     requires ten { map.now.region.rows ≡ 10 }
     requires wide { rows ≤ map.now.region.cols }
@@ -157,7 +157,7 @@ pub(crate) fn counts_in(alloc: Global, map: &CellMap, rows: u32) -> Result<Optio
     }
 }
 
-/// Whether counts add up to the number of clumps.
+/// Returns whether counts add up to the number of clumps.
 pub(crate) fn adds_up(begun: &[u64], clumps: u64) -> bool
     ensures { IsTrue result ↔ (sum begun.now ≡ clumps) }
 {

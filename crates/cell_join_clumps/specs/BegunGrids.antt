@@ -1,4 +1,4 @@
--- A grid of tiles so far: complete rows of tiles, and a row that has begun below them.
+-- An unfinished grid of tiles: complete rows of tiles, and an unfinished row below them.
 use Rattle.std.specs.Prelude.{◌≡◌, List, [], ◌∷◌, ◌++◌, None}
 use Rattle.std.specs.List.{AllZip}
 use Rattle.cell_core_devices.specs.Device.{Coming}
@@ -7,12 +7,12 @@ use Rattle.cell_cats_areas.specs.declared.clump.Joining.{Joining}
 use Rattle.cell_join_borders.specs.declared.border_text.BorderText.{BorderText}
 use Rattle.cell_join_clumps.specs.TileTexts.{AreTileRows, IsBelow, LieBeside, SpellsJoined, region_rows, regions_of, tiles_in}
 
--- the last of some rows below a first one
+-- the last of the rows, or the first row `above` if there are no others
 abbrev pub last_row : List RegionValue → List (List RegionValue) → List RegionValue
 last_row above [] = above
 last_row above (row ∷ rows) = last_row row rows
 
--- each tile so far of a row is below the tile above it; there is no tile above the first row
+-- each tile of an unfinished row is below the tile above it; there are no tiles above the first row
 abbrev pub LieUnder : List RegionValue → List RegionValue → Type 0
 LieUnder above [] = Unit {0}
 LieUnder [] (tile ∷ row) = ⊥
@@ -22,7 +22,8 @@ abbrev pub RowFitsUnder : List RegionValue → List RegionValue → Type 0
 RowFitsUnder [] row = Unit {0}
 RowFitsUnder (upper ∷ above) row = LieUnder (upper ∷ above) row
 
--- texts are the borders of the tiles of complete rows, and of a row so far below them; empty only before the first tile
+-- the texts are the borders of the tiles of complete rows, and of an unfinished row below them, which is empty only
+-- before the first tile
 pub record AreGridSoFar (j : Joining) (texts : List Coming) (rows : List (List BorderText)) (row : List BorderText) : Type 0 where
   pub spelled : AllZip (SpellsJoined j) texts (tiles_in rows ++ row)
   pub lie : AreTileRows (region_rows rows)

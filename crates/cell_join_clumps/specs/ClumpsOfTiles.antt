@@ -1,4 +1,4 @@
--- The numbering of tiles from the texts of their borders: what is written, and why it is not.
+-- The numbering of tiles from the texts of their borders: the text written, and why nothing is written.
 use Rattle.std.specs.Prelude.{ℕ, ◌≡◌, ◌≢◌, ◌-◌, ◌≤◌, ◌^◌, ◌⊎◌, List, [], ◌∷◌, ◌++◌, length, Option, Some, None, slice_get}
 use Rattle.std.specs.List.{last_or}
 use Rattle.cell_core_devices.specs.Blocks.{capped_count}
@@ -22,27 +22,27 @@ use Rattle.cell_join_clumps.specs.declared.clumps_fault.ClumpsFault.TheVariants.
 
 -- ---- what is written
 
--- the runs of the clump numbers of tiles whose borders are these texts, in every map, of any size, that is cut into
--- such tiles
+-- the runs of the clump numbers of tiles with these border texts, in every map, of any size, that is cut into these
+-- tiles
 pub record AreRunsOfTexts (j : Joining) (texts : List Coming) (runs : List Stretch) : Type 0 where
   pub rows : List (List BorderText)
   pub are : AreGridOf j texts rows
   pub numbered : AreRunsOf j (border_rows_of rows) runs
 
--- the text of these numbers
+-- the text of these runs
 pub record IsNumberingOf (j : Joining) (texts : List Coming) (written : List ℕ) : Type 0 where
   pub runs : List Stretch
   pub are : AreRunsOfTexts j texts runs
   pub is : written ≡ areas_text runs
 
--- the sink took exactly the numbering of texts of borders
+-- the sink accepted exactly the numbering of the border texts
 pub record HasWrittenClumps (j : Joining) (texts : List Coming) (before now : Option (List ℕ)) (written : ℕ) : Type 0 where
   pub text : List ℕ
   pub is : IsNumberingOf j texts text
   pub taken : now ≡ append_known before text
   pub count : written ≡ capped_count (length text)
 
--- the sink took a prefix of it
+-- the sink accepted a prefix of the numbering
 pub record HasClumpsPrefix (j : Joining) (texts : List Coming) (before now : Option (List ℕ)) (written : ℕ) : Type 0 where
   pub front : List ℕ
   pub rest : List ℕ
@@ -50,9 +50,9 @@ pub record HasClumpsPrefix (j : Joining) (texts : List Coming) (before now : Opt
   pub taken : now ≡ append_known before front
   pub count : written ≡ capped_count (length front)
 
--- ---- why it is not
+-- ---- why nothing is written
 
--- the text that an error names as the one with the error
+-- the text that an error identifies as wrong
 abbrev pub faulty_text : ClumpsFault → Option ℕ
 faulty_text (Border text fault) = Some text
 faulty_text (Connectivity text found) = Some text
@@ -61,7 +61,7 @@ faulty_text (NotBeside text misfit) = Some text
 faulty_text (NotBelow text other misfit) = Some text
 faulty_text fault = None
 
--- a tile is neither right of the last tile of the first row nor below the first
+-- the tile is neither right of the last tile of the first row nor below the first tile
 pub record IsApart (above row : List RegionValue) (beside below : Misfit) (tile : RegionValue) : Type 0 where
   pub left : RegionValue
   pub first : RegionValue
@@ -71,7 +71,7 @@ pub record IsApart (above row : List RegionValue) (beside below : Misfit) (tile 
   pub not_beside : IsBesideMisfit left tile beside
   pub not_below : IsBelowMisfit first tile below
 
--- a row has fewer tiles than the one above it, and a tile is not right of its last
+-- the row has fewer tiles than the row above it, and the tile is not right of its last tile
 pub record IsNotBeside (above row : List RegionValue) (misfit : Misfit) (tile : RegionValue) : Type 0 where
   pub upper : RegionValue
   pub left : RegionValue
@@ -79,14 +79,14 @@ pub record IsNotBeside (above row : List RegionValue) (misfit : Misfit) (tile : 
   pub last_is : last_or None row ≡ Some left
   pub not_beside : IsBesideMisfit left tile misfit
 
--- a row has fewer tiles than the one above it, and a tile is right of its last, but not below the tile above
+-- the row has fewer tiles than the row above it, and the tile is right of its last tile, but not below the tile above
 pub record IsNotUnder (above row : List RegionValue) (misfit : Misfit) (tile : RegionValue) : Type 0 where
   pub upper : RegionValue
   pub above_is : slice_get above (length row) ≡ Some upper
   pub beside : FitsBeside (last_or None row) tile
   pub not_below : IsBelowMisfit upper tile misfit
 
--- a row has as many tiles as the one above it, and a tile is not below its first
+-- the row has as many tiles as the row above it, and the tile is not below its first tile
 pub record IsNotNextRow (above row : List RegionValue) (misfit : Misfit) (tile : RegionValue) : Type 0 where
   pub first : RegionValue
   pub some_above : above ≢ []
@@ -94,27 +94,27 @@ pub record IsNotNextRow (above row : List RegionValue) (misfit : Misfit) (tile :
   pub first_is : slice_get row 0 ≡ Some first
   pub not_below : IsBelowMisfit first tile misfit
 
--- why the tile at a place neither continues the row that has begun nor begins one below it
+-- why the tile at index `place` neither continues the unfinished row nor begins the next one
 abbrev pub GoesNowhere : (place : ℕ) → (above row : List RegionValue) → RegionValue → ClumpsFault → Type 0
 GoesNowhere place above row tile (Apart at beside below) = IsApart above row beside below tile
 GoesNowhere place above row tile (NotBeside at misfit) = IsNotBeside above row misfit tile
 GoesNowhere place above row tile (NotBelow at other misfit) = ((other ≡ place - length above) × IsNotUnder above row misfit tile) ⊎ ((other ≡ place - length row) × IsNotNextRow above row misfit tile)
 GoesNowhere place above row tile fault = ⊥
 
--- a text is the border of a tile for which this holds
+-- the text is the border of a tile that does not fit, for this reason
 pub record SpellsNowhere (j : Joining) (place : ℕ) (above row : List RegionValue) (text : Coming) (fault : ClumpsFault) : Type 0 where
   pub tile : BorderText
   pub spells : SpellsJoined j text tile
   pub wrong : GoesNowhere place above row tile.region fault
 
--- or of one with this connectivity, which is not the one asked for
+-- the text is the border of a tile with the connectivity `found`, which is not the requested one
 pub record SpellsOtherwise (j : Joining) (text : Coming) (found : Joining) : Type 0 where
   pub tile : BorderText
   pub spells : SpellsTile text tile
   pub found_is : tile.joining ≡ found
   pub other : found ≢ j
 
--- why the text in a place neither continues a row that has begun nor begins one below it
+-- why the text at index `place` neither continues the unfinished row nor begins the next one
 abbrev pub IsFaultOfTile : Joining → (place : ℕ) → (above row : List RegionValue) → Coming → ClumpsFault → Type 0
 IsFaultOfTile j place above row text (Border at fault) = (fault ≢ border_faults.Memory) × IsBorderFault text fault
 IsFaultOfTile j place above row text (Connectivity at found) = SpellsOtherwise j text found
@@ -123,7 +123,7 @@ IsFaultOfTile j place above row text (NotBeside at misfit) = SpellsNowhere j pla
 IsFaultOfTile j place above row text (NotBelow at other misfit) = SpellsNowhere j place above row text (NotBelow at other misfit)
 IsFaultOfTile j place above row text fault = ⊥
 
--- the texts before one are the borders of a grid of tiles so far, and this is why that text does not continue it
+-- the previous texts are the borders of an unfinished grid of tiles, and this is why the text does not continue it
 pub record IsFirstTextFault (j : Joining) (texts : List Coming) (fault : ClumpsFault) : Type 0 where
   pub before : List Coming
   pub text : Coming
@@ -135,7 +135,7 @@ pub record IsFirstTextFault (j : Joining) (texts : List Coming) (fault : ClumpsF
   pub good : AreGridSoFar j before rows row
   pub wrong : IsFaultOfTile j (length before) (last_row [] (region_rows rows)) (regions_of row) text fault
 
--- all texts are the borders of a grid of tiles so far, and the tile of this text is above the next place
+-- all texts are the borders of an unfinished grid, in which no tile is below the tile of the text `other`
 pub record HaveFewTiles (j : Joining) (texts : List Coming) (other : ℕ) : Type 0 where
   pub rows : List (List BorderText)
   pub row : List BorderText
@@ -144,7 +144,7 @@ pub record HaveFewTiles (j : Joining) (texts : List Coming) (other : ℕ) : Type
   pub above_is : slice_get (last_row [] (region_rows rows)) (length row) ≡ Some upper
   pub other_is : other ≡ length texts - length (last_row [] (region_rows rows))
 
--- the first texts are the borders of rows of tiles that have more clumps than fit in a `u64`
+-- the first texts are the borders of rows of tiles whose number of clumps does not fit in a `u64`
 pub record HaveManyClumps (j : Joining) (texts : List Coming) : Type 0 where
   pub before : List Coming
   pub after : List Coming
@@ -153,7 +153,7 @@ pub record HaveManyClumps (j : Joining) (texts : List Coming) : Type 0 where
   pub are : AreGridOf j before rows
   pub many : 2 ^ 64 ≤ clumps_in_grid (begun_in (border_rows_of rows))
 
--- why texts are not joined; lack of memory and a failed write say nothing about the texts
+-- why texts are not joined; a lack of memory or a failed write implies nothing about the texts
 abbrev pub IsClumpsFault : Joining → List Coming → ClumpsFault → Type 0
 IsClumpsFault j texts (Border at fault) = IsFirstTextFault j texts (Border at fault)
 IsClumpsFault j texts (Connectivity at found) = IsFirstTextFault j texts (Connectivity at found)

@@ -1,4 +1,4 @@
--- The texts of the borders of tiles, the grid of these tiles, and the numbering to which they are joined.
+-- The texts of the borders of tiles, the grid of these tiles, and their numbering.
 pub mod TileTexts
 pub mod Misfits
 pub mod BegunGrids

@@ -1,4 +1,4 @@
-//! Where a tile goes in a grid that has begun.
+//! Determines where a tile belongs in an unfinished grid.
 
 ghost use Rattle.std.specs.Prelude.{◌≡◌, ◌↔◌, [], IfNone, IfSome, IsTrue};
 ghost use Rattle.cell_join_clumps.specs.Misfits.{IsBelowMisfit, IsBesideMisfit};
@@ -8,29 +8,29 @@ ghost use Rattle.cell_join_clumps.specs.parts.Placements.{IsFirstRowPlacement, I
 use crate::clumps_fault::Misfit;
 use cell_core::region::Region;
 
-/// Where a tile goes after the tiles of a row that has begun, or why it has no place.
+/// Where a tile belongs after the tiles of an unfinished row, or why it does not fit.
 #[derive(Clone, Copy, Debug, PartialEq, Eq)]
 pub(crate) enum TilePlacement {
-    /// It is the next in the row.
+    /// The tile is the next in the row.
     InRow,
-    /// It is the first of the next row.
+    /// The tile is the first of the next row.
     NextRow,
-    /// It is neither right of the last tile of the first row nor below the first.
+    /// The tile is neither right of the last tile of the first row nor below the first tile.
     Apart { beside: Misfit, below: Misfit },
-    /// It is not right of the last tile.
+    /// The tile is not right of the last tile.
     NotBeside { misfit: Misfit },
-    /// It is not below the tile that came `back` tiles before it.
+    /// The tile is not below the tile that was read `back` tiles before it.
     NotBelow { misfit: Misfit, back: usize },
 }
 
-// Whether two edges are equal.
+// Returns whether two edges are equal.
 fn is_same_edge(one: i64, other: i64) -> bool
     ensures { IsTrue result ↔ one ≡ other }
 {
     one == other
 }
 
-// Why a tile is not right of another.
+// Returns why a tile is not right of another tile, if it is not.
 fn beside_misfit(left: Region, right: Region) -> Option<Misfit>
     ensures beside { IfNone result (IsBeside left right) }
     ensures misfit { IfSome result (IsBesideMisfit left right) }
@@ -54,7 +54,7 @@ fn beside_misfit(left: Region, right: Region) -> Option<Misfit>
     None
 }
 
-// Why a tile is not below another.
+// Returns why a tile is not below another tile, if it is not.
 fn below_misfit(above: Region, below: Region) -> Option<Misfit>
     ensures below { IfNone result (IsBelow above below) }
     ensures misfit { IfSome result (IsBelowMisfit above below) }
@@ -78,7 +78,7 @@ fn below_misfit(above: Region, below: Region) -> Option<Misfit>
     None
 }
 
-// After the tiles of the first row, given its first and its last tile.
+// Places a tile after the tiles of the first row, given the row's first and last tiles.
 fn placement_in_first_row(first: Region, last: Region, tile: Region) -> TilePlacement
     ensures { IsFirstRowPlacement first last tile result }
 {
@@ -91,7 +91,7 @@ fn placement_in_first_row(first: Region, last: Region, tile: Region) -> TilePlac
     }
 }
 
-// After the last tile of a row, if there is a tile above, which came `back` tiles before.
+// Places a tile after the last tile of a row, below the tile `upper`, which was read `back` tiles before.
 fn placement_below(upper: Region, last: Region, tile: Region, back: usize) -> TilePlacement
     ensures { IsPlacementBelow upper last tile back result }
 {
@@ -104,7 +104,7 @@ fn placement_below(upper: Region, last: Region, tile: Region, back: usize) -> Ti
     }
 }
 
-// After a full row that begins with the tile `first`, which came `back` tiles before.
+// Places a tile after a complete row that begins with the tile `first`, which was read `back` tiles before.
 fn placement_in_next_row(first: Region, tile: Region, back: usize) -> TilePlacement
     ensures { IsNextRowPlacement first tile back result }
 {
@@ -114,7 +114,7 @@ fn placement_in_next_row(first: Region, tile: Region, back: usize) -> TilePlacem
     }
 }
 
-/// After the tiles of a row that has begun below another row; there is none above the first row.
+/// Places a tile after the tiles of an unfinished row, given the row above, which is empty for the first row.
 pub(crate) fn placement_of(above: &[Region], row: &[Region], tile: Region) -> TilePlacement
     requires { row.now ≡ [] → above.now ≡ [] }
     ensures { IsTilePlacement above.now row.now tile result }

@@ -1,34 +1,35 @@
-//! Why texts of the borders of tiles are not joined.
+//! Errors of joining the borders of tiles.
 
 use cell_cats_areas::clump::Joining;
 use cell_core::memory::Memory;
 use cell_join_borders::border_fault::BorderFault;
 
-/// Why a tile is not right of another, or not below it: its own value, and the other tile's value.
+/// Why a tile is not right of another tile, or not below it: its own value, and the other tile's value.
 #[derive(Clone, Copy, Debug, PartialEq, Eq)]
 pub enum Misfit {
-    /// Not right of it: its west edge is not the other's east edge.
+    /// It is not right of the other tile: its west edge is not the other's east edge.
     WestEast { west: i64, east: i64 },
-    /// Not right of it: its number of rows differs.
+    /// It is not right of the other tile: its number of rows differs.
     Rows { rows: u32, other: u32 },
-    /// Not right of it: its north edge differs.
+    /// It is not right of the other tile: its north edge differs.
     North { north: i64, other: i64 },
-    /// Not right of it: its south edge differs.
+    /// It is not right of the other tile: its south edge differs.
     South { south: i64, other: i64 },
-    /// Not below it: its north edge is not the other's south edge.
+    /// It is not below the other tile: its north edge is not the other's south edge.
     NorthSouth { north: i64, south: i64 },
-    /// Not below it: its number of columns differs.
+    /// It is not below the other tile: its number of columns differs.
     Cols { cols: u32, other: u32 },
-    /// Not below it: its west edge differs.
+    /// It is not below the other tile: its west edge differs.
     West { west: i64, other: i64 },
-    /// Not below it: its east edge differs.
+    /// It is not below the other tile: its east edge differs.
     East { east: i64, other: i64 },
 }
 
-/// Why texts of the borders of tiles are not joined. Texts are named by their places, from 0.
+/// Why the borders of tiles are not joined. Texts are identified by their indices, from 0.
 ///
-/// The texts come in rows of tiles from the top, and in each row from the left. A tile must begin where the tile to its
-/// left and the tile above it end. So texts that are swapped, repeated, missing or taken from another map are an error.
+/// Texts are given in rows of tiles from the top, and in each row from the left. A tile must begin where the tile on
+/// its left and the tile above it end. Texts that are swapped, repeated, missing or taken from another map are
+/// therefore rejected.
 #[derive(Clone, Copy, Debug, PartialEq, Eq)]
 pub enum ClumpsFault {
     /// This text is not a border of a tile.
@@ -36,33 +37,33 @@ pub enum ClumpsFault {
         text: usize,
         fault: BorderFault,
     },
-    /// The connectivity of this text's tile, which differs from the one asked for and from the texts before it.
+    /// The connectivity of this text's tile differs from the requested one. All previous texts have the requested one.
     Connectivity {
         text: usize,
         found: Joining,
     },
-    /// In the first row of tiles: the tile of this text is neither right of the tile before it nor below the first one.
+    /// In the first row of tiles, this text's tile is neither right of the previous tile nor below the first tile.
     Apart {
         text: usize,
         beside: Misfit,
         below: Misfit,
     },
-    /// In a later row of tiles that has fewer tiles so far: the tile of this text is not right of the tile before it.
+    /// In a later, incomplete row of tiles, this text's tile is not right of the previous tile.
     NotBeside {
         text: usize,
         misfit: Misfit,
     },
-    /// In a later row of tiles: the tile of this text is not below the tile of the other text.
+    /// In a later row of tiles, this text's tile is not below the tile of the text `other`.
     NotBelow {
         text: usize,
         other: usize,
         misfit: Misfit,
     },
-    /// The last row of tiles has no tile below this text's tile, which is in the row above it.
+    /// The last row has no tile below the tile of the text `other`, which is in the row above.
     FewTiles {
         other: usize,
     },
-    /// The tiles have more clumps than fit in a `u64`.
+    /// The number of clumps in the tiles does not fit in a `u64`.
     TooManyClumps,
     /// Memory ran out.
     Memory,

@@ -1,4 +1,4 @@
-//! The numbering of tiles, from the texts of their borders.
+//! Joins the borders of tiles to the numbering of the full map.
 
 ghost use Rattle.std.specs.Prelude.{◌≡◌, ◌≢◌, List, None, Some, IfErr, IfOk, IfSome, true, false};
 ghost use Rattle.cell_core_devices.specs.Device.{Coming, has_failed, after_flush};
@@ -18,12 +18,12 @@ use cell_join_lines::stretch::Stretch;
 use cell_join_lines::writing::write_stretches;
 use std::alloc::Global;
 
-/// The outcome of joining.
+/// The outcome of joining borders.
 #[derive(Clone, Copy, Debug, PartialEq, Eq)]
 pub struct ClumpsOutcome {
-    /// The number of bytes that the sink took, at most `u64::MAX`.
+    /// The number of bytes that the sink accepted, capped at `u64::MAX`.
     pub written: u64,
-    /// Why not everything was written.
+    /// The error, if not everything was written.
     pub fault: Option<ClumpsFault>,
 }
 
@@ -52,7 +52,7 @@ fn read_tiles<R: Source + Drop>(
     Ok(tiles)
 }
 
-// The numbers in the full map of the clumps of the tiles of all texts.
+// Reads all texts, and numbers the clumps of their tiles in the full map.
 fn number_clumps<R: Source + Drop>(
     alloc: Global,
     joining: Joining,
@@ -74,7 +74,7 @@ fn number_clumps<R: Source + Drop>(
     Ok(joined.runs)
 }
 
-// Flushes the sink unless a put failed, and returns the result.
+// Flushes the sink unless a write failed, and returns the error.
 fn finish<W: Sink>(failed: bool, out: &mut W) -> Option<ClumpsFault>
     ensures taken { W.taken out.new ≡ W.taken out.old }
     ensures flushed { result ≡ None
@@ -92,7 +92,7 @@ fn finish<W: Sink>(failed: bool, out: &mut W) -> Option<ClumpsFault>
     }
 }
 
-// Writes the text of runs, and flushes the sink unless a put failed.
+// Writes runs as text, and flushes the sink unless a write failed.
 fn put_runs<W: Sink>(out: &mut W, runs: &[Stretch]) -> ClumpsOutcome
     ensures { HasPut (areas_text runs.now) (W.taken out.old) (W.taken out.new) (W.faults out.old)
         (W.faults out.new) result.written result.fault }
@@ -111,33 +111,34 @@ fn put_runs<W: Sink>(out: &mut W, runs: &[Stretch]) -> ClumpsOutcome
 /// clump of each tile has in the full map. The full map may have any size. Tiles are numbered in the order of the
 /// texts.
 ///
-/// The texts are read one after the other. A tile is the next in its row if it is right of the one before it, and
-/// begins the next row if it is below the first tile of a complete row. One row of tiles is held at a time; other
+/// The texts are read one after the other. A tile is the next in its row if it is right of the previous tile, and
+/// begins the next row if it is below the first tile of a complete row. One row of tiles is held at a time; all other
 /// memory grows only with the seams. Nothing is written before all texts are read. The sink is flushed once at the end,
-/// unless a put failed.
+/// unless a write fails.
 pub fn join_border_texts<R: Source + Drop, W: Sink>(
     alloc: Global,
     joining: Joining,
     texts: Vec<R>,
     out: &mut W,
 ) -> ClumpsOutcome
-    // Without an error, the texts are the borders of the tiles of a grid, and the sink has taken exactly the text of
-    // the numbers that their clumps have in every map that is cut into such tiles.
+    // Without an error, the texts are the borders of the tiles of a grid, and the sink has accepted exactly the text of
+    // the numbers that their clumps have in every map that is cut into these tiles.
     ensures joined { (all : List Coming) → Give R.coming texts.items all → result.fault ≡ None
         → HasWrittenClumps joining all (W.taken out.old) (W.taken out.new) result.written }
-    // An error of a text: the texts before it are the borders of a grid of tiles so far, and the text itself has the
-    // error. Or all texts are such borders, and the last row has fewer tiles than the one above, or there are too many
-    // clumps.
+    // If a text has an error, the previous texts are the borders of an unfinished grid of tiles, and this text is wrong
+    // in this way. Or all texts are borders of a grid, but the last row has fewer tiles than the row above, or there
+    // are too many clumps.
     ensures fault { (all : List Coming) → Give R.coming texts.items all
         → IfSome result.fault (IsClumpsFault joining all) }
     // With any error other than a failed write, the sink is unchanged.
     ensures untouched { IfSome result.fault (λ fault. fault ≢ ClumpsFault.Write
         → (out.new ≡ out.old) × (result.written ≡ 0)) }
-    // After a failed write, it has taken a prefix of the numbering.
+    // After a failed write, the sink has accepted a prefix of the numbering.
     ensures cut { (all : List Coming) → Give R.coming texts.items all
         → result.fault ≡ Some ClumpsFault.Write
         → HasClumpsPrefix joining all (W.taken out.old) (W.taken out.new) result.written }
-    // Without an error, no call of the sink failed and it was flushed once. `Write`: a call failed, now or before.
+    // Without an error, no call of the sink failed, and it was flushed once. For `Write`, a call failed, in this run or
+    // before.
     ensures sound { result.fault ≡ None
         → W.faults out.new ≡ after_flush (W.faults out.old) false }
     ensures write { result.fault ≡ Some ClumpsFault.Write

@@ -1,14 +1,12 @@
-//! From the texts of the borders of a grid of tiles to the text of a numbering: which clump of the
-//! full map each clump of each tile is. This is what `rcell-join clumps` does.
+//! Joins the borders of a grid of tiles to a numbering, which lists the full map's clump for each clump of each tile.
+//! `rcell-join clumps` uses this crate.
 //!
-//! - `clumps_joining`: `join_border_texts`; texts come one row of tiles after another, each from
-//!   the left
-//! - `clumps_fault`: `ClumpsFault`, and `Misfit`, why a tile does not fit the tiles before it
+//! - `clumps_joining`: `join_border_texts`; the texts are given row by row, each row from the left
+//! - `clumps_fault`: `ClumpsFault`, and `Misfit`, why a tile does not fit the previous tiles
 //! - specs/ClumpsOfTiles.antt: what is written; specs/TileTexts.antt: texts of a grid of tiles
-//! - private: `arrangement`, where the next tile goes; `tile_grid`, the rows of tiles, of which one
-//!   is held
+//! - private: `arrangement` determines where the next tile belongs; `tile_grid` holds one row of tiles
 //!
-//! Tiles A, B and, below them, C, D:
+//! Tiles A and B and, below them, C and D:
 //!
 //! ```
 //! let texts = borders(alloc, Joining::Edges, &[A, B, C, D])?;

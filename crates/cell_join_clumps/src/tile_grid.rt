@@ -1,4 +1,4 @@
-//! Rows of tiles that are read from the texts of their borders; one row is held.
+//! Reads rows of tiles from the texts of their borders, and holds one row at a time.
 
 ghost use Rattle.std.specs.Prelude.{◌≡◌, ◌≢◌, ◌↔◌, ◌++◌, ◌∷◌, [], List, IfErr, IfOk, IfSome, IsTrue};
 ghost use Rattle.cell_join_borders.specs.BorderFaults.{IsBorderFit};
@@ -19,7 +19,7 @@ use cell_join_tiles::border::Border;
 use cell_join_tiles::joiner::{JoinerFault, TileJoiner};
 use std::alloc::Global;
 
-// Why a text is not a border, or memory.
+// Converts the error of a text that is not a border.
 fn of_border(place: usize, fault: BorderFault) -> ClumpsFault
     ensures { result ≡ of_border place fault }
 {
@@ -29,14 +29,14 @@ fn of_border(place: usize, fault: BorderFault) -> ClumpsFault
     }
 }
 
-// Whether the connectivity is the one asked for.
+// Returns whether the connectivity is the requested one.
 fn is_as_asked(found: Joining, joining: Joining) -> bool
     ensures { IsTrue result ↔ found ≡ joining }
 {
     found == joining
 }
 
-// Reads the tile at a place. Fails if its connectivity is another one.
+// Reads the tile of the text at index `place`. Fails if its connectivity is not the requested one.
 fn read_tile<R: Source + Drop>(
     alloc: Global,
     joining: Joining,
@@ -63,7 +63,7 @@ fn read_tile<R: Source + Drop>(
     })
 }
 
-// Adds one more row to joined tiles.
+// Adds one more row of tiles to the joined tiles.
 fn add_row(alloc: Global, joiner: TileJoiner, row: Vec<Border>) -> Result<TileJoiner, ClumpsFault>
     requires { IsEvenRow row.items }
     ensures joining { IfOk result (λ more. more.joining ≡ joiner.joining) }
@@ -79,20 +79,20 @@ fn add_row(alloc: Global, joiner: TileJoiner, row: Vec<Border>) -> Result<TileJo
     }
 }
 
-/// Rows of tiles from the top: complete rows, which are joined, and one that has begun below them.
+/// Rows of tiles from the top: complete rows, which have been joined, and an unfinished row below them.
 #[derive(Drop)]
 pub(crate) struct TileGrid {
     // The joiner of the complete rows.
     pub(crate) joiner: TileJoiner,
     // The regions of the last complete row, from the left.
     above: Vec<Region>,
-    // The regions so far of the row below it, and the borders of its tiles. Empty only before the first tile.
+    // The regions and borders of the unfinished row. They are empty only before the first tile.
     row: Vec<Region>,
     borders: Vec<Border>,
 }
 
 impl TileGrid {
-    /// No tiles yet. Takes no memory.
+    /// Creates a grid without tiles. Allocates no memory.
     pub(crate) fn new(alloc: Global, joining: Joining) -> TileGrid
         ensures { AreNoTiles joining result }
     {
@@ -124,7 +124,7 @@ impl TileGrid {
         })
     }
 
-    // A first tile below complete rows, which are joined.
+    // Starts a row with its first tile, below complete rows, which have been joined.
     fn begun_below(
         alloc: Global,
         joiner: TileJoiner,
@@ -161,7 +161,7 @@ impl TileGrid {
         Ok(TileGrid::begun_below(alloc, joiner, row, tile)?)
     }
 
-    /// Adds the tile of the text in a place.
+    /// Adds the tile of the text at index `place`.
     pub(crate) fn with_text<R: Source + Drop>(
         self,
         alloc: Global,
@@ -196,7 +196,7 @@ impl TileGrid {
         }
     }
 
-    /// The joiner of all rows, after `texts` texts, if the last row is complete.
+    /// Joins the last row, if it is complete, and returns the joiner. `texts` is the number of texts.
     pub(crate) fn finish(self, alloc: Global, texts: usize) -> Result<TileJoiner, ClumpsFault>
         requires { AreTilesKept self }
         ensures whole { IfOk result (AreFinished self) }

@@ -8,6 +8,6 @@ use Rattle.cell_join_clumps.specs.ClumpsOfTiles.{IsClumpsFault}
 use Rattle.cell_join_clumps.specs.declared.clumps_fault.ClumpsFault.{ClumpsFault}
 use Rattle.cell_join_clumps.specs.declared.clumps_fault.ClumpsFault.TheVariants.{Memory, Write}
 
--- at most 2^33 texts that are the borders of the tiles of a grid are joined, unless memory runs out or the sink fails
+-- at most 2^33 texts of the borders of a grid of tiles are joined, unless memory runs out or the sink fails
 abbrev pub GoodBordersAreJoined : Type 0
 GoodBordersAreJoined = (j : Joining) (texts : List Coming) (rows : List (List BorderText)) → AreGridOf j texts rows → length texts ≤ 2 ^ 33 → (fault : ClumpsFault) → IsClumpsFault j texts fault → (fault ≡ Memory) ⊎ (fault ≡ Write)

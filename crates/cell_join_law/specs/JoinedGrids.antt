@@ -1,4 +1,4 @@
--- Texts that denote the borders of the tiles of a map, and the numbering to which they are joined.
+-- Texts that denote the borders of a map's tiles, and their numbering.
 use Rattle.std.specs.Prelude.{ℕ, pos, ◌≡◌, ◌+◌, ◌-◌, List, [], flat_map, length, sum, take, All, Some, slice_get, slice_index, slice_index_or}
 use Rattle.std.specs.List.{AllZip}
 use Rattle.cell_core_devices.specs.Device.{Coming}
@@ -15,30 +15,30 @@ use Rattle.cell_join_clumps.specs.ClumpsOfTiles.{IsNumberingOf}
 use Rattle.cell_join_law.specs.WrittenBorders.{DenotesBorder}
 use Rattle.cell_join_law.specs.TileGrids.{IsNumberedTile, NumberedTile, all_tiles, rows_of_tiles, tile_heights, tile_regions, tile_widths}
 
--- texts denote the borders of the maps of tiles
+-- the texts denote the borders of the tiles' maps
 abbrev pub DenoteBorders : Joining → List NumberedTile → List Coming → Type 0
 DenoteBorders j tiles texts = AllZip (λ (tile : NumberedTile) text. DenotesBorder j tile.map text) tiles texts
 
--- if the regions of the tiles make a grid, they are the borders of the tiles of a grid
+-- if the regions of the tiles form a grid, the texts are the borders of a grid of tiles
 abbrev pub BordersMakeGrids : Type 0
 BordersMakeGrids = (j : Joining) (tiles : List (List NumberedTile)) (texts : List Coming) → DenoteBorders j (all_tiles tiles) texts → AreTileRows (tile_regions tiles) → (rows : List (List BorderText)) × AreGridOf j texts rows
 
--- each tile has the number of clumps that is listed for it
+-- each tile has the listed number of clumps
 abbrev pub HaveClumps : Joining → List (List NumberedTile) → List (List ℕ) → Type 0
 HaveClumps j tiles counts = AllZip (AllZip (λ (tile : NumberedTile) n. HasAreas j tile.map n)) tiles counts
 
--- all of some counts, and the counts of the tiles before one, added up
+-- all counts, row by row; the sum of the counts of the previous tiles
 abbrev pub all_counts : List (List ℕ) → List ℕ
 all_counts counts = flat_map (λ (row : List ℕ). row) counts
 
 abbrev pub clumps_before : List (List ℕ) → (r c : ℕ) → ℕ
 clumps_before counts r c = sum (all_counts (take r counts)) + sum (take c (slice_index_or counts r []))
 
--- each cell of each tile has in the full map the number that is listed for its clump in the tile
+-- in the full map, each cell of each tile has the number that is listed for its clump in the tile
 abbrev pub AreNumbersOfTiles : Joining → Grid → List (List NumberedTile) → List (List ℕ) → List ℕ → Type 0
 AreNumbersOfTiles j whole tiles counts numbers = (r c : ℕ) (row : List NumberedTile) (tile : NumberedTile) → slice_get tiles r ≡ Some row → slice_get row c ≡ Some tile → (p : Position) (k : ℕ) → cell_at_position tile.numbers p ≡ Some (pos k) → HasNumber j whole (moved_position (tile_place (tile_heights tiles) (tile_widths tiles) r c) p) (slice_index numbers (clumps_before counts r c + (k - 1)))
 
--- the numbering of the clumps of tiles: their numbers in the full map
+-- the numbering of the tiles' clumps: their numbers in the full map
 pub record IsNumberingOfGrid (j : Joining) (whole : Grid) (tiles : List (List NumberedTile)) (text : List ℕ) : Type 0 where
   pub counts : List (List ℕ)
   pub numbers : List ℕ
@@ -47,6 +47,6 @@ pub record IsNumberingOfGrid (j : Joining) (whole : Grid) (tiles : List (List Nu
   pub is : text ≡ areas_text (stretches_of (all_counts counts) numbers)
   pub are : AreNumbersOfTiles j whole tiles counts numbers
 
--- such texts are joined to the numbering of every map, of any size, whose rows are the rows of the tiles
+-- these texts are joined to the numbering of every map, of any size, whose rows are the rows of the tiles
 abbrev pub JoinedBordersNumber : Type 0
 JoinedBordersNumber = (j : Joining) (whole : Grid) (tiles : List (List NumberedTile)) (texts : List Coming) → DenoteBorders j (all_tiles tiles) texts → All (IsNumberedTile j) (all_tiles tiles) → AreTileRows (tile_regions tiles) → whole.rows ≡ rows_of_tiles tiles → (text : List ℕ) → IsNumberingOf j texts text → IsNumberingOfGrid j whole tiles text

@@ -1,5 +1,5 @@
--- What the laws of joined clumps state.
--- Sizes of the clumps of the full map.
+-- Statements of the laws of joined clumps.
+-- The clump sizes of the full map.
 pub mod ReadBorders
 pub mod WrittenBorders
 pub mod TileGrids

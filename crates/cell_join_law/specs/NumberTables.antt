@@ -1,4 +1,4 @@
--- The table of the numbers of clumps lists their sizes.
+-- The table of clump numbers lists the clump sizes.
 use Rattle.std.specs.Prelude.{ℕ, zero, suc, pos, not, ◌+◌, ◌≡◌, ◌↔◌, List, [], ◌∷◌, ◌++◌, map, filter}
 use Rattle.std.specs.Prelude.{Some, None, if◌then◌else◌}
 use Rattle.cell_core.specs.Grid.{Grid, IsFilled}
@@ -13,17 +13,17 @@ use Rattle.cell_cats_law.specs.AreaLaw.{cells_of}
 use Rattle.cell_join_numbers.specs.Labelled.{HasAreas}
 use Rattle.cell_join_law.specs.SizeLaw.{sizes_of_areas}
 
--- the entries of consecutive numbers from one on, with the sizes of their clumps
+-- entries with consecutive numbers, starting at `n`, and the sizes of their clumps
 abbrev pub entries_from : ℕ → List ℕ → Pairs
 entries_from n [] = []
 entries_from n (size ∷ sizes) = (Some (pos n) ∷ [], size) ∷ entries_from (n + 1) sizes
 
--- the entry of null cells, if there are any and the rule leaves them in
+-- the entry of null cells, if there are any and `skip` does not leave them out
 abbrev pub entry_of_null : Skip → ℕ → Pairs
 entry_of_null skip zero = []
 entry_of_null skip (suc n) = if is_left_out skip (None ∷ []) then [] else (None ∷ [], suc n) ∷ []
 
--- the entries of clumps of these sizes, numbered from 1, and then the entry of null
+-- the entries of clumps with these sizes, numbered from 1, and then the entry of null
 abbrev pub number_table : Skip → List ℕ → ℕ → Pairs
 number_table skip sizes nulls = entries_from 1 sizes ++ entry_of_null skip nulls
 
@@ -35,6 +35,6 @@ NumbersAreListed = (j : Joining) (m numbers : Grid) → IsClumping j m numbers �
     ↔ (table ≡ number_table skip (sizes_of_areas areas numbers m.region.rows m.region.cols)
     (count_of (None ∷ []) (cells_of numbers m.region.rows m.region.cols)))
 
--- the sizes that a table of numbers lists: its counts in their order, without the count of null
+-- the sizes in a table of clump numbers: its counts in order, without the count of null
 abbrev pub listed_sizes : Pairs → List ℕ
 listed_sizes table = map (λ pair. pair.1) (filter (λ pair. not (is_left_out AnyNull pair.0)) table)

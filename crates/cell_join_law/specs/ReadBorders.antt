@@ -10,12 +10,12 @@ use Rattle.cell_join_borders.specs.BorderText.{SpellsBorder}
 use Rattle.cell_join_borders.specs.declared.border_fault.BorderFault.{BorderFault}
 use Rattle.cell_join_borders.specs.declared.border_fault.BorderFault.TheVariants.{Memory}
 
--- a text is a border whose cells and numbers match
+-- the text is a border in which each cell matches its number
 pub record IsBorderText (text : Coming) (j : Joining) (tile : RegionValue) (border : Border) : Type 0 where
   pub spelled : SpellsBorder text j tile border
   pub fit : IsBorderFit tile border
 
--- such a text has no error other than lack of memory
+-- a border text has no error, unless memory runs out
 abbrev pub SpelledBordersAreRead : Type 0
 SpelledBordersAreRead = (text : Coming) (j : Joining) (tile : RegionValue) (border : Border) → IsBorderText text j tile border → (fault : BorderFault) → fault ≢ Memory → ¬ IsBorderFault text fault
 

@@ -9,7 +9,7 @@ use Rattle.cell_join_sizes.specs.SizeFaults.{IsSizesFault}
 use Rattle.cell_join_sizes.specs.declared.size_fault.SizesFault.{SizesFault}
 use Rattle.cell_join_sizes.specs.declared.size_fault.SizesFault.TheVariants.{Areas, NumberBeyond, NumberLeftOut, NoTable, Table, OtherArea, TooGreat, TooLong, Memory, Write}
 
--- an error that is not caused by a text
+-- the error is not caused by a text
 abbrev pub IsOfNoText : SizesFault → Type 0
 IsOfNoText (Areas fault) = ⊥
 IsOfNoText (NumberBeyond line) = ⊥
@@ -22,7 +22,7 @@ IsOfNoText TooLong = Unit {0}
 IsOfNoText Memory = Unit {0}
 IsOfNoText Write = Unit {0}
 
--- if a numbering and tables have sizes that fit in 64 bits, no error is an error of a text
+-- if a numbering and tables have sizes that fit in 64 bits, no error is caused by a text
 abbrev pub RightTextsAreAddedUp : Type 0
 RightTextsAreAddedUp = (format : FormatValue) (text : Coming) (texts : List Coming) (sizes : List ℕ)
     → HaveSizes (areas_reading_of text) (map (reading_of format 1) texts) sizes

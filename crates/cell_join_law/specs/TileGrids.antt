@@ -1,4 +1,4 @@
--- Rows of tiles whose regions make a grid, and the map that is cut into them.
+-- Rows of tiles whose regions form a grid, and the map that is cut into them.
 use Rattle.std.specs.Prelude.{ℕ, List, [], ◌∷◌, map, flat_map}
 use Rattle.std.specs.List.{range_with_len}
 use Rattle.cell_core_values.specs.Region.{IsRegion, RegionValue}
@@ -6,12 +6,12 @@ use Rattle.cell_core.specs.Grid.{CellValue, Grid, IsFilled, row_at}
 use Rattle.cell_cats_areas.specs.declared.clump.Joining.{Joining}
 use Rattle.cell_cats_areas.specs.Areas.{IsClumping}
 
--- the map of a tile, and the map of the numbers of its clumps
+-- the map of a tile, and the map of its clump numbers
 pub record NumberedTile : Type 0 where
   pub map : Grid
   pub numbers : Grid
 
--- the numbers are the clumping of the map, and the map fills a valid region
+-- the numbers are a clumping of the map, and the map fills a valid region
 pub record IsNumberedTile (j : Joining) (tile : NumberedTile) : Type 0 where
   pub region : IsRegion tile.map.region
   pub filled : IsFilled tile.map.region tile.map.rows
@@ -21,14 +21,14 @@ pub record IsNumberedTile (j : Joining) (tile : NumberedTile) : Type 0 where
 abbrev pub all_tiles : List (List NumberedTile) → List NumberedTile
 all_tiles tiles = flat_map (λ (row : List NumberedTile). row) tiles
 
--- the regions of their maps
+-- the regions of the tiles' maps
 abbrev pub map_regions : List NumberedTile → List RegionValue
 map_regions row = map (λ (tile : NumberedTile). tile.map.region) row
 
 abbrev pub tile_regions : List (List NumberedTile) → List (List RegionValue)
 tile_regions tiles = map map_regions tiles
 
--- the number of rows of each row of tiles, and the number of columns of each column of tiles
+-- the number of rows in each row of tiles, and the number of columns in each column of tiles
 abbrev pub row_height : List NumberedTile → ℕ
 row_height [] = 0
 row_height (tile ∷ row) = tile.map.region.rows
@@ -40,10 +40,10 @@ abbrev pub tile_widths : List (List NumberedTile) → List ℕ
 tile_widths [] = []
 tile_widths (row ∷ rows) = map (λ (tile : NumberedTile). tile.map.region.cols) row
 
--- the rows of the tiles of a row of tiles, side by side
+-- the rows of one row of tiles, with the tiles next to each other
 abbrev pub rows_beside : List NumberedTile → List (List CellValue)
 rows_beside row = map (λ r. flat_map (λ (tile : NumberedTile). row_at tile.map r) row) (range_with_len 0 (row_height row))
 
--- and the rows of all rows of tiles
+-- the rows of all tiles
 abbrev pub rows_of_tiles : List (List NumberedTile) → List (List CellValue)
 rows_of_tiles tiles = flat_map rows_beside tiles

@@ -1,4 +1,4 @@
--- Sizes, and tables of clump numbers, of tiles that contain each cell of a map once.
+-- Sizes and tables of clump numbers, for tiles that contain each cell of a map once.
 use Rattle.std.specs.Prelude.{ℕ, pos, ◌-◌, ◌≡◌, ◌↔◌, List, [], ◌∷◌, map, flat_map, length, All, Some, None, sum_by}
 use Rattle.std.specs.Prelude.{slice_index}
 use Rattle.std.specs.List.{AllZip}
@@ -16,7 +16,7 @@ use Rattle.cell_join_sizes.specs.Sizes.{AddUp}
 use Rattle.cell_join_law.specs.SizeLaw.{sizes_of_areas}
 use Rattle.cell_join_law.specs.NumberTables.{number_table, listed_sizes}
 
--- a tile with its clump numbers, and the number of each clump in the full map
+-- a tile with its clump numbers, and the full map's number for each of its clumps
 pub record JoinedTile : Type 0 where
   pub numbered : Numbered
   pub there : List ℕ
@@ -24,7 +24,7 @@ pub record JoinedTile : Type 0 where
 abbrev pub place_of_tile : JoinedTile → Rectangle
 place_of_tile t = t.numbered.tile.place
 
--- a tile with its clumps, and each cell has in the full map the number that is listed for its clump
+-- a tile with its clumps; in the full map, each cell has the number that is listed for its clump
 pub record IsJoinedTile (j : Joining) (whole : Grid) (t : JoinedTile) : Type 0 where
   pub cells : IsTile whole t.numbered.tile
   pub clumping : IsClumping j t.numbered.tile.map t.numbered.numbers
@@ -32,7 +32,7 @@ pub record IsJoinedTile (j : Joining) (whole : Grid) (t : JoinedTile) : Type 0 w
   pub reports : (p : Position) (k : ℕ) → cell_at_position t.numbered.numbers p ≡ Some (pos k)
       → HasNumber j whole (moved_position (place_of_tile t) p) (slice_index t.there (k - 1))
 
--- tiles that contain each of rows × cols cells once
+-- tiles that contain each of `rows` × `cols` cells once
 pub record AreTilesOfWhole (j : Joining) (whole : Grid) (rows cols : ℕ) (tiles : List JoinedTile) : Type 0 where
   pub tiling : AreTiling rows cols (map place_of_tile tiles)
   pub joined : All (IsJoinedTile j whole) tiles
@@ -41,24 +41,24 @@ pub record AreTilesOfWhole (j : Joining) (whole : Grid) (rows cols : ℕ) (tiles
 abbrev pub numbers_of_tiles : List JoinedTile → List ℕ
 numbers_of_tiles tiles = flat_map (λ t. t.there) tiles
 
--- the sizes of the clumps of a tile
+-- the clump sizes of a tile
 abbrev pub sizes_of_tile : JoinedTile → List ℕ
 sizes_of_tile t =
     sizes_of_areas (length t.there) t.numbered.numbers (place_of_tile t).rows (place_of_tile t).cols
 
--- added up, they are the sizes of the clumps of the full map
+-- the tiles' sizes, added up, are the clump sizes of the full map
 abbrev pub TileSizesCountCells : Type 0
 TileSizesCountCells = (j : Joining) (whole : Grid) (rows cols : ℕ) (tiles : List JoinedTile)
     → AreTilesOfWhole j whole rows cols tiles → (numbered : Grid) → IsClumping j whole numbered
     → (areas : ℕ) (sizes : List ℕ) → AddUp (numbers_of_tiles tiles) (flat_map sizes_of_tile tiles) areas sizes
     → sizes ≡ sizes_of_areas areas numbered rows cols
 
--- the table of the numbers of a tile
+-- the table of the tile's clump numbers
 abbrev pub IsTileTable : Skip → JoinedTile → Pairs → Type 0
 IsTileTable skip t table =
     IsTable skip (cells_of t.numbered.numbers (place_of_tile t).rows (place_of_tile t).cols) table
 
--- the sizes that the tables of tiles list, joined, are the table of the numbers of the full map
+-- the sizes in the tiles' tables, added up, are the table of the full map's clump numbers
 abbrev pub TileTablesGiveTheWhole : Type 0
 TileTablesGiveTheWhole = (j : Joining) (whole : Grid) (tiles : List JoinedTile)
     → AreTilesOfWhole j whole whole.region.rows whole.region.cols tiles → IsFilled whole.region whole.rows

@@ -14,11 +14,11 @@ use Rattle.cell_join_borders.specs.declared.border_fault.BorderFault.{BorderFaul
 use Rattle.cell_join_borders.specs.declared.border_fault.BorderFault.TheVariants.{Memory}
 use Rattle.cell_join_law.specs.ReadBorders.{IsBorderText}
 
--- a written text, as one to be read: complete, without a failure at its end
+-- a written text as a text to be read: complete, from a source that does not fail
 abbrev pub written_text : List ℕ → Coming
 written_text text = record { bytes = text; fails = false }
 
--- a text denotes the border of a map: it is the text of that border and no other, and it is read unless memory runs out
+-- the text denotes exactly the border of the map, and is read unless memory runs out
 pub record DenotesBorder (j : Joining) (m : Grid) (text : Coming) : Type 0 where
   pub border : Border
   pub numbers : Grid
@@ -27,6 +27,6 @@ pub record DenotesBorder (j : Joining) (m : Grid) (text : Coming) : Type 0 where
   pub alone : (i : Joining) (tile : RegionValue) (other : Border) → IsBorderText text i tile other → (i ≡ j) × (tile ≡ m.region) × (border_value other ≡ border_value border)
   pub read : (fault : BorderFault) → fault ≢ Memory → ¬ IsBorderFault text fault
 
--- the text written for the border of a map denotes that border
+-- the text written for the border of a map denotes this border
 abbrev pub WrittenBordersDenote : Type 0
 WrittenBordersDenote = (j : Joining) (source : Coming) (m : Grid) → Denotes source m → (text : List ℕ) (written : ℕ) → HasWrittenBorder j source (Some []) (Some text) written → DenotesBorder j m (written_text text)

@@ -1,4 +1,4 @@
--- Formats whose lines can be read back: their fields can be distinguished.
+-- Formats in which lines can be read back, because their fields can be distinguished.
 use Rattle.std.specs.Prelude.{ℕ, Bool, ◌==◌, ◌&&◌, ◌||◌, not, codes, is_none}
 use Rattle.std.specs.List.{list_all}
 use Rattle.cell_core_values.specs.Digits.{is_digit}
@@ -7,11 +7,11 @@ use Rattle.cell_stats.specs.TableText.{FormatValue}
 use Rattle.cell_join_lines.specs.LineFields.{category_of_field}
 use Rattle.cell_join_lines.specs.LineReading.{is_newline}
 
--- a byte that is neither printed in numbers nor a line feed
+-- the byte does not occur in numbers, and is not a line feed
 abbrev pub is_clear_byte : ℕ → Bool
 is_clear_byte b = not (is_digit b || (b == byte (codes "-") || is_newline b))
 
--- a separator that is in no field, nor in the label of null if labels are printed, and a null text that is not a
+-- the separator does not occur in fields, nor in the label of null if labels are printed, and the null text is not a
 -- category
 abbrev pub is_clear : FormatValue → Bool
 is_clear format =

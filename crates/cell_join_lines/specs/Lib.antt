@@ -1,4 +1,4 @@
--- Texts of tables and of numberings: their lines, and how they are read.
+-- The lines of tables and numberings, and how they are read.
 pub mod AreasReading
 pub mod AreasText
 pub mod ClearFormats

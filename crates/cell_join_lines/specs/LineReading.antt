@@ -1,4 +1,4 @@
--- How a text is read: the entries of its lines up to the first error.
+-- Reads a text: the entries in its lines, up to the first error.
 use Rattle.std.specs.Prelude.{ℕ, ◌+◌, ◌-◌, ◌^◌, ◌==◌, nat_lt, min, Bool, List, [], ◌∷◌, length, Option, Some, None, Result, Ok, Err, if◌then◌else◌, codes}
 use Rattle.std.specs.List.{slice_split}
 use Rattle.std.specs.declared.cmp.Ordering.{Ordering}
@@ -19,31 +19,31 @@ use Rattle.cell_join_lines.specs.declared.table_fault.TheConstants.{MOST_BYTES}
 abbrev pub is_newline : ℕ → Bool
 is_newline b = b == byte (codes "\n")
 
--- whether there are as many cells as wanted, or at least one if any number is wanted
+-- there are as many cells as wanted or, if `wanted` is 0, at least one
 abbrev pub is_as_wide : ℕ → ℕ → Bool
 is_as_wide wanted count = if wanted == 0 then nat_lt 0 count else count == wanted
 
--- an entry after another, if the two are in this order
+-- the entry, if its combination is larger than the previous combination
 abbrev pub ordered_entry : Ordering → Combination × ℕ → Result (Combination × ℕ) TableKind
 ordered_entry Less entry = Ok entry
 ordered_entry Equal entry = Err ListedTwice
 ordered_entry Greater entry = Err OutOfOrder
 
--- an entry after the one before it, if there is one: the same number of cells, and a larger combination
+-- the entry, if it may follow the previous entry: it has the same number of cells, and a larger combination
 abbrev pub in_order : ℕ → Option Combination → Combination × ℕ → Result (Combination × ℕ) TableKind
 in_order width None entry = if is_as_wide width (length entry.0) then Ok entry else Err BadWidth
 in_order width (Some last) entry = if length entry.0 == length last then ordered_entry (combination_cmp last entry.0) entry else Err BadWidth
 
--- the entry of a line after the one before it
+-- the entry in a line, if it may follow the previous entry
 abbrev pub next_entry : FormatValue → ℕ → Option Combination → List ℕ → Result (Combination × ℕ) TableKind
 next_entry format width last line = spelled_entry format line >>= in_order width last
 
--- how a text is read: the entries before its first error, and that error
+-- the reading of a text: the entries before its first error, and this error
 pub record TableReading : Type 0 where
   pub entries : Pairs
   pub fault : Option TableFault
 
--- no more entries
+-- the end of the text
 abbrev pub ended : TableReading
 ended = record { entries = []; fault = None }
 
@@ -55,29 +55,29 @@ stopped line kind = record { entries = []; fault = Some (record { line = line; k
 abbrev pub with_entry : Combination × ℕ → TableReading → TableReading
 with_entry entry others = record { entries = entry ∷ others.entries; fault = others.fault }
 
--- the number of the next line, or the largest 64-bit number
+-- the number of the next line, capped at the largest 64-bit number
 abbrev pub line_after : ℕ → ℕ
 line_after line = min (line + 1) (2 ^ 64 - 1)
 
--- bytes that no line feed follows: at the end of a text there are none
+-- the bytes after the last line feed: a complete text has none
 abbrev pub at_text_end : Bool → ℕ → List ℕ → TableReading
 at_text_end fails line bytes = if fails then stopped line Read else (if length bytes == 0 then ended else stopped line CutOff)
 
--- an entry or an error, and what is read after the entry
+-- an entry and what is read after it, or an error
 abbrev pub then_reads : ℕ → Result (Combination × ℕ) TableKind → (Combination × ℕ → TableReading) → TableReading
 then_reads line (Err kind) more = stopped line kind
 then_reads line (Ok entry) more = with_entry entry (more entry)
 
--- lines, from this number on, after a combination, if there is one; the last of them has no line feed
+-- lines, from this number on, after the previous combination, if any; the last line has no line feed
 abbrev pub reading_of_lines : FormatValue → ℕ → Bool → ℕ → Option Combination → List (List ℕ) → TableReading
 reading_of_lines format width fails number last [] = ended
 reading_of_lines format width fails number last (line ∷ []) = if nat_lt MOST_BYTES (length line) then stopped number LongLine else at_text_end fails number line
 reading_of_lines format width fails number last (line ∷ next ∷ lines) = if nat_lt MOST_BYTES (length line) then stopped number LongLine else then_reads number (next_entry format width last line) (λ entry. reading_of_lines format width fails (line_after number) (Some entry.0) (next ∷ lines))
 
--- what is to come of a text
+-- the rest of a text
 abbrev pub reading_of_rest : FormatValue → ℕ → ℕ → Option Combination → Coming → TableReading
 reading_of_rest format width number last coming = reading_of_lines format width coming.fails number last (slice_split is_newline coming.bytes)
 
--- a text of combinations of width cells, or of any number of cells if width is 0
+-- a text of combinations with `width` cells or, if `width` is 0, with the same number of cells
 abbrev pub reading_of : FormatValue → ℕ → Coming → TableReading
 reading_of format width coming = reading_of_rest format width 1 None coming

@@ -9,26 +9,26 @@ use Rattle.cell_join_lines.specs.declared.table_fault.TableKind.{TableKind}
 use Rattle.cell_join_lines.specs.declared.table_fault.TableKind.TheVariants.{BadCell, BadCount, BadWidth, ListedTwice, OutOfOrder, LongLine, CutOff, Read, Memory}
 use Rattle.cell_join_lines.specs.declared.table_fault.TheConstants.{MOST_BYTES}
 
--- the bytes in a buffer, what its source has left, if that is known, the line read last, and the state of the source
+-- the bytes in the buffer, the rest of the source, if known, the last line read, and the state of the source
 pub record LinesValue : Type 0 where
   pub held : List ℕ
   pub rest : Option Coming
   pub line : List ℕ
   pub heard : Heard
 
--- bytes, and then the bytes of a source
+-- the bytes, followed by the bytes of a source
 abbrev pub held_before : List ℕ → Coming → Coming
 held_before bytes coming = record { bytes = bytes ++ coming.bytes; fails = coming.fails }
 
--- all that is to come after the line, if it is known
+-- everything after the last line read, if known
 abbrev pub lines_coming : LinesValue → Option Coming
 lines_coming lines = option_map (held_before lines.held) lines.rest
 
--- a source whose known bytes are used up
+-- a source whose bytes, if known, are used up
 abbrev pub HasEnded : Bool → Option Coming → Type 0
 HasEnded fails known = IfSome known (λ coming. (coming.bytes ≡ []) × (coming.fails ≡ fails))
 
--- the first line, without its line feed, and what comes after it; or the end, or why there is neither
+-- the first line, without its line feed, and what follows it; or the end; or an error
 abbrev pub first_line : Coming → Result (Option (List ℕ × Coming)) TableKind
 first_line coming =
     if nat_lt MOST_BYTES (length (before_first is_newline coming.bytes)) then Err LongLine
@@ -36,18 +36,18 @@ first_line coming =
     else (if coming.fails then Err Read
     else (if length coming.bytes == 0 then Ok None else Err CutOff)))
 
--- what is reported about the first line: it was read, there is none, or an error
+-- the result of reading the first line: a line was read, there is none, or an error
 abbrev pub IsFirstLine : Option Coming → Result Bool TableKind → LinesValue → Type 0
 IsFirstLine old (Ok true) new = option_map first_line old ≡ option_map (λ rest. Ok (Some (new.line, rest))) (lines_coming new)
 IsFirstLine old (Ok false) new = option_map first_line old ≡ option_map (λ rest. Ok None) (lines_coming new)
 IsFirstLine old (Err kind) new = kind ≢ Memory → IfSome old (λ coming. first_line coming ≡ Err kind)
 
--- what is added to a line from the bytes held: those before the first line feed, which is skipped, or all of them
+-- bytes are moved from the buffer to the line: those before the first line feed, which is skipped, or all of them
 abbrev pub IsPassed : LinesValue → Bool → LinesValue → Type 0
 IsPassed old true new = (position_or_len is_newline old.held ≢ length old.held) × (new.line ≡ old.line ++ before_first is_newline old.held) × (new.held ≡ after_first is_newline old.held)
 IsPassed old false new = (position_or_len is_newline old.held ≡ length old.held) × (new.line ≡ old.line ++ old.held) × (new.held ≡ [])
 
--- whether an error says that the text cannot be read any further
+-- the error is that the text could not be read further
 abbrev pub is_read_fault : TableKind → Bool
 is_read_fault BadCell = false
 is_read_fault BadCount = false
@@ -59,7 +59,7 @@ is_read_fault CutOff = false
 is_read_fault Read = true
 is_read_fault Memory = false
 
--- whether a result says that the text cannot be read any further
+-- the result is that the text could not be read further
 abbrev pub says_read : {X : Type 0} → Result X TableKind → Bool
 says_read (Ok x) = false
 says_read (Err kind) = is_read_fault kind

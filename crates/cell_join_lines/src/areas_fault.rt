@@ -1,4 +1,4 @@
-//! Why a text is not a numbering.
+//! Errors of numberings.
 
 ghost use Rattle.std.specs.Prelude.{◌≡◌};
 ghost use Rattle.cell_join_lines.specs.AreasReading.{areas_kind, is_read_areas};
@@ -10,8 +10,8 @@ use thiserror::Error;
 /// What is wrong with a numbering.
 #[derive(Clone, Copy, Debug, PartialEq, Eq, Error)]
 pub enum AreasKind {
-    /// Not four numbers as they are printed, of which the first three are from 1 to 2147483647, and the last is from 1
-    /// to 2^64 - 1.
+    /// The line does not contain four printed numbers, the first three from 1 to 2147483647 and the last from 1 to 2^64
+    /// - 1.
     #[error("not four numbers")]
     NotNumbers,
     /// The first clump is above the last.
@@ -20,13 +20,13 @@ pub enum AreasKind {
     /// A tile or clump is out of order: missing, repeated or late.
     #[error("clumps out of order")]
     NotNext,
-    /// A line that is longer than a line of a table may be.
+    /// A line exceeds the maximum length of a table's line.
     #[error("line too long")]
     LongLine,
-    /// A last line without a line feed.
+    /// The last line has no line feed.
     #[error("line cut off")]
     CutOff,
-    /// The text cannot be read any further.
+    /// The text could not be read further.
     #[error("read failed")]
     Read,
     /// Memory ran out.
@@ -34,7 +34,7 @@ pub enum AreasKind {
     Memory,
 }
 
-/// What is wrong, and the line, counted from 1; from 2^64 - 1 on lines are not distinguished.
+/// An error and its line, counted from 1. Lines from 2^64 - 1 on are not distinguished.
 #[derive(Clone, Copy, Debug, PartialEq, Eq, Error)]
 #[error("{line}: {kind}")]
 pub struct AreasFault {
@@ -42,7 +42,7 @@ pub struct AreasFault {
     pub kind: AreasKind,
 }
 
-// An error of a table of three columns, as an error of a numbering.
+// Converts an error of a table with three columns to an error of a numbering.
 pub(crate) fn areas_kind(kind: TableKind) -> AreasKind
     ensures value { result ≡ areas_kind kind }
     ensures read { is_read_areas result ≡ is_read_fault kind }

@@ -2,7 +2,7 @@
 
 ghost use Rattle.cell_join_lines.specs.AreasText.{NumbersAreRead};
 
-/// The runs of tiles show the numbers from which they were made.
+/// The runs of tiles represent exactly the numbers from which they were made.
 pub fn numbers_are_read()
     ensures { NumbersAreRead }
 {}

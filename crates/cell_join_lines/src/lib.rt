@@ -1,12 +1,12 @@
-//! Lines of the texts that tiles are joined from: tables with counts, as r.stats prints them, and
-//! numberings. The form of a numbering is our own (profile): on each line a tile, its first and
-//! last clump of a run, and the number of the first one in the full map.
+//! Reads the texts from which tiles are joined: tables with counts, as printed by r.stats, and numberings. Each line of
+//! a numbering describes a run, in our own format (see the profile): a tile, the run's first and last clump in the
+//! tile, and the first clump's number in the full map.
 //!
-//! - `text`: `TableText`, the entries of a table one after another; `table_fault`: `TableFault`
-//! - `reading`: `AreasText`, the runs of a numbering; `areas_fault`: `AreasFault`
-//! - `stretch`: `Stretch`, such a run; `writing`: `write_stretches`
-//! - `clear_formats`: `is_clear`, whether a format can be read back
-//! - `source_lines`, `line_fields`, `places`: lines, fields, and the byte between fields
+//! - `text`: `TableText` reads the entries of a table one by one; `table_fault`: `TableFault`
+//! - `reading`: `AreasText` reads the runs of a numbering; `areas_fault`: `AreasFault`
+//! - `stretch`: `Stretch`, a run; `writing`: `write_stretches`
+//! - `clear_formats`: `is_clear`, whether text in a format can be read back
+//! - `source_lines`, `line_fields`, `places`: lines, fields, and the separators between fields
 //! - `law`: a numbering is read as it was written
 //!
 //! ```

@@ -1,4 +1,4 @@
-//! The entry of a line, field by field.
+//! Reads the entry of a line, field by field.
 
 ghost use Rattle.std.specs.Prelude.{◌≡◌, ◌≢◌, ◌<◌, Ok, Err, IfOk, IfErr, false, option_map};
 ghost use Rattle.cell_join_lines.specs.LineFields.{capped_value, category_of_field, cell_of_field, count_of_field, entry_of_line, labelled_cell, labelled_entry_of_line, spelled_entry};
@@ -11,7 +11,7 @@ use cell_core_values::whole_numbers::whole_in_range;
 use cell_stats::format::Format;
 use itoa::Buffer;
 
-// The category with this printed form.
+// Returns the category with this printed form.
 pub(crate) fn category_of(field: &[u8]) -> Option<i32>
     ensures { result ≡ category_of_field field.now }
 {
@@ -21,7 +21,7 @@ pub(crate) fn category_of(field: &[u8]) -> Option<i32>
     }
 }
 
-// The cell with this printed form.
+// Returns the cell with this printed form.
 fn cell_of(null_text: &[u8], field: &[u8]) -> Option<Cell>
     ensures { result ≡ cell_of_field null_text.now field.now }
 {
@@ -34,7 +34,7 @@ fn cell_of(null_text: &[u8], field: &[u8]) -> Option<Cell>
     }
 }
 
-// The value of digits, or the largest 64-bit number if it is larger.
+// Returns the value of digits, capped at the largest `u64`.
 fn capped_value(field: &[u8]) -> u64
     ensures { result ≡ capped_value field.now }
 {
@@ -47,7 +47,7 @@ fn capped_value(field: &[u8]) -> u64
     value
 }
 
-// The count above 0 with this printed form.
+// Returns the count above 0 with this printed form.
 fn count_of(field: &[u8]) -> Option<u64>
     ensures { result ≡ count_of_field field.now }
 {
@@ -58,7 +58,7 @@ fn count_of(field: &[u8]) -> Option<u64>
     None
 }
 
-// The cell with this printed form, with a label after it.
+// Returns the cell with this printed form, if the label after it is valid.
 fn labelled_cell_of(null_text: &[u8], field: &[u8], label: &[u8]) -> Option<Cell>
     ensures { result ≡ labelled_cell null_text.now field.now label.now }
 {
@@ -74,7 +74,7 @@ fn labelled_cell_of(null_text: &[u8], field: &[u8], label: &[u8]) -> Option<Cell
     }
 }
 
-// The entry of a line without labels.
+// Reads the entry of a line without labels.
 fn read_plain_line(
     separator: u8,
     null_text: &[u8],
@@ -105,7 +105,7 @@ fn read_plain_line(
     }
 }
 
-// The entry of a line with labels.
+// Reads the entry of a line with labels.
 fn read_labelled_line(
     separator: u8,
     null_text: &[u8],
@@ -138,12 +138,13 @@ fn read_labelled_line(
     }
 }
 
-/// The entry that a line, without its line feed, spells: its cells replace those that are given, and its count is
-/// returned. If labels are printed, each cell is followed by its label.
+/// Reads the entry of a line, without its line feed. Replaces `cells` with the entry's cells, and returns its count. If
+/// labels are printed, each cell is followed by its label.
 ///
 /// # Errors
 ///
-/// The first field that is not a cell, or a last one that is not a count; [`TableKind::Memory`] if memory runs out.
+/// Reports the first field that is not a cell, or a last field that is not a count; [`TableKind::Memory`] if memory
+/// runs out.
 pub fn read_line(format: &Format, line: &[u8], cells: &mut Vec<Cell>) -> Result<u64, TableKind>
     ensures ok { IfOk result
         (λ count. spelled_entry format.now line.now ≡ Ok (cells.new.items, count)) }

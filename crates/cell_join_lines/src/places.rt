@@ -1,4 +1,4 @@
-//! The places of a byte in a text.
+//! Finds a byte in a text.
 
 ghost use Rattle.std.specs.Prelude.{◌≡◌, ◌==◌, ◌<◌, MatchOption, length};
 ghost use Rattle.std.specs.List.{after_first, before_first, position_or_len};
@@ -6,7 +6,7 @@ ghost use Rattle.cell_join_lines.specs.LineLabels.{before_count};
 
 use memchr::{memchr, memrchr};
 
-// The first place of a byte.
+// Returns the index of the first occurrence of a byte.
 pub(crate) fn place_of(byte: u8, text: &[u8]) -> Option<usize>
     ensures { MatchOption result
         (position_or_len (λ b. b == byte) text.now ≡ length text.now)
@@ -15,7 +15,7 @@ pub(crate) fn place_of(byte: u8, text: &[u8]) -> Option<usize>
     memchr(byte, text)
 }
 
-/// The texts before and after the first place of a byte, or None if it does not occur.
+/// Returns the texts before and after the first occurrence of a byte, or `None` if it does not occur.
 pub fn cut_at<'a>(byte: u8, text: &'a [u8]) -> Option<(&'a [u8], &'a [u8])>
     ensures { MatchOption result
         (position_or_len (λ b. b == byte) text.now ≡ length text.now)
@@ -29,7 +29,7 @@ pub fn cut_at<'a>(byte: u8, text: &'a [u8]) -> Option<(&'a [u8], &'a [u8])>
     }
 }
 
-/// The bytes up to and including the last place of a byte; none if it does not occur.
+/// Returns the bytes up to and including the last occurrence of a byte, or no bytes if it does not occur.
 pub(crate) fn before_last(byte: u8, text: &[u8]) -> &[u8]
     ensures { result.now ≡ before_count byte text.now }
 {

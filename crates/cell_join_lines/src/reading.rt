@@ -1,4 +1,4 @@
-//! Reading a numbering.
+//! Reads a numbering.
 
 ghost use Rattle.std.specs.Prelude.{◌≡◌, ◌≢◌, ◌-◌, None, IfErr, IfOk, IfSome, OnOk, Ok, Err, option_map, slice_index_or};
 ghost use Rattle.cell_core_devices.specs.Asking.{hears, heard_first};
@@ -19,14 +19,14 @@ use cell_stats_combinations::combination::Combo;
 use std::alloc::Global;
 use std::marker::Model;
 
-// Four fields separated by single spaces.
+// Returns the format of a numbering: four fields separated by single spaces.
 fn areas_format<'a>() -> Format<'a>
     ensures { result ≡ areas_format }
 {
     Format::new(b' ', b"*", false, true)
 }
 
-// A cell as a number above 0.
+// Returns a cell as a number above 0, if it is one.
 fn number_of(cell: Cell) -> Option<u64>
     ensures { result ≡ number_of_cell cell }
 {
@@ -37,7 +37,7 @@ fn number_of(cell: Cell) -> Option<u64>
     }
 }
 
-// The same for the cell at a place.
+// Returns the cell at index `place` as a number above 0, if it is one.
 fn number_in_column(cells: &[Cell], place: usize) -> Option<u64>
     ensures { result ≡ number_in_column cells.now place }
 {
@@ -47,7 +47,7 @@ fn number_in_column(cells: &[Cell], place: usize) -> Option<u64>
     }
 }
 
-// The run that an entry spells.
+// Returns the run that an entry spells.
 fn stretch_of(combo: &Combo, number: u64) -> Result<Stretch, AreasKind>
     ensures { result ≡ stretch_of_entry (combo.now, number) }
 {
@@ -69,7 +69,7 @@ fn stretch_of(combo: &Combo, number: u64) -> Result<Stretch, AreasKind>
     })
 }
 
-// Whether a run begins where the one before it requires.
+// Returns whether a run may follow the previous run.
 fn comes_next(before: Option<Stretch>, stretch: Stretch) -> bool
     ensures { result ≡ comes_next before stretch }
 {
@@ -79,7 +79,7 @@ fn comes_next(before: Option<Stretch>, stretch: Stretch) -> bool
     }
 }
 
-// A run after another one, if there is one.
+// Returns a run if it may follow the previous run.
 fn in_sequence(before: Option<Stretch>, stretch: Stretch) -> Result<Stretch, AreasKind>
     ensures { result ≡ in_sequence before stretch }
 {
@@ -92,7 +92,7 @@ fn in_sequence(before: Option<Stretch>, stretch: Stretch) -> Result<Stretch, Are
     Err(AreasKind::NotNext)
 }
 
-// The run that an entry spells after another one; None if there is no entry.
+// Returns the run that an entry spells, if it may follow the previous run; `None` if there is no entry.
 fn stretch_of_head(
     before: Option<Stretch>,
     head: &Option<(Combo, u64)>,
@@ -111,7 +111,7 @@ fn stretch_of_head(
     }
 }
 
-// An error of a table, as an error of a numbering.
+// Converts an error of a table to an error of a numbering.
 fn of_table(fault: TableFault) -> AreasFault
     ensures value { result ≡ areas_fault fault }
     ensures read { is_read_areas result.kind ≡ is_read_fault fault.kind }
@@ -122,7 +122,7 @@ fn of_table(fault: TableFault) -> AreasFault
     }
 }
 
-/// A numbering that is read run by run: the run read last, and what is to come after it.
+/// A numbering that is read run by run: the last run read, and the text after it.
 #[derive(Drop)]
 pub struct AreasText<R: Source> {
     text: TableText<R>,
@@ -146,11 +146,11 @@ impl<R: Source> Model for AreasText<R> {
 }
 
 impl<R: Source> AreasText<R> {
-    /// A text whose first run was read. It takes the memory of a block and a line.
+    /// Reads the first run. Allocates memory for a block and a line.
     ///
     /// # Errors
     ///
-    /// The error of the first line.
+    /// Returns the error in the first line.
     pub fn begin(alloc: Global, source: R) -> Result<AreasText<R>, AreasFault>
     where
         R: Drop,
@@ -161,7 +161,8 @@ impl<R: Source> AreasText<R> {
         ensures line { IfOk result (λ areas. areas.line ≡ 2) }
         ensures sequence { IfOk result (λ areas. IfSome areas.head
             (λ stretch. in_sequence None stretch ≡ Ok stretch)) }
-        // The source is asked only while it continues, and its `Err` is reported as `Read`; so far there was none.
+        // The source is read only while it continues, and its read error is reported as `Read`. No error has occurred
+        // so far.
         ensures heard { IfOk result (λ areas. areas.heard ≡ heard_first (R.asked source)) }
     {
         let text = match TableText::from_source(alloc, &areas_format(), 3, source) {
@@ -178,14 +179,14 @@ impl<R: Source> AreasText<R> {
         }
     }
 
-    /// The run read last, or None at the end of the text.
+    /// Returns the last run read, or `None` at the end of the text.
     pub fn stretch(&self) -> Option<Stretch>
         ensures { result ≡ self.now.head }
     {
         self.head
     }
 
-    /// The line number of the run read last.
+    /// Returns the line number of the last run read.
     pub fn stretch_line(&self) -> u64
         ensures { result ≡ self.now.line - 1 }
     {
@@ -196,7 +197,7 @@ impl<R: Source> AreasText<R> {
     ///
     /// # Errors
     ///
-    /// The first error of the text, after which it is not to be read on.
+    /// Returns the first error in the text. After an error, `next` must not be called again.
     pub fn next(&mut self, alloc: Global) -> Result<(), AreasFault>
         ensures read { OnOk result (areas_behind self.old ≡ areas_from self.new) }
         ensures fault { IfErr result (λ fault. fault.kind ≢ AreasKind.Memory → IfSome
@@ -204,7 +205,7 @@ impl<R: Source> AreasText<R> {
         ensures line { OnOk result (self.new.line ≡ line_after self.old.line) }
         ensures sequence { OnOk result (IfSome self.new.head
             (λ stretch. in_sequence self.old.head stretch ≡ Ok stretch)) }
-        // The source is asked only while it continues, and its `Err` is reported as `Read`.
+        // The source is read only while it continues, and its read error is reported as `Read`.
         ensures heard { self.new.heard ≡ hears (says_read_areas result) self.old.heard }
     {
         let line = self.line;

@@ -1,4 +1,4 @@
-//! The lines of a source, one after the other.
+//! Reads the lines of a source, one after the other.
 
 ghost use Rattle.std.specs.Prelude.{◌≡◌, ◌<◌, ◌≤◌, ◌==◌, nat_le, nat_lt, if◌then◌else◌, [], false, true, length, IfOk, OnErr, Ok, Err, is_err};
 ghost use Rattle.cell_core_devices.specs.Asking.{hears, heard_first};
@@ -15,7 +15,7 @@ use std::marker::Model;
 // Number of bytes requested at a time.
 const BLOCK: usize = 65536;
 
-/// A block of the bytes of a source, and the line read last.
+/// A block of a source's bytes, and the last line read.
 #[derive(Drop)]
 pub struct Lines<R: Source> {
     source: R,
@@ -47,11 +47,11 @@ impl<R: Source> Model for Lines<R> {
 }
 
 impl<R: Source> Lines<R> {
-    /// The lines of an unread source. It takes the memory of a block.
+    /// Creates a reader for the lines of an unread source. Allocates memory for a block.
     ///
     /// # Errors
     ///
-    /// `Memory`, if memory runs out.
+    /// Returns `Memory` if memory runs out.
     pub fn new(alloc: Global, source: R) -> Result<Lines<R>, Memory>
     where
         R: Drop,
@@ -74,15 +74,15 @@ impl<R: Source> Lines<R> {
         })
     }
 
-    /// The line read last, without its line feed.
+    /// Returns the last line read, without its line feed.
     pub fn last_line(&self) -> &[u8]
         ensures { result.now ≡ self.now.line }
     {
         self.line.as_slice()
     }
 
-    // Whether there are more bytes; if so, it then holds some. The source is not asked again after its end or after an
-    // `Err`, which is then returned from every call.
+    // Returns whether there are more bytes. If so, the block then contains some. The source is not read again after its
+    // end or after a read error, which every later call returns.
     fn fill(&mut self) -> Result<bool, DeviceFault>
         ensures same { lines_coming self.new ≡ lines_coming self.old }
         ensures line { self.new.line ≡ self.old.line }
@@ -113,7 +113,7 @@ impl<R: Source> Lines<R> {
         Ok(0 < filled)
     }
 
-    // Adds the held bytes to the line, up to the first line feed, and returns whether there is one.
+    // Moves bytes from the block to the line, up to the first line feed. Returns whether there is a line feed.
     fn pass(&mut self) -> Result<bool, Memory>
         ensures passed { IfOk result (λ whole. IsPassed self.old whole self.new) }
         ensures rest { self.new.rest ≡ self.old.rest }
@@ -134,7 +134,7 @@ impl<R: Source> Lines<R> {
         }
     }
 
-    // Whether a text that has no more bytes ends after a line feed.
+    // Checks that a text without more bytes ends after a line feed.
     fn end(&self) -> Result<bool, TableKind>
         ensures { result ≡ (if length self.now.line == 0 then Ok false else Err TableKind.CutOff) }
     {
@@ -144,14 +144,14 @@ impl<R: Source> Lines<R> {
         Err(TableKind::CutOff)
     }
 
-    // Whether the line is within the limit on its length.
+    // Returns whether the line is within the maximum length.
     fn is_short(&self) -> bool
         ensures { result ≡ nat_le (length self.now.line) MOST_BYTES }
     {
         self.line.len() <= MOST_BYTES
     }
 
-    // Whether the line read last is short enough.
+    // Checks that the last line read is within the maximum length.
     fn whole(&self) -> Result<bool, TableKind>
         ensures { result ≡ (if nat_lt MOST_BYTES (length self.now.line) then Err
             TableKind.LongLine else Ok true) }
@@ -162,15 +162,15 @@ impl<R: Source> Lines<R> {
         Ok(true)
     }
 
-    /// Reads the next line, and returns whether there is one.
+    /// Reads the next line. Returns whether there is one.
     ///
     /// # Errors
     ///
-    /// [`TableKind::LongLine`], [`TableKind::CutOff`], [`TableKind::Read`] or [`TableKind::Memory`], after which it is not
-    /// to be asked again.
+    /// Returns [`TableKind::LongLine`], [`TableKind::CutOff`], [`TableKind::Read`] or [`TableKind::Memory`]. After an
+    /// error, `next_line` must not be called again.
     pub fn next_line(&mut self) -> Result<bool, TableKind>
         ensures first { IsFirstLine (lines_coming self.old) result self.new }
-        // The source is asked only while it continues, and its `Err` is reported as `Read`.
+        // The source is read only while it continues, and its read error is reported as `Read`.
         ensures heard { self.new.heard ≡ hears (says_read result) self.old.heard }
     {
         self.line.clear();

@@ -1,21 +1,21 @@
-//! Clumps of a tile with consecutive numbers in the full map.
+//! Runs: clumps of a tile with consecutive numbers in the full map.
 
 ghost use Rattle.std.specs.Prelude.{◌≡◌, ◌==◌, ◌+◌};
 
-/// Clumps of a tile, from a first to a last one, that have consecutive numbers in the full map.
+/// Clumps of a tile, from a first to a last clump, with consecutive numbers in the full map.
 #[derive(Clone, Copy, Debug, PartialEq, Eq)]
 pub struct Stretch {
-    /// The place of the tile, counted from 1.
+    /// The index of the tile, counted from 1.
     pub band: u64,
-    /// The number of the first clump in its tile, counted from 1.
+    /// The number of the first clump in the tile, counted from 1.
     pub first: u64,
-    /// The number of the last clump in its tile.
+    /// The number of the last clump in the tile.
     pub last: u64,
     /// The number of the first clump in the full map.
     pub number: u64,
 }
 
-/// Whether a number is one more than another.
+/// Returns whether a number is one more than another number.
 pub fn is_next(previous: u64, number: u64) -> bool
     ensures { result ≡ (number == previous + 1) }
 {

@@ -1,4 +1,4 @@
-//! Why a text is not a table.
+//! Errors of tables.
 
 use thiserror::Error;
 
@@ -8,28 +8,28 @@ pub const MOST_BYTES: usize = 4096;
 /// What is wrong with the text of a table.
 #[derive(Clone, Copy, Debug, PartialEq, Eq, Error)]
 pub enum TableKind {
-    /// A field before the last that is neither the null text nor a printed category, or that lacks its label.
+    /// A field before the last is neither the null text nor a printed category, or has no label.
     #[error("bad cell")]
     BadCell,
-    /// A last field that is not a count from 1 to 2^64 - 1 as it is printed.
+    /// The last field is not a printed count from 1 to 2^64 - 1.
     #[error("bad count")]
     BadCount,
-    /// The number of cells differs from the lines before it, or is 0.
+    /// The number of cells is 0 or differs from the previous lines.
     #[error("other number of cells")]
     BadWidth,
-    /// The combination of the line before is repeated.
+    /// The line repeats the combination of the previous line.
     #[error("combination listed twice")]
     ListedTwice,
-    /// A combination that is smaller than the one on the line before.
+    /// The combination is smaller than the combination of the previous line.
     #[error("combination out of order")]
     OutOfOrder,
-    /// More than [`MOST_BYTES`] bytes.
+    /// The line has more than [`MOST_BYTES`] bytes.
     #[error("line too long")]
     LongLine,
-    /// A last line without a line feed.
+    /// The last line has no line feed.
     #[error("line cut off")]
     CutOff,
-    /// The text cannot be read any further.
+    /// The text could not be read further.
     #[error("read failed")]
     Read,
     /// Memory ran out.
@@ -37,7 +37,7 @@ pub enum TableKind {
     Memory,
 }
 
-/// What is wrong, and the line, counted from 1; from 2^64 - 1 on lines are not distinguished.
+/// An error and its line, counted from 1. Lines from 2^64 - 1 on are not distinguished.
 #[derive(Clone, Copy, Debug, PartialEq, Eq, Error)]
 #[error("{line}: {kind}")]
 pub struct TableFault {

@@ -1,4 +1,4 @@
-//! The entries of a text, one after the other.
+//! Reads the entries of a table, one after the other.
 
 ghost use Rattle.std.specs.Prelude.{◌≡◌, ◌≢◌, ℕ, length, Ok, Err, IfOk, IfErr, IfSome, None, OnOk, MatchResult, false, option_map};
 ghost use Rattle.cell_core_devices.specs.Asking.{hears, heard_first};
@@ -22,7 +22,7 @@ use std::alloc::Global;
 use std::cmp::Ordering;
 use std::marker::Model;
 
-// Whether there are as many cells as wanted, or at least one if any number is wanted.
+// Returns whether the number of cells is `width` or, if `width` is 0, at least one.
 fn is_as_wide(width: usize, cells: &[Cell]) -> bool
     ensures { result ≡ is_as_wide width (length cells.now) }
 {
@@ -32,7 +32,7 @@ fn is_as_wide(width: usize, cells: &[Cell]) -> bool
     cells.len() == width
 }
 
-// Whether cells may follow a combination, if there is one.
+// Checks that cells may follow the previous combination, if there is one.
 fn check_order(width: usize, last: Option<&Combo>, cells: &[Cell]) -> Result<(), TableKind>
     ensures order { MatchResult result
         (λ done. (n : ℕ) → in_order width (option_map (λ k. k.now) last.entry) (cells.now, n) ≡ Ok (cells.now, n))
@@ -55,7 +55,7 @@ fn check_order(width: usize, last: Option<&Combo>, cells: &[Cell]) -> Result<(),
     }
 }
 
-// The entry of a line after a combination, if there is one. The cells are scratch space.
+// Reads the entry of a line, and checks that it may follow the previous combination. `cells` is scratch space.
 fn entry_of(
     alloc: Global,
     format: &Format,
@@ -78,7 +78,7 @@ fn entry_of(
     }
 }
 
-// The entry of the next line, if there is one.
+// Reads the entry of the next line, if there is one.
 fn read_entry<R: Source>(
     alloc: Global,
     format: &Format,
@@ -121,7 +121,7 @@ fn read_entry<R: Source>(
     }
 }
 
-/// A text of a table that is read entry by entry: the entry read last, and what is to come after it.
+/// The text of a table that is read entry by entry: the last entry read, and the text after it.
 #[derive(Drop)]
 pub struct TableText<R: Source> {
     lines: Lines<R>,
@@ -147,7 +147,7 @@ impl<R: Source> Model for TableText<R> {
     } };
 }
 
-// The combination of an entry, if there is one.
+// Returns the combination of an entry, if there is one.
 fn combination_of(head: &Option<(Combo, u64)>) -> Option<&Combo>
     ensures { option_map (λ k. k.now) result ≡ combination_of head.now }
 {
@@ -158,11 +158,11 @@ fn combination_of(head: &Option<(Combo, u64)>) -> Option<&Combo>
 }
 
 impl<R: Source> TableText<R> {
-    /// A text whose first entry was read. Its lines have `width` cells, or any number of cells if `width` is 0.
+    /// Reads the first entry. All lines must have `width` cells or, if `width` is 0, the same number of cells.
     ///
     /// # Errors
     ///
-    /// The error of the first line.
+    /// Returns the error in the first line.
     pub fn from_source(
         alloc: Global,
         format: &Format,
@@ -181,7 +181,8 @@ impl<R: Source> TableText<R> {
             ≡ labelled_from format.now text) }
         ensures width { IfOk result (λ text. text.width ≡ width) }
         ensures number { IfOk result (λ text. text.number ≡ 2) }
-        // The source is asked only while it continues, and its `Err` is reported as `Read`; so far there was none.
+        // The source is read only while it continues, and its read error is reported as `Read`. No error has occurred
+        // so far.
         ensures heard { IfOk result (λ text. text.heard ≡ heard_first (R.asked source)) }
         ensures fault { IfErr result (λ fault. fault.kind ≢ TableKind.Memory → IfSome (R.coming
             source) (λ coming. reading_of format.now width coming ≡ stopped fault.line
@@ -207,21 +208,21 @@ impl<R: Source> TableText<R> {
         Ok(text)
     }
 
-    /// The entry read last, or None at the end of the text.
+    /// Returns the last entry read, or `None` at the end of the text.
     pub fn head(&self) -> &Option<(Combo, u64)>
         ensures { result.now ≡ self.now.head }
     {
         &self.head
     }
 
-    /// The line of the entry read last, up to and including its last separator: its printed cells and their labels.
+    /// Returns the line of the last entry, up to and including its last separator: its printed cells and their labels.
     pub fn before_count(&self, separator: u8) -> &[u8]
         ensures { result.now ≡ before_count separator self.now.line }
     {
         before_last(separator, self.lines.last_line())
     }
 
-    /// The number of the line after the entry read last, or the largest `u64`.
+    /// Returns the line number after the last entry read, capped at the largest `u64`.
     pub fn next_number(&self) -> u64
         ensures { result ≡ self.now.number }
     {
@@ -232,7 +233,7 @@ impl<R: Source> TableText<R> {
     ///
     /// # Errors
     ///
-    /// The first error of the text, after which it is not to be read on.
+    /// Returns the first error in the text. After an error, `next` must not be called again.
     pub fn next(&mut self, alloc: Global, format: &Format) -> Result<(), TableFault>
         ensures read { OnOk result (reading_behind format.now self.old ≡ reading_from format.now
             self.new) }
@@ -242,7 +243,7 @@ impl<R: Source> TableText<R> {
             (labelled_behind format.now self.old ≡ labelled_from format.now self.new) }
         ensures width { self.new.width ≡ self.old.width }
         ensures number { OnOk result (self.new.number ≡ line_after self.old.number) }
-        // The source is asked only while it continues, and its `Err` is reported as `Read`.
+        // The source is read only while it continues, and its read error is reported as `Read`.
         ensures heard { self.new.heard ≡ hears (says_read_fault result) self.old.heard }
         ensures fault { IfErr result (λ fault. fault.kind ≢ TableKind.Memory → IfSome
             (reading_behind format.now self.old) (λ reading. reading ≡ stopped fault.line

@@ -1,4 +1,4 @@
-//! Writing a numbering.
+//! Writes a numbering.
 
 ghost use Rattle.cell_core_devices.specs.Blocks.{Appends};
 ghost use Rattle.cell_join_lines.specs.AreasText.{areas_text, stretch_line};
@@ -9,7 +9,7 @@ use cell_core::block::OutputBlock;
 use cell_core::sink::Sink;
 use itoa::Buffer;
 
-// Writes a number and a byte.
+// Writes a number, followed by a byte.
 fn write_number<W: Sink>(out: &mut W, block: &mut OutputBlock, number: u64, end: u8)
     ensures { Appends W.taken W.faults out.old block.old (number_and end number) out.new
         block.new }
@@ -28,7 +28,7 @@ fn write_stretch<W: Sink>(out: &mut W, block: &mut OutputBlock, stretch: Stretch
     write_number(out, block, stretch.number, b'\n');
 }
 
-/// Writes the lines of runs. It takes no memory.
+/// Writes the lines of runs. Allocates no memory.
 pub fn write_stretches<W: Sink>(out: &mut W, block: &mut OutputBlock, stretches: &[Stretch])
     ensures { Appends W.taken W.faults out.old block.old (areas_text stretches.now) out.new
         block.new }

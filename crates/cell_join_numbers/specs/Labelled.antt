@@ -1,4 +1,4 @@
--- Cells of a map with labels, in the order of the cells for which the labels were given.
+-- Maps with labelled cells; labels are given in the order of cells.
 use Rattle.std.specs.Prelude.{ℕ, ℤ, ◌<◌, ◌≡◌, ◌⊎◌, List, length, Some, IsSome, Contains, slice_index_or}
 use Rattle.std.specs.List.{AllPairs}
 use Rattle.cell_core.specs.Grid.{Grid}
@@ -6,11 +6,11 @@ use Rattle.cell_cats_areas.specs.declared.clump.Joining.{Joining}
 use Rattle.cell_cats_areas.specs.Areas.{Position, cell_at_position, IsEarlierCell, AreAdjacent, AreJoined, HasNumber}
 use Rattle.cell_cats_areas.specs.ClumpLaw.{AreFirsts}
 
--- the number of clumps of a map
+-- a map has `n` clumps
 abbrev pub HasAreas : Joining → Grid → ℕ → Type 0
 HasAreas j m n = (firsts : List Position) × AreFirsts j m firsts × (length firsts ≡ n)
 
--- two adjacent cells of the same category have two labels
+-- the labels `a` and `b` belong to two adjacent cells of one category
 pub record IsMeeting (j : Joining) (m : Grid) (label_of : Position → ℕ) (a b : ℕ) : Type 0 where
   pub one : Position
   pub other : Position
@@ -21,9 +21,9 @@ pub record IsMeeting (j : Joining) (m : Grid) (label_of : Position → ℕ) (a b
   pub first_label : a ≡ label_of one
   pub second_label : b ≡ label_of other
 
--- each label was given for a cell, in row order; each non-null cell has the label of a cell that it is joined to and
--- that does not come after it; adjacent cells of the same category have one label, or two that are paired, and no
--- others are paired
+-- labels are given to cells in row order; each non-null cell has the label of a cell that is connected to it and does
+-- not follow it; adjacent cells of one category have one label, or two labels that are paired, and no other labels are
+-- paired
 pub record AreLabelled (j : Joining) (m : Grid) (starts : List Position) (label_of : Position → ℕ) (pairs : List (ℕ × ℕ)) : Type 0 where
   pub in_order : AllPairs IsEarlierCell starts
   pub cells : (k : ℕ) (d : Position) → k < length starts → IsSome (cell_at_position m (slice_index_or starts k d))
@@ -34,10 +34,10 @@ pub record AreLabelled (j : Joining) (m : Grid) (starts : List Position) (label_
   pub meet : (p q : Position) (v : ℤ) → AreAdjacent j p q → cell_at_position m p ≡ Some v → cell_at_position m q ≡ Some v → (label_of p ≡ label_of q) ⊎ (Contains pairs (label_of p, label_of q) ⊎ Contains pairs (label_of q, label_of p))
   pub only : (a b : ℕ) → Contains pairs (a, b) → IsMeeting j m label_of a b
 
--- a number for each label: in every map labelled this way, each cell has the number of its label
+-- a number for each label: in every map with such labels, each cell has the number of its label
 abbrev pub NumberLabels : ℕ → List (ℕ × ℕ) → (ℕ → ℕ) → Type 0
 NumberLabels labels pairs number = (j : Joining) (m : Grid) (starts : List Position) (label_of : Position → ℕ) → AreLabelled j m starts label_of pairs → length starts ≡ labels → (p : Position) → IsSome (cell_at_position m p) → HasNumber j m p (number (label_of p))
 
--- and each such map has n clumps
+-- every map with such labels has `n` clumps
 abbrev pub CountLabels : ℕ → List (ℕ × ℕ) → ℕ → Type 0
 CountLabels labels pairs n = (j : Joining) (m : Grid) (starts : List Position) (label_of : Position → ℕ) → AreLabelled j m starts label_of pairs → length starts ≡ labels → HasAreas j m n

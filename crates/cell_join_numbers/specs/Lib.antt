@@ -1,4 +1,4 @@
--- Labels of clumps, what they lead to after pairs were joined, and their numbers.
+-- Labels of clumps, the labels that they lead to once pairs are joined, and their numbers.
 pub mod Labelled
 pub mod UnionFind
 pub mod LabelNumbers

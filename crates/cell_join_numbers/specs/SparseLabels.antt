@@ -1,4 +1,4 @@
--- Labels of only those areas of tiles that touch a seam: the others need none, and all numbers in the full map follow.
+-- Only clumps of tiles that touch a seam need labels; all numbers in the full map follow from these labels.
 use Rattle.std.specs.Prelude.{ℕ, Bool, ◌+◌, ◌-◌, ◌<◌, ◌≡◌, List, length, map, All, Contains, count_by}
 use Rattle.std.specs.Prelude.{nat_eq, nat_lt, slice_index, IsSome, if◌then◌else◌}
 use Rattle.std.specs.List.{AllPairs, list_any}
@@ -10,48 +10,48 @@ use Rattle.cell_join_numbers.specs.Labelled.{AreLabelled}
 use Rattle.cell_join_numbers.specs.UnionFind.{LeadTo, after_all}
 use Rattle.cell_join_numbers.specs.LabelNumbers.{open_below, label_number}
 
--- some of the labels, in order; each label of a pair is one of them
+-- some of the labels, in order, including the labels of each pair
 pub record AreTouching (labels : ℕ) (pairs : List (ℕ × ℕ)) (touching : List ℕ) : Type 0 where
   pub in_order : AllPairs ◌<◌ touching
   pub few : All (λ l. l < labels) touching
   pub paired : All (λ pair. Contains touching pair.0 × Contains touching pair.1) pairs
 
--- the number of them before a label, which is the place of the label if it is one of them
+-- the number of touching labels before a label, which is the index of the label if it is touching
 abbrev pub labels_before : List ℕ → ℕ → ℕ
 labels_before touching label = count_by (λ l. nat_lt l label) touching
 
--- the places of two labels
+-- the indices of two labels
 abbrev pub pair_places : List ℕ → ℕ × ℕ → ℕ × ℕ
 pair_places touching pair = (labels_before touching pair.0, labels_before touching pair.1)
 
--- what places lead to, after the places of each pair were joined
+-- the index to which each index leads, once the indices of each pair are joined
 abbrev pub joined_places : List ℕ → List (ℕ × ℕ) → ℕ → ℕ
 joined_places touching pairs = after_all (λ k. k) (map (pair_places touching) pairs)
 
--- a union-find table over the touching labels only, with every pair united
+-- a union-find table of only the touching labels, with every pair united
 pub record IsSparse (pairs : List (ℕ × ℕ)) (touching table : List ℕ) : Type 0 where
   pub long : length table ≡ length touching
   pub leads : LeadTo table (joined_places touching pairs)
 
--- whether a label is one of them
+-- the label is touching
 abbrev pub is_touching : List ℕ → ℕ → Bool
 is_touching touching label = list_any (nat_eq label) touching
 
--- the label that a label leads to: for a touching label, the one at the place that its own place leads to; any other
--- leads to itself
+-- the label to which a label leads: for a touching label, the label at the index to which its own index leads; any
+-- other label leads to itself
 abbrev pub label_led_to : List ℕ → List (ℕ × ℕ) → ℕ → ℕ
 label_led_to touching pairs label =
     if is_touching touching label
     then slice_index touching (joined_places touching pairs (labels_before touching label))
     else label
 
--- the number of a label that leads to itself: the number of labels before it that do not touch, plus the number of
--- those that do and lead to themselves, plus one
+-- the number of a label that leads to itself: the number of labels before it that are not touching, plus the number of
+-- touching labels before it that lead to themselves, plus one
 abbrev pub number_among : (touching table : List ℕ) → ℕ → ℕ
 number_among touching table label =
     (label - labels_before touching label) + length (open_below table (labels_before touching label)) + 1
 
--- and the number of any label
+-- the number of any label
 abbrev pub sparse_number : List (ℕ × ℕ) → (touching table : List ℕ) → ℕ → ℕ
 sparse_number pairs touching table label = number_among touching table (label_led_to touching pairs label)
 
@@ -59,8 +59,8 @@ sparse_number pairs touching table label = number_among touching table (label_le
 abbrev pub sparse_areas : ℕ → (touching table : List ℕ) → ℕ
 sparse_areas labels touching table = (labels - length touching) + length (open_below table (length table))
 
--- the number of the label at a place, from the number of the place: add the labels that do not touch and come before
--- the label that it leads to
+-- the number of the touching label at an index, from the index's own number: add the labels that are not touching and
+-- precede the label to which it leads
 abbrev pub SparsePlacesNumber : Type 0
 SparsePlacesNumber = (labels : ℕ) (pairs : List (ℕ × ℕ)) (touching table : List ℕ)
     → AreTouching labels pairs touching → IsSparse pairs touching table
@@ -69,7 +69,7 @@ SparsePlacesNumber = (labels : ℕ) (pairs : List (ℕ × ℕ)) (touching table 
     ≡ (slice_index touching (joined_places touching pairs place) - joined_places touching pairs place)
     + label_number table (joined_places touching pairs place)
 
--- tiles of any shape: the number of each cell, and the number of areas
+-- for tiles of any shape: the number of each cell, and the number of clumps
 abbrev pub SparseLabelsNumber : Type 0
 SparseLabelsNumber = (j : Joining) (m : Grid) (starts : List Position) (label_of : Position → ℕ)
     (pairs : List (ℕ × ℕ)) → AreLabelled j m starts label_of pairs → (touching table : List ℕ)

@@ -9,11 +9,11 @@ abbrev pub labels_of_pairs : List (ℕ × ℕ) → List ℕ
 labels_of_pairs [] = []
 labels_of_pairs (pair ∷ pairs) = pair.0 ∷ pair.1 ∷ labels_of_pairs pairs
 
--- a list has these labels and no others
+-- the list contains exactly the labels of the pairs
 abbrev pub AreLabelsOf : List (ℕ × ℕ) → List ℕ → Type 0
 AreLabelsOf pairs paired = (label : ℕ) → Contains paired label ↔ Contains (labels_of_pairs pairs) label
 
--- a table of nodes in which the first ones are replaced by the numbers of their labels, from 0
+-- a table of nodes in which the first nodes are replaced by the numbers of their labels, from 0
 pub record ArePlacesNumbered (labels : ℕ) (pairs : List (ℕ × ℕ)) (paired joined : List ℕ) (place : ℕ) (table : List ℕ) (count : ℕ) : Type 0 where
   pub touching : AreTouching labels pairs paired
   pub is : IsSparse pairs paired joined
@@ -21,7 +21,8 @@ pub record ArePlacesNumbered (labels : ℕ) (pairs : List (ℕ × ℕ)) (paired 
   pub done : (k : ℕ) → k < place → slice_index table k + 1 ≡ sparse_number pairs paired joined (slice_index paired k)
   pub counted : count ≡ length (open_below joined place)
 
--- labels in order, for each a number from 0 that is at most the label, and how many roots come before each of them and in all
+-- labels in order; a number from 0 for each, which is at most the label; and the number of roots before each label and
+-- in all
 pub record AreInPlaces (paired numbers roots : List ℕ) : Type 0 where
   pub in_order : AllPairs ◌<◌ paired
   pub long : length numbers ≡ length paired
@@ -35,11 +36,11 @@ pub record AreNumbersOf (number : ℕ → ℕ) (paired numbers roots : List ℕ)
   pub at : (place : ℕ) → place < length paired → slice_index numbers place + 1 ≡ number (slice_index paired place)
   pub alone : (label : ℕ) → is_touching paired label ≡ false → number label ≡ (label - labels_before paired label) + slice_index roots (labels_before paired label) + 1
 
--- both labels of each pair are below the number of labels
+-- both labels of each pair are less than `labels`
 abbrev pub AreBelow : ℕ → List (ℕ × ℕ) → Type 0
 AreBelow labels pairs = All (λ pair. (pair.0 < labels) × (pair.1 < labels)) pairs
 
--- the numbers of the labels in these pairs, whatever other labels there are
+-- the numbers of the labels in these pairs, for any number of other labels
 pub record NumberPairs (pairs : List (ℕ × ℕ)) (paired numbers roots : List ℕ) : Type 0 where
   pub number : ℕ → ℕ
   pub are : AreNumbersOf number paired numbers roots

@@ -1,4 +1,4 @@
-//! The numbers of labels, of which only the paired ones are held.
+//! Numbers labels, of which only the paired ones are held.
 
 ghost use Rattle.std.specs.Prelude.{◌≡◌, ◌+◌, ◌<◌, ◌≤◌, ℕ, List, AllPairs, IfOk, length, slice_index};
 ghost use Rattle.cell_cats_areas.specs.parts.Labels.{PointDown};
@@ -14,16 +14,16 @@ use std::alloc::Global;
 /// The paired labels and their numbers: 24 bytes per label.
 #[derive(Debug, Drop)]
 pub struct SparseNumbers {
-    /// The labels that are paired, in order.
+    /// The paired labels, in order.
     pub paired: Vec<u64>,
-    /// Their numbers, from 0.
+    /// The number of each paired label, from 0.
     pub numbers: Vec<u64>,
-    /// The number of roots before each of them, and the number of all roots.
+    /// The number of roots before each paired label, and the number of all roots.
     pub roots: Vec<u64>,
 }
 
-// Numbers the label at a place: a root gets the next number, any other label the number of the node it points to.
-// Returns the number of roots up to it.
+// Numbers the label at index `place`: a root gets the next number, and any other label gets the number of the node that
+// it points to. Returns the number of roots up to this label.
 fn number_place(table: &mut [u64], paired: &[u64], place: usize, count: u64) -> u64
     requires in_order { AllPairs ◌<◌ paired.now }
     requires long { length table.old ≡ length paired.now }
@@ -72,14 +72,14 @@ fn number_places(alloc: Global, table: &mut [u64], paired: &[u64]) -> Result<Vec
     Ok(roots)
 }
 
-/// The numbers in the full map of labels with these pairs. The labels stand for the clumps of tiles that cover it, from
-/// 0 in the order of their first cells; the pairs stand for cells of the same category that meet at the seams.
+/// Numbers labels in the full map. The labels denote the clumps of the tiles that cover the map, from 0 in the order of
+/// their first cells. The pairs denote adjacent cells of one category on both sides of a seam.
 ///
-/// It takes 16 bytes per label of a pair while it works, and 24 for each paired label.
+/// Uses 16 bytes per label of a pair while it runs, and 24 bytes per paired label.
 ///
 /// # Errors
 ///
-/// [`Memory`] if memory runs out.
+/// Returns [`Memory`] if memory runs out.
 pub fn number_pairs(alloc: Global, pairs: &[(u64, u64)]) -> Result<SparseNumbers, Memory>
     ensures ready { IfOk result (λ sparse.
         AreInPlaces sparse.paired.items sparse.numbers.items sparse.roots.items) }

@@ -10,7 +10,7 @@ use crate::union_find::unite;
 use cell_core::memory::Memory;
 use std::alloc::Global;
 
-// The labels of all pairs.
+// Returns the labels of all pairs.
 fn labels_of_pairs(alloc: Global, pairs: &[(u64, u64)]) -> Result<Vec<u64>, Memory>
     ensures { IfOk result (λ labels. labels.items ≡ labels_of_pairs pairs.now) }
 {
@@ -22,7 +22,7 @@ fn labels_of_pairs(alloc: Global, pairs: &[(u64, u64)]) -> Result<Vec<u64>, Memo
     Ok(labels)
 }
 
-// Each label of the pairs once, in order.
+// Returns each paired label once, in order.
 pub(crate) fn paired_labels(alloc: Global, pairs: &[(u64, u64)]) -> Result<Vec<u64>, Memory>
     ensures ascending { IfOk result (λ paired. AllPairs ◌<◌ paired.items) }
     ensures same { IfOk result (λ paired. AreLabelsOf pairs.now paired.items) }
@@ -33,7 +33,7 @@ pub(crate) fn paired_labels(alloc: Global, pairs: &[(u64, u64)]) -> Result<Vec<u
     Ok(paired)
 }
 
-/// How many labels of an ordered list come before a label.
+/// Returns the number of labels in an ordered list that are less than a label.
 pub fn place_of(paired: &[u64], label: u64) -> usize
     requires { AllPairs ◌<◌ paired.now }
     ensures { result ≡ labels_before paired.now label }

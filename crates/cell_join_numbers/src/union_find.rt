@@ -1,4 +1,4 @@
-//! The nodes of labels, and which of them are united.
+//! A union-find table: the nodes of labels, and which of them are united.
 
 ghost use Rattle.std.specs.Prelude.{◌≡◌, ℕ, ◌<◌, ◌≤◌, ◌+◌, [], ◌∷◌, OnOk, length};
 ghost use Rattle.cell_cats_areas.specs.parts.Labels.{PointDown};
@@ -6,7 +6,7 @@ ghost use Rattle.cell_join_numbers.specs.UnionFind.{JoinsEach, Keeps, LeadTo};
 
 use cell_core::memory::Memory;
 
-// Adds `count` nodes after the others, each a root.
+// Appends `count` nodes, each of them a root.
 pub(crate) fn add_nodes(table: &mut Vec<u64>, count: u64) -> Result<(), Memory>
     requires down { PointDown table.old.items }
     ensures down { OnOk result (PointDown table.new.items) }
@@ -20,7 +20,7 @@ pub(crate) fn add_nodes(table: &mut Vec<u64>, count: u64) -> Result<(), Memory>
     Ok(())
 }
 
-// The root that a node leads to. The path to it is halved, after its first step.
+// Returns the root to which a node leads. Halves the path to the root, except its first step.
 fn root_of(table: &mut [u64], node: u64) -> u64
     requires down { PointDown table.old }
     requires inside { node < length table.old }
@@ -38,7 +38,7 @@ fn root_of(table: &mut [u64], node: u64) -> u64
     at
 }
 
-// Unites two nodes: of their roots, the larger then points to the smaller.
+// Unites two nodes: the larger of their roots then points to the smaller.
 pub(crate) fn unite(table: &mut [u64], one: u64, other: u64)
     requires down { PointDown table.old }
     requires one_inside { one < length table.old }

@@ -14,22 +14,22 @@ use Rattle.cell_join_sizes.specs.declared.size_fault.SizesFault.TheVariants.{Are
 use Rattle.cell_join_lines.specs.AreasReading.{AreasReading}
 use Rattle.cell_join_lines.specs.AreasText.{numbers_read}
 
--- entries of consecutive numbers from one on, with the sizes of their clumps
+-- entries with consecutive numbers, starting at `n`, and the sizes of their clumps
 abbrev pub number_entries : ℕ → List ℕ → Pairs
 number_entries n [] = []
 number_entries n (size ∷ sizes) = (Some (pos n) ∷ [], size) ∷ number_entries (n + 1) sizes
 
--- the number of clumps of a run
+-- the number of clumps in a run
 abbrev pub stretch_areas : Stretch → ℕ
 stretch_areas s = s.last + 1 - s.first
 
--- the entries of the clumps of runs, with their sizes in order
+-- the entries of the clumps in runs, with their sizes in order
 abbrev pub entries_of_areas : List Stretch → List ℕ → Pairs
 entries_of_areas [] sizes = []
 entries_of_areas (s ∷ stretches) sizes =
     number_entries s.first (take (stretch_areas s) sizes) ++ entries_of_areas stretches (drop (stretch_areas s) sizes)
 
--- entries of null: one or none
+-- at most one entry, which is null
 abbrev pub IsNullEntry : Pairs → Type 0
 IsNullEntry [] = Unit {0}
 IsNullEntry (entry ∷ []) = entry.0 ≡ None ∷ []
@@ -40,7 +40,7 @@ pub record BandSizes : Type 0 where
   pub stretches : List Stretch
   pub sizes : List ℕ
 
--- a complete table of the clumps of the tile in this place, of no others, and of null
+-- a complete table of exactly the clumps of the tile at index `band`, and of null
 pub record IsTableOfBand (band : ℕ) (part : BandSizes) (reading : TableReading) : Type 0 where
   pub own : All (λ (s : Stretch). s.band ≡ band) part.stretches
   pub many : length part.sizes ≡ length (numbers_read part.stretches)
@@ -56,26 +56,26 @@ stretches_of_parts parts = flat_map (λ (part : BandSizes). part.stretches) part
 abbrev pub sizes_of_parts : List BandSizes → List ℕ
 sizes_of_parts parts = flat_map (λ (part : BandSizes). part.sizes) parts
 
--- tables of tiles; the first one has this place
+-- the tables of tiles; the first tile has the index `band`
 abbrev pub AreTablesOfBands : ℕ → List BandSizes → List TableReading → Type 0
 AreTablesOfBands band [] [] = Unit {0}
 AreTablesOfBands band (part ∷ parts) (reading ∷ readings) = IsTableOfBand band part reading × AreTablesOfBands (band + 1) parts readings
 AreTablesOfBands band parts readings = ⊥
 
--- equally many sizes and numbers were added up, for each number up to the largest
+-- there are as many sizes as numbers, and the sizes are added up for each number up to the largest
 pub record HasSums (numbers sizes whole : List ℕ) : Type 0 where
   pub same : length sizes ≡ length numbers
   pub adds : AddUp numbers sizes (length whole) whole
   pub within : All (λ n. (0 < n) × (n ≤ length whole)) numbers
   pub greatest : 0 < length whole → Contains numbers (length whole)
 
--- the same, and each number up to the largest occurs
+-- the sizes are added up, and each number up to the largest occurs
 pub record HasTally (numbers sizes whole : List ℕ) : Type 0 where
   pub sums : HasSums numbers sizes whole
   pub each : (n : ℕ) → n < length whole → Contains numbers (n + 1)
 
--- a complete numbering, and a table for each of its tiles: the sizes of the clumps of all tiles, added up by the text's
--- numbers, for each number up to the largest
+-- a complete numbering, and a table for each of its tiles: the sizes of all tiles' clumps, added up by their numbers,
+-- for each number up to the largest
 pub record HaveSizes (areas : AreasReading) (tables : List TableReading) (sizes : List ℕ) : Type 0 where
   pub whole : areas.fault ≡ None
   pub parts : List BandSizes
@@ -83,14 +83,14 @@ pub record HaveSizes (areas : AreasReading) (tables : List TableReading) (sizes 
   pub listed : AreTablesOfBands 1 parts tables
   pub tally : HasTally (numbers_read areas.stretches) (sizes_of_parts parts) sizes
 
--- the sink took exactly the lines of these sizes
+-- the sink accepted exactly the lines of these sizes
 pub record HasWrittenSizes (format : FormatValue) (areas : AreasReading) (tables : List TableReading) (before now : Option (List ℕ)) (written : ℕ) : Type 0 where
   pub sizes : List ℕ
   pub have : HaveSizes areas tables sizes
   pub taken : now ≡ append_known before (entries_text format (number_entries 1 sizes))
   pub count : written ≡ capped_count (length (entries_text format (number_entries 1 sizes)))
 
--- the sink took a prefix of them
+-- the sink accepted a prefix of the lines of these sizes
 pub record HasSizesPrefix (format : FormatValue) (areas : AreasReading) (tables : List TableReading) (before now : Option (List ℕ)) (written : ℕ) : Type 0 where
   pub sizes : List ℕ
   pub have : HaveSizes areas tables sizes
@@ -104,7 +104,7 @@ pub record HasSizesPrefix (format : FormatValue) (areas : AreasReading) (tables 
 abbrev pub NothingWritten : Option (List ℕ) → Option (List ℕ) → ℕ → Type 0
 NothingWritten before now written = (now ≡ before) × (written ≡ 0)
 
--- what was written if not all sizes are
+-- what was written, if not all sizes were written
 abbrev pub HasStopped : FormatValue → AreasReading → List TableReading → Option (List ℕ) → Option (List ℕ) → ℕ → SizesFault → Type 0
 HasStopped format areas tables before now written (Areas fault) = NothingWritten before now written
 HasStopped format areas tables before now written (NumberBeyond line) = NothingWritten before now written

@@ -1,17 +1,17 @@
--- The sizes of the clumps of the full map.
+-- The clump sizes of the full map.
 use Rattle.std.specs.Prelude.{ℕ, ◌≡◌, ◌+◌, ◌<◌, ◌==◌, List, [], ◌∷◌, length, slice_index, if◌then◌else◌}
 
--- a size, if its clump has this number
+-- the size, if its clump has the number `n`, or else 0
 abbrev pub size_for : (n number size : ℕ) → ℕ
 size_for n number size = if n == number then size else 0
 
--- the total size of the tiles' clumps that have a given number in the full map
+-- the total size of the tiles' clumps that have the number `n` in the full map
 abbrev pub size_of_area : ℕ → (numbers sizes : List ℕ) → ℕ
 size_of_area n [] sizes = 0
 size_of_area n (number ∷ numbers) [] = 0
 size_of_area n (number ∷ numbers) (size ∷ sizes) = size_for n number size + size_of_area n numbers sizes
 
--- whole lists the sizes of all clumps: the size at each place is the sum of the sizes with that number, counted from 1
+-- `whole` lists the sizes of all clumps: the size for each number, from 1, is the sum of the sizes with this number
 pub record AddUp (numbers sizes : List ℕ) (areas : ℕ) (whole : List ℕ) : Type 0 where
   pub count : length whole ≡ areas
   pub each : (n : ℕ) → n < areas → slice_index whole n ≡ size_of_area (n + 1) numbers sizes

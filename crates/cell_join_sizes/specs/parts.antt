@@ -1,4 +1,4 @@
--- Sizes added one by one, in step with the runs of a tile, and where that stopped.
+-- Sizes added one by one, in step with the runs of a tile, and where the addition stopped.
 pub mod Counting
 pub mod Held
 pub mod Stops

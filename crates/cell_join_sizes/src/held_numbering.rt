@@ -1,4 +1,4 @@
-//! A numbering that is held in memory: its runs, which are read one after the other together with the tables.
+//! A numbering in memory, whose runs are read in step with the tables.
 
 ghost use Rattle.std.specs.Prelude.{◌≡◌, ◌≢◌, ◌≤◌, ◌^◌, ◌-◌, nat_lt, None, Ok, Some, IfErr, IfOk, IfSome, IsSome, MatchOption};
 ghost use Rattle.cell_join_lines.specs.AreasReading.{areas_reading_of, in_sequence};
@@ -14,7 +14,7 @@ use cell_join_lines::stretch::Stretch;
 use std::alloc::Global;
 use std::marker::Model;
 
-// The number of clumps of a run; None if there are 2^64 or more.
+// Returns the number of clumps in a run, or `None` if there are 2^64 or more.
 fn areas_of(stretch: Stretch) -> Option<u64>
     ensures { MatchOption result (2 ^ 64 ≤ stretch_areas stretch)
         (λ count. count ≡ stretch_areas stretch) }
@@ -25,7 +25,7 @@ fn areas_of(stretch: Stretch) -> Option<u64>
     (stretch.last - stretch.first).checked_add(1)
 }
 
-// The number of clumps of all runs; None if there are 2^64 or more.
+// Returns the number of clumps in all runs, or `None` if there are 2^64 or more.
 fn count_areas(stretches: &[Stretch]) -> Option<u64>
     ensures { MatchOption result (2 ^ 64 ≤ listed_count stretches.now)
         (λ count. count ≡ listed_count stretches.now) }
@@ -43,7 +43,7 @@ fn count_areas(stretches: &[Stretch]) -> Option<u64>
     Some(total)
 }
 
-// Whether the number of the last clump of a run is above a count.
+// Returns whether the number of a run's last clump exceeds a count.
 fn is_beyond(stretch: Stretch, count: u64) -> bool
     ensures { result ≡ nat_lt count (last_number stretch) }
 {
@@ -56,7 +56,7 @@ fn is_beyond(stretch: Stretch, count: u64) -> bool
     }
 }
 
-// The place of the first run whose last clump has a number above the count.
+// Returns the index of the first run whose last clump has a number above `count`.
 fn first_beyond(stretches: &[Stretch], count: u64) -> Option<usize>
     ensures { IfSome result (IsFirstBeyond stretches.now count) }
 {
@@ -68,7 +68,7 @@ fn first_beyond(stretches: &[Stretch], count: u64) -> Option<usize>
     None
 }
 
-/// The runs of a numbering: the current one, and those after it.
+/// The runs of a numbering: the current run, and the runs after it.
 #[derive(Drop)]
 pub(crate) struct HeldNumbering {
     stretches: Vec<Stretch>,
@@ -94,11 +94,11 @@ impl Model for HeldNumbering {
 }
 
 impl HeldNumbering {
-    /// A full numbering. It takes 32 bytes per line.
+    /// Reads a full numbering. Uses 32 bytes per line.
     ///
     /// # Errors
     ///
-    /// The first error of the text.
+    /// Returns the first error in the text.
     pub(crate) fn read<R: Source + Drop>(
         alloc: Global,
         source: R,
@@ -138,8 +138,8 @@ impl HeldNumbering {
         })
     }
 
-    /// The line of the first run whose last clump has a number above the number of clumps that the numbering lists: no
-    /// clump of the full map has such a number.
+    /// Returns the line of the first run whose last clump has a number above the number of clumps in the numbering. No
+    /// clump of the full map can have this number.
     pub(crate) fn line_beyond(&self) -> Option<u64>
         ensures { IfSome result (IsLineBeyond self.now.all) }
     {
@@ -151,21 +151,21 @@ impl HeldNumbering {
         }
     }
 
-    /// The current run, or None at the end.
+    /// Returns the current run, or `None` at the end.
     pub(crate) fn stretch(&self) -> Option<Stretch>
         ensures { result ≡ self.now.head }
     {
         self.stretches.get(self.at).copied()
     }
 
-    /// Its line number.
+    /// Returns the line number of the current run.
     pub(crate) fn stretch_line(&self) -> u64
         ensures { result ≡ self.now.line - 1 }
     {
         self.line.saturating_sub(1)
     }
 
-    /// Moves to the next run.
+    /// Advances to the next run.
     pub(crate) fn next(&mut self)
         requires { IsSome self.old.head }
         ensures read { held_behind self.old ≡ held_from self.new }

@@ -1,13 +1,12 @@
-//! Sizes of the clumps of the full map, from a numbering and the tables of the clump maps of the
-//! tiles. This is what `rcell-join sizes` does.
+//! Adds up the clump sizes of the full map, from a numbering and the tables of the tiles' clump maps. `rcell-join
+//! sizes` uses this crate.
 //!
-//! - `table_sizes`: `join_table_sizes`; it reads all before it writes, and takes 8 bytes for each
-//!   clump
-//! - `size_fault`: `SizesFault`, the first error, of the numbering or of a table
-//! - `size_lines`: `write_sizes`, a line for each clump
-//! - private: `held_numbering`, the runs of the numbering; `tally`, sizes added by number
+//! - `table_sizes`: `join_table_sizes` reads everything before it writes, and uses 8 bytes per clump
+//! - `size_fault`: `SizesFault`, the first error in the numbering or in a table
+//! - `size_lines`: `write_sizes` writes one line per clump
+//! - private: `held_numbering` holds the runs of the numbering; `tally` adds up sizes by number
 //!
-//! Two tiles, and the sizes that they add up to:
+//! Two tiles, and the sums of their sizes:
 //!
 //! ```
 //! /// The numbering of these tiles.

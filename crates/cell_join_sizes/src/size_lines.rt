@@ -1,4 +1,4 @@
-//! The sizes of clumps printed as the table of their numbers.
+//! Writes the sizes of clumps as the table of their numbers.
 
 ghost use Rattle.std.specs.Prelude.{◌∷◌, [], Some, decimal, pos};
 ghost use Rattle.cell_core_devices.specs.Blocks.{Appends};
@@ -34,7 +34,7 @@ fn write_size<W: Sink>(
     block.push(out, b"\n");
 }
 
-/// Writes a line for each size, with its number before it, starting at 1. It takes no memory.
+/// Writes one line per size, preceded by its number, which starts at 1. Allocates no memory.
 pub fn write_sizes<W: Sink>(out: &mut W, block: &mut OutputBlock, format: &Format, sizes: &[u64])
     ensures { Appends W.taken W.faults out.old block.old
         (entries_text format.now (number_entries 1 sizes.now)) out.new block.new }

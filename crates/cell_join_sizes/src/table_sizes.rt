@@ -1,4 +1,4 @@
-//! Sizes of the clumps of the full map, from a numbering and the tables of the tiles' clump numbers.
+//! Adds up the clump sizes of the full map, from a numbering and the tables of the tiles' clump numbers.
 
 ghost use Rattle.std.specs.Prelude.{◌≡◌, ◌≢◌, ◌+◌, ◌-◌, ◌<◌, ◌≤◌, ◌^◌, ◌∷◌, [], ℕ, List, None, Some, IfErr, IfOk, IfSome, MatchOption, OnOk, map, pos, option_map, false, true};
 ghost use Rattle.cell_core_devices.specs.Blocks.{Appends};
@@ -28,16 +28,16 @@ use cell_stats::format::Format;
 use cell_stats_combinations::combination::Combo;
 use std::alloc::Global;
 
-/// The outcome of adding sizes.
+/// The outcome of adding up sizes.
 #[derive(Clone, Copy, Debug, PartialEq, Eq)]
 pub struct SizesOutcome {
-    /// The number of bytes that the sink took, at most `u64::MAX`.
+    /// The number of bytes that the sink accepted, capped at `u64::MAX`.
     pub written: u64,
-    /// Why not all sizes are written.
+    /// The error, if not all sizes were written.
     pub fault: Option<SizesFault>,
 }
 
-// The error of a numbering.
+// Converts an error of a numbering.
 fn of_areas(fault: AreasFault) -> SizesFault
     ensures { ReportsAreasFault fault result }
 {
@@ -47,7 +47,7 @@ fn of_areas(fault: AreasFault) -> SizesFault
     }
 }
 
-// The error of a table.
+// Converts an error of a table.
 fn of_table(table: usize, fault: TableFault) -> SizesFault
     ensures { ReportsTableFault table fault result }
 {
@@ -57,7 +57,7 @@ fn of_table(table: usize, fault: TableFault) -> SizesFault
     }
 }
 
-// The error of a sum.
+// Converts an error of a sum.
 fn of_tally(number: u64, fault: TallyFault) -> SizesFault
     ensures { ReportsTallyFault number fault result }
 {
@@ -67,7 +67,7 @@ fn of_tally(number: u64, fault: TallyFault) -> SizesFault
     }
 }
 
-// The only cell of a combination, if it has just one and that is a number.
+// Returns the only cell of a combination as a number, if it has exactly one cell, which is not negative.
 fn number_of(combo: &Combo) -> Option<u64>
     ensures { MatchOption result ((n : ℕ) → combo.now ≢ Some (pos n) ∷ [])
         (λ n. combo.now ≡ Some (pos n) ∷ []) }
@@ -81,7 +81,7 @@ fn number_of(combo: &Combo) -> Option<u64>
     }
 }
 
-// The size of a clump, if the head is the clump's entry.
+// Returns the size of a clump, if the head is the clump's entry.
 fn size_of(head: &Option<(Combo, u64)>, area: u64) -> Option<u64>
     ensures { MatchOption result (IsHeadOfOther area head.now)
         (λ size. head.now ≡ Some (area_entry area size)) }
@@ -92,7 +92,7 @@ fn size_of(head: &Option<(Combo, u64)>, area: u64) -> Option<u64>
     }
 }
 
-// Whether the head is the entry of null.
+// Returns whether the head is the entry of null.
 fn is_null(head: &Option<(Combo, u64)>) -> bool
     ensures null { result ≡ true → IsHeadOfNull head.now }
     ensures other { result ≡ false → IfSome head.now (λ entry. entry.0 ≢ None ∷ []) }
@@ -106,7 +106,7 @@ fn is_null(head: &Option<(Combo, u64)>) -> bool
     }
 }
 
-// Reads the clumps of a run from the table of a tile, and adds their sizes.
+// Reads the clumps of a run from a tile's table, and adds their sizes.
 fn add_stretch<R: Source>(
     alloc: Global,
     format: &Format,
@@ -137,7 +137,7 @@ fn add_stretch<R: Source>(
             });
         };
         let Some(number) = stretch.number.checked_add(area - stretch.first) else {
-            // No memory is large enough for this number.
+            // The number exceeds any memory.
             return Err(SizesFault::Memory);
         };
         if let Err(fault) = add_size(sizes, number, size) {
@@ -150,7 +150,7 @@ fn add_stretch<R: Source>(
     Err(SizesFault::TooLong)
 }
 
-// Reads the runs of a tile, and their clumps from its table. Returns the number of the line after the clumps.
+// Reads the runs of a tile, and their clumps from its table. Returns the line number after the clumps.
 fn add_stretches<R: Source>(
     alloc: Global,
     format: &Format,
@@ -189,7 +189,7 @@ fn add_stretches<R: Source>(
     Err(SizesFault::TooLong)
 }
 
-// Reads the rest of a table, which may be an entry of null, and nothing else.
+// Reads the rest of a table, which may contain only an entry of null.
 fn end_table<R: Source>(
     alloc: Global,
     format: &Format,
@@ -251,7 +251,7 @@ fn add_band<R: Source + Drop>(
     Ok(())
 }
 
-// The sizes of all clumps of the full map.
+// Returns the sizes of all clumps of the full map.
 fn add_tables<R: Source + Drop>(
     alloc: Global,
     format: &Format,
@@ -292,7 +292,7 @@ fn add_tables<R: Source + Drop>(
     }
 }
 
-// Flushes the sink unless a put failed, and returns the result.
+// Flushes the sink unless a write failed, and returns the error.
 fn finish<W: Sink>(failed: bool, out: &mut W) -> Option<SizesFault>
     ensures taken { W.taken out.new ≡ W.taken out.old }
     ensures flushed { result ≡ None
@@ -310,7 +310,7 @@ fn finish<W: Sink>(failed: bool, out: &mut W) -> Option<SizesFault>
     }
 }
 
-// Writes the lines of sizes, and flushes the sink unless a put failed.
+// Writes the lines of sizes, and flushes the sink unless a write failed.
 fn put_sizes<W: Sink>(out: &mut W, format: &Format, sizes: &[u64]) -> SizesOutcome
     ensures { HasPutSizes format.now sizes.now (W.taken out.old) (W.taken out.new)
         (W.faults out.old) (W.faults out.new) result.written result.fault }
@@ -325,14 +325,16 @@ fn put_sizes<W: Sink>(out: &mut W, format: &Format, sizes: &[u64]) -> SizesOutco
     }
 }
 
-/// Adds up the sizes of the clumps of tiles by their numbers in a numbering, and writes one line per number, from 1 on,
-/// with the size of its clump in the full map: the table of the numbers of the full map, without null.
+/// Adds up the clump sizes of tiles by their numbers in a numbering. Writes one line per number, from 1 on, with the
+/// size of its clump in the full map: the table of the full map's clump numbers, without null.
 ///
-/// The tables are about the tiles' clump numbers, in order, each with its counts; entries of null are skipped. The
-/// numbers may come in any order. The numbering is read first, with 32 bytes of memory per line, and a number above the
-/// number of clumps that it lists is rejected then. Each number up to the largest takes eight bytes, and the current
-/// table takes a block. Nothing is written before everything is read; a number that is left out is found then. The sink
-/// is flushed once at the end, unless a put failed.
+/// The tables contain the tiles' clump numbers, in order, each with its count; entries of null are skipped. The numbers
+/// may be in any order.
+///
+/// The numbering is read first, with 32 bytes of memory per line. A number above the number of clumps in the numbering
+/// is rejected immediately; a missing number is detected at the end. Each number up to the largest uses eight bytes,
+/// and the current table uses a block. Nothing is written before everything is read. The sink is flushed once at the
+/// end, unless a write fails.
 pub fn join_table_sizes<R: Source + Drop, W: Sink>(
     alloc: Global,
     format: &Format,
@@ -341,24 +343,24 @@ pub fn join_table_sizes<R: Source + Drop, W: Sink>(
     out: &mut W,
 ) -> SizesOutcome
     // Without an error, the numbering is valid to its end, each table lists the clumps of its tile, and the sink has
-    // taken exactly the lines of the sums.
+    // accepted exactly the lines of the sums.
     ensures joined { (text : Coming) (texts : List Coming) → R.coming areas ≡ Some text
         → Give R.coming tables.items texts → result.fault ≡ None
         → HasWrittenSizes format.now (areas_reading_of text) (map (reading_of format.now 1) texts)
         (W.taken out.old) (W.taken out.new) result.written }
-    // If a write failed, the sink has taken a prefix of them; with any other error, nothing.
+    // If a write failed, the sink has accepted a prefix of these lines; with any other error, nothing.
     ensures written { (text : Coming) (texts : List Coming) → R.coming areas ≡ Some text
         → Give R.coming tables.items texts → IfSome result.fault
         (HasStopped format.now (areas_reading_of text) (map (reading_of format.now 1) texts)
         (W.taken out.old) (W.taken out.new) result.written) }
-    // An error is an error of the numbering, or the first one met when it and the tables are read side by side.
+    // The error is an error in the numbering, or the first error when the numbering and the tables are read in step.
     ensures fault { (text : Coming) (texts : List Coming) → R.coming areas ≡ Some text
         → Give R.coming tables.items texts → IfSome result.fault
         (IsSizesFault (areas_reading_of text) (map (reading_of format.now 1) texts)) }
-    // With any error other than a failed write, the sink is not called, whatever the sources are.
+    // With any error other than a failed write, the sink is not called, for any sources.
     ensures untouched { IfSome result.fault (λ fault. fault ≢ SizesFault.Write
         → (out.new ≡ out.old) × (result.written ≡ 0)) }
-    // Without an error, no call of the sink failed and it was flushed once.
+    // Without an error, no call of the sink failed, and it was flushed once.
     ensures sound { result.fault ≡ None
         → W.faults out.new ≡ after_flush (W.faults out.old) false }
     // A failed write is reported only if the sink failed.

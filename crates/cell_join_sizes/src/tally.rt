@@ -1,19 +1,19 @@
-//! Sizes added by their numbers.
+//! Adds up sizes by number.
 
 ghost use Rattle.std.specs.Prelude.{◌≡◌, ◌+◌, ◌<◌, ◌≤◌, ◌∷◌, [], ℕ, None, IfErr, IfSome, OnOk, length, slice_index};
 ghost use Rattle.cell_join_sizes.specs.parts.Tally.{IsFirstWithoutSize, IsTallyFault, Tallies};
 
-// Why a size is not added.
+// Why a size cannot be added.
 #[derive(Clone, Copy, Debug, PartialEq, Eq)]
 pub(crate) enum TallyFault {
     // The sum does not fit in 64 bits.
     TooGreat,
-    // Memory ran out, or no memory is large enough for the number.
+    // Memory ran out, or the number exceeds any memory.
     Memory,
 }
 
-// Adds the size of a number after the sizes of others; `place` is the number counted from 0. Places between are filled
-// with 0: no clump has had their numbers so far.
+// Adds the first size for a number; `place` is the number counted from 0. Fills the places before it with 0, because no
+// clump has had their numbers so far.
 fn put_size(sizes: &mut Vec<u64>, place: usize, size: u64) -> Result<(), TallyFault>
     requires { length sizes.old.items ≤ place }
     ensures ok { OnOk result (Tallies sizes.old.items ((place + 1) ∷ []) (size ∷ [])
@@ -29,7 +29,7 @@ fn put_size(sizes: &mut Vec<u64>, place: usize, size: u64) -> Result<(), TallyFa
     }
 }
 
-// Adds a size to the size of a number. There is no place for 0: a numbering shows numbers from 1 on.
+// Adds a size to the sum for a number. Numbers start at 1, so there is no place for 0.
 pub(crate) fn add_size(sizes: &mut Vec<u64>, number: u64, size: u64) -> Result<(), TallyFault>
     ensures ok { OnOk result (Tallies sizes.old.items (number ∷ []) (size ∷ []) sizes.new.items) }
     ensures err { IfErr result (IsTallyFault sizes.old.items number size) }
@@ -56,7 +56,7 @@ pub(crate) fn add_size(sizes: &mut Vec<u64>, number: u64, size: u64) -> Result<(
     }
 }
 
-// The first number without a size: every clump has cells, so the numbering leaves this number out.
+// Returns the first number whose sum is 0. Every clump has cells, so this number is missing in the numbering.
 pub(crate) fn first_without_size(sizes: &[u64]) -> Option<u64>
     ensures all { result ≡ None → (n : ℕ) → n < length sizes.now → 0 < slice_index sizes.now n }
     ensures first { IfSome result (IsFirstWithoutSize sizes.now) }

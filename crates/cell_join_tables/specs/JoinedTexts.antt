@@ -1,4 +1,4 @@
--- Texts of tables joined to one: how they are read, and what is written.
+-- The merge of tables without labels: how the texts are read, and what is written.
 use Rattle.std.specs.Prelude.{ℕ, ◌≡◌, ◌≢◌, ◌<◌, ◌≤◌, ◌-◌, ◌^◌, ◌==◌, ◌⊎◌, List, [], ◌∷◌, ◌++◌, All, length, map, sum_by, slice_get, Option, Some, None, option_map, if◌then◌else◌}
 use Rattle.std.specs.List.{AllByRecursion}
 use Rattle.std.specs.declared.cmp.Ordering.TheVariants.{Less}
@@ -20,21 +20,22 @@ abbrev pub first_entry : Pairs → Option (Combination × ℕ)
 first_entry [] = None
 first_entry (entry ∷ entries) = Some entry
 
--- the number of cells of an entry, 0 if there is none
+-- the number of cells of an entry, or 0 if there is none
 abbrev pub entry_width : Option (Combination × ℕ) → ℕ
 entry_width None = 0
 entry_width (Some entry) = length entry.0
 
--- the number of cells required after a text with this first entry: the entry's own, if none was required before
+-- the number of cells required after a text with this first entry: the number required before or, if none was, the
+-- entry's
 abbrev pub width_behind : ℕ → Option (Combination × ℕ) → ℕ
 width_behind width first = if width == 0 then entry_width first else width
 
--- how texts are read, one after the other, if the lines must have this many cells, or any number if it is 0
+-- the readings of texts, one after the other, whose lines must have `width` cells, or any number if `width` is 0
 abbrev pub readings_from : FormatValue → ℕ → List Coming → List TableReading
 readings_from format width [] = []
 readings_from format width (text ∷ texts) = reading_of format width text ∷ readings_from format (width_behind width (first_entry (reading_of format width text).entries)) texts
 
--- the first entry of all determines how many cells each entry has
+-- the readings of texts; the first entry of all determines the number of cells
 abbrev pub readings_of : FormatValue → List Coming → List TableReading
 readings_of format texts = readings_from format 0 texts
 
@@ -42,7 +43,7 @@ readings_of format texts = readings_from format 0 texts
 abbrev pub tables_of : List TableReading → List Pairs
 tables_of readings = map (λ reading. reading.entries) readings
 
--- the text at this place has this first error
+-- the text at index `text` has this first error
 abbrev pub HasFault : List TableReading → ℕ → TableFault → Type 0
 HasFault readings text fault = slice_get (map (λ reading. reading.fault) readings) text ≡ Some (Some fault)
 
@@ -52,33 +53,32 @@ last_combination [] = None
 last_combination (entry ∷ []) = Some entry.0
 last_combination (entry ∷ next ∷ entries) = last_combination (next ∷ entries)
 
--- the combination that an error comes after, if there is an error, and a combination before it
+-- the combination after which an error occurs, if there is an error, and if there is a combination before it
 abbrev pub fault_place : TableReading → Option (Option Combination)
 fault_place reading = option_map (λ fault. last_combination reading.entries) reading.fault
 
--- an error after a combination, in one text, is met no later than an error after another, in another text: first come
--- errors without a combination before them, then those after smaller combinations, and after the same one errors of
--- earlier texts
+-- an error in one text is reported no later than an error in another text: errors before any combination come first,
+-- then errors after smaller combinations; after equal combinations, errors of earlier texts come first
 abbrev pub IsMetFirst : Option Combination → Option Combination → (text other : ℕ) → Type 0
 IsMetFirst None None text other = text ≤ other
 IsMetFirst None (Some another) text other = Unit {0}
 IsMetFirst (Some k) None text other = ⊥
 IsMetFirst (Some k) (Some another) text other = (combination_cmp k another ≡ Less) ⊎ ((k ≡ another) × (text ≤ other))
 
--- in this order of errors, the error of a text is met first
+-- in this order of errors, the error of the text comes first
 abbrev pub IsFirstPlace : List (Option (Option Combination)) → ℕ → Type 0
 IsFirstPlace places text = (other : ℕ) (own another : Option Combination) → slice_get places text ≡ Some (Some own) → slice_get places other ≡ Some (Some another) → IsMetFirst own another text other
 
--- no error comes after a smaller combination than this
+-- no error occurs after a smaller combination
 abbrev pub AreNoneBefore : Combination → List (Option (Option Combination)) → Type 0
 AreNoneBefore k places = (other : ℕ) (another : Option Combination) → slice_get places other ≡ Some (Some another) → (j : Combination) × ((another ≡ Some j) × (combination_cmp j k ≢ Less))
 
--- the text at this place has this first error, and it is met first of all texts' errors
+-- the text at index `text` has this first error, which comes first among the errors of all texts
 pub record IsFirstFault (readings : List TableReading) (text : ℕ) (fault : TableFault) : Type 0 where
   pub has : HasFault readings text fault
   pub first : IsFirstPlace (map fault_place readings) text
 
--- a text with an error before its first entry
+-- the text has an error before its first entry
 abbrev pub IsFaultyAtOnce : TableReading → Type 0
 IsFaultyAtOnce reading = (reading.entries ≡ []) × (reading.fault ≢ None)
 
@@ -86,11 +86,11 @@ IsFaultyAtOnce reading = (reading.entries ≡ []) × (reading.fault ≢ None)
 abbrev pub AreTables : List TableReading → Type 0
 AreTables readings = AllByRecursion (λ fault. fault ≡ None) (map (λ reading. reading.fault) readings)
 
--- each source shows what it gives
+-- each source returns its text
 abbrev pub Give : {R : Type 0} → (R → Option Coming) → List R → List Coming → Type 0
 Give coming sources texts = map coming sources ≡ map Some texts
 
--- why the texts are not joined; lack of memory and a failed write say nothing about the texts
+-- why the texts are not merged; a lack of memory or a failed write implies nothing about the texts
 abbrev pub IsJoinFault : List TableReading → JoinFault → Type 0
 IsJoinFault readings (Text text fault) = IsFirstFault readings text fault
 IsJoinFault readings (TooMany k) = (2 ^ 64 ≤ sum_by (count_in k) (tables_of readings)) × AreNoneBefore k (map fault_place readings)
@@ -98,7 +98,7 @@ IsJoinFault readings TooLong = 2 ^ 64 - 1 ≤ length (merge_of (tables_of readin
 IsJoinFault readings Memory = Unit {0}
 IsJoinFault readings Write = Unit {0}
 
--- each text is a complete table, the sink took exactly the text of their merge, and its length is reported
+-- each text is a complete table, the sink accepted exactly the text of their merge, and `written` is its length
 pub record AreJoinedTexts (format : FormatValue) (readings : List TableReading) (before now : Option (List ℕ)) (written : ℕ) : Type 0 where
   pub tables : AreTables readings
   pub merged : Pairs
@@ -113,7 +113,7 @@ pub record IsMergeOf (readings : List TableReading) (merged : Pairs) : Type 0 wh
   pub fit : All (λ entry. entry.1 < 2 ^ 64) merged
   pub few : length merged < 2 ^ 64 - 1
 
--- the sink took the lines of the first entries of the merge of everything that was read
+-- the sink accepted the lines of the first entries of the merge of everything that was read
 pub record HasLines (format : FormatValue) (readings : List TableReading) (before now : Option (List ℕ)) (written : ℕ) : Type 0 where
   pub first : Pairs
   pub others : Pairs
@@ -121,7 +121,7 @@ pub record HasLines (format : FormatValue) (readings : List TableReading) (befor
   pub taken : now ≡ append_known before (entries_text format first)
   pub count : written ≡ capped_count (length (entries_text format first))
 
--- the sink took a prefix of the text of the merge of everything that was read
+-- the sink accepted a prefix of the text of the merge of everything that was read
 pub record HasPrefix (format : FormatValue) (readings : List TableReading) (before now : Option (List ℕ)) (written : ℕ) : Type 0 where
   pub merged : Pairs
   pub prefix : List ℕ
@@ -131,7 +131,7 @@ pub record HasPrefix (format : FormatValue) (readings : List TableReading) (befo
   pub taken : now ≡ append_known before prefix
   pub count : written ≡ capped_count (length prefix)
 
--- what was written if the texts are not joined: complete lines, but a prefix if a write failed
+-- what was written if the texts are not merged: complete lines, or a prefix if a write failed
 abbrev pub HasWritten : FormatValue → List TableReading → Option (List ℕ) → Option (List ℕ) → ℕ → JoinFault → Type 0
 HasWritten format readings before now written (Text text fault) = HasLines format readings before now written
 HasWritten format readings before now written (TooMany k) = HasLines format readings before now written

@@ -1,4 +1,4 @@
--- Texts of tables merged.
+-- Merged texts of tables.
 pub mod JoinAnswers
 pub mod JoinedLabels
 pub mod JoinedTexts

@@ -1,4 +1,4 @@
--- What a merge takes from each text, and how it ends.
+-- What a merge reads from each text, and how it ends.
 pub mod HeadOrder
 pub mod LabelEnds
 pub mod LabelSteps

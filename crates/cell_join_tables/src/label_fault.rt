@@ -1,30 +1,30 @@
-//! Why texts with labels are not joined.
+//! Errors of merging texts with labels.
 
 use crate::join_fault::JoinFault;
 use cell_stats_combinations::combination::Combo;
 
-/// Two texts give a combination different labels. Texts are reported by their places, from 0.
+/// Two texts have different labels for a combination. Texts are identified by their indices, from 0.
 #[derive(Debug, Drop)]
 pub struct OtherLabel {
-    /// The first text that has the combination.
+    /// The first text that contains the combination.
     pub first: usize,
-    /// The first text that has different labels for it.
+    /// The first text with different labels for it.
     pub text: usize,
-    /// The line of this text, counted from 1; from 2^64 - 2 on lines are not distinguished.
+    /// The line in this text, counted from 1. Lines from 2^64 - 2 on are not distinguished.
     pub line: u64,
     /// The combination.
     pub combo: Combo,
-    /// The line of the first text up to its count: each cell and its label, with a separator after each.
+    /// The line in the first text up to its count: each cell and its label, each followed by a separator.
     pub labelled: Vec<u8>,
-    /// The line of the other text up to its count.
+    /// The line in the other text up to its count.
     pub other: Vec<u8>,
 }
 
-/// Why texts with labels are not joined.
+/// Why texts with labels are not merged.
 #[derive(Debug, Drop)]
 pub enum LabelFault {
-    /// An error that texts without labels also have.
+    /// An error that can also occur without labels.
     Join(JoinFault),
-    /// Two texts give the same combination different labels.
+    /// Two texts have different labels for the same combination.
     OtherLabel(OtherLabel),
 }

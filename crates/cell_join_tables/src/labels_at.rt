@@ -1,4 +1,4 @@
-//! The labels that texts have for the combination with which they continue.
+//! Compares the labels of the texts that continue with the same combination.
 
 ghost use Rattle.std.specs.Prelude.{◌≡◌, ◌<◌, ◌-◌, not, bytes_eq, length, map, slice_get, slice_index_or, All, None, Some, IfOk, IfErr, IfSome, true};
 ghost use Rattle.cell_join_lines.specs.LineLabels.{before_count};
@@ -13,7 +13,7 @@ use cell_stats::format::Format;
 use cell_stats_combinations::combination::Combo;
 use std::alloc::Global;
 
-// Whether a text continues with the combination.
+// Returns whether a text continues with the combination.
 fn goes_on_with<R: Source>(text: &TableText<R>, combo: &Combo) -> bool
     ensures { result ≡ goes_on_with combo.now text.now }
 {
@@ -23,7 +23,7 @@ fn goes_on_with<R: Source>(text: &TableText<R>, combo: &Combo) -> bool
     }
 }
 
-// Whether its line has different labels.
+// Returns whether the text's line has labels other than `labelled`.
 fn has_other<R: Source>(format: &Format, text: &TableText<R>, labelled: &[u8]) -> bool
     ensures { result
         ≡ not (bytes_eq (before_count format.now.separator text.now.line) labelled.now) }
@@ -31,7 +31,7 @@ fn has_other<R: Source>(format: &Format, text: &TableText<R>, labelled: &[u8]) -
     text.before_count(format.separator()) != labelled
 }
 
-/// The first of the texts that continue with the combination, in the order of `places`, that has different labels for
+/// Returns the first text, in the order of `places`, that continues with the combination and has different labels for
 /// it.
 pub(crate) fn other_at<R: Source>(
     format: &Format,
@@ -60,11 +60,11 @@ pub(crate) fn other_at<R: Source>(
     None
 }
 
-/// The evidence that two texts have different labels for the combination.
+/// Builds the report that two texts have different labels for the combination.
 ///
 /// # Errors
 ///
-/// [`JoinFault::Memory`].
+/// Returns [`JoinFault::Memory`] if memory runs out.
 pub(crate) fn other_label<R: Source>(
     alloc: Global,
     format: &Format,

@@ -1,4 +1,4 @@
-//! The smallest entry with which texts continue.
+//! Reads the smallest entry with which texts continue.
 
 ghost use Rattle.std.specs.Prelude.{◌≡◌, ◌≢◌, ℕ, List, [], ◌∷◌, All, IfErr, IfOk, IfSome, None, Ok, OnOk, Some, map, option_map};
 ghost use Rattle.cell_join_lines.specs.LineLabels.{Labelled, labelled_from};
@@ -19,7 +19,7 @@ use cell_stats::format::Format;
 use cell_stats_combinations::combination::Combo;
 use std::alloc::Global;
 
-// The count of an entry, if there is one and it has the combination.
+// Returns the count of an entry, if there is one with this combination.
 fn count_of(entry: Option<&(Combo, u64)>, combo: &Combo) -> Option<u64>
     ensures { result ≡ head_count combo.now (option_map (λ e. e.now) entry.entry) }
 {
@@ -29,7 +29,7 @@ fn count_of(entry: Option<&(Combo, u64)>, combo: &Combo) -> Option<u64>
     }
 }
 
-// Takes the other entries of a combination, of which one was taken, and returns the sum of all counts.
+// Reads the combination's entries in the other texts, and returns the sum of all counts.
 fn take_others<R: Source>(
     alloc: Global,
     format: &Format,
@@ -69,13 +69,13 @@ fn take_others<R: Source>(
     Ok(total)
 }
 
-/// Takes the smallest entry of all, with the sum of the counts of all texts that continue with its combination; None if
-/// each text is at its end.
+/// Reads the smallest entry of all texts. Returns it with the sum of the counts of its combination, or `None` if each
+/// text is at its end.
 ///
 /// # Errors
 ///
-/// [`JoinFault::Text`] of the first text that has an error after it, [`JoinFault::TooMany`] if the counts are beyond 64
-/// bits, [`JoinFault::Memory`].
+/// Returns [`JoinFault::Text`] for the first text that has an error after this entry, [`JoinFault::TooMany`] if the sum
+/// does not fit in 64 bits, or [`JoinFault::Memory`] if memory runs out.
 pub(crate) fn take_least<R: Source>(
     alloc: Global,
     format: &Format,

@@ -1,12 +1,11 @@
-//! Merging the texts of the tables of tiles to the table of the full map. This is what
-//! `rcell-join tables` does.
+//! Merges the tables of tiles into the table of the full map. `rcell-join tables` uses this crate.
 //!
-//! - `table_joining`: `join_texts`, each combination once, in order, with the sum of its counts;
-//!   labels have to be the same in all texts
-//! - `join_fault`: `JoinFault`; `label_fault`: `LabelFault`, also for two labels
-//! - `text_heads`, `text_joining`: how texts are opened, and how a merge ends
-//! - `law`: the smallest combination that any table begins with comes first
-//! - private: `ordered_texts`, the texts by their next combination; `least_entry`, `labels_at`
+//! - `table_joining`: `join_texts` writes each combination once, in order, with the sum of its counts; labels must be
+//!   the same in all texts
+//! - `join_fault`: `JoinFault`; `label_fault`: `LabelFault`, which also covers different labels
+//! - `text_heads`, `text_joining`: open texts, and end a merge
+//! - `law`: the merge begins with the smallest combination with which any table begins
+//! - private: `ordered_texts` orders the texts by their next combination; `least_entry`, `labels_at`
 //!
 //! ```
 //! let north = b"1;forest;5\n3;;2\n*;no data;4\n".as_slice();

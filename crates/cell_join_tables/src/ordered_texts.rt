@@ -1,4 +1,4 @@
-//! Texts in the order in which a merge reads them.
+//! Keeps texts in the order in which a merge reads them.
 
 ghost use Rattle.std.specs.Prelude.{◌≡◌, ◌≢◌, ◌<◌, ◌≤◌, ℕ, List, All, drop, length, slice_index, IfErr, IfOk, IfSome, MatchOption, None, Ok, OnOk, Some};
 ghost use Rattle.std.specs.List.{Contains, insert};
@@ -21,7 +21,7 @@ use std::alloc::Global;
 use std::cmp::Ordering;
 use std::marker::Model;
 
-// Whether the text at one place goes before the text at another.
+// Returns whether the text at one index precedes the text at another.
 fn goes_before(
     head: &Option<(Combo, u64)>,
     place: usize,
@@ -43,7 +43,7 @@ fn goes_before(
     }
 }
 
-// How many of the texts at ordered places go before the one at another place. It tries one of them first, and then
+// Returns how many of the texts, in order, precede the text at another index. Tries `first_tried` first, and then
 // bisects.
 fn count_before<R: Source>(
     texts: &[TableText<R>],
@@ -72,8 +72,8 @@ fn count_before<R: Source>(
     low
 }
 
-// Inserts the first place into `others` places in order. Places move by one, 8 bytes per text, as in GNU `sort -m`. A
-// heap moves fewer places, but looks at twice as many heads.
+// Moves the first index after the next `others` indices, which are in order. Like in GNU `sort -m`, this shifts 8
+// bytes per text. A heap would move fewer indices, but compare twice as many heads.
 fn put_first(places: &mut [usize], others: usize)
     requires { others < length places.old }
     ensures { places.new ≡ insert (drop 1 places.old) others (slice_index places.old 0) }
@@ -81,14 +81,14 @@ fn put_first(places: &mut [usize], others: usize)
     places[..others + 1].rotate_left(1);
 }
 
-/// Texts, and the order in which a merge reads them: by the combination with which they continue, and in their own
-/// order if it is the same. Texts at their ends are last.
+/// Texts in the order in which a merge reads them: by the combination with which they continue, and for equal
+/// combinations by index. Texts at their ends are last.
 #[derive(Drop)]
 pub(crate) struct OrderedTexts<R: Source> {
     texts: Vec<TableText<R>>,
-    // The places of the texts, in order.
+    // The indices of the texts, in order.
     order: Vec<usize>,
-    // How many texts went before the last one that was inserted: the next one often goes there too.
+    // How many texts preceded the last text inserted. The next text often belongs at the same position.
     last_put: usize,
 }
 
@@ -106,11 +106,11 @@ impl<R: Source> Model for OrderedTexts<R> {
 }
 
 impl<R: Source> OrderedTexts<R> {
-    /// The texts, in order.
+    /// Orders texts.
     ///
     /// # Errors
     ///
-    /// `Memory`, if memory runs out.
+    /// Returns `Memory` if memory runs out.
     pub(crate) fn from_texts(
         alloc: Global,
         texts: Vec<TableText<R>>,
@@ -131,15 +131,15 @@ impl<R: Source> OrderedTexts<R> {
         })
     }
 
-    /// The number of texts.
+    /// Returns the number of texts.
     pub(crate) fn len(&self) -> usize
         ensures { result ≡ length self.now }
     {
         self.texts.len()
     }
 
-    /// The entry with which the first text continues, which has the smallest combination; None if each text is at its
-    /// end.
+    /// Returns the entry with which the first text continues, which has the smallest combination, or `None` if each
+    /// text is at its end.
     pub(crate) fn first(&self) -> Option<&(Combo, u64)>
         ensures { MatchOption result
             (All (λ text. text.head ≡ None) self.now)
@@ -154,12 +154,12 @@ impl<R: Source> OrderedTexts<R> {
         }
     }
 
-    /// Puts what the line of the first text has before its count in the place of what is given, and returns the first text
-    /// that continues with the same combination and has something else there, if there is one.
+    /// Copies the first text's line, up to its count, to `labelled`. Returns the first text that continues with the
+    /// same combination and a different line, if any.
     ///
     /// # Errors
     ///
-    /// [`JoinFault::Memory`].
+    /// Returns [`JoinFault::Memory`] if memory runs out.
     pub(crate) fn compare_labels(
         &self,
         alloc: Global,
@@ -198,11 +198,11 @@ impl<R: Source> OrderedTexts<R> {
         }
     }
 
-    /// Lets the first text read its next entry, and puts it where it belongs now.
+    /// Reads the next entry of the first text, and moves the text to its new position.
     ///
     /// # Errors
     ///
-    /// [`JoinFault::Text`] if the text has an error there, and [`JoinFault::Memory`].
+    /// Returns [`JoinFault::Text`] if the text has an error there, or [`JoinFault::Memory`] if memory runs out.
     pub(crate) fn advance(&mut self, alloc: Global, format: &Format) -> Result<(), JoinFault>
         ensures reads { OnOk result ((first : ℕ) → GoesFirst (heads_of self.old) first
             → HeadReadsOn format.now self.old first self.new) }

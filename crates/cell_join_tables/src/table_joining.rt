@@ -1,4 +1,4 @@
-//! Joins texts of tables into one text.
+//! Merges texts of tables into one text.
 
 ghost use Rattle.std.specs.Prelude.{◌≡◌, ◌≢◌, List, All, Ok, Err, None, Some, IfErr, IfOk, IfSome, OnErr, map, false, true};
 ghost use Rattle.std.specs.List.{Contains};
@@ -30,16 +30,16 @@ use cell_stats::format::Format;
 use itoa::Buffer;
 use std::alloc::Global;
 
-/// The outcome of joining texts.
+/// The outcome of merging texts.
 #[derive(Debug, Drop)]
 pub struct JoinOutcome {
-    /// The number of bytes that the sink took, at most `u64::MAX`.
+    /// The number of bytes that the sink accepted, capped at `u64::MAX`.
     pub written: u64,
-    /// Why the texts are not joined.
+    /// The error, if the texts were not merged.
     pub fault: Option<LabelFault>,
 }
 
-// The outcome of a step of the merge.
+// The result of one step of the merge.
 #[derive(Debug, Drop)]
 enum JoinStep {
     Line,
@@ -57,8 +57,8 @@ fn write_counted<W: Sink>(out: &mut W, block: &mut OutputBlock, labelled: &[u8],
     block.push(out, b"\n");
 }
 
-// Takes the smallest entry of all, and writes its line with the labels that all texts have. Returns whether there was
-// one.
+// Reads the smallest entry of all texts, and writes its line with the labels, which must be the same in all texts.
+// Returns whether there was an entry.
 fn write_least<R: Source, W: Sink>(
     alloc: Global,
     format: &Format,
@@ -97,8 +97,7 @@ fn write_least<R: Source, W: Sink>(
     }
 }
 
-// Writes the lines of the merge, from the smallest entry on, up to the first whose labels differ, and returns these
-// labels.
+// Writes the lines of the merge, from the smallest entry on. If labels differ, stops and returns them.
 fn merge_texts<R: Source, W: Sink>(
     alloc: Global,
     format: &Format,
@@ -126,7 +125,7 @@ fn merge_texts<R: Source, W: Sink>(
     Err(JoinFault::TooLong)
 }
 
-// The same for texts that are not in order yet.
+// Orders texts, and merges them.
 fn merge_opened<R: Source + Drop, W: Sink>(
     alloc: Global,
     format: &Format,
@@ -145,7 +144,7 @@ fn merge_opened<R: Source + Drop, W: Sink>(
     }
 }
 
-// The result of a merge, and the different labels that it met.
+// Splits the result of a merge into an error and the different labels, if any.
 fn parted(
     merged: Result<Option<OtherLabel>, JoinFault>,
 ) -> (Result<(), JoinFault>, Option<OtherLabel>)
@@ -158,7 +157,7 @@ fn parted(
     }
 }
 
-// The error that is reported: different labels only if there is no other error.
+// Returns the error to report: different labels are reported only if there is no other error.
 fn label_fault(fault: Option<JoinFault>, other: Option<OtherLabel>) -> Option<LabelFault>
     ensures { result ≡ label_fault_of fault other }
 {
@@ -169,7 +168,7 @@ fn label_fault(fault: Option<JoinFault>, other: Option<OtherLabel>) -> Option<La
     }
 }
 
-// Joins texts whose first entries were read.
+// Merges texts whose first entries have been read.
 fn join_opened<R: Source + Drop, W: Sink>(
     alloc: Global,
     format: &Format,
@@ -201,36 +200,38 @@ fn join_opened<R: Source + Drop, W: Sink>(
     }
 }
 
-/// Joins the texts of tables to the text of their merge: each combination that any text lists, once, in order, with the
-/// sum of its counts and, if labels are printed, with the labels that all texts listing it give it. It holds a block of
-/// each source, the current line and entry of each text, and no table.
+/// Merges the texts of tables: writes each combination in any text once, in order, with the sum of its counts and, if
+/// labels are printed, with its labels, which must be the same in all texts. Holds a block of each source and the
+/// current line and entry of each text, but no tables.
 ///
 /// The first entry of each text is read before the first byte is written. The sink is flushed once at the end, unless a
-/// put failed. Texts that give a combination different labels are reported if no error comes after a smaller one.
+/// write fails. Different labels for a combination are reported unless another error occurs after a smaller
+/// combination.
 pub fn join_texts<R: Source + Drop, W: Sink>(
     alloc: Global,
     format: &Format,
     sources: Vec<R>,
     out: &mut W,
 ) -> JoinOutcome
-    // Without an error, each text is a complete table, and the sink has taken exactly the lines of their merge, each
-    // with what every text that lists its combination has before the count.
+    // Without an error, each text is a complete table, and the sink has accepted exactly the lines of their merge, each
+    // with the labels in every text that contains its combination.
     ensures joined { (texts : List Coming) → Give R.coming sources.items texts
         → result.fault ≡ None
         → AreJoinedLabels format.now texts (W.taken out.old) (W.taken out.new) result.written }
-    // An error of a text is its first one. Of all texts' errors, it is the one after the smallest combination, or
-    // before any entry, and of several such errors the one in the first text. Or counts or entries of the merge are too
-    // many, and no error comes after a smaller combination. Or two texts give a combination different labels.
+    // If the error is in a text, it is the text's first error. Among the errors of all texts, it occurs before any
+    // entry or after the smallest combination; if there are several such errors, it is in the first of these texts.
+    // Otherwise there are too many counts or entries in the merge, or two texts have different labels for a
+    // combination, and no error occurs after a smaller combination.
     ensures fault { (texts : List Coming) → Give R.coming sources.items texts
         → IfSome result.fault (IsLabelFault format.now texts) }
     // Different labels are reported with their line in the text.
     ensures line { (texts : List Coming) → Give R.coming sources.items texts
         → IfSome result.fault (IsOnLine (labels_of_texts format.now texts)) }
-    // With an error, the sink has taken the lines of the first entries, or a prefix of them if a write failed.
+    // With an error, the sink has accepted the lines of the first entries, or a prefix of these if a write failed.
     ensures written { (texts : List Coming) → Give R.coming sources.items texts
         → IfSome result.fault (HasLabelledWritten format.now texts (W.taken out.old)
         (W.taken out.new) result.written) }
-    // Without labels, the output is exactly the merged text, or there is a table error with its meaning.
+    // Without labels, the output is exactly the merged text, or there is an error of the tables.
     ensures plain { (texts : List Coming) → Give R.coming sources.items texts
         → format.now.labels ≡ false
         → IsPlainly format.now texts (W.taken out.old) (W.taken out.new) result.written
@@ -240,13 +241,14 @@ pub fn join_texts<R: Source + Drop, W: Sink>(
         → Give R.coming sources.items texts
         → Contains (readings_of format.now texts) reading → IsFaultyAtOnce reading
         → out.new ≡ out.old }
-    // Without an error, no call of the sink failed and it was flushed once. Write: a call failed, now or before.
+    // Without an error, no call of the sink failed, and it was flushed once. For `Write`, a call failed, in this run or
+    // before.
     ensures sound { result.fault ≡ None
         → W.faults out.new ≡ after_flush (W.faults out.old) false }
     ensures write { result.fault ≡ Some (LabelFault.Join JoinFault.Write)
         → has_failed (W.faults out.new) ≡ true }
     // If each text is a complete table, all have the same labels, the sums fit in 64 bits, memory suffices and the sink
-    // takes everything, then exactly the text of the merge is written.
+    // does not fail, exactly the text of the merge is written.
     ensures headline { (texts : List Coming) (merged : List LabelledEntry)
         → Give R.coming sources.items texts → IsLabelledMerge format.now texts merged
         → result.fault ≢ Some (LabelFault.Join JoinFault.Memory)

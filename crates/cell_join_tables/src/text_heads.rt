@@ -1,4 +1,4 @@
-//! The first error of a text, and counts that are too large, as errors of joining.
+//! Converts the first error of a text and counts that are too large to errors of a merge.
 
 ghost use Rattle.std.specs.Prelude.{◌≡◌, ◌≢◌, List};
 ghost use Rattle.cell_stats_combinations.specs.Combinations.{Combination};
@@ -10,7 +10,7 @@ use cell_join_lines::table_fault::{TableFault, TableKind};
 use cell_stats_combinations::combination::Combo;
 use std::alloc::Global;
 
-/// The error of the text at a place, unless it is lack of memory.
+/// Converts an error in the text at index `text`.
 pub fn of_text(text: usize, fault: TableFault) -> JoinFault
     ensures memory { fault.kind ≡ TableKind.Memory → result ≡ JoinFault.Memory }
     ensures text { fault.kind ≢ TableKind.Memory → result ≡ JoinFault.Text text fault }
@@ -22,7 +22,7 @@ pub fn of_text(text: usize, fault: TableFault) -> JoinFault
     }
 }
 
-/// The error that the counts of a combination do not fit in 64 bits, or lack of memory.
+/// Builds the error that a combination's counts do not fit in 64 bits, or that memory ran out.
 pub fn too_many(alloc: Global, combo: &Combo) -> JoinFault
     ensures fault { (readings : List TableReading) → IsFaultOfText combo.now readings result }
     ensures many { (k : Combination) → result ≡ JoinFault.TooMany k → k ≡ combo.now }

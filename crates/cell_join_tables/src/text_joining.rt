@@ -1,4 +1,4 @@
-//! How joining texts begins and ends.
+//! Begins and ends merges of texts.
 
 ghost use Rattle.std.specs.Prelude.{◌≡◌, ◌≢◌, [], List, All, MatchOption, Some, IfErr, IfOk, IfSome, map, false, true};
 ghost use Rattle.std.specs.List.{Contains};
@@ -21,7 +21,7 @@ use cell_stats::format::Format;
 use cell_stats_combinations::combination::Combo;
 use std::alloc::Global;
 
-// The number of cells required after a text with this first entry.
+// Returns the number of cells required after a text with this first entry.
 fn width_behind(width: usize, head: &Option<(Combo, u64)>) -> usize
     ensures { result ≡ width_behind width head.now }
 {
@@ -34,11 +34,12 @@ fn width_behind(width: usize, head: &Option<(Combo, u64)>) -> usize
     }
 }
 
-/// The texts of sources, after reading their first entries; all have the same number of cells.
+/// Opens texts and reads their first entries. All must have the same number of cells.
 ///
 /// # Errors
 ///
-/// [`JoinFault::Text`] of the first text whose first line is faulty, [`JoinFault::Memory`].
+/// Returns [`JoinFault::Text`] for the first text whose first line has an error, or [`JoinFault::Memory`] if memory
+/// runs out.
 pub fn open_texts<R: Source + Drop>(
     alloc: Global,
     format: &Format,
@@ -73,11 +74,11 @@ pub fn open_texts<R: Source + Drop>(
     Ok(texts)
 }
 
-/// Puts the bytes that the block holds, unless a put failed, and changes the result if this put fails.
+/// Writes the rest of the block, unless a write failed before. Returns an error if this write fails.
 ///
 /// # Errors
 ///
-/// [`JoinFault::Write`] if a put failed, and otherwise the error that is given.
+/// Returns [`JoinFault::Write`] if a write failed, and otherwise the error in `merged`.
 pub fn settle<W: Sink>(
     merged: Result<(), JoinFault>,
     block: &mut OutputBlock,
@@ -98,8 +99,8 @@ pub fn settle<W: Sink>(
     merged
 }
 
-/// Flushes the sink unless a put failed, and returns the result. A failed flush turns success into a failed write, and
-/// changes no other result.
+/// Flushes the sink unless a write failed, and returns the error. A failed flush turns success into a failed write, and
+/// does not change any other result.
 pub fn finish<W: Sink>(merged: Result<(), JoinFault>, out: &mut W) -> Option<JoinFault>
     ensures taken { W.taken out.new ≡ W.taken out.old }
     ensures answered { IsAnswered merged (W.faults out.old) (W.faults out.new) result }

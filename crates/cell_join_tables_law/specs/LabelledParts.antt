@@ -1,4 +1,4 @@
--- Tables of parts of maps, printed with labels and joined, are the printed table of the full map.
+-- The tables of parts of maps, printed with labels, merge into the printed table of the full map.
 use Rattle.std.specs.Prelude.{ℕ, ℤ, ◌≡◌, ◌<◌, ◌≤◌, ◌+◌, ◌-◌, ◌*◌, ◌^◌, max, true, List, All, length, map, Option}
 use Rattle.cell_core_devices.specs.Blocks.{capped_count}
 use Rattle.cell_core_devices.specs.Device.{Coming, append_known}
@@ -11,9 +11,10 @@ use Rattle.cell_join_tables_law.specs.PrintedTables.{AreClearLabels, IsClear, la
 use Rattle.cell_join_tables_law.specs.PrintedParts.{text_of_maps, text_of_part}
 use Rattle.cell_join_tables.specs.JoinedLabels.{AreJoinedLabels, IsLabelledMerge, LabelledEntry, counted_text}
 
--- lines with labels that can be read back: counts and labels (r.stats manual, flags -c and -l), fields that can be
--- distinguished, at least one cell, no label longer than most bytes, and no line that is too long if each cell takes 11
--- bytes or the length of the null text, each label most bytes (7 for null), and a count 20
+-- lines with labels can be read back: the format has counts and labels (r.stats manual, flags -c and -l), fields can be
+-- distinguished, there is at least one cell, no label is longer than `most` bytes, and no line is too long, assuming 11
+-- bytes or the length of the null text for each cell, `most` bytes (7 for null) for each label, and 20 bytes for a
+-- count
 pub record CanBeReadLabelled (format : FormatValue) (picks : List ℕ) (maps : List Grid) (most : ℕ) : Type 0 where
   pub clear : IsClear format
   pub labels : format.labels ≡ true
@@ -29,13 +30,13 @@ pub record HasLabels (whole : List Grid) (picks : List ℕ) (part : Part) : Type
   pub within : All (λ pick. pick < length part.maps) picks
   pub same : (column : ℕ) (category : ℤ) → labels_of_maps part.maps picks column category ≡ labels_of_maps whole picks column category
 
--- complete texts of tables with labels whose merge has this text: the text is what joining them writes
+-- the texts are complete tables with labels, and `text` is the text of their merge
 pub record JoinLabelledTo (format : FormatValue) (texts : List Coming) (text : List ℕ) : Type 0 where
   pub merged : List LabelledEntry
   pub merge : IsLabelledMerge format texts merged
   pub whole : counted_text merged ≡ text
 
--- however maps of fewer than 2^64 - 1 cells are cut: the texts printed with labels for the parts join to the text
+-- however maps of fewer than 2^64 - 1 cells are cut, the texts printed with labels for the parts merge into the text
 -- printed for the full map
 abbrev pub LabelledPartsJoin : Type 0
 LabelledPartsJoin = (format : FormatValue) (picks : List ℕ) (rows cols : ℕ) (whole : List Grid) (most : ℕ)
@@ -45,7 +46,7 @@ LabelledPartsJoin = (format : FormatValue) (picks : List ℕ) (rows cols : ℕ) 
     → (skip : Skip) → JoinLabelledTo format (map (text_of_part format skip picks) parts)
     (text_of_maps format skip picks rows cols whole)
 
--- if texts join to a text, a sink that took the result of joining them without an error took exactly this text
+-- if texts merge into a text, a sink that accepted their merge without an error accepted exactly this text
 abbrev pub LabelledAsOne : Type 0
 LabelledAsOne = (format : FormatValue) (texts : List Coming) (text : List ℕ) → JoinLabelledTo format texts text
     → (before now : Option (List ℕ)) (written : ℕ) → AreJoinedLabels format texts before now written

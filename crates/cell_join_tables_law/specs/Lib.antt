@@ -1,4 +1,4 @@
--- Printed tables, read and joined.
+-- Printed tables, read and merged.
 pub mod LabelledParts
 pub mod PrintedParts
 pub mod PrintedTables

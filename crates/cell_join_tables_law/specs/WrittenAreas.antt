@@ -1,10 +1,10 @@
--- Which runs can be read back after writing.
+-- Runs that can be read back after writing.
 use Rattle.std.specs.Prelude.{ℕ, ◌≡◌, ◌+◌, ◌<◌, ◌≤◌, ◌^◌, ◌⊎◌, false, List, [], ◌∷◌, All, length, Option, Some, None}
 use Rattle.cell_join_lines.specs.declared.stretch.Stretch.{Stretch}
 use Rattle.cell_join_lines.specs.AreasReading.{areas_reading_of}
 use Rattle.cell_join_lines.specs.AreasText.{areas_text, stretches_of}
 
--- numbers from 1 on that can be read: of a tile and its areas, up to the number of areas that a map can have
+-- the run can be read: its tile and clumps are from 1 to 2^31 - 1, and its number is from 1 to 2^64 - 1
 pub record IsReadable (s : Stretch) : Type 0 where
   pub some_band : 0 < s.band
   pub band : s.band < 2 ^ 31
@@ -14,17 +14,17 @@ pub record IsReadable (s : Stretch) : Type 0 where
   pub some_number : 0 < s.number
   pub number : s.number < 2 ^ 64
 
--- the next areas of a band, or the first ones of a later band
+-- the run contains the next clumps of a tile, or the first clumps of a later tile
 abbrev pub Follows : Option Stretch → Stretch → Type 0
 Follows None s = s.first ≡ 1
 Follows (Some before) s = ((before.band ≡ s.band) × (s.first ≡ before.last + 1)) ⊎ ((before.band < s.band) × (s.first ≡ 1))
 
--- runs in order after another one, if there is one
+-- the runs can be read and are in order, after the previous run, if any
 abbrev pub AreReadable : Option Stretch → List Stretch → Type 0
 AreReadable before [] = Unit {0}
 AreReadable before (s ∷ stretches) = IsReadable s × Follows before s × AreReadable (Some s) stretches
 
--- their text is read back as these runs
+-- the text of these runs is read back as exactly these runs
 abbrev pub TextReadsAsItself : Type 0
 TextReadsAsItself = (stretches : List Stretch) → AreReadable None stretches
     → areas_reading_of (record { bytes = areas_text stretches; fails = false }) ≡ record { stretches = stretches; fault = None }

@@ -1,11 +1,11 @@
-//! Laws of the texts of tables and numberings. No code runs.
+//! Laws of the texts of tables and numberings. This crate contains only proofs.
 //!
-//! Main law, `printed_parts_join`: however maps are cut into tiles that cover each cell once, the
-//! printed tables of the tiles merge to the printed table of the full map. `labelled_parts_join`
-//! says so with labels.
+//! The main law is `printed_parts_join`: if maps are cut in any way into tiles that contain each cell once, the printed
+//! tables of the tiles merge into the printed table of the full map. `labelled_parts_join` is the law for tables with
+//! labels.
 //!
-//! The others: what is printed of a table, or written of a numbering, is read back unchanged; and
-//! `join_texts` writes exactly what the texts merge to, if there is no error.
+//! By the other laws, printed tables and written numberings are read back unchanged, and `join_texts` writes exactly
+//! the merge of the texts, unless there is an error.
 #![tactic(auto)]
 
 pub mod law;

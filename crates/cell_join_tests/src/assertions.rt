@@ -1,9 +1,9 @@
-//! `assert_same!` is `assert_eq!` as a call: the comparison and its message are proved once, and not at each use.
+//! `assert_same!` is `assert_eq!` as a function call, so that the comparison and its message are proved only once.
 
 use std::fmt::{Debug, Display};
 use std::process::Abort;
 
-/// The result equals the expected one.
+/// Checks that the result equals the expected value.
 pub(crate) fn same<R: Abort, N: Display + Drop, T: PartialEq + Debug>(
     rt: &R,
     note: N,

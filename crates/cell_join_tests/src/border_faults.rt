@@ -1,4 +1,4 @@
-//! Texts of borders with one error each.
+//! Tests texts of borders with one error each.
 
 use crate::border_texts::{SMALL, read};
 use cell_core::memory::Memory;
@@ -8,12 +8,12 @@ use cell_join_borders::pair_fault::{PairFault, PairKind};
 use std::alloc::Global;
 use std::test::Fail;
 
-// The bytes before the rows of the small border, and the bytes of each row.
+// The number of bytes before the rows of the small border, and the number of bytes in each row.
 const HEADER: usize = 51;
 
 const ROW: usize = 8;
 
-// The small border with one row, counted from 1, replaced, and its error.
+// Replaces one row of the small border, counted from 1, and returns the error of the text.
 fn fault_with(alloc: Global, row: usize, line: &[u8]) -> Result<Option<BorderFault>, Memory> {
     let at = HEADER.saturating_add(ROW.saturating_mul(row.saturating_sub(1)));
     let mut text = Vec::new(alloc);

@@ -4,13 +4,13 @@ use cell_core::memory::Memory;
 use cell_core_test_maps::maps::NULL;
 use std::alloc::Global;
 
-/// The next pseudo-random number (Knuth's multiplier).
+/// Returns the next pseudo-random number (Knuth's multiplier).
 pub(crate) fn next_random(seed: u64) -> u64 {
     seed.wrapping_mul(6364136223846793005)
         .wrapping_add(1442695040888963407)
 }
 
-/// `count` random categories; of four numbers one is null.
+/// Returns `count` random categories. One in four cells is null.
 pub(crate) fn categories_by(
     alloc: Global,
     seed: &mut u64,

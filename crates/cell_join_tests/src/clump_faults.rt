@@ -1,4 +1,4 @@
-//! Borders of tiles that do not make a grid, and texts that are not borders.
+//! Tests borders of tiles that do not form a grid, and texts that are not borders.
 
 use crate::border_texts::ROOM;
 use crate::tile_texts::{A, B, C, D, DEEP, NARROW, TALL, WIDE, border, borders, joined_to};
@@ -13,7 +13,7 @@ use std::test::Fail;
 // An edge at a whole map unit.
 const UNIT: i64 = 100000000;
 
-// The error of texts that are not joined; nothing was written.
+// Returns the error of texts that are not joined, and checks that nothing was written.
 fn fault_of(
     alloc: Global,
     texts: Vec<Vec<u8>>,
@@ -26,7 +26,7 @@ fn fault_of(
     Ok(joined.outcome.fault)
 }
 
-// Tiles with one that is neither right of the one before it nor below the first, its place, and why.
+// Tiles in which one is neither right of the previous tile nor below the first, its index, and the reasons.
 const APART: [(&[&[u8]], usize, Misfit, Misfit); 3] = [
     (
         &[A, D, C, B],
@@ -77,7 +77,7 @@ fn tiles_apart(rt: HostRuntime) -> Result<(), Fail> {
     Ok(())
 }
 
-// Tiles with one that is not right of another.
+// Tiles that are not right of another tile, and the reasons.
 const NOT_BESIDE: [(&[u8], Misfit); 2] = [
     (
         C,
@@ -102,7 +102,7 @@ fn tiles_not_beside(rt: HostRuntime) -> Result<(), Fail> {
     Ok(())
 }
 
-// Why a later tile does not fit to the right of the one before it, if it has as many rows.
+// Tiles with the right number of rows that are not right of the previous tile, and the reasons.
 const EDGES: [(&[u8], Misfit); 2] = [
     (
         TALL,
@@ -139,7 +139,7 @@ fn tiles_at_other_edges(rt: HostRuntime) -> Result<(), Fail> {
     Ok(())
 }
 
-// Tiles with one that is not below another, the places of both, and why.
+// Tiles in which one is not below another, the indices of both, and the reason.
 const NOT_BELOW: [(&[&[u8]], usize, usize, Misfit); 3] = [
     (&[A, B, C, NARROW], 3, 1, Misfit::Cols { cols: 1, other: 2 }),
     (

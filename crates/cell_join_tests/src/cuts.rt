@@ -1,9 +1,9 @@
-//! Every way to cut a length into pieces.
+//! Enumerates all ways to cut a length into pieces.
 
 use cell_core::memory::Memory;
 use std::alloc::Global;
 
-/// The number of ways to cut a length into pieces.
+/// Returns the number of ways to cut a length into pieces.
 pub(crate) fn ways(length: u32) -> u64 {
     match length.checked_sub(1) {
         Some(places) => 1u64.checked_shl(places).unwrap_or(1),
@@ -11,7 +11,7 @@ pub(crate) fn ways(length: u32) -> u64 {
     }
 }
 
-/// The pieces of one of these ways: the bits of its number say where the length is cut.
+/// Returns the pieces of one way. The bits of `way` state where the length is cut.
 pub(crate) fn pieces(alloc: Global, length: u32, way: u64) -> Result<Vec<u32>, Memory> {
     let mut lengths = Vec::new(alloc);
     let mut piece: u32 = 0;

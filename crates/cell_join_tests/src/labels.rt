@@ -1,4 +1,4 @@
-//! Texts with labels, and the result of joining them.
+//! Tests texts with labels, and the results of merging them.
 
 use cell_core::sink::MemorySink;
 use cell_core::source::MemorySource;
@@ -13,7 +13,7 @@ use std::test::Fail;
 // The room of a sink in bytes.
 const ROOM: usize = 4096;
 
-// Sources of texts that give at most `piece` bytes at a time.
+// Creates sources of texts that return at most `piece` bytes at a time.
 fn sources_of(
     alloc: Global,
     texts: &[&[u8]],
@@ -27,7 +27,7 @@ fn sources_of(
     Ok(sources)
 }
 
-// Joins texts whose fields are separated by semicolons.
+// Merges texts whose fields are separated by semicolons.
 fn join(
     alloc: Global,
     texts: &[&[u8]],
@@ -39,7 +39,7 @@ fn join(
     Ok(join_texts(alloc, &format, sources, out))
 }
 
-// Joins texts without labels, whose fields are separated by spaces.
+// Merges texts without labels, whose fields are separated by spaces.
 fn join_plain(
     alloc: Global,
     texts: &[&[u8]],
@@ -50,7 +50,7 @@ fn join_plain(
     Ok(join_texts(alloc, &format, sources, out))
 }
 
-// The different labels that were reported.
+// Returns the reported labels that differ.
 fn other_labels(outcome: &JoinOutcome) -> Option<(usize, usize, u64, &[u8], &[u8])> {
     match &outcome.fault {
         Some(LabelFault::OtherLabel(reported)) => Some((
@@ -64,7 +64,7 @@ fn other_labels(outcome: &JoinOutcome) -> Option<(usize, usize, u64, &[u8], &[u8
     }
 }
 
-// The table of two texts with the same labels, and one empty text.
+// The table of two texts with the same labels and one empty text.
 const CARRIED: &[u8] = b"1;forest;12\n2;lake;1\n3;;2\n*;no data;4\n";
 
 fn expect_carried<R: Abort + AllocGlobal>(rt: &R, piece: usize) -> Result<(), Fail> {

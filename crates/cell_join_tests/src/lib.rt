@@ -1,6 +1,6 @@
-//! Tests of maps in grids of tiles: the clumps of the full map compared with the joined ones. Tests of joining tables,
-//! clumps and sizes: worked texts, each error with its place, texts in small pieces, truncated texts, failing sinks,
-//! and random sizes compared with a plain count.
+//! Tests of joining. The clumps of maps that are cut into grids of tiles are compared with the full map's clumps. For
+//! tables, clumps and sizes, there are worked texts, each error with its position, texts in small pieces, truncated
+//! texts, failing sinks, and random sizes compared with a plain count.
 #![tactic(auto)]
 
 #[cfg(test)]

@@ -1,4 +1,4 @@
-//! Texts, and how they are read.
+//! Tests how texts are read.
 
 ghost use Rattle.std.specs.Prelude.{◌≡◌, ◌<◌, ◌≤◌, length, IfOk};
 
@@ -11,7 +11,7 @@ use std::alloc::Global;
 use std::cell;
 use std::test::Fail;
 
-// A text, and the sum of its counts, or its first error.
+// Texts, each with the sum of its counts, or its first error.
 const TEXTS: [(&[u8], Result<u64, (u64, TableKind)>); 21] = [
     (b"", Ok(0)),
     (b"1 5\n2 4\n3 2\n* 1\n", Ok(12)),
@@ -36,7 +36,8 @@ const TEXTS: [(&[u8], Result<u64, (u64, TableKind)>); 21] = [
     (b"1 5\r\n", Err((1, TableKind::BadCount))),
 ];
 
-// The sum of the counts of a text whose source gives at most `piece` bytes at a time, and then fails or ends.
+// Returns the sum of a text's counts. The text's source returns at most `piece` bytes at a time, and then fails or
+// ends.
 fn sum_of(alloc: Global, text: &[u8], piece: usize, fails: bool) -> Result<u64, (u64, TableKind)> {
     let Ok(bytes) = Vec::from_slice(alloc, text) else {
         return Err((0, TableKind::Memory));
@@ -48,7 +49,7 @@ fn sum_of(alloc: Global, text: &[u8], piece: usize, fails: bool) -> Result<u64, 
     }
 }
 
-// The sum of the counts of a source's text.
+// Returns the sum of the counts in a source's text.
 fn add_up(alloc: Global, source: MemorySource) -> Result<u64, TableFault> {
     let format = Format::new(b' ', b"*", false, true);
     let mut text = TableText::from_source(alloc, &format, 0, source)?;
@@ -93,7 +94,8 @@ fn a_line_has_a_greatest_length(rt: HostRuntime) -> Result<(), Fail> {
     Ok(())
 }
 
-// A source that gives one byte per call. One call fails, or reports the end, before it continues. It counts its calls.
+// A source that returns one byte per call, and counts its calls. One call fails, or reports the end, before the source
+// continues.
 #[derive(Drop)]
 struct OddSource<'a> {
     text: &'a [u8],
@@ -104,7 +106,7 @@ struct OddSource<'a> {
 }
 
 impl<'a> OddSource<'a> {
-    // What a call returns.
+    // Returns the result of a read.
     fn give(&mut self, buf: &mut [u8]) -> Result<usize, DeviceFault>
         requires { 0 < length buf.old }
         ensures count { IfOk result (λ n. n ≤ length buf.new) }
@@ -134,8 +136,8 @@ impl<'a> Source for OddSource<'a> {
     }
 }
 
-// How the second line is read if a call for it fails or reports the end, how many calls the source had by then, and how
-// many after two more requests for a line.
+// Reads the second line from a source that fails or reports the end at one call. Returns the result, the number of
+// calls up to then, and the number of calls after two more requests for a line.
 fn asked_oddly(
     alloc: Global,
     odd_call: usize,

@@ -1,4 +1,4 @@
-//! The clumps of random maps in every grid of tiles, compared with the clumps of the full maps.
+//! Compares the clumps of random maps in every grid of tiles with the clumps of the full maps.
 
 use crate::chance::categories_by;
 use crate::cuts::{pieces, ways};
@@ -8,7 +8,7 @@ use std::alloc::AllocGlobal;
 use std::process::Abort;
 use std::test::Fail;
 
-/// However a map is cut into a grid, its clumps, by edges and by corners, have the numbers of the full map.
+/// Checks that however a map is cut into a grid, its clumps, by edges and by corners, have the full map's numbers.
 pub(crate) fn expect_as_whole<R: Abort + AllocGlobal>(
     rt: &R,
     categories: &[i32],
@@ -29,7 +29,8 @@ pub(crate) fn expect_as_whole<R: Abort + AllocGlobal>(
     Ok(())
 }
 
-// Maps of up to five rows and columns with two, three or four categories, each in every grid, by edges and by corners: 5,766 grids.
+// Checks maps of up to five rows and columns with two, three or four categories, in every grid, by edges and by
+// corners: 5,766 grids.
 fn expect_random_maps<R: Abort + AllocGlobal>(rt: &R, mut seed: u64) -> Result<(), Fail> {
     for rows in 1..6u32 {
         for cols in 1..6u32 {
@@ -43,7 +44,7 @@ fn expect_random_maps<R: Abort + AllocGlobal>(rt: &R, mut seed: u64) -> Result<(
     Ok(())
 }
 
-// Four tests instead of one, since a test may take at most a minute.
+// There are four tests instead of one, because a test may run for at most a minute.
 
 #[test]
 fn random_maps_in_every_grid(rt: HostRuntime) -> Result<(), Fail> {

@@ -1,4 +1,4 @@
-//! Random tiles: the sizes of their clumps compared with a plain count.
+//! Compares the clump sizes of random tiles with a plain count.
 
 use crate::sizes::{ROOM, join_to};
 use cell_core::memory::Memory;
@@ -7,17 +7,17 @@ use itoa::Buffer;
 use std::alloc::{AllocGlobal, Global};
 use std::test::Fail;
 
-// Maximum number of tiles of a map.
+// The maximum number of tiles in a map.
 const BANDS: u64 = 6;
 
-// Maximum number of runs of a tile.
+// The maximum number of runs in a tile.
 const STRETCHES: u64 = 3;
 
-// The largest number with which a run begins.
+// The largest number at which a run begins.
 const NUMBERS: u64 = 5;
 
-// The texts of tiles, the number of their clumps, the largest number in each line of the numbering, and the sizes of
-// the clumps of the full map, by number: 0 if a number is left out.
+// The texts of tiles, the number of their clumps, the largest number in each line of the numbering, and the full map's
+// clump sizes by number, with 0 for missing numbers.
 #[derive(Drop)]
 struct Bands {
     areas: Vec<u8>,
@@ -27,7 +27,7 @@ struct Bands {
     sizes: Vec<u64>,
 }
 
-// The next pseudo-random number, below a bound.
+// Returns the next pseudo-random number below a bound.
 fn below(seed: &mut u64, bound: u64) -> u64 {
     *seed = seed
         .wrapping_mul(6364136223846793005)
@@ -35,7 +35,7 @@ fn below(seed: &mut u64, bound: u64) -> u64 {
     (*seed >> 33) % bound.max(1)
 }
 
-// A line of numbers, separated by spaces.
+// Writes a line of numbers, separated by spaces.
 fn push_line(text: &mut Vec<u8>, numbers: &[u64]) -> Result<(), Memory> {
     for (place, number) in numbers.iter().enumerate() {
         if 0 < place {
@@ -47,7 +47,7 @@ fn push_line(text: &mut Vec<u8>, numbers: &[u64]) -> Result<(), Memory> {
     Ok(())
 }
 
-// Adds a size to the size of a number.
+// Adds a size to the sum for a number.
 fn count(sizes: &mut Vec<u64>, number: u64, size: u64) -> Result<(), Memory> {
     for _ in sizes.len() as u64..number {
         sizes.push(0)?;
@@ -58,7 +58,7 @@ fn count(sizes: &mut Vec<u64>, number: u64, size: u64) -> Result<(), Memory> {
     Ok(())
 }
 
-// Adds the sizes of `areas` clumps of a tile, from clump `area` on, to the numbers from `number` on.
+// Adds the sizes of `areas` clumps of a tile, from clump `area` on, to the sums for the numbers from `number` on.
 fn push_areas(
     seed: &mut u64,
     table: &mut Vec<u8>,
@@ -75,7 +75,7 @@ fn push_areas(
     Ok(())
 }
 
-// A tile in a place, with runs of up to three clumps and random numbers.
+// Adds a tile at index `band`, with runs of up to three clumps and random numbers.
 fn push_band(alloc: Global, seed: &mut u64, band: u64, bands: &mut Bands) -> Result<(), Memory> {
     let mut table = Vec::new(alloc);
     let mut area = 1u64;
@@ -101,7 +101,7 @@ fn push_band(alloc: Global, seed: &mut u64, band: u64, bands: &mut Bands) -> Res
     Ok(())
 }
 
-// Random tiles.
+// Returns random tiles.
 fn bands_by(alloc: Global, mut seed: u64) -> Result<Bands, Memory> {
     let mut bands = Bands {
         areas: Vec::new(alloc),
@@ -116,7 +116,8 @@ fn bands_by(alloc: Global, mut seed: u64) -> Result<Bands, Memory> {
     Ok(bands)
 }
 
-// The first line with a number above the count of clumps, or the first number without a size.
+// Returns the error for the first line with a number above the number of clumps, or for the first number without a
+// size.
 fn fault_of(count: u64, greatest: &[u64], sizes: &[u64]) -> Option<SizesFault> {
     for (place, number) in greatest.iter().enumerate() {
         if *number > count {
@@ -133,7 +134,7 @@ fn fault_of(count: u64, greatest: &[u64], sizes: &[u64]) -> Option<SizesFault> {
     None
 }
 
-// The lines of sizes.
+// Returns the lines of sizes.
 fn lines_of(alloc: Global, sizes: &[u64]) -> Result<Vec<u8>, Memory> {
     let mut lines = Vec::new(alloc);
     for (place, size) in sizes.iter().enumerate() {
@@ -142,7 +143,7 @@ fn lines_of(alloc: Global, sizes: &[u64]) -> Result<Vec<u8>, Memory> {
     Ok(lines)
 }
 
-// Texts as slices.
+// Returns texts as slices.
 fn slices_of(alloc: Global, texts: &[Vec<u8>]) -> Result<Vec<&[u8]>, Memory> {
     let mut slices: Vec<&[u8]> = Vec::new(alloc);
     for text in texts {

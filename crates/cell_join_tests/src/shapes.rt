@@ -1,4 +1,4 @@
-//! Shapes that cross the seams between tiles: parts that meet only far away are one clump.
+//! Tests shapes that cross the seams between tiles: parts that meet only far away are one clump.
 
 use crate::assertions::assert_same;
 use crate::random::expect_as_whole;
@@ -7,7 +7,7 @@ use cell_cats_areas::clump::Joining;
 use std::alloc::AllocGlobal;
 use std::test::Fail;
 
-// A comb: its teeth meet in the last row.
+// A comb whose teeth meet in the last row.
 const COMB: [i32; 20] = [
     1, 2, 1, 2, 1, //
     1, 2, 1, 2, 1, //

@@ -1,4 +1,4 @@
-//! The errors of texts, each with its place; nothing is written.
+//! Tests the errors of texts, each with its position. Nothing is written.
 
 use crate::sizes::{ROOM, join_to};
 use crate::worked_sizes::{AREAS, FIRST, SECOND};
@@ -50,7 +50,7 @@ fn tables_of_other_bands_are_refused(rt: HostRuntime) -> Result<(), Fail> {
     Ok(())
 }
 
-// The numbering is read first: a number above the count of its clumps is rejected before any table is read.
+// The numbering is read first, so a number above its count of clumps is rejected before any table is read.
 #[test]
 fn numbers_are_refused(rt: HostRuntime) -> Result<(), Fail> {
     let cases: [(&[u8], SizesFault); 7] = [

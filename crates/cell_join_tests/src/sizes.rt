@@ -1,4 +1,4 @@
-//! Texts joined in memory.
+//! Joins texts in memory.
 
 use cell_core::memory::Memory;
 use cell_core::sink::MemorySink;
@@ -7,25 +7,25 @@ use cell_join_sizes::table_sizes::{SizesOutcome, join_table_sizes};
 use cell_stats::format::Format;
 use std::alloc::Global;
 
-// The largest number of bytes that a source gives, or a sink takes, per call.
+// The largest number of bytes that a source returns, or a sink accepts, per call.
 const PIECE: usize = 7;
 
-/// More bytes than the sizes of any test take.
+/// Room for the sizes of every test.
 pub(crate) const ROOM: usize = 4096;
 
-/// The outcome of joining, and the bytes that the sink took.
+/// The outcome of joining, and the bytes that the sink accepted.
 #[derive(Drop)]
 pub(crate) struct Joined {
     pub(crate) outcome: SizesOutcome,
     pub(crate) bytes: Vec<u8>,
 }
 
-// A source of a text.
+// Creates the source of a text.
 fn source_of(alloc: Global, text: &[u8]) -> Result<MemorySource, Memory> {
     Ok(MemorySource::new(Vec::from_slice(alloc, text)?, PIECE, false))
 }
 
-// Sources of texts.
+// Creates the sources of texts.
 fn sources_of(alloc: Global, texts: &[&[u8]]) -> Result<Vec<MemorySource>, Memory> {
     let mut sources = Vec::new(alloc);
     for text in texts {
@@ -34,7 +34,7 @@ fn sources_of(alloc: Global, texts: &[&[u8]]) -> Result<Vec<MemorySource>, Memor
     Ok(sources)
 }
 
-/// Writes the sizes of a numbering and tables to a sink with this much room.
+/// Writes the sizes for a numbering and tables to a sink with limited room.
 pub(crate) fn join_to(
     alloc: Global,
     areas: &[u8],

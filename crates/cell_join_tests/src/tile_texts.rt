@@ -22,29 +22,29 @@ pub(crate) const C: &[u8] = b"north: 1\nsouth: 0\neast: 2\nwest: 0\nrows: 1\ncol
 
 pub(crate) const D: &[u8] = b"north: 1\nsouth: 0\neast: 4\nwest: 2\nrows: 1\ncols: 2\n1 1\n";
 
-/// The last one with one column less, and with another east edge.
+/// Tile `D` with one column less, and with a different east edge.
 pub(crate) const NARROW: &[u8] = b"north: 1\nsouth: 0\neast: 3\nwest: 2\nrows: 1\ncols: 1\n1\n";
 
 pub(crate) const WIDE: &[u8] = b"north: 1\nsouth: 0\neast: 5\nwest: 2\nrows: 1\ncols: 2\n1 1\n";
 
-/// The second one with another north edge, and with another south edge.
+/// Tile `B` with a different north edge, and with a different south edge.
 pub(crate) const TALL: &[u8] =
     b"north: 4\nsouth: 1\neast: 4\nwest: 2\nrows: 2\ncols: 2\n2 2\n2 1\n";
 
 pub(crate) const DEEP: &[u8] =
     b"north: 3\nsouth: 0\neast: 4\nwest: 2\nrows: 2\ncols: 2\n2 2\n2 1\n";
 
-// The largest number of bytes that a source gives, or a sink takes, per call.
+// The largest number of bytes that a source returns, or a sink accepts, per call.
 const PIECE: usize = 7;
 
-/// The outcome of joining, and the bytes that the sink took.
+/// The outcome of joining, and the bytes that the sink accepted.
 #[derive(Drop)]
 pub(crate) struct Joined {
     pub(crate) outcome: ClumpsOutcome,
     pub(crate) bytes: Vec<u8>,
 }
 
-/// Joins texts, into a sink with this much room, whose flush fails or not. Reading the last text fails or not.
+/// Joins texts into a sink with limited room, whose flush may fail. Reading the last text may fail.
 pub(crate) fn joined_to(
     alloc: Global,
     joining: Joining,
@@ -64,13 +64,13 @@ pub(crate) fn joined_to(
     Ok(Joined { outcome, bytes })
 }
 
-/// The text of the border of the text of a map.
+/// Returns the text of a map's border, given the map's text.
 pub(crate) fn border(alloc: Global, joining: Joining, map: &[u8]) -> Result<Vec<u8>, Memory> {
     let written = written_to(alloc, joining, map, ROOM, false)?;
     Ok(written.bytes)
 }
 
-/// The texts of the borders of maps.
+/// Returns the texts of the borders of maps.
 pub(crate) fn borders(
     alloc: Global,
     joining: Joining,

@@ -1,4 +1,4 @@
-//! Maps in grids of tiles, and their clumps.
+//! Cuts maps into grids of tiles, and clumps them.
 
 ghost use Rattle.std.specs.Prelude.{◌<◌, ◌≡◌};
 
@@ -14,14 +14,14 @@ use std::alloc::{AllocGlobal, Global};
 use std::process::Abort;
 use std::test::Fail;
 
-// A map by its categories, row by row.
+// A map as a list of categories, row by row.
 #[derive(Clone, Copy)]
 pub(crate) struct Whole<'a> {
     pub(crate) categories: &'a [i32],
     pub(crate) cols: u32,
 }
 
-// A tile by the numbers of its cells, row by row, with its place in the full map and its part of the numbering.
+// A tile as a list of its cells' numbers, row by row, with its position in the full map and its part of the numbering.
 #[derive(Drop)]
 struct Numbered {
     numbers: Vec<i32>,
@@ -31,7 +31,7 @@ struct Numbered {
     part: u64,
 }
 
-// The categories of a rectangle of a map.
+// Returns the categories in a rectangle of a map.
 fn cut_out(
     alloc: Global,
     whole: Whole<'_>,
@@ -52,7 +52,7 @@ fn cut_out(
     Ok(cells)
 }
 
-// The cells of a row or a column of a map, and their numbers, from one cell on.
+// Returns the cells of a row or a column of a map, and their numbers, starting at one cell.
 fn side_of(
     alloc: Global,
     map: &CellMap,
@@ -77,7 +77,7 @@ fn side_of(
     Ok(side)
 }
 
-// The border of the tile with these categories, and the numbers of its cells.
+// Returns the border of the tile with these categories, and its cells' numbers.
 fn tile_of(
     alloc: Global,
     categories: &[i32],
@@ -100,7 +100,7 @@ fn tile_of(
     Ok((border, categories_of(alloc, &clumps)?))
 }
 
-// The borders of the tiles of a row of tiles; their numbers follow the numbers of the others.
+// Returns the borders of the tiles in a row of tiles. Numbers the tiles after the previous tiles.
 fn row_of_tiles(
     alloc: Global,
     whole: Whole<'_>,
@@ -130,7 +130,7 @@ fn row_of_tiles(
     Ok(tiles)
 }
 
-// The number in the full map of a clump of a tile, from the runs of a numbering.
+// Returns the full map's number for a tile's clump, from the runs of a numbering.
 fn number_in(runs: &[Stretch], part: u64, clump: u64) -> u64 {
     for run in runs {
         if run.band == part && run.first <= clump && clump <= run.last {
@@ -140,7 +140,7 @@ fn number_in(runs: &[Stretch], part: u64, clump: u64) -> u64 {
     u64::MAX
 }
 
-// Writes the numbers of a tile's cells to their places in the full map.
+// Writes the numbers of a tile's cells to their positions in the full map.
 fn put_numbers(found: &mut [u64], cols: u32, tile: &Numbered, runs: &[Stretch]) {
     let mut at: u32 = 0;
     for number in tile.numbers.as_slice() {
@@ -160,7 +160,7 @@ fn put_numbers(found: &mut [u64], cols: u32, tile: &Numbered, runs: &[Stretch]) 
     }
 }
 
-// The error of a joiner, as a test failure.
+// Converts an error of a joiner to a test failure.
 fn joined(answer: Result<TileJoiner, JoinerFault>) -> Result<TileJoiner, Fail> {
     match answer {
         Ok(joiner) => Ok(joiner),
@@ -168,8 +168,8 @@ fn joined(answer: Result<TileJoiner, JoinerFault>) -> Result<TileJoiner, Fail> {
     }
 }
 
-/// The numbers of all cells of a map, joined from a grid of tiles of these heights and widths, 0 for null; and the
-/// number of clumps.
+/// Returns the numbers of all cells of a map, joined from a grid of tiles with these heights and widths, with 0 for
+/// null, and the number of clumps.
 pub(crate) fn joined_numbers(
     alloc: Global,
     whole: Whole<'_>,
@@ -193,7 +193,7 @@ pub(crate) fn joined_numbers(
     Ok((found, all.clumps))
 }
 
-/// The numbers of all cells of the full map, 0 for null; and the number of clumps.
+/// Returns the numbers of all cells of the full map, with 0 for null, and the number of clumps.
 pub(crate) fn whole_numbers(
     alloc: Global,
     whole: Whole<'_>,
@@ -215,7 +215,7 @@ pub(crate) fn whole_numbers(
     Ok((found, most))
 }
 
-/// Joined from a grid of tiles of these heights and widths, clumps have the numbers of the full map.
+/// Checks that the clumps, joined from a grid of tiles with these heights and widths, have the full map's numbers.
 pub(crate) fn expect_numbers<R: Abort + AllocGlobal>(
     rt: &R,
     whole: Whole<'_>,

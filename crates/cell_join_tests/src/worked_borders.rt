@@ -1,4 +1,4 @@
-//! Worked borders, and all prefixes of a border.
+//! Tests worked borders, and all prefixes of a border.
 
 use crate::border_texts::{ROOM, SMALL, read, written_to};
 use cell_cats_areas::clump::Joining;
@@ -10,7 +10,7 @@ const SMALL_MAP: &[u8] = b"north: 3\nsouth: 1\neast: 2\nwest: 0\nrows: 2\ncols: 
 const WIDE_MAP: &[u8] =
     b"north: 2\nsouth: 0\neast: 5\nwest: 0\nrows: 2\ncols: 5\n7 * 7 7 3\n* 7 * * 3\n";
 
-// Its border by edges and corners: 7s that touch at a corner are one clump.
+// The border of this map by edges and corners: cells of category 7 that touch at a corner are one clump.
 const WIDE: &[u8] = b"north: 2\nsouth: 0\neast: 5\nwest: 0\nrows: 10\ncols: 5\n\
 7 * 7 7 3\n1 * 1 1 2\n* 7 * * 3\n* 1 * * 2\n7 * * * *\n1 * * * *\n3 3 * * *\n2 2 * * *\n2 5 2 8 *\n2 0 * * *\n";
 
@@ -34,7 +34,7 @@ fn borders_are_read(rt: HostRuntime) -> Result<(), Fail> {
     Ok(())
 }
 
-// No proper prefix is a border, except the one without the last line feed.
+// No proper prefix is a border, except the text without its last line feed.
 #[test]
 fn prefixes_are_none(rt: HostRuntime) -> Result<(), Fail> {
     for length in 0..SMALL.len() {

@@ -1,4 +1,4 @@
-//! Borders of the tiles of a worked map, joined.
+//! Joins the borders of the tiles of a worked map.
 
 use crate::border_texts::ROOM;
 use crate::tile_texts::{A, B, C, D, borders, joined_to};
@@ -6,12 +6,12 @@ use cell_cats_areas::clump::Joining;
 use cell_join_clumps::clumps_fault::ClumpsFault;
 use std::test::Fail;
 
-// The numbers of the full map are 1 1 2 2, 1 * 2 3 and 4 3 3 3,
+// By edges, the numbers of the full map are 1 1 2 2, 1 * 2 3 and 4 3 3 3.
 const BY_EDGES: &[u8] = b"1 1 1 1\n2 1 2 2\n3 1 1 4\n3 2 2 3\n4 1 1 3\n";
-// and with corners 1 1 2 2, 1 * 2 1 and 3 1 1 1.
+// By edges and corners, they are 1 1 2 2, 1 * 2 1 and 3 1 1 1.
 const BY_CORNERS: &[u8] = b"1 1 1 1\n2 1 1 2\n2 2 2 1\n3 1 1 3\n3 2 2 1\n4 1 1 1\n";
 
-// A sink with room for all, whose flush does not fail.
+// A sink with enough room, whose flush does not fail.
 const ROOMY: (usize, bool) = (ROOM, false);
 
 #[test]

@@ -1,5 +1,6 @@
-//! Two tiles, with two clumps and with three: in the full map the second clump of the first tile is one with the first
-//! of the other, and the first with its last.
+//! Tests two tiles with two and three clumps. In the full map, the second clump of the first tile and the first clump
+//! of the second tile are one clump, and so are the first clump of the first tile and the last clump of the second
+//! tile.
 
 use crate::sizes::{ROOM, join_to};
 use cell_join_sizes::size_fault::SizesFault;
@@ -16,7 +17,7 @@ pub(crate) const SECOND: &[u8] = b"1 20\n2 30\n3 40\n";
 
 const SIZES: &[u8] = b"1 45\n2 27\n3 30\n";
 
-// With a null in the other table only, with more tiles that have no clumps, with descending numbers, and without tiles.
+// Also tests a null only in the second table, more tiles without clumps, descending numbers, and no tiles.
 #[test]
 fn sizes_are_added_up(rt: HostRuntime) -> Result<(), Fail> {
     let cases: [(&[u8], &[&[u8]], &[u8]); 5] = [

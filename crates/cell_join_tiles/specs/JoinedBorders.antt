@@ -1,4 +1,4 @@
--- The borders of the tiles of a grid, the pairs of labels at its seams, and the numbers of the full map.
+-- The borders of a grid of tiles, the pairs of labels at its seams, and the numbers of the full map.
 use Rattle.std.specs.Prelude.{ℕ, suc, ◌≡◌, ◌-◌, ◌<◌, List, [], ◌++◌, length, map, flat_map, All, slice_index, slice_index_or}
 use Rattle.std.specs.List.{range_with_len}
 use Rattle.cell_core.specs.Grid.{Grid}
@@ -11,7 +11,7 @@ use Rattle.cell_join_tiles.specs.Beginnings.{Begun, clumps_in_grid, IsCutIntoTil
 use Rattle.cell_join_tiles.specs.Borders.{Rises, cell_label}
 use Rattle.cell_join_tiles.specs.SeamLines.{Line, line_meetings, HasSide, side_marks, row_line}
 
--- the border of a tile of rows × cols cells
+-- the border of a tile with `rows` × `cols` cells
 pub record HasBorder (j : Joining) (rows cols : ℕ) (m numbers : Grid) (border : BorderValue) : Type 0 where
   pub clumping : IsClumping j m numbers
   pub first : HasSide m numbers cols (position 0) border.first.cells border.first.numbers
@@ -20,11 +20,11 @@ pub record HasBorder (j : Joining) (rows cols : ℕ) (m numbers : Grid) (border 
   pub right : HasSide m numbers rows (λ k. position k (cols - 1)) border.right.cells border.right.numbers
   pub rises : Rises rows numbers border.begun
 
--- the border of the tile in a row and a column of tiles
+-- the border of the tile in row `r` and column `c` of the grid
 abbrev pub border_at : List (List BorderValue) → (r c : ℕ) → BorderValue
 border_at grid r c = slice_index_or (slice_index_or grid r []) c no_border
 
--- the same for each tile of a grid, none of them empty
+-- `HasBorder` for each tile of a grid, in which no tile is empty
 pub record HaveBorders (j : Joining) (heights widths : List ℕ) (map_of numbers_of : ℕ → ℕ → Grid) (grid : List (List BorderValue)) : Type 0 where
   pub some_rows : All (λ n. 0 < n) heights
   pub some_cols : All (λ n. 0 < n) widths
@@ -32,7 +32,7 @@ pub record HaveBorders (j : Joining) (heights widths : List ℕ) (map_of numbers
   pub wide : (r : ℕ) → r < length heights → length (slice_index_or grid r []) ≡ length widths
   pub tiles : (r c : ℕ) → r < length heights → c < length widths → HasBorder j (slice_index heights r) (slice_index widths c) (map_of r c) (numbers_of r c) (border_at grid r c)
 
--- the counts of clumps that begin in each row of each tile
+-- the number of clumps that begin in each row of each tile
 abbrev pub begun_in : List (List BorderValue) → List (List Begun)
 begun_in grid = map (λ row. map (λ border. border.begun) row) grid
 
@@ -49,13 +49,13 @@ first_seam_line grid r = row_line (map (λ c. side_marks (begun_in grid) r c (bo
 abbrev pub last_line : List (List BorderValue) → ℕ → Line
 last_line grid r = row_line (map (λ c. side_marks (begun_in grid) r c (border_at grid r c).last.cells (border_at grid r c).last.numbers) (range_with_len 0 (length (slice_index_or grid r []))))
 
--- the pairs of labels at the seams: within each row of tiles, and between two of them
+-- the pairs of labels at the seams: within each row of tiles, and between two rows of tiles
 abbrev pub side_pairs : Joining → List (List BorderValue) → ℕ → List (ℕ × ℕ)
 side_pairs j grid r = flat_map (λ c. line_meetings j (right_line grid r c) (left_line grid r (suc c))) (range_with_len 0 (length (slice_index_or grid r []) - 1))
 
 abbrev pub border_pairs : Joining → List (List BorderValue) → List (ℕ × ℕ)
 border_pairs j grid = flat_map (side_pairs j grid) (range_with_len 0 (length grid)) ++ flat_map (λ r. line_meetings j (last_line grid r) (first_seam_line grid (suc r))) (range_with_len 0 (length grid - 1))
 
--- from only borders: the cells of the full map are labelled as joining by pairs of labels requires
+-- the borders alone label the full map's cells so that they satisfy the conditions for joining by pairs of labels
 abbrev pub GridsAreLabelled : Type 0
 GridsAreLabelled = (j : Joining) (whole : Grid) (heights widths : List ℕ) (map_of numbers_of : ℕ → ℕ → Grid) (grid : List (List BorderValue)) → IsCutIntoTiles whole heights widths map_of → HaveBorders j heights widths map_of numbers_of grid → (starts : List Position) × (length starts ≡ clumps_in_grid (begun_in grid)) × AreLabelled j whole starts (cell_label heights widths numbers_of (begun_in grid)) (border_pairs j grid)

@@ -1,4 +1,4 @@
--- Clumps of the tiles of a grid, labelled using the rows in which they begin, and joined.
+-- The clumps of a grid of tiles, labelled using the rows in which they begin, and joined.
 pub mod Beginnings
 pub mod Borders
 pub mod SeamLines

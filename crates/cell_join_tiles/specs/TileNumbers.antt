@@ -13,10 +13,10 @@ numbers_of_row number grid r = flat_map (numbers_of_tile number grid r) (range_w
 abbrev pub numbers_by_tile : (ℕ → ℕ) → List (List Begun) → List ℕ
 numbers_by_tile number grid = flat_map (numbers_of_row number grid) (range_with_len 0 (length grid))
 
--- the number of clumps of the tiles before one
+-- the number of clumps in the tiles before the tile in row `r` and column `c` of the grid
 abbrev pub clumps_before_tile : List (List Begun) → (r c : ℕ) → ℕ
 clumps_before_tile grid r c = sum_by clumps_in_row (take r grid) + sum_by clumps_in_tile (take c (slice_index_or grid r []))
 
--- the place where each number is listed
+-- the index at which each number is listed
 abbrev pub TileNumbersAreListed : Type 0
 TileNumbersAreListed = (number : ℕ → ℕ) (grid : List (List Begun)) (r c k : ℕ) → r < length grid → c < length (slice_index_or grid r []) → k < clumps_in_tile (slice_index_or (slice_index_or grid r []) c []) → slice_index (numbers_by_tile number grid) (clumps_before_tile grid r c + k) ≡ number (clump_label grid r c k)

@@ -9,7 +9,7 @@ pub record SideValue : Type 0 where
   pub cells : List CellValue
   pub numbers : List CellValue
 
--- the border of a tile: its four sides, and for each of its rows the number of its clumps that begin in it
+-- the border of a tile: its four sides, and the number of clumps that begin in each of its rows
 pub record BorderValue : Type 0 where
   pub first : SideValue
   pub last : SideValue
@@ -23,7 +23,7 @@ side_value side = record { cells = side.cells.items; numbers = side.numbers.item
 abbrev pub border_value : Border → BorderValue
 border_value border = record { first = side_value border.first; last = side_value border.last; left = side_value border.left; right = side_value border.right; begun = border.begun.items }
 
--- the values of a row of tiles
+-- the borders of a row of tiles as values
 abbrev pub border_values : List Border → List BorderValue
 border_values row = map border_value row
 

@@ -1,4 +1,4 @@
--- What the joiner keeps for a row of tiles.
+-- What the joiner keeps of a row of tiles.
 pub mod RowLabels
 pub mod RowMarks
 pub mod Spans

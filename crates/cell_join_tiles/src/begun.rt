@@ -1,4 +1,4 @@
-//! How many clumps begin in each row of a tile.
+//! Counts the clumps that begin in each row of a tile.
 
 ghost use Rattle.std.specs.Prelude.{◌≡◌, ◌<◌, IfOk};
 ghost use Rattle.cell_core.specs.Grid.{row_at};
@@ -10,11 +10,11 @@ use cell_core::map::CellMap;
 use cell_core::memory::Memory;
 use std::alloc::Global;
 
-/// The cells of a row.
+/// Returns the cells of a row.
 ///
 /// # Errors
 ///
-/// [`Memory`] if memory runs out.
+/// Returns [`Memory`] if memory runs out.
 pub fn row_of(alloc: Global, map: &CellMap, row: u32) -> Result<Vec<Cell>, Memory>
     requires { row < map.now.region.rows }
     ensures { IfOk result (λ cells. cells.items ≡ row_at map.now row) }
@@ -24,7 +24,7 @@ pub fn row_of(alloc: Global, map: &CellMap, row: u32) -> Result<Vec<Cell>, Memor
     Ok(cells)
 }
 
-// The larger of a number and a cell.
+// Returns the larger of a number and a cell.
 fn greater_of(most: u64, cell: Cell) -> u64
     ensures { result ≡ greater_of most cell }
 {
@@ -37,7 +37,7 @@ fn greater_of(most: u64, cell: Cell) -> u64
     }
 }
 
-// The largest of a number and cells.
+// Returns the largest of a number and cells.
 fn greatest_in(most: u64, cells: &[Cell]) -> u64
     ensures { result ≡ greatest_in most cells.now }
 {
@@ -48,11 +48,11 @@ fn greatest_in(most: u64, cells: &[Cell]) -> u64
     greatest
 }
 
-/// For each row of the clump numbers of a tile, the number of clumps that begin in it.
+/// Returns the number of clumps that begin in each row, from the clump numbers of a tile.
 ///
 /// # Errors
 ///
-/// [`Memory`] if memory runs out.
+/// Returns [`Memory`] if memory runs out.
 pub fn begun_by_row(alloc: Global, numbers: &CellMap) -> Result<Vec<u64>, Memory>
     ensures { IfOk result (λ begun. Rises numbers.now.region.rows numbers.now begun.items) }
 {

@@ -1,4 +1,4 @@
-//! Rows of tiles, joined from top to bottom.
+//! Joins rows of tiles from top to bottom.
 
 ghost use Rattle.std.specs.Prelude.{ℕ, ◌≡◌, ◌≤◌, ◌^◌, ◌+◌, ◌++◌, ◌∷◌, [], List, IfErr, IfOk};
 ghost use Rattle.cell_join_tiles.specs.Beginnings.{clumps_in_row};
@@ -19,12 +19,12 @@ use cell_join_numbers::numbers::number_pairs;
 use std::alloc::Global;
 use std::marker::Model;
 
-/// Why a row of tiles is not joined to those above it.
+/// Why a row of tiles is not joined to the rows above.
 #[derive(Clone, Copy, Debug, PartialEq, Eq)]
 pub enum JoinerFault {
-    /// Its tiles do not have equally many rows.
+    /// Its tiles do not all have the same number of rows.
     OtherRows,
-    /// With its clumps, there are more than fit in a `u64`.
+    /// With its clumps, the number of clumps does not fit in a `u64`.
     TooManyClumps,
     /// Memory ran out.
     Memory,
@@ -41,24 +41,24 @@ impl From<Memory> for JoinerFault {
     }
 }
 
-/// The clumps of the full map, as clumps of tiles.
+/// The clumps of the full map, described by the clumps of the tiles.
 #[derive(Debug, Drop)]
 pub struct JoinedTiles {
-    /// The clumps of the tiles in their order, as runs with consecutive numbers in the full map.
+    /// The clumps of the tiles in order, as runs with consecutive numbers in the full map.
     pub runs: Vec<Stretch>,
-    /// The number of clumps of the full map.
+    /// The number of clumps in the full map.
     pub clumps: u64,
 }
 
 /// Tiles of a map, joined row by row from the top.
 ///
-/// It takes 16 bytes for each pair of clumps that meet at a seam, and for each row of each tile in which clumps begin.
-/// If a row of tiles has only one tile, it takes 16 bytes for all of the tile's rows. Of the borders it keeps the last
-/// row of cells.
+/// Uses 16 bytes for each pair of clumps that meet at a seam, and for each row of each tile in which clumps begin. If a
+/// row of tiles has only one tile, uses 16 bytes for all of the tile's rows. Keeps only the last row of cells of the
+/// borders.
 #[derive(Drop)]
 pub struct TileJoiner {
     joining: Joining,
-    // The number of clumps of the tiles, which is the number of labels.
+    // The number of clumps in the tiles, which is the number of labels.
     clumps: u64,
     // The pairs of labels that meet at seams.
     pairs: Vec<(u64, u64)>,
@@ -80,7 +80,7 @@ impl Model for TileJoiner {
 }
 
 impl TileJoiner {
-    /// No tiles yet. Takes no memory.
+    /// Creates a joiner without tiles. Allocates no memory.
     pub fn new(alloc: Global, joining: Joining) -> TileJoiner
         ensures joining { result.joining ≡ joining }
         ensures none { AreJoinedTiles [] result }
@@ -94,17 +94,17 @@ impl TileJoiner {
         }
     }
 
-    /// Adds one more row of tiles, from the left.
+    /// Adds one more row of tiles, given from the left.
     ///
     /// # Errors
     ///
-    /// A [`JoinerFault`].
+    /// Returns a [`JoinerFault`] if the row cannot be joined.
     pub fn add(self, alloc: Global, row: Vec<Border>) -> Result<TileJoiner, JoinerFault>
         ensures joining { IfOk result (λ more. more.joining ≡ self.joining) }
         ensures joined { IfOk result (λ more. (grid : List (List BorderValue))
             → AreJoinedTiles grid self
             → AreJoinedTiles (grid ++ border_values row.items ∷ []) more) }
-        // A row is rejected because of an error of its own.
+        // If a row is rejected, the error is the row's own.
         ensures other_rows { IfErr result (λ fault. fault ≡ JoinerFault.OtherRows
             → (rows : ℕ) → AreEven rows (border_values row.items) → ⊥) }
         ensures many { IfErr result (λ fault. fault ≡ JoinerFault.TooManyClumps
@@ -139,7 +139,7 @@ impl TileJoiner {
             last,
             right: _,
         } = joined;
-        // This seam is one line over the full width, so corners where four tiles meet need no case of their own.
+        // The seam is a single line over the full width, so corners where four tiles meet need no special case.
         add_meetings(&mut pairs, joining, &above, &first)?;
         Ok(TileJoiner {
             joining,
@@ -150,11 +150,11 @@ impl TileJoiner {
         })
     }
 
-    /// The number that each clump of each tile has in the full map, and the number of clumps there.
+    /// Returns the number that each clump of each tile has in the full map, and the number of clumps in the full map.
     ///
     /// # Errors
     ///
-    /// [`Memory`] if memory runs out.
+    /// Returns [`Memory`] if memory runs out.
     pub fn finish(self, alloc: Global) -> Result<JoinedTiles, Memory>
         ensures runs { IfOk result (λ joined. (grid : List (List BorderValue))
             → AreJoinedTiles grid self → AreRunsOf self.joining grid joined.runs.items) }

@@ -1,4 +1,4 @@
-//! The runs of the numbering: clumps of a tile with consecutive numbers in the full map.
+//! Computes the runs of the numbering: clumps of a tile with consecutive numbers in the full map.
 
 ghost use Rattle.std.specs.Prelude.{ℕ, ◌≡◌, ◌≤◌, ◌<◌, ◌+◌, ◌-◌, ◌++◌, ◌^◌, ◌↔◌, List, IfOk, IsTrue, OnOk, length, map, slice_index};
 ghost use Rattle.std.specs.List.{range_with_len};
@@ -18,7 +18,7 @@ use cell_join_numbers::numbers::SparseNumbers;
 use cell_join_numbers::sparse::place_of;
 use std::alloc::Global;
 
-// Whether another paired label comes before an end.
+// Returns whether another paired label comes before `end`.
 fn has_label_before(paired: &[u64], place: usize, end: u64) -> bool
     ensures { IsTrue result
         ↔ (place < length paired.now) × (slice_index paired.now place < end) }
@@ -29,7 +29,7 @@ fn has_label_before(paired: &[u64], place: usize, end: u64) -> bool
     }
 }
 
-// Numbers labels that are not paired: each has the next number.
+// Numbers labels that are not paired. Each gets the next number.
 fn add_lone(
     runs: &mut Vec<Stretch>,
     part: u64,
@@ -84,7 +84,7 @@ fn add_paired(
     add_run(runs, part, line, run)
 }
 
-// How far the labels of a span are numbered.
+// How far the labels of a span have been numbered.
 #[derive(Clone, Copy)]
 pub(crate) struct Walk {
     pub(crate) label: u64,
@@ -92,7 +92,7 @@ pub(crate) struct Walk {
     pub(crate) line: Option<Line>,
 }
 
-// Numbers the labels up to the next paired one, and the paired one too.
+// Numbers the labels up to and including the next paired label.
 fn walk_label(
     runs: &mut Vec<Stretch>,
     part: u64,
@@ -183,7 +183,7 @@ fn add_tile(
     Ok(())
 }
 
-// The runs of tiles whose clumps have these labels.
+// Returns the runs of tiles whose clumps have these labels.
 pub(crate) fn runs_of(
     alloc: Global,
     sparse: &SparseNumbers,

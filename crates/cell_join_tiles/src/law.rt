@@ -1,4 +1,4 @@
-//! The laws of joined borders.
+//! Laws of joined borders.
 
 ghost use Rattle.cell_join_tiles.specs.Beginnings.{ClumpLabelsAreLabels, LabelsFollowFirstCells};
 ghost use Rattle.cell_join_tiles.specs.Borders.{BordersAreLabelled, BordersCountTheWhole, BordersNumberTheWhole, CellsBearLabels, RisesCountBegun};
@@ -8,17 +8,17 @@ ghost use Rattle.cell_join_tiles.specs.JoinedLaw.{JoinedTilesCount, JoinedTilesN
 ghost use Rattle.cell_join_tiles.specs.LabelLines.{LabelLinesLabel, LabelLinesPass};
 ghost use Rattle.cell_join_tiles.specs.TileNumbers.{TileNumbersAreListed};
 
-/// Of two clumps of tiles, the one with the smaller label has the earlier first cell in the full map.
+/// Of two clumps of tiles, the clump with the smaller label has the earlier first cell in the full map.
 pub fn labels_follow_first_cells()
     ensures { LabelsFollowFirstCells }
 {}
 
-/// Cells with the labels of their clumps satisfy what joining by pairs of labels requires.
+/// The labels of the cells' clumps satisfy the conditions for joining by pairs of labels.
 pub fn clump_labels_are_labels()
     ensures { ClumpLabelsAreLabels }
 {}
 
-/// The number of clumps that begin in a row is the rise of the largest number so far.
+/// The number of clumps that begin in a row is the increase of the largest number so far.
 pub fn rises_count_begun()
     ensures { RisesCountBegun }
 {}
@@ -28,22 +28,22 @@ pub fn cells_bear_labels()
     ensures { CellsBearLabels }
 {}
 
-/// Numbers of the labels that use only the pairs at the seams are the numbers of the full map.
+/// Numbers computed from the labels and only the pairs at the seams are the numbers of the full map.
 pub fn borders_number_the_whole()
     ensures { BordersNumberTheWhole }
 {}
 
-/// And their number is the number of areas of the full map.
+/// The count of these numbers is the number of clumps in the full map.
 pub fn borders_count_the_whole()
     ensures { BordersCountTheWhole }
 {}
 
-/// The lines of cells on both sides of each seam give the pairs at the seams, and no others.
+/// The lines of cells on both sides of each seam give exactly the pairs at the seams.
 pub fn seam_lines_pair()
     ensures { SeamLinesPair }
 {}
 
-/// Borders of tiles label the cells of the full map as joining by pairs of labels requires.
+/// Borders of tiles label the full map's cells so that they can be joined by pairs of labels.
 pub fn borders_are_labelled()
     ensures { BordersAreLabelled }
 {}
@@ -53,42 +53,43 @@ pub fn sides_are_lines()
     ensures { SidesAreLines }
 {}
 
-/// And the sides of a row of tiles, one after the other, are a line of a row of the full map.
+/// The sides of a row of tiles, one after the other, are part of a row of the full map.
 pub fn rows_are_lines()
     ensures { RowsAreLines }
 {}
 
-/// From the labels of the first clumps of each row of a tile follows the label of each of its clumps.
+/// The labels of the first clumps in each row of a tile determine the label of each of its clumps.
 pub fn label_lines_label()
     ensures { LabelLinesLabel }
 {}
 
-/// And the same for the tile to its right.
+/// They also determine the first labels of the tile to its right.
 pub fn label_lines_pass()
     ensures { LabelLinesPass }
 {}
 
-/// From only the borders of tiles: the cells of the full map are labelled as joining by pairs of labels requires.
+/// The borders of tiles alone label the full map's cells so that they can be joined by pairs of labels.
 pub fn grids_are_labelled()
     ensures { GridsAreLabelled }
 {}
 
-/// Numbers that are listed tile by tile: where the number of each clump is listed.
+/// The position at which the number of each clump is listed, if numbers are listed tile by tile.
 pub fn tile_numbers_are_listed()
     ensures { TileNumbersAreListed }
 {}
 
-/// What is kept of the joined rows of tiles is enough for the next row.
+/// What the joiner keeps of the joined rows of tiles is enough for the next row.
 pub fn rows_join()
     ensures { RowsJoin }
 {}
 
-/// And for the numbering: in each map that is cut into these tiles, each cell has the number of its clump.
+/// What the joiner keeps is enough for the numbering: in each map that is cut into these tiles, each cell has the
+/// number of its clump.
 pub fn joined_tiles_number()
     ensures { JoinedTilesNumber }
 {}
 
-/// And for the number of clumps of each such map.
+/// What the joiner keeps is enough for the number of clumps of each of these maps.
 pub fn joined_tiles_count()
     ensures { JoinedTilesCount }
 {}

@@ -1,17 +1,17 @@
-//! Joining the borders of tiles to the clumps of the full map, one row of tiles at a time.
+//! Joins the borders of tiles to the clumps of the full map, one row of tiles at a time.
 //!
-//! How many clumps begin in each row of each tile is enough to label all clumps in the order of
-//! their first cells. So memory grows with the seams, not with the clumps.
+//! The number of clumps that begin in each row of each tile is enough to label all clumps in the order of their first
+//! cells. Memory therefore grows with the seams, not with the clumps.
 //!
-//! - `border`: `Border`, four sides, each with its cells and the numbers of their clumps, and the
-//!   counts by row; `begun`: `begun_by_row`, these counts
-//! - `joiner`: `TileJoiner`; `add` takes a row of tiles from the left, `finish` returns
-//!   `JoinedTiles`, the numbers in the full map as runs, and how many there are
-//! - `law`: from borders to labels, from labels to numbers; `joined_tiles_number` is the main law
-//! - private, in the order of work: `tile_rows`, one row of tiles; `row_labels` and `spans`, its labels;
-//!   `marks`, cells along a seam; `meetings`, the pairs there; `label_runs` and `run_lines`, the result
+//! - `border`: `Border`: four sides, each with its cells and their clump numbers, and the counts by row; `begun`:
+//!   `begun_by_row` computes these counts
+//! - `joiner`: `TileJoiner`: `add` accepts a row of tiles from the left, and `finish` returns `JoinedTiles`, the
+//!   numbers in the full map as runs, and the number of clumps
+//! - `law`: from borders to labels, and from labels to numbers; the main law is `joined_tiles_number`
+//! - private, in the order of work: `tile_rows`: one row of tiles; `row_labels`, `spans`: its labels; `marks`: cells
+//!   along a seam; `meetings`: the pairs there; `label_runs`, `run_lines`: the result
 //!
-//! `row_of_tiles` of the tests makes the borders of a row:
+//! In the tests, `row_of_tiles` makes the borders of a row:
 //!
 //! ```
 //! let mut joiner = TileJoiner::new(alloc, joining);

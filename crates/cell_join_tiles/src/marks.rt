@@ -18,7 +18,7 @@ pub(crate) struct Mark {
     pub(crate) label: u64,
 }
 
-// The cell at a place, or null past the end.
+// Returns the cell at index `place`, or null after the end.
 fn cell_at(cells: &[Cell], place: usize) -> Cell
     ensures { result ≡ slice_index_or cells.now place None }
 {
@@ -28,7 +28,7 @@ fn cell_at(cells: &[Cell], place: usize) -> Cell
     }
 }
 
-// The clump with a number, counted from 0.
+// Returns the clump with this number, counted from 0.
 fn clump_of_mark(number: Cell) -> Option<u64>
     ensures { result ≡ clump_of_mark number }
 {
@@ -42,7 +42,7 @@ fn clump_of_mark(number: Cell) -> Option<u64>
     Some(number - 1)
 }
 
-// The mark of a cell of a tile, if it is not null.
+// Returns the mark of a tile's cell, if it is not null.
 fn mark_in(firsts: &[u64], begun: &[u64], ends: &[u64], cell: Cell, number: Cell) -> Option<Mark>
     requires long { length firsts.now ≡ length begun.now }
     requires ends { AreEnds begun.now ends.now }
@@ -56,7 +56,7 @@ fn mark_in(firsts: &[u64], begun: &[u64], ends: &[u64], cell: Cell, number: Cell
     Some(Mark { category, label })
 }
 
-// Adds the marks of the cells of a side of a tile to a line.
+// Adds the marks of the cells of a tile's side to a line.
 pub(crate) fn add_marks(
     line: &mut Vec<Option<Mark>>,
     firsts: &[u64],

@@ -1,4 +1,4 @@
-//! The pairs of labels whose cells meet at a seam.
+//! Finds the pairs of labels whose cells meet at a seam.
 
 ghost use Rattle.std.specs.Prelude.{◌≡◌, ◌∷◌, [], ◌<◌, ◌+◌, ◌^◌, Contains, IsTrue, OnOk, None, slice_index_or};
 ghost use Rattle.std.specs.Ordering.{int_eq};
@@ -9,14 +9,14 @@ use crate::marks::Mark;
 use cell_cats_areas::clump::Joining;
 use cell_core::memory::Memory;
 
-// Whether two cells have the same category.
+// Returns whether two cells have the same category.
 fn are_alike(one: Mark, other: Mark) -> bool
     ensures { result ≡ int_eq one.category other.category }
 {
     one.category == other.category
 }
 
-// The mark at a place of a line.
+// Returns the mark at index `place` of a line.
 fn mark_on(line: &[Option<Mark>], place: usize) -> Option<Mark>
     ensures { result ≡ slice_index_or line.now place None }
 {
@@ -26,7 +26,7 @@ fn mark_on(line: &[Option<Mark>], place: usize) -> Option<Mark>
     }
 }
 
-// Whether a pair was the last one added.
+// Returns whether a pair was the last one added.
 fn is_last(pairs: &[(u64, u64)], one: u64, other: u64) -> bool
     ensures { IsTrue result → Contains pairs.now (one, other) }
 {
@@ -36,7 +36,7 @@ fn is_last(pairs: &[(u64, u64)], one: u64, other: u64) -> bool
     }
 }
 
-// Adds a pair to others, but only once if it is repeated along a seam.
+// Adds a pair, unless it is the last one added. Along a seam, the same pair is often repeated.
 fn add_pair(pairs: &mut Vec<(u64, u64)>, one: u64, other: u64) -> Result<(), Memory>
     ensures { OnOk result (Adds pairs.old.items pairs.new.items ((one, other) ∷ [])) }
 {
@@ -47,7 +47,7 @@ fn add_pair(pairs: &mut Vec<(u64, u64)>, one: u64, other: u64) -> Result<(), Mem
     Ok(())
 }
 
-// Adds the labels of two cells to other pairs, if the cells have the same category.
+// Adds the pair of two cells' labels, if the cells have the same category.
 fn add_meeting(
     pairs: &mut Vec<(u64, u64)>,
     one: Option<Mark>,
@@ -67,8 +67,8 @@ fn add_meeting(
     Ok(())
 }
 
-// Adds the pairs of a cell of one line and the cells that touch it in the other; if corners connect, also the pair of
-// the next cell and the one opposite this cell.
+// Adds the pair of the cell at `place` in one line and the cell opposite it in the other. If corners connect, also adds
+// the pairs of each of these cells and the next cell in the other line.
 fn add_meetings_at(
     pairs: &mut Vec<(u64, u64)>,
     joining: Joining,
@@ -88,7 +88,7 @@ fn add_meetings_at(
     Ok(())
 }
 
-// Adds the pairs of two adjacent lines to others.
+// Adds the pairs of two adjacent lines.
 pub(crate) fn add_meetings(
     pairs: &mut Vec<(u64, u64)>,
     joining: Joining,

@@ -1,4 +1,4 @@
-//! The labels of the clumps of a row of tiles.
+//! Computes the labels of the clumps in a row of tiles.
 
 ghost use Rattle.std.specs.Prelude.{ℕ, ◌≡◌, ◌≤◌, ◌<◌, ◌+◌, ◌^◌, IfNone, IfOk, IfSome, length, nat_le, sum, slice_index};
 ghost use Rattle.std.specs.List.Sorted.{IsNonDecreasingBy};
@@ -7,7 +7,7 @@ ghost use Rattle.cell_join_tiles.specs.parts.RowLabels.{AreEnds, tile_label};
 use cell_core::memory::Memory;
 use std::alloc::Global;
 
-// The number of clumps of a tile that begin up to the end of each of its rows.
+// Returns, for each row of a tile, the number of clumps that begin in it or above it.
 pub(crate) fn ends_of(alloc: Global, begun: &[u64]) -> Result<Vec<u64>, Memory>
     requires { sum begun.now < 2 ^ 64 }
     ensures { IfOk result (λ ends. AreEnds begun.now ends.items) }
@@ -21,8 +21,8 @@ pub(crate) fn ends_of(alloc: Global, begun: &[u64]) -> Result<Vec<u64>, Memory>
     Ok(ends)
 }
 
-// The label of a clump of a tile, counted from 0 in its tile. For each row of the tile, `firsts` has the label of the
-// first clump that begins in it, and `begun` the number of clumps that begin in it.
+// Returns the label of a tile's clump, counted from 0 in its tile. For each row of the tile, `firsts` contains the
+// label of the first clump that begins in it, and `begun` the number of clumps that begin in it.
 pub(crate) fn label_of(firsts: &[u64], begun: &[u64], ends: &[u64], clump: u64) -> Option<u64>
     requires long { length firsts.now ≡ length begun.now }
     requires ends { AreEnds begun.now ends.now }
@@ -40,7 +40,7 @@ pub(crate) fn label_of(firsts: &[u64], begun: &[u64], ends: &[u64], clump: u64) 
     Some(firsts[row] + (clump - before))
 }
 
-// The row of a tile in which a clump begins, or the number of rows.
+// Returns the row of a tile in which a clump begins, or the number of rows.
 fn row_of(ends: &[u64], clump: u64) -> usize
     requires { IsNonDecreasingBy (λ end. end) ends.now }
     ensures inside { result ≤ length ends.now }
@@ -54,7 +54,7 @@ fn row_of(ends: &[u64], clump: u64) -> usize
     )
 }
 
-/// The labels of the first clumps of each row of the next tile to the right.
+/// Advances the labels of the first clumps in each row to the next tile on the right.
 pub fn pass_tile(line: &mut [u64], begun: &[u64])
     requires long { length line.old ≡ length begun.now }
     requires fits { (i : ℕ) → i < length begun.now →

@@ -1,4 +1,4 @@
-//! The runs of a tile, made from areas with consecutive numbers.
+//! Builds the runs of a tile from clumps with consecutive numbers.
 
 ghost use Rattle.std.specs.Prelude.{◌≡◌, ◌+◌, ◌<◌, ◌^◌, ◌++◌, ℕ, List, IfOk};
 ghost use Rattle.std.specs.List.{range_with_len};
@@ -8,14 +8,14 @@ ghost use Rattle.cell_join_tiles.specs.parts.RunLines.{AreInLines, areas_of_line
 use cell_core::memory::Memory;
 use cell_join_lines::stretch::{Stretch, is_next};
 
-// The last run of a tile so far, which may continue, and the number of its last area.
+// The last run of a tile so far, which may continue, and the number of its last clump.
 #[derive(Clone, Copy)]
 pub(crate) struct Line {
     pub(crate) stretch: Stretch,
     pub(crate) previous: u64,
 }
 
-// `count` clumps with the numbers `first` to `last`.
+// `count` clumps, with the numbers `first` to `last`.
 #[derive(Clone, Copy)]
 pub(crate) struct Run {
     pub(crate) first: u64,
@@ -23,7 +23,7 @@ pub(crate) struct Run {
     pub(crate) count: u64,
 }
 
-// Adds areas after the areas of a line: they extend the line, or its run is finished and another one begins.
+// Adds clumps after the clumps of a line. Extends the line, or finishes its run and begins a new one.
 pub(crate) fn add_run(
     stretches: &mut Vec<Stretch>,
     part: u64,

@@ -1,4 +1,4 @@
-//! The labels of the clumps of a tile, as spans of consecutive labels.
+//! Stores the labels of a tile's clumps as spans of consecutive labels.
 
 ghost use Rattle.std.specs.Prelude.{ℕ, ◌≡◌, ◌++◌, ◌+◌, ◌<◌, ◌^◌, All, IfOk, length, map, sum, slice_index};
 ghost use Rattle.std.specs.List.{range_with_len};
@@ -8,14 +8,14 @@ ghost use Rattle.cell_join_tiles.specs.parts.Spans.{SpanFits, SpansFit, labels_i
 use cell_core::memory::Memory;
 use std::alloc::Global;
 
-// `count` labels from `first` on.
+// `count` labels, starting at `first`.
 #[derive(Clone, Copy, Debug, PartialEq, Eq)]
 pub(crate) struct Span {
     pub(crate) first: u64,
     pub(crate) count: u64,
 }
 
-// Adds the next labels: they extend the last span, or the span is finished and a new one begins.
+// Adds the next labels. Extends the last span, or finishes it and begins a new one.
 fn add_labels(spans: &mut Vec<Span>, from: Span, next: Span) -> Result<Span, Memory>
     requires from { SpanFits from }
     requires next { SpanFits next }
@@ -38,7 +38,7 @@ fn add_labels(spans: &mut Vec<Span>, from: Span, next: Span) -> Result<Span, Mem
     Ok(next)
 }
 
-// The labels of all clumps of a tile, in the order of their numbers.
+// Returns the labels of all clumps of a tile, in the order of their numbers.
 pub(crate) fn spans_of(alloc: Global, firsts: &[u64], begun: &[u64]) -> Result<Vec<Span>, Memory>
     requires long { length firsts.now ≡ length begun.now }
     requires fits { (i : ℕ) → i < length begun.now →

@@ -1,4 +1,4 @@
-//! A row of tiles.
+//! Joins the tiles of a row.
 
 ghost use Rattle.std.specs.Prelude.{ℕ, ◌≡◌, ◌≢◌, ◌++◌, ◌∷◌, [], ◌+◌, ◌<◌, ◌≤◌, ◌^◌, IfNone, IfOk, IfSome, OnOk, None, length, map, sum, slice_index, slice_index_or};
 ghost use Rattle.std.specs.List.{range_with_len};
@@ -18,7 +18,7 @@ use cell_cats_areas::clump::Joining;
 use cell_core::memory::Memory;
 use std::alloc::Global;
 
-// The number of rows of each tile of a row of tiles, if it is the same for all.
+// Returns the number of rows of the tiles in a row, if it is the same for all.
 pub(crate) fn rows_of(row: &[Border]) -> Option<usize>
     ensures some { IfSome result (λ rows. AreEven rows (border_values row.now)) }
     ensures none { IfNone result ((rows : ℕ) → AreEven rows (border_values row.now) → ⊥) }
@@ -35,7 +35,7 @@ pub(crate) fn rows_of(row: &[Border]) -> Option<usize>
     Some(rows)
 }
 
-// The number of clumps, including a tile's own.
+// Adds the number of clumps of a tile, unless the sum does not fit in a `u64`.
 fn clumps_with(clumps: u64, begun: &[u64]) -> Option<u64>
     ensures some { IfSome result (λ all. all ≡ clumps + sum begun.now) }
     ensures none { IfNone result (2 ^ 64 ≤ clumps + sum begun.now) }
@@ -47,7 +47,7 @@ fn clumps_with(clumps: u64, begun: &[u64]) -> Option<u64>
     Some(all)
 }
 
-// The number of clumps, including the clumps of a row of tiles.
+// Adds the number of clumps of a row of tiles, unless the sum does not fit in a `u64`.
 pub(crate) fn clumps_with_row(clumps: u64, row: &[Border]) -> Option<u64>
     ensures some { IfSome result (λ all.
         all ≡ clumps + clumps_in_row (begun_of (border_values row.now))) }
@@ -61,7 +61,7 @@ pub(crate) fn clumps_with_row(clumps: u64, row: &[Border]) -> Option<u64>
     Some(all)
 }
 
-// The number of clumps that begin in a row of a tile.
+// Returns the number of clumps that begin in a row of a tile.
 fn begun_at(begun: &[u64], row: usize) -> u64
     ensures { result ≡ slice_index begun.now row }
 {
@@ -71,7 +71,7 @@ fn begun_at(begun: &[u64], row: usize) -> u64
     }
 }
 
-// The number of clumps that begin in a row of a row of tiles, in any of its tiles.
+// Returns the number of clumps that begin in one row of cells, in all tiles of a row of tiles.
 fn begun_in_row(tiles: &[Border], row: usize) -> u64
     requires { clumps_in_row (begun_of (border_values tiles.now)) < 2 ^ 64 }
     ensures { result ≡ in_each (begun_of (border_values tiles.now)) row }
@@ -83,8 +83,8 @@ fn begun_in_row(tiles: &[Border], row: usize) -> u64
     all
 }
 
-// For each row of the first tile of a row of tiles whose labels begin at a base, the label of the first clump that
-// begins in it.
+// Returns, for each row of the first tile, the label of the first clump that begins in it. The labels of the row of
+// tiles start at `base`.
 fn first_labels(alloc: Global, base: u64, rows: usize, tiles: &[Border]) -> Result<Vec<u64>, Memory>
     requires fits { base + clumps_in_row (begun_of (border_values tiles.now)) < 2 ^ 64 }
     requires even { AreEven rows (border_values tiles.now) }
@@ -101,12 +101,12 @@ fn first_labels(alloc: Global, base: u64, rows: usize, tiles: &[Border]) -> Resu
     Ok(firsts)
 }
 
-// A row of tiles, as far as it is joined.
+// A row of tiles that has been joined in part.
 #[derive(Drop)]
 pub(crate) struct RowJoin {
     // The pairs of labels at the seams, including the pairs of the rows above.
     pub(crate) pairs: Vec<(u64, u64)>,
-    // The labels of each tile, including the rows above.
+    // The labels of each tile, including the tiles of the rows above.
     pub(crate) tiles: Vec<Vec<Span>>,
     // The first and the last rows of its tiles.
     pub(crate) first: Vec<Option<Mark>>,
@@ -115,7 +115,7 @@ pub(crate) struct RowJoin {
     pub(crate) right: Vec<Option<Mark>>,
 }
 
-// Joins the next tile to those on its left.
+// Joins the next tile to the tiles on its left.
 fn join_tile(
     alloc: Global,
     joining: Joining,
@@ -171,7 +171,7 @@ fn join_tile(
     })
 }
 
-// Joins the tiles of a row of tiles, whose labels begin at a base and which have equally many rows, from the left.
+// Joins the tiles of a row from the left. Their labels start at `base`, and all have the same number of rows.
 pub(crate) fn join_row(
     alloc: Global,
     joining: Joining,

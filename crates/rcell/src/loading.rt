@@ -120,7 +120,7 @@ pub fn load<R: Source + Drop>(alloc: Global, grids: Vec<(Name, R)>) -> Result<Sh
 ///
 /// # Errors
 ///
-/// [`Memory`] if memory runs out.
+/// Returns [`Memory`] if memory runs out.
 pub fn shelf_names(alloc: Global, shelf: &Shelf) -> Result<Names, Memory>
     ensures names { IfOk result (λ names. names ≡ shelf.now.names) }
     ensures count { IfOk result (λ names. length names ≡ length shelf.now.maps) }

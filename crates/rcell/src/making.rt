@@ -38,7 +38,7 @@ fn put_last(alloc: Global, shelf: &mut Shelf, target: &Name, made: CellMap) -> R
 ///
 /// # Errors
 ///
-/// [`Memory`] if memory runs out. The shelf is then unchanged.
+/// Returns [`Memory`] if memory runs out. The shelf is then unchanged.
 pub fn make_values(
     alloc: Global,
     shelf: &mut Shelf,
@@ -58,7 +58,7 @@ pub fn make_values(
 ///
 /// # Errors
 ///
-/// [`Memory`] if memory runs out. The shelf is then unchanged.
+/// Returns [`Memory`] if memory runs out. The shelf is then unchanged.
 pub fn make_classes(
     alloc: Global,
     shelf: &mut Shelf,
@@ -79,7 +79,7 @@ pub fn make_classes(
 ///
 /// # Errors
 ///
-/// [`Memory`] if memory runs out. The shelf is then unchanged.
+/// Returns [`Memory`] if memory runs out. The shelf is then unchanged.
 pub fn make_numbers(
     alloc: Global,
     shelf: &mut Shelf,

@@ -132,7 +132,7 @@ fn evaluate_fast(
 ///
 /// # Errors
 ///
-/// [`Memory`] if memory runs out.
+/// Returns [`Memory`] if memory runs out.
 pub fn evaluate(alloc: Global, bound: &Bound, shelf: &Shelf) -> Result<CellMap, Memory>
     requires { top_of bound.now ≤ length shelf.now.maps }
     ensures { IfOk result (AreValues bound.now shelf.now) }

@@ -43,7 +43,7 @@ fn combination_before<'a>(options: &'a StatsOptions) -> Option<&'a Combo>
 ///
 /// # Errors
 ///
-/// `Memory` if memory runs out. Nothing is then written.
+/// Returns `Memory` if memory runs out. Nothing is then written.
 pub fn write_stats<W: Sink>(
     alloc: Global,
     shelf: &Shelf,

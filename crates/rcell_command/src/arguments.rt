@@ -18,7 +18,7 @@ use std::{env, io};
 ///
 /// # Errors
 ///
-/// `usage` if a word is not UTF-8; `memory` if memory runs out.
+/// Returns `usage` if a word is not UTF-8, or `memory` if memory runs out.
 pub fn words_given<R: Env + AllocGlobal, E: Copy>(
     rt: &R,
     memory: E,
@@ -121,8 +121,8 @@ fn clap_matches<'a, E: Copy>(
 ///
 /// # Errors
 ///
-/// `usage` if fewer than two words follow the program's own name, or the first of them begins with `-`; `memory` if
-/// memory runs out.
+/// Returns `usage` if fewer than two words follow the program's own name, or the first of them begins with `-`, or
+/// `memory` if memory runs out.
 pub fn first_and_rest<'a, E: Copy>(
     alloc: Global,
     program: &'a str,

@@ -14,7 +14,7 @@ use std::rt::Files;
 ///
 /// # Errors
 ///
-/// `file` if the file can't be opened; `memory` if memory runs out.
+/// Returns `file` if the file can't be opened, or `memory` if memory runs out.
 pub fn open_file<R: Files, E: Copy>(
     rt: &R,
     path: &str,

@@ -42,7 +42,7 @@ pub trait Process {
     ///
     /// # Errors
     ///
-    /// `usage` if a word is not UTF-8; `memory` if memory runs out.
+    /// Returns `usage` if a word is not UTF-8, or `memory` if memory runs out.
     fn words<E: Copy>(&self, alloc: Global, memory: E, usage: E) -> Result<Vec<String>, E>
         ensures given { IfOk result
             (λ given. IfSome (words self.now) (λ known. map string_bytes given.items ≡ known)) }
@@ -53,7 +53,7 @@ pub trait Process {
     ///
     /// # Errors
     ///
-    /// `file` if the file can't be opened; `memory` if memory runs out.
+    /// Returns `file` if the file can't be opened, or `memory` if memory runs out.
     fn open<E: Copy>(&mut self, path: &str, memory: E, file: E) -> Result<Self::File, E>
         // The source has not been read yet, so it has neither ended nor failed.
         ensures asked { IfOk result (λ source. Self.File.asked source ≡ Asked.Going) }
@@ -69,7 +69,7 @@ pub trait Process {
     ///
     /// # Errors
     ///
-    /// [`DeviceFault`] if standard error does not accept the line. From then on, `failed` is true.
+    /// Returns [`DeviceFault`] if standard error does not accept the line. From then on, `failed` is true.
     fn print_error<T: Display>(
         &mut self,
         program: &str,

@@ -13,7 +13,8 @@ use std::rt::Files;
 ///
 /// # Errors
 ///
-/// [`JoinRefusal::File`] for the first file that can't be opened; [`JoinRefusal::Memory`] if memory runs out.
+/// Returns [`JoinRefusal::File`] for the first file that can't be opened, or [`JoinRefusal::Memory`] if memory runs
+/// out.
 pub fn open_paths<R: Files + AllocGlobal>(
     rt: &R,
     paths: &[&str],

@@ -78,8 +78,9 @@ fn grids_of<'a>(alloc: Global, words: &[&'a str]) -> Result<(Vec<Name>, Vec<&'a 
 ///
 /// # Errors
 ///
-/// [`Refusal::Usage`] if a later word begins with `-`, or fewer than two words follow the first; [`Refusal::GridWord`]
-/// for the first word after the script's that is not NAME=PATH; [`Refusal::Memory`] if memory runs out.
+/// Returns [`Refusal::Usage`] if a later word begins with `-`, or fewer than two words follow the first;
+/// [`Refusal::GridWord`] for the first word after the script's that is not NAME=PATH, or [`Refusal::Memory`] if memory
+/// runs out.
 pub fn read_words<'a>(alloc: Global, words: &'a [String]) -> Result<RunRequest<'a>, Refusal>
     ensures asked { IfOk result (λ request. drop 1 (map string_bytes words.now)
         ≡ request.script.now

@@ -101,8 +101,8 @@ fn open_grids<P: Process>(
 ///
 /// # Errors
 ///
-/// [`Refusal::ScriptFile`] or [`Refusal::GridFile`] for the first file that can't be opened; [`Refusal::Usage`] if the
-/// request names no grid; [`Refusal::Memory`] if memory runs out.
+/// Returns [`Refusal::ScriptFile`] or [`Refusal::GridFile`] for the first file that can't be opened; [`Refusal::Usage`]
+/// if the request names no grid, or [`Refusal::Memory`] if memory runs out.
 pub fn open_files<P: Process>(
     alloc: Global,
     process: &mut P,

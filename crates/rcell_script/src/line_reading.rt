@@ -105,7 +105,7 @@ impl Progress {
     ///
     /// # Errors
     ///
-    /// [`Memory`] if memory runs out.
+    /// Returns [`Memory`] if memory runs out.
     pub(crate) fn new(alloc: Global, known: &Names) -> Result<Progress, Memory>
         ensures { IfOk result (λ read. read ≡ start known.now) }
     {
@@ -192,7 +192,7 @@ impl Progress {
     ///
     /// # Errors
     ///
-    /// The error in the line, with its number; [`ScriptKind::Memory`] with line 0 if memory runs out.
+    /// Returns the error in the line, with its number, or [`ScriptKind::Memory`] with line 0 if memory runs out.
     pub(crate) fn with_line(
         self,
         alloc: Global,
@@ -233,7 +233,7 @@ impl Progress {
     ///
     /// # Errors
     ///
-    /// [`ScriptKind::MissingEnd`] with the line of an r.reclass whose rules have no `end`.
+    /// Returns [`ScriptKind::MissingEnd`] with the line of an r.reclass whose rules have no `end`.
     pub(crate) fn into_script(self) -> Result<Script, ScriptFault>
         ensures { result ≡ at_end self }
     {

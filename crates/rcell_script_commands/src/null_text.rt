@@ -90,7 +90,8 @@ impl NullText {
     ///
     /// # Errors
     ///
-    /// [`OptionFault::BadOption`] if the value is not a null text; [`OptionFault::Memory`] if memory runs out.
+    /// Returns [`OptionFault::BadOption`] if the value is not a null text, or [`OptionFault::Memory`] if memory runs
+    /// out.
     pub(crate) fn read(alloc: Global, value: &[u8]) -> Result<NullText, OptionFault>
         ensures { GivesOption result (null_text_of value.now) }
     {
@@ -105,7 +106,7 @@ impl NullText {
     ///
     /// # Errors
     ///
-    /// [`Memory`] if memory runs out.
+    /// Returns [`Memory`] if memory runs out.
     pub(crate) fn usual(alloc: Global) -> Result<NullText, Memory>
         ensures { IfOk result (λ text. text ≡ usual_null) }
     {
@@ -127,7 +128,8 @@ impl TableNullText {
     ///
     /// # Errors
     ///
-    /// [`OptionFault::BadOption`] if the value is not a null text; [`OptionFault::Memory`] if memory runs out.
+    /// Returns [`OptionFault::BadOption`] if the value is not a null text, or [`OptionFault::Memory`] if memory runs
+    /// out.
     pub(crate) fn read(alloc: Global, value: &[u8]) -> Result<TableNullText, OptionFault>
         ensures { GivesOption result (table_null_text_of value.now) }
     {
@@ -142,7 +144,7 @@ impl TableNullText {
     ///
     /// # Errors
     ///
-    /// [`Memory`] if memory runs out.
+    /// Returns [`Memory`] if memory runs out.
     pub(crate) fn usual(alloc: Global) -> Result<TableNullText, Memory>
         ensures { IfOk result (λ text. text ≡ usual_null) }
     {

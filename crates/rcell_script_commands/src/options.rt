@@ -331,7 +331,7 @@ impl Options {
     ///
     /// # Errors
     ///
-    /// [`Memory`] if memory for the default runs out.
+    /// Returns [`Memory`] if memory for the default runs out.
     pub fn into_null_text(self, alloc: Global) -> Result<NullText, Memory>
         ensures { IfOk result (λ text. text ≡ unwrap_or self.null_text usual_null) }
     {
@@ -346,7 +346,7 @@ impl Options {
     ///
     /// # Errors
     ///
-    /// [`Memory`] if memory for the default runs out.
+    /// Returns [`Memory`] if memory for the default runs out.
     pub fn into_table_null_text(self, alloc: Global) -> Result<TableNullText, Memory>
         ensures { IfOk result (λ text. text ≡ unwrap_or self.table_null_text usual_null) }
     {
@@ -442,7 +442,7 @@ impl Options {
 ///
 /// # Errors
 ///
-/// The error in the first word that has one; [`OptionFault::Memory`] if memory runs out.
+/// Returns the error in the first word that has one, or [`OptionFault::Memory`] if memory runs out.
 pub fn options_of(alloc: Global, form: Form, words: &[&[u8]]) -> Result<Options, OptionFault>
     ensures { GivesOption result (options_of form (texts words.now)) }
 {

@@ -28,8 +28,8 @@ fn joining_of(corners: bool) -> Joining
 ///
 /// # Errors
 ///
-/// The error in the first word that has one, then [`OptionFault::MissingOption`], [`OptionFault::UnknownMap`] and
-/// [`OptionFault::MapExists`]; [`OptionFault::Memory`] if memory runs out.
+/// Returns the error in the first word that has one, then [`OptionFault::MissingOption`], [`OptionFault::UnknownMap`]
+/// and [`OptionFault::MapExists`], or [`OptionFault::Memory`] if memory runs out.
 pub(crate) fn clump_of(
     alloc: Global,
     known: &Names,

@@ -16,8 +16,8 @@ use std::alloc::Global;
 ///
 /// # Errors
 ///
-/// The error in the first word that has one, then [`OptionFault::MissingOption`] and [`OptionFault::UnknownMap`];
-/// [`OptionFault::Memory`] if memory runs out.
+/// Returns the error in the first word that has one, then [`OptionFault::MissingOption`] and
+/// [`OptionFault::UnknownMap`], or [`OptionFault::Memory`] if memory runs out.
 pub(crate) fn out_ascii_of(
     alloc: Global,
     known: &Names,

@@ -3,7 +3,8 @@
 //!
 //! - `law`: `tables` of r.stats, `grids` of r.out.ascii, `clumps` of r.clump, and `requests` of rcell-pipe with their
 //!   frames
-//! - specs/WorkedRuns.antt: the definition of worked runs; if a definition is empty or wrong, these outputs cannot be proved
+//! - specs/WorkedRuns.antt: the definition of worked runs; if a definition is empty or wrong, these outputs cannot be
+//!   proved
 #![tactic(auto)]
 
 pub mod law;

@@ -1,4 +1,4 @@
--- The map of the border of a map, and the errors of the map's text.
+-- The map of the border of a map, and the errors in the map's text.
 use Rattle.std.specs.Prelude.{◌≡◌, length}
 use Rattle.cell_core_devices.specs.Device.{Coming}
 use Rattle.cell_core_values.specs.Region.{RegionValue}
@@ -16,14 +16,14 @@ use Rattle.cell_join_borders.specs.WrittenBorder.{IsBorderOfText}
 use Rattle.cell_join_borders.specs.declared.map_fault.MapFault.{MapFault}
 use Rattle.cell_join_borders.specs.declared.map_fault.MapFault.TheVariants as faults
 
--- each side of a tile with this region has as many numbers as cells
+-- each side has a number for each cell, in a tile with this region
 pub record HasEachNumber (tile : RegionValue) (border : Border) : Type 0 where
   pub first : length border.first.numbers.items ≡ tile.cols
   pub last : length border.last.numbers.items ≡ tile.cols
   pub left : length border.left.numbers.items ≡ tile.rows
   pub right : length border.right.numbers.items ≡ tile.rows
 
--- a map is the border, as a map, of another map and its clump numbers
+-- `made` is the border of the map `m` and its clump numbers, drawn as a map
 pub record IsMapOfBorder (j : Joining) (m made : Grid) : Type 0 where
   pub numbers : Grid
   pub border : Border
@@ -31,14 +31,14 @@ pub record IsMapOfBorder (j : Joining) (m made : Grid) : Type 0 where
   pub fit : IsBorderFit m.region border
   pub is : made ≡ border_grid j m.region border
 
--- and a text denotes that map
+-- the text denotes a map, and `made` is the border of this map, drawn as a map
 pub record IsMadeOfText (j : Joining) (text : Coming) (made : Grid) : Type 0 where
   pub m : Grid
   pub border : Border
   pub of_text : IsBorderOfText j text m border
   pub is : made ≡ border_grid j m.region border
 
--- the error of a grid text, or lack of memory
+-- converts the error of a grid text
 abbrev pub of_map_text : GridKind → GridFault → MapFault
 of_map_text kinds.Memory fault = faults.Memory
 of_map_text kind fault = faults.Text fault

@@ -15,13 +15,13 @@ use Rattle.cell_join_borders.specs.declared.sides.SideMosts.{SideMosts}
 use Rattle.cell_join_borders.specs.declared.border_fault.BorderFault.{BorderFault}
 use Rattle.cell_join_borders.specs.declared.border_fault.BorderFault.TheVariants as faults
 
--- a tile of rows × cols cells, whose border is as wide as the map
+-- a tile of `rows` × `cols` cells, whose border has the map's width
 pub record IsSized (m : Grid) (rows cols : ℕ) (tile : RegionValue) : Type 0 where
   pub is : tile ≡ record m.region { rows = rows; cols = cols }
   pub good : region_fault tile ≡ Ok tile
   pub width : m.region.cols ≡ border_width tile
 
--- two rows of a map are the rows of a side
+-- two rows of the map contain the side
 pub record IsSideIn (m : Grid) (row : ℕ) (most : List ℕ) (side : Side) : Type 0 where
   pub cells : row_at m row ≡ filled_row m.region.cols side.cells.items
   pub numbers : row_at m (row + 1) ≡ filled_row m.region.cols side.numbers.items
@@ -34,18 +34,18 @@ pub record AreMosts (tile : RegionValue) (begun : List ℕ) (most : SideMosts) :
   pub left : most.left.items ≡ most_down begun
   pub right : most.right.items ≡ most_down begun
 
--- where each side begins in the text, with the largest numbers allowed
+-- the row of the border at which each side starts, and the largest numbers allowed for its cells
 abbrev pub most_places : SideMosts → List (ℕ × List ℕ)
 most_places most = (0, most.first.items) ∷ (2, most.last.items) ∷ (4, most.left.items) ∷ (6, most.right.items) ∷ []
 
--- four sides are in the map
+-- the map contains the four sides
 pub record AreFourIn (m : Grid) (most : SideMosts) (sides : FourSides) : Type 0 where
   pub first : IsSideIn m 0 most.first.items sides.first
   pub last : IsSideIn m 2 most.last.items sides.last
   pub left : IsSideIn m 4 most.left.items sides.left
   pub right : IsSideIn m 6 most.right.items sides.right
 
--- the four sides of a border are in the map
+-- the map contains the four sides of the border
 pub record AreSidesIn (m : Grid) (tile : RegionValue) (begun : List ℕ) (border : Border) : Type 0 where
   pub counts : border.begun.items ≡ begun
   pub first : IsSideIn m 0 (most_in_row tile.cols begun 0) border.first
@@ -53,12 +53,12 @@ pub record AreSidesIn (m : Grid) (tile : RegionValue) (begun : List ℕ) (border
   pub left : IsSideIn m 4 (most_down begun) border.left
   pub right : IsSideIn m 6 (most_down begun) border.right
 
--- a map, without its labels, is the map of a valid border
+-- the map, without its labels, is the map of a valid border
 pub record IsGridOf (m : Grid) (j : Joining) (tile : RegionValue) (border : Border) : Type 0 where
   pub is : record m { labels = no_labels } ≡ border_grid j tile border
   pub fit : IsBorderFit tile border
 
--- the error of a grid text, or lack of memory
+-- converts the error of a grid text
 abbrev pub of_border_text : GridKind → GridFault → BorderFault
 of_border_text kinds.Memory fault = faults.Memory
 of_border_text kind fault = faults.Text fault

@@ -25,30 +25,30 @@ use Rattle.cell_join_clumps.specs.declared.tile_grid.TileGrid.{TileGrid}
 
 -- ---- one text
 
--- why a text is not a border, or lack of memory
+-- converts the error of a text that is not a border
 abbrev pub of_border : ℕ → BorderFault → ClumpsFault
 of_border place border_faults.Memory = Memory
 of_border place fault = NoBorder place fault
 
--- the text in a place is not a border, or has another connectivity, or memory ran out
+-- the text at index `place` is not a border, or has a different connectivity, or memory ran out
 abbrev pub IsNoTile : Joining → ℕ → Coming → ClumpsFault → Type 0
 IsNoTile j place text (NoBorder at fault) = (at ≡ place) × (fault ≢ border_faults.Memory) × IsBorderFault text fault
 IsNoTile j place text (Connectivity at found) = (at ≡ place) × SpellsOtherwise j text found
 IsNoTile j place text Memory = Unit {0}
 IsNoTile j place text fault = ⊥
 
--- ---- what is kept, for any texts
+-- ---- what a grid satisfies for any texts
 
--- the borders of a row have equally many rows
+-- the borders of a row all have the same number of rows
 pub record IsEvenRow (borders : List Border) : Type 0 where
   pub rows : ℕ
   pub even : AreEven rows (border_values borders)
 
--- a border has the rows of a region
+-- a border has the region's number of rows
 abbrev pub HasRowsOf : RegionValue → Border → Type 0
 HasRowsOf region border = length border.begun.items ≡ region.rows
 
--- the regions of the row are side by side, and belong to its borders
+-- the regions of the row are next to each other, and belong to its borders
 pub record AreTilesKept (read : TileGrid) : Type 0 where
   pub some : read.row.items ≡ [] → read.above.items ≡ []
   pub beside : LieBeside None read.row.items
@@ -56,7 +56,7 @@ pub record AreTilesKept (read : TileGrid) : Type 0 where
 
 -- ---- one more tile
 
--- no tile was read
+-- no tile has been read
 pub record AreNoTiles (j : Joining) (read : TileGrid) : Type 0 where
   pub joining : read.joiner.joining ≡ j
   pub joined : AreJoinedTiles [] read.joiner
@@ -64,14 +64,14 @@ pub record AreNoTiles (j : Joining) (read : TileGrid) : Type 0 where
   pub row : read.row.items ≡ []
   pub borders : read.borders.items ≡ []
 
--- a tile was added to the row that had begun
+-- a tile was added to the unfinished row
 pub record IsAddedInRow (tile : BorderText) (old new : TileGrid) : Type 0 where
   pub joiner : new.joiner ≡ old.joiner
   pub above : new.above.items ≡ old.above.items
   pub row : new.row.items ≡ old.row.items ++ tile.region ∷ []
   pub borders : new.borders.items ≡ old.borders.items ++ tile.border ∷ []
 
--- a tile begins the row below another
+-- a tile begins the row below another row
 pub record IsBegun (tile : BorderText) (joiner : TileJoinerValue) (above : List RegionValue) (new : TileGrid) : Type 0 where
   pub joiner_is : new.joiner ≡ joiner
   pub above_is : new.above.items ≡ above
@@ -86,28 +86,28 @@ pub record IsAddedBelow (tile : BorderText) (old new : TileGrid) : Type 0 where
   pub row : new.row.items ≡ tile.region ∷ []
   pub borders : new.borders.items ≡ tile.border ∷ []
 
--- the tile was added in its place
+-- the tile was added where it belongs
 abbrev pub IsTileAdded : BorderText → (old new : TileGrid) → Type 0
 IsTileAdded tile old new = (IsTilePlacement old.above.items old.row.items tile.region InRow × IsAddedInRow tile old new) ⊎ (IsTilePlacement old.above.items old.row.items tile.region NextRow × IsAddedBelow tile old new)
 
--- a tile was added, the one that the text spells if it is known
+-- a tile was added, which is the text's tile if the text is known
 pub record HasAddedTile (j : Joining) (text : Option Coming) (old new : TileGrid) : Type 0 where
   pub tile : BorderText
   pub spells : IfSome text (λ t. SpellsJoined j t tile)
   pub fit : IsBorderFit tile.region tile.border
   pub added : IsTileAdded tile old new
 
--- with a row there are more clumps than fit in a `u64`
+-- with this row, the number of clumps does not fit in a `u64`
 abbrev pub HasManyClumps : TileJoinerValue → List Border → Type 0
 HasManyClumps joiner row = 2 ^ 64 ≤ joiner.clumps + clumps_in_row (begun_of (border_values row))
 
--- why a row is not joined: too many clumps, or lack of memory
+-- why a row is not joined: it has too many clumps, or memory ran out
 abbrev pub IsTooMany : TileJoinerValue → List Border → ClumpsFault → Type 0
 IsTooMany joiner row TooManyClumps = HasManyClumps joiner row
 IsTooMany joiner row Memory = Unit {0}
 IsTooMany joiner row fault = ⊥
 
--- why the text in a place does not continue the tiles so far, or why their last row is not joined
+-- why the text at index `place` does not continue the grid, or why the grid's last row is not joined
 abbrev pub IsFaultAtTile : Joining → ℕ → TileGrid → Coming → ClumpsFault → Type 0
 IsFaultAtTile j place read text (NoBorder at fault) = (at ≡ place) × IsFaultOfTile j place read.above.items read.row.items text (NoBorder at fault)
 IsFaultAtTile j place read text (Connectivity at found) = (at ≡ place) × IsFaultOfTile j place read.above.items read.row.items text (Connectivity at found)
@@ -121,21 +121,21 @@ IsFaultAtTile j place read text Write = ⊥
 
 -- ---- all tiles
 
--- the row that had begun is complete and was joined last; or there was none
+-- the unfinished row was complete and was joined last, or there was none
 pub record AreFinished (read : TileGrid) (joiner : TileJoinerValue) : Type 0 where
   pub joining : joiner.joining ≡ read.joiner.joining
   pub none : read.row.items ≡ [] → joiner ≡ read.joiner
   pub whole : read.row.items ≢ [] → IsWhole read.above.items read.row.items
   pub joined : read.row.items ≢ [] → (grid : List (List BorderValue)) → AreJoinedTiles grid read.joiner → AreJoinedTiles (grid ++ border_values read.borders.items ∷ []) joiner
 
--- why the last row is not added: it has too few tiles, or it is not joined
+-- why the last row is not joined: it has too few tiles or too many clumps, or memory ran out
 abbrev pub IsTooShort : ℕ → TileGrid → ClumpsFault → Type 0
 IsTooShort texts read (FewTiles other) = (other ≡ texts - length read.above.items) × ((upper : RegionValue) × (slice_get read.above.items (length read.row.items) ≡ Some upper))
 IsTooShort texts read TooManyClumps = IsWholeRow read.above.items read.row.items × HasManyClumps read.joiner read.borders.items
 IsTooShort texts read Memory = Unit {0}
 IsTooShort texts read fault = ⊥
 
--- the tiles that are held: complete rows, and the tiles of a row
+-- the grid holds these complete rows, and the tiles of this unfinished row
 pub record AreHeld (j : Joining) (rows : List (List BorderText)) (row : List BorderText) (read : TileGrid) : Type 0 where
   pub joining : read.joiner.joining ≡ j
   pub joined : AreJoinedTiles (border_rows_of rows) read.joiner
@@ -150,7 +150,7 @@ pub record HaveBeenRead (j : Joining) (texts : List Coming) (read : TileGrid) : 
   pub begun : AreGridSoFar j texts rows row
   pub held : AreHeld j rows row read
 
--- all of them were joined
+-- all of these texts were joined
 pub record HaveBeenJoined (j : Joining) (texts : List Coming) (joiner : TileJoinerValue) : Type 0 where
   pub rows : List (List BorderText)
   pub are : AreGridOf j texts rows

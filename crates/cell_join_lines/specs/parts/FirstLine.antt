@@ -1,4 +1,4 @@
--- How a text is read, given its first line.
+-- The reading of a text, given its first line.
 use Rattle.std.specs.Prelude.{ℕ, ◌≡◌, IfSome, List, Option, Some, None, Result, Ok, Err}
 use Rattle.std.specs.Option.{option_map}
 use Rattle.cell_core_devices.specs.Device.{Coming}
@@ -8,16 +8,16 @@ use Rattle.cell_join_lines.specs.LineReading.{TableReading, ended, line_after, n
 use Rattle.cell_join_lines.specs.TextReading.{TextValue, reading_from}
 use Rattle.cell_join_lines.specs.declared.table_fault.TableKind.{TableKind}
 
--- what is read, given its first line
+-- the reading, given the first line
 abbrev pub reading_by : FormatValue → ℕ → ℕ → Option Combination → Result (Option (List ℕ × Coming)) TableKind → TableReading
 reading_by format width number last (Err kind) = stopped number kind
 reading_by format width number last (Ok None) = ended
 reading_by format width number last (Ok (Some (line, rest))) = then_reads number (next_entry format width last line) (λ entry. reading_of_rest format width (line_after number) (Some entry.0) rest)
 
--- what was to come is now read from the head on
+-- the reading of the coming bytes is the reading from the new head on
 abbrev pub IsRead : FormatValue → ℕ → ℕ → Option Combination → Option Coming → TextValue → Type 0
 IsRead format width number last coming text = option_map (reading_of_rest format width number last) coming ≡ reading_from format text
 
--- if the coming bytes are known, reading them stops at once with this error
+-- if the coming bytes are known, reading them fails immediately with this error
 abbrev pub IsRefused : FormatValue → ℕ → ℕ → Option Combination → Option Coming → TableKind → Type 0
 IsRefused format width number last coming kind = IfSome (option_map (reading_of_rest format width number last) coming) (λ reading. reading ≡ stopped number kind)

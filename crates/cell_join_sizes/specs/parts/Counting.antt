@@ -20,11 +20,11 @@ use Rattle.cell_join_sizes.specs.parts.Stops.{lines_behind}
 use Rattle.cell_join_sizes.specs.SizeTexts.{AreTablesOfBands, BandSizes, IsNullEntry, IsTableOfBand, entries_of_areas, number_entries, sizes_of_parts, stretches_of_parts}
 use Rattle.cell_join_sizes.specs.parts.Tally.{Tallies}
 
--- entries, and then the rest
+-- entries, followed by another reading
 abbrev pub with_entries : Pairs → TableReading → TableReading
 with_entries entries others = record { entries = entries ++ others.entries; fault = others.fault }
 
--- runs, and then the rest
+-- runs, followed by another reading
 abbrev pub with_stretches : List Stretch → AreasReading → AreasReading
 with_stretches stretches others = record { stretches = stretches ++ others.stretches; fault = others.fault }
 
@@ -32,25 +32,25 @@ with_stretches stretches others = record { stretches = stretches ++ others.stret
 abbrev pub area_entry : ℕ → ℕ → Combination × ℕ
 area_entry area size = (Some (pos area) ∷ [], size)
 
--- the sizes of count clumps from the first on were read from a table and added to the sizes of the numbers from number
--- on
+-- the sizes of `count` clumps, from clump `first` on, were read from a table and added to the sums for the numbers from
+-- `number` on
 pub record HasCountedAreas (first number count : ℕ) (table left : Option TableReading) (old new : List ℕ) : Type 0 where
   pub sizes : List ℕ
   pub many : length sizes ≡ count
   pub reads : table ≡ option_map (with_entries (number_entries first sizes)) left
   pub tallies : Tallies old (range_with_len number count) sizes new
 
--- a head that is not the entry of a clump, or no head
+-- there is no head, or the head is not the entry of this clump
 abbrev pub IsHeadOfOther : ℕ → Option (Combination × ℕ) → Type 0
 IsHeadOfOther area None = Unit {0}
 IsHeadOfOther area (Some entry) = entry.0 ≢ Some (pos area) ∷ []
 
--- the entry of null
+-- the head is the entry of null
 abbrev pub IsHeadOfNull : Option (Combination × ℕ) → Type 0
 IsHeadOfNull None = ⊥
 IsHeadOfNull (Some entry) = entry.0 ≡ None ∷ []
 
--- the runs of a tile were read, from one line to another, and its clumps from a table up to this line
+-- the runs of a tile were read from one line to another, and the tile's clumps from a table up to this line
 pub record HasCountedBand (band line start now : ℕ) (areas after : Option AreasReading) (table left : Option TableReading) (old new : List ℕ) : Type 0 where
   pub part : BandSizes
   pub own : All (λ (s : Stretch). s.band ≡ band) part.stretches
@@ -61,7 +61,7 @@ pub record HasCountedBand (band line start now : ℕ) (areas after : Option Area
   pub reads : table ≡ option_map (with_entries (entries_of_areas part.stretches part.sizes)) left
   pub tallies : Tallies old (numbers_read part.stretches) part.sizes new
 
--- the rest of a table is empty, or an entry of null
+-- the rest of a table is empty, or only an entry of null
 abbrev pub IsLeftOver : TableReading → Type 0
 IsLeftOver reading = IsNullEntry reading.entries × (reading.fault ≡ None)
 
@@ -73,7 +73,7 @@ pub record HasReadBand (band start now : ℕ) (areas after : Option AreasReading
   pub listed : IfSome table (IsTableOfBand band part)
   pub tallies : Tallies old (numbers_read part.stretches) part.sizes new
 
--- the lines of sizes were put into a sink: all, or the first of them if it failed
+-- the lines of sizes were written to a sink: all, or a prefix if the sink failed
 pub record HasPutSizes (format : FormatValue) (sizes : List ℕ) (before now : Option (List ℕ)) (start faults : Faults) (written : ℕ) (fault : Option SizesFault) : Type 0 where
   pub front : List ℕ
   pub rest : List ℕ

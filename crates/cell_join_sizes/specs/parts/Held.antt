@@ -11,11 +11,11 @@ pub record HeldValue : Type 0 where
   pub left : List Stretch
   pub all : List Stretch
 
--- what is read after the head
+-- the reading after the head
 abbrev pub held_behind : HeldValue → Option AreasReading
 held_behind held = Some (record { stretches = held.left; fault = None })
 
--- and from the head on
+-- the reading from the head on
 abbrev pub held_from_head : HeldValue → Option Stretch → Option AreasReading
 held_from_head held None = Some areas_ended
 held_from_head held (Some s) = Some (record { stretches = s ∷ held.left; fault = None })
@@ -23,17 +23,17 @@ held_from_head held (Some s) = Some (record { stretches = s ∷ held.left; fault
 abbrev pub held_from : HeldValue → Option AreasReading
 held_from held = held_from_head held held.head
 
--- each run comes next after the one before it; the first one comes after this one, if there is one
+-- each run may follow the previous run; the first may follow `before`, if there is such a run
 abbrev pub AreInSequence : Option Stretch → List Stretch → Type 0
 AreInSequence before [] = Unit {0}
 AreInSequence before (s ∷ stretches) = (in_sequence before s ≡ Ok s) × AreInSequence (Some s) stretches
 
--- the last of these runs, or this one if there is none
+-- the last of these runs, or `before` if there are none
 abbrev pub last_of : Option Stretch → List Stretch → Option Stretch
 last_of before [] = before
 last_of before (s ∷ stretches) = last_of (Some s) stretches
 
--- the run at this place is the first to show a number above the count
+-- the run at index `place` is the first with a number above `count`
 pub record IsFirstBeyond (stretches : List Stretch) (count place : ℕ) : Type 0 where
   pub stretch : Stretch
   pub at : slice_get stretches place ≡ Some stretch

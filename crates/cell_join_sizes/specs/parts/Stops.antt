@@ -1,4 +1,4 @@
--- Where counting stopped: within a run, within a tile, at the end of a table.
+-- Where counting stopped: within a run, within a tile, or at the end of a table.
 use Rattle.std.specs.Prelude.{ℕ, ◌≡◌, ◌≢◌, ◌+◌, ◌-◌, ◌^◌, ◌<◌, ◌≤◌, min, List, [], ◌++◌, length, All}
 use Rattle.std.specs.List.{range_with_len}
 use Rattle.cell_join_lines.specs.LineReading.{TableReading}
@@ -17,7 +17,7 @@ use Rattle.cell_join_sizes.specs.declared.tally.TallyFault.{TallyFault}
 use Rattle.cell_join_sizes.specs.declared.tally.TallyFault.TheVariants as tally_faults
 use Rattle.cell_join_sizes.specs.parts.Tally.{Tallies}
 
--- ---- how an error of a part is reported
+-- ---- how an error in a part is reported
 
 abbrev pub ReportsAreasFault : AreasFault → SizesFault → Type 0
 ReportsAreasFault fault (Areas reported) = (reported ≡ fault) × (fault.kind ≢ areas_kinds.Memory)
@@ -47,19 +47,19 @@ abbrev pub ReportsTallyFault : (number : ℕ) → TallyFault → SizesFault → 
 ReportsTallyFault number tally_faults.TooGreat reported = reported ≡ TooGreat number
 ReportsTallyFault number tally_faults.Memory reported = reported ≡ Memory
 
--- ---- what the next stretch is
+-- ---- the next run
 
--- a run at the start of a tile, given the number of tiles before it
+-- a run at the start of a tile, after `bands` other tiles
 abbrev pub IsBandStart : ℕ → Stretch → Type 0
 IsBandStart bands s = (s.first ≡ 1) × (s.first ≤ s.last) × (0 < bands → s.band ≢ bands)
 
--- after the clumps of a tile up to the clump of this line
+-- a run after the clumps of a tile up to the clump of this line
 abbrev pub IsNextIn : (band line : ℕ) → Stretch → Type 0
 IsNextIn band line s = (s.first ≤ s.last) × (s.band ≡ band → s.first ≡ line) × (s.band ≢ band → s.first ≡ 1)
 
--- ---- where it stopped
+-- ---- where counting stopped
 
--- the line of a numbering count lines after start; from 2^64 - 1 on they are not distinguished
+-- the line of a numbering `count` lines after `start`; lines from 2^64 - 1 on are not distinguished
 abbrev pub lines_behind : (start count : ℕ) → ℕ
 lines_behind start count = min (start + count) (2 ^ 64 - 1)
 
@@ -74,7 +74,7 @@ place_in_stretch table line s counted left sizes others = record {
   sizes = sizes;
 }
 
--- within a run, after its first clumps
+-- counting stopped within a run, after its first clumps
 pub record HasStoppedInStretch (place : ℕ) (s : Stretch) (table : TableReading) (old : List ℕ) (fault : SizesFault) : Type 0 where
   pub counted : List ℕ
   pub few : length counted ≤ stretch_areas s
@@ -85,7 +85,7 @@ pub record HasStoppedInStretch (place : ℕ) (s : Stretch) (table : TableReading
   pub tallies : Tallies old (range_with_len s.number (length counted)) counted sizes
   pub wrong : (line : ℕ) (others : AreasReading) → IsFaultAt (place_in_stretch place line s counted left sizes others) fault
 
--- within a tile, after its first runs and the first clumps of the next one
+-- counting stopped within a tile, after its first runs and the first clumps of the next run
 pub record HasStoppedInBand (place start : ℕ) (areas : AreasReading) (table : TableReading) (old : List ℕ) (fault : SizesFault) : Type 0 where
   pub at : ReadingPlace
   pub own_table : at.table ≡ place
@@ -113,7 +113,7 @@ place_at_end table line areas areas_line left sizes = record {
   sizes = sizes;
 }
 
--- after all clumps of a tile
+-- counting stopped after all clumps of a tile
 abbrev pub HasStoppedAtEnd : (place line : ℕ) → TableReading → SizesFault → Type 0
 HasStoppedAtEnd place line table fault = (areas : AreasReading) (areas_line : ℕ) (sizes : List ℕ) → IsBandOver (place + 1) areas.stretches areas.fault
     → IsFaultAt (place_at_end place line areas areas_line table sizes) fault

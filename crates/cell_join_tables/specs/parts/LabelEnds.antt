@@ -17,7 +17,7 @@ use Rattle.cell_join_tables.specs.declared.label_fault.OtherLabel.{OtherLabel}
 use Rattle.cell_join_tables.specs.declared.label_fault.LabelFault.{LabelFault}
 use Rattle.cell_join_tables.specs.declared.label_fault.LabelFault.TheVariants as faults
 
--- two texts continue with a combination to which they give different labels
+-- two texts continue with a combination for which they have different labels
 abbrev pub StopsAtLabels : FormatValue → List TextValue → OtherLabel → Type 0
 StopsAtLabels format texts reported = (readings : List TableReading) (labels : List (List Labelled)) → map (λ text. reading_from format text) texts ≡ map Some readings → AllByRecursion IsListing (tables_of readings) → map (λ text. labelled_from format text) texts ≡ map Some labels → HasOtherLabel readings labels reported
 
@@ -25,19 +25,19 @@ StopsAtLabels format texts reported = (readings : List TableReading) (labels : L
 abbrev pub HasOthers : List TableReading → List LabelledEntry → Type 0
 HasOthers readings done = (others : Pairs) × (merge_of (tables_of readings) ≡ plain_entries done ++ others)
 
--- what the appended lines are of the merge, depending on the result
+-- how the appended lines relate to the merge, for each result
 abbrev pub EndsLabelled : List TableReading → List (List Labelled) → List LabelledEntry → Result (Option OtherLabel) JoinFault → Type 0
 EndsLabelled readings labels done (Ok None) = AreTables readings × ((merge_of (tables_of readings) ≡ plain_entries done) × AreLabelledSo labels done)
 EndsLabelled readings labels done (Ok (Some reported)) = HasOtherLabel readings labels reported × HasOthers readings done
 EndsLabelled readings labels done (Err fault) = IsJoinFault readings fault × HasOthers readings done
 
--- the merge came to its end, to different labels or to an error
+-- the merge reached its end, different labels or an error
 pub record IsLabelledEnd {S : Type 0} (format : FormatValue) (texts : List TextValue) (taken : S → Option (List ℕ)) (faults : S → Faults) (out : S) (block : BlockValue) (now : S) (after : BlockValue) (answer : Result (Option OtherLabel) JoinFault) : Type 0 where
   pub done : List LabelledEntry
   pub appends : Appends taken faults out block (counted_text done) now after
   pub ends : (readings : List TableReading) (labels : List (List Labelled)) → map (λ text. reading_from format text) texts ≡ map Some readings → AllByRecursion IsListing (tables_of readings) → map (λ text. labelled_from format text) texts ≡ map Some labels → EndsLabelled readings labels done answer × AreOfTexts labels done
 
--- the result, and the different labels with it
+-- the error of the result, and the different labels in it
 abbrev pub answer_of : Result (Option OtherLabel) JoinFault → Result Unit JoinFault
 answer_of (Ok other) = Ok tt
 answer_of (Err fault) = Err fault
@@ -46,7 +46,7 @@ abbrev pub other_of : Result (Option OtherLabel) JoinFault → Option OtherLabel
 other_of (Ok other) = other
 other_of (Err fault) = None
 
--- the error that is reported: different labels only if there is no other error
+-- the error to report: different labels are reported only if there is no other error
 abbrev pub label_fault_of : Option JoinFault → Option OtherLabel → Option LabelFault
 label_fault_of (Some fault) other = Some (faults.Join fault)
 label_fault_of None (Some reported) = Some (faults.OtherLabel reported)

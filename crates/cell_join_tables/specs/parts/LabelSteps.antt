@@ -1,4 +1,4 @@
--- What a merge with labels takes from each text in one step, and what it has taken.
+-- What one step of a merge with labels reads from each text, and what has been read.
 use Rattle.std.specs.Prelude.{ℕ, ◌≡◌, ◌≢◌, ◌<◌, ◌&&◌, not, bytes_eq, Bool, false, List, [], ◌∷◌, ◌++◌, map, length, slice_get, Option, Some, None, option_map, slice_index_or}
 use Rattle.std.specs.List.{AllByRecursion, Contains}
 use Rattle.std.specs.Ordering.{eq_by_cmp}
@@ -17,25 +17,25 @@ use Rattle.cell_join_tables.specs.declared.label_fault.OtherLabel.{OtherLabel}
 use Rattle.cell_join_tables.specs.parts.Taking.{TakesEntries}
 use Rattle.cell_join_tables.specs.JoinedLabels.{AreOfTexts, HasNumberedLine, LabelledEntry, counted_line, counted_text, plain_entries, plain_entry, labelled_of}
 
--- whether an optional combination is this one
+-- the optional combination is `k`
 abbrev pub is_combination : Combination → Option Combination → Bool
 is_combination k None = false
 is_combination k (Some own) = eq_by_cmp combination_cmp own k
 
--- whether a text continues with the combination
+-- the text continues with the combination
 abbrev pub goes_on_with : Combination → TextValue → Bool
 goes_on_with k text = is_combination k (combination_of text.head)
 
--- whether it has different labels there
+-- the text continues with the combination and different labels
 abbrev pub is_other : FormatValue → Combination → List ℕ → TextValue → Bool
 is_other format k labelled text = goes_on_with k text && not (bytes_eq (before_count format.separator text.line) labelled)
 
--- a text has these labels where it continues, if it continues with the combination
+-- if the text continues with the combination, it has these labels
 abbrev pub AgreesOn : Combination → List ℕ → Option Labelled → Type 0
 AgreesOn k labelled None = Unit {0}
 AgreesOn k labelled (Some line) = line.0 ≡ k → line.1 ≡ labelled
 
--- what the line of a head has, if there is a head
+-- the line of the head up to its count, if there is a head
 abbrev pub labelled_head : FormatValue → TextValue → Option Labelled
 labelled_head format text = option_map (λ entry. (entry.0, before_count format.separator text.line)) text.head
 
@@ -53,18 +53,20 @@ pub record DifferAt (format : FormatValue) (k : Combination) (labelled : List �
   pub two : slice_get (labelled_heads format texts) text ≡ Some (Some (k, other))
   pub differ : other ≢ labelled
 
--- of texts at places in order, the first agree on the labels of the combination, and the next does not continue with it
+-- in an ordered list of texts, the first ones have the same labels for the combination, and the next one does not
+-- continue with it
 pub record AgreeInFront (format : FormatValue) (k : Combination) (labelled : List ℕ) (texts : List TextValue) (places : List ℕ) : Type 0 where
   pub count : ℕ
   pub agree : (i : ℕ) (text : TextValue) → i < count → is_other format k labelled (slice_index_or texts (slice_index_or places i 0) text) ≡ false
   pub next : count < length places → (text : TextValue) → goes_on_with k (slice_index_or texts (slice_index_or places count 0) text) ≡ false
 
--- exactly the lines with which texts continue that have the combination were skipped, however texts are read, in order
+-- exactly the lines with which texts continue and that have the combination were skipped, for any readings of the texts
+-- that are in order
 abbrev pub LeavesLines : FormatValue → Combination → List TextValue → List TextValue → Type 0
 LeavesLines format k old new = (readings : List TableReading) → map (λ text. reading_from format text) old ≡ map Some readings → AllByRecursion IsListing (tables_of readings)
     → map (λ text. labelled_from format text) new ≡ map (λ text. option_map (past_labelled k) (labelled_from format text)) old
 
--- an entry was taken from all texts, and they agree on its labels
+-- an entry was read from all texts, which have the same labels for it
 pub record HasLabelledStep {S : Type 0} (format : FormatValue) (old new : List TextValue) (taken : S → Option (List ℕ)) (faults : S → Faults) (out : S) (block : BlockValue) (now : S) (after : BlockValue) : Type 0 where
   pub entry : LabelledEntry
   pub takes : TakesEntries (λ text. reading_from format text) old new (plain_entry entry ∷ [])
@@ -83,19 +85,19 @@ ArePassed done [] (left ∷ lefts) = ⊥
 ArePassed done (whole ∷ wholes) [] = ⊥
 ArePassed done (whole ∷ wholes) (left ∷ lefts) = IsReadPast done whole left × ArePassed done wholes lefts
 
--- of what the lines of texts contain, all that was skipped is among these entries, which have labels of the texts
+-- all lines of the texts that were skipped are among these entries, whose labels are the texts'
 pub record HasPassed (format : FormatValue) (wholes : List (List Labelled)) (texts : List TextValue) (done : List LabelledEntry) : Type 0 where
   pub left : List (List Labelled)
   pub known : map (λ text. labelled_from format text) texts ≡ map Some left
   pub passed : ArePassed (labelled_of done) wholes left
   pub own : AreOfTexts wholes done
 
--- the same whatever the lines of texts contain, in order
+-- `HasPassed` for any contents of the texts that are in order
 abbrev pub PassesLines : FormatValue → List TextValue → List TextValue → List LabelledEntry → Type 0
 PassesLines format old new done = (readings : List TableReading) → map (λ text. reading_from format text) old ≡ map Some readings → AllByRecursion IsListing (tables_of readings)
     → (wholes : List (List Labelled)) → map (λ text. labelled_from format text) old ≡ map Some wholes → HasPassed format wholes new done
 
--- entries were taken, and their lines were appended
+-- entries were read, and their lines were appended
 pub record HasLabelledMerge {S : Type 0} (format : FormatValue) (old new : List TextValue) (taken : S → Option (List ℕ)) (faults : S → Faults) (out : S) (block : BlockValue) (now : S) (after : BlockValue) (count : ℕ) : Type 0 where
   pub done : List LabelledEntry
   pub counted : length done ≡ count
@@ -103,13 +105,13 @@ pub record HasLabelledMerge {S : Type 0} (format : FormatValue) (old new : List 
   pub passes : PassesLines format old new done
   pub appends : Appends taken faults out block (counted_text done) now after
 
--- the lines before the heads of texts were read
+-- the lines before the heads of the texts have been read
 abbrev pub AreBehind : FormatValue → List (List Labelled) → List TextValue → Type 0
 AreBehind format [] [] = Unit {0}
 AreBehind format [] (text ∷ texts) = ⊥
 AreBehind format (whole ∷ wholes) [] = ⊥
 AreBehind format (whole ∷ wholes) (text ∷ texts) = IsBehind format whole text × AreBehind format wholes texts
 
--- different labels are reported with their line, whatever lines the texts have
+-- different labels are reported with their line, for any contents of the texts
 abbrev pub StopsOnLine : FormatValue → List TextValue → OtherLabel → Type 0
 StopsOnLine format texts reported = (wholes : List (List Labelled)) → AreBehind format wholes texts → HasNumberedLine wholes reported.text reported.line (reported.combo, reported.other.items)

@@ -1,4 +1,4 @@
--- The entries of the smallest combination, taken one after the other.
+-- The entries of the smallest combination, read one after the other.
 use Rattle.std.specs.Prelude.{ℕ, ◌≡◌, ◌+◌, ◌≤◌, List, [], ◌∷◌, length, map, Option, Some, None}
 use Rattle.std.specs.List.{AllByRecursion}
 use Rattle.cell_stats_combinations.specs.Combinations.{Combination}
@@ -18,7 +18,7 @@ abbrev pub begin_count : Combination → List Pairs → ℕ
 begin_count k [] = 0
 begin_count k (table ∷ tables) = one_if_any (first_count k table) + begin_count k tables
 
--- at least taken entries of the smallest combination were taken, and their counts add up to total
+-- at least `taken` entries of the smallest combination were read, and their counts add up to `total`
 pub record HasGone {X : Type 0} (read : X → Option TableReading) (k : Combination) (readings : List TableReading) (texts : List X) (total : Option ℕ) (taken : ℕ) : Type 0 where
   pub all : AllByRecursion IsListing (tables_of readings)
   pub start : AllByRecursion (BeginsAt k) (tables_of readings)

@@ -14,7 +14,7 @@ use Rattle.cell_join_tables.specs.MergedTables.{merge_of}
 use Rattle.cell_join_tables.specs.parts.Taking.{TakesEntries}
 use Rattle.cell_join_tables.specs.declared.join_fault.JoinFault.{JoinFault}
 
--- the first texts were opened and are read in this way, and the others must have this many cells per line
+-- the first texts were opened and are read as `read` states, and the others must have `width` cells per line
 pub record HasOpened {R X : Type 0} (coming : R → Option Coming) (read : X → Option TableReading) (format : FormatValue) (left : List R) (texts : List X) (width : ℕ) (comings : List Coming) : Type 0 where
   pub others : List Coming
   pub give : Give coming left others
@@ -22,7 +22,7 @@ pub record HasOpened {R X : Type 0} (coming : R → Option Coming) (read : X →
   pub known : map read texts ≡ map Some first
   pub whole : readings_of format comings ≡ first ++ readings_from format width others
 
--- the first texts were opened as shown here, and the others are given
+-- the first texts were opened and are as `see` shows, and the others are given
 pub record HasSeen {R X Y : Type 0} (coming : R → Option Coming) (see : X → Option Y) (of : Coming → Y) (left : List R) (texts : List X) (comings : List Coming) : Type 0 where
   pub others : List Coming
   pub give : Give coming left others
@@ -32,7 +32,7 @@ pub record HasSeen {R X Y : Type 0} (coming : R → Option Coming) (see : X → 
 abbrev pub AreEnded : {X : Type 0} → (X → Option TableReading) → List X → Type 0
 AreEnded read texts = (readings : List TableReading) → map read texts ≡ map Some readings → readings ≡ map (λ reading. ended) readings
 
--- what the appended lines are of the merge, depending on the result: all of it, or its first lines before an error
+-- how the appended lines relate to the merge, for each result: all lines, or the first ones before an error
 abbrev pub EndsSo : List TableReading → Pairs → Result Unit JoinFault → Type 0
 EndsSo readings done (Ok unit) = AreTables readings × (merge_of (tables_of readings) ≡ done)
 EndsSo readings done (Err fault) = IsJoinFault readings fault × ((others : Pairs) × (merge_of (tables_of readings) ≡ done ++ others))

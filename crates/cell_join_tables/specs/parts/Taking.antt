@@ -1,4 +1,4 @@
--- Entries of a merge that were taken from texts, one by one.
+-- Entries of a merge that were read from texts, one by one.
 use Rattle.std.specs.Prelude.{◌≡◌, ◌≤◌, ◌^◌, List, ◌++◌, map, sum_by, Option, Some}
 use Rattle.std.specs.List.{AllByRecursion}
 use Rattle.cell_stats.specs.CategoryTables.{Pairs}
@@ -10,7 +10,7 @@ use Rattle.cell_join_tables.specs.MergedTables.{merge_of}
 use Rattle.cell_join_tables.specs.declared.join_fault.JoinFault.{JoinFault}
 use Rattle.cell_join_tables.specs.declared.join_fault.JoinFault.TheVariants.{Text, TooMany, TooLong, Memory, Write}
 
--- these entries were taken: what is left gives the rest of the merge, with the same errors
+-- these entries were read; the remaining readings give the rest of the merge, with the same errors
 pub record HasTaken {X : Type 0} (read : X → Option TableReading) (readings : List TableReading) (texts : List X) (done : Pairs) : Type 0 where
   pub after : List TableReading
   pub known : map read texts ≡ map Some after
@@ -19,11 +19,11 @@ pub record HasTaken {X : Type 0} (read : X → Option TableReading) (readings : 
   pub faults : map (λ reading. reading.fault) after ≡ map (λ reading. reading.fault) readings
   pub places : map fault_place after ≡ map fault_place readings
 
--- the same however texts are read, in order
+-- `HasTaken` for any readings of the texts that are in order
 abbrev pub TakesEntries : {X : Type 0} → (X → Option TableReading) → List X → List X → Pairs → Type 0
 TakesEntries read old new done = (readings : List TableReading) → map read old ≡ map Some readings → AllByRecursion IsListing (tables_of readings) → HasTaken read readings new done
 
--- why no more entries are taken
+-- why no more entries are read
 abbrev pub IsStepFault : List TableReading → JoinFault → Type 0
 IsStepFault readings (Text text fault) = IsFirstFault readings text fault
 IsStepFault readings (TooMany k) = (2 ^ 64 ≤ sum_by (count_in k) (tables_of readings)) × AreNoneBefore k (map fault_place readings)
@@ -31,6 +31,6 @@ IsStepFault readings TooLong = ⊥
 IsStepFault readings Memory = Unit {0}
 IsStepFault readings Write = ⊥
 
--- the same however texts are read, in order
+-- `IsStepFault` for any readings of the texts that are in order
 abbrev pub StepFails : {X : Type 0} → (X → Option TableReading) → List X → JoinFault → Type 0
 StepFails read texts fault = (readings : List TableReading) → map read texts ≡ map Some readings → AllByRecursion IsListing (tables_of readings) → IsStepFault readings fault

@@ -1,4 +1,4 @@
--- The largest number of a map.
+-- The largest number in a map.
 use Rattle.std.specs.Prelude.{ℕ, pos, negsuc, List, [], ◌∷◌, Some, None, max}
 use Rattle.cell_core.specs.Grid.{CellValue}
 
@@ -13,7 +13,7 @@ abbrev pub greatest_in : ℕ → List CellValue → ℕ
 greatest_in most [] = most
 greatest_in most (cell ∷ cells) = greatest_in (greater_of most cell) cells
 
--- and of rows of cells
+-- the largest of a number and rows of cells
 abbrev pub greatest_of : ℕ → List (List CellValue) → ℕ
 greatest_of most [] = most
 greatest_of most (row ∷ rows) = greatest_of (greatest_in most row) rows

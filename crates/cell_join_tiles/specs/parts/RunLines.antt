@@ -1,21 +1,21 @@
--- The runs of a tile; the last one may continue.
+-- The runs of a tile, the last of which may continue.
 use Rattle.std.specs.Prelude.{ℕ, ◌≡◌, List, ◌++◌, Option, Some, None}
 use Rattle.cell_join_lines.specs.AreasText.{stretches_behind, stretches_in}
 use Rattle.cell_join_lines.specs.declared.stretch.Stretch.{Stretch}
 use Rattle.cell_join_tiles.specs.declared.run_lines.Line.{Line}
 
--- how many areas of the tile come before the end of a line
+-- the number of the tile's clumps before the end of a line
 abbrev pub areas_of_line : Option Line → ℕ
 areas_of_line None = 0
 areas_of_line (Some line) = line.stretch.last
 
--- the runs of a tile from a line on, if its next areas have these numbers
+-- the runs of a tile from a line on, if its next clumps have these numbers
 abbrev pub stretches_after : ℕ → Option Line → List ℕ → List Stretch
 stretches_after band None numbers = stretches_in band numbers
 stretches_after band (Some line) numbers =
     stretches_behind line.stretch.band line.stretch.first line.stretch.last line.stretch.number line.previous numbers
 
--- other runs are followed by the runs of a tile whose first areas have these numbers, except for a line that may
--- continue
+-- `stretches` contains all runs before a tile and the runs of its first clumps, with these numbers, except for a line
+-- that may continue
 abbrev pub AreInLines : ℕ → List Stretch → List ℕ → List Stretch → Option Line → Type 0
 AreInLines band before numbers stretches line = (rest : List ℕ) → before ++ stretches_in band (numbers ++ rest) ≡ stretches ++ stretches_after band line rest

@@ -1,4 +1,4 @@
--- The labels of the clumps of a tile, as spans of consecutive labels.
+-- The labels of a tile's clumps, as spans of consecutive labels.
 use Rattle.std.specs.Prelude.{ℕ, ◌+◌, ◌<◌, ◌^◌, List, Vec, All, flat_map, length, map}
 use Rattle.std.specs.Global.{Global}
 use Rattle.std.specs.List.{range_with_len}
@@ -10,11 +10,11 @@ labels_of_span span = range_with_len span.first span.count
 abbrev pub labels_in : List Span → List ℕ
 labels_in spans = flat_map labels_of_span spans
 
--- the spans of some tiles
+-- the labels in the spans of some tiles
 abbrev pub labels_of_tiles : List (Vec Span Global) → List (List ℕ)
 labels_of_tiles tiles = map (λ spans. labels_in spans.items) tiles
 
--- labels that fit into 64 bits
+-- all labels of the span fit in 64 bits
 abbrev pub SpanFits : Span → Type 0
 SpanFits span = span.first + span.count < 2 ^ 64
 
