@@ -20,7 +20,7 @@ pub fn parts_join()
 {}
 
 /// Without `-1`, r.stats writes the printed form of every list that is a table of its maps, or of the rest of the table
-/// after a combination. At least one such list exists.
+/// after a combination. There is at least one of these lists.
 pub fn tables_are_printed()
     ensures { TablesAreAppended }
 {

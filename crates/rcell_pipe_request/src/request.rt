@@ -155,7 +155,7 @@ fn read_first_map<R: Read>(alloc: Global, feed: &mut Feed<R>) -> Result<FirstMap
 ///
 /// # Errors
 ///
-/// Returns the first error in the bytes, or, or [`RequestStop::Memory`] if memory runs out.
+/// Returns the first error in the bytes, or [`RequestStop::Memory`] if memory runs out.
 #[tactic(auto, unfolding(crate::specs::Requests::run_at))]
 pub fn read_run<R: Read>(alloc: Global, feed: &mut Feed<R>) -> Result<Request, RequestStop>
     ensures { ReadsPlacedToEnd run_request_value feed.old result feed.new run_at }

@@ -99,7 +99,7 @@ fn push_names<R: Read>(
 ///
 /// # Errors
 ///
-/// Returns the first error in the bytes, or, or [`RequestStop::Memory`] if memory runs out.
+/// Returns the first error in the bytes, or [`RequestStop::Memory`] if memory runs out.
 #[tactic(auto, unfolding(crate::specs::PlanRequests::plan_at))]
 pub fn read_plan<R: Read>(alloc: Global, feed: &mut Feed<R>) -> Result<PlanRequest, RequestStop>
     ensures { ReadsPlacedToEnd plan_request_value feed.old result feed.new plan_at }

@@ -17,7 +17,7 @@ use std::alloc::Global;
 ///
 /// # Errors
 ///
-/// The first error, line by line from the top, with its line number, from 1:
+/// Returns the first error, line by line from the top, with its line number, from 1:
 ///
 /// - [`ScriptKind::LongLine`], then [`ScriptKind::UnknownCommand`], then the errors of the command and of its rules
 /// - [`ScriptKind::MissingEnd`] with the line of an r.reclass whose rules have no `end`

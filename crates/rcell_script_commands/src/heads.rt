@@ -96,8 +96,8 @@ fn is_mapcalc(words: &[&[u8]]) -> bool
 ///
 /// # Errors
 ///
-/// Returns [`ScriptKind::LongLine`], then [`ScriptKind::UnknownCommand`], then the error of the command, or
-/// [`ScriptKind::Memory`] if memory runs out.
+/// Returns the first error that applies: [`ScriptKind::LongLine`], [`ScriptKind::UnknownCommand`], or the error of the
+/// command. Returns [`ScriptKind::Memory`] if memory runs out.
 pub fn head_of(alloc: Global, known: &Names, line: &[u8]) -> Result<Head, ScriptKind>
     ensures head { Reads (IsHead known.now line.now) result }
     ensures fits { IfOk result (FitsHead known.now) }

@@ -40,7 +40,8 @@ impl Places {
 ///
 /// # Errors
 ///
-/// Returns [`OptionFault::MissingOption`], then [`OptionFault::UnknownMap`], then [`OptionFault::MapExists`].
+/// Returns the first error that applies: [`OptionFault::MissingOption`], [`OptionFault::UnknownMap`], or
+/// [`OptionFault::MapExists`].
 pub fn from_to(known: &Names, options: Options) -> Result<(usize, Name), OptionFault>
     ensures value { result ≡ from_to known.now options }
     ensures within { IfOk result (λ maps. maps.0 < length known.now) }
@@ -63,7 +64,7 @@ pub fn from_to(known: &Names, options: Options) -> Result<(usize, Name), OptionF
 ///
 /// # Errors
 ///
-/// Returns [`OptionFault::MissingOption`], then [`OptionFault::UnknownMap`].
+/// Returns the first error that applies: [`OptionFault::MissingOption`] or [`OptionFault::UnknownMap`].
 pub fn input_place(known: &Names, options: &Options) -> Result<usize, OptionFault>
     ensures value { result ≡ input_place known.now options.now }
     ensures within { IfOk result (λ place. place < length known.now) }
@@ -105,8 +106,8 @@ fn is_torn(options: &Options) -> bool
 ///
 /// # Errors
 ///
-/// Returns [`OptionFault::MissingOption`], then [`OptionFault::BadOption`] if flags exclude each other, then
-/// [`OptionFault::UnknownMap`], or [`OptionFault::Memory`] if memory runs out.
+/// Returns the first error that applies: [`OptionFault::MissingOption`], [`OptionFault::BadOption`] if flags exclude
+/// each other, or [`OptionFault::UnknownMap`]. Returns [`OptionFault::Memory`] if memory runs out.
 pub fn input_places(alloc: Global, known: &Names, options: &Options) -> Result<Places, OptionFault>
     ensures places { GivesOption result (input_places known.now options.now) }
     ensures within { IfOk result (λ places. All (λ place. place < length known.now) places) }

@@ -28,8 +28,8 @@ fn joining_of(corners: bool) -> Joining
 ///
 /// # Errors
 ///
-/// Returns the error in the first word that has one, then [`OptionFault::MissingOption`], [`OptionFault::UnknownMap`]
-/// and [`OptionFault::MapExists`], or [`OptionFault::Memory`] if memory runs out.
+/// Returns the first error that applies: the error in the first word that has one, [`OptionFault::MissingOption`],
+/// [`OptionFault::UnknownMap`], or [`OptionFault::MapExists`]. Returns [`OptionFault::Memory`] if memory runs out.
 pub(crate) fn clump_of(
     alloc: Global,
     known: &Names,

@@ -68,8 +68,9 @@ fn mapcalc_with(alloc: Global, known: &Names, a: Assignment) -> Result<Head, Scr
 ///
 /// # Errors
 ///
-/// Returns [`ScriptKind::Calc`] with the error in the assignment, or with its first unknown map; columns are columns of
-/// the line. Then [`ScriptKind::MapExists`], or [`ScriptKind::Memory`] if memory runs out.
+/// Returns the first error that applies: [`ScriptKind::Calc`] with the error in the assignment or with its first
+/// unknown map, or [`ScriptKind::MapExists`]. Columns are columns of the line. Returns [`ScriptKind::Memory`] if memory
+/// runs out.
 #[tactic(auto, using(crate::proofs::MapcalcLemmas::assigned, crate::proofs::MapcalcLemmas::unassigned))]
 pub(crate) fn mapcalc_of(alloc: Global, known: &Names, line: &[u8]) -> Result<Head, ScriptKind>
     requires { length line.now ≤ 65535 }

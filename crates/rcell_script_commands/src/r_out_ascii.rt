@@ -16,8 +16,8 @@ use std::alloc::Global;
 ///
 /// # Errors
 ///
-/// Returns the error in the first word that has one, then [`OptionFault::MissingOption`] and
-/// [`OptionFault::UnknownMap`], or [`OptionFault::Memory`] if memory runs out.
+/// Returns the first error that applies: the error in the first word that has one, [`OptionFault::MissingOption`], or
+/// [`OptionFault::UnknownMap`]. Returns [`OptionFault::Memory`] if memory runs out.
 pub(crate) fn out_ascii_of(
     alloc: Global,
     known: &Names,

@@ -15,8 +15,8 @@ use std::alloc::Global;
 ///
 /// # Errors
 ///
-/// Returns the error in the first word that has one, then [`OptionFault::MissingOption`], [`OptionFault::UnknownMap`]
-/// and [`OptionFault::MapExists`], or [`OptionFault::Memory`] if memory runs out.
+/// Returns the first error that applies: the error in the first word that has one, [`OptionFault::MissingOption`],
+/// [`OptionFault::UnknownMap`], or [`OptionFault::MapExists`]. Returns [`OptionFault::Memory`] if memory runs out.
 pub(crate) fn reclass_of(
     alloc: Global,
     known: &Names,

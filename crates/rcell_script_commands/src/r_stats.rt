@@ -74,9 +74,9 @@ fn printed_with(
 ///
 /// # Errors
 ///
-/// Returns the error in the first word that has one, then [`ScriptKind::MissingOption`], [`ScriptKind::BadOption`] if
-/// flags exclude each other, [`ScriptKind::UnknownMap`] and [`ScriptKind::Combo`], or [`ScriptKind::Memory`] if memory
-/// runs out.
+/// Returns the first error that applies: the error in the first word that has one, [`ScriptKind::MissingOption`],
+/// [`ScriptKind::BadOption`] if flags exclude each other, [`ScriptKind::UnknownMap`], or [`ScriptKind::Combo`]. Returns
+/// [`ScriptKind::Memory`] if memory runs out.
 #[tactic(auto, using(crate::proofs::FaultLemmas::reported))]
 pub(crate) fn stats_of(alloc: Global, known: &Names, words: &[&[u8]]) -> Result<Command, ScriptKind>
     ensures command { GivesScript result (stats_of known.now (texts words.now)) }
