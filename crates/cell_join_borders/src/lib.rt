@@ -1,4 +1,4 @@
-//! Writes and reads the border of a tile as a text. Our own format (see the profile) is a grid of ten rows with the
+//! Writes and reads the border of a tile as a text. Our own format (profile) is a grid of ten rows with the
 //! tile's four coordinates.
 //!
 //! Rows 1 to 8: the first row, last row, first column and last column of cells, each followed by a row with its clump

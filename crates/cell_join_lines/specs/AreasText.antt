@@ -1,4 +1,4 @@
--- The lines of a numbering: the full map's numbers for the clumps of tiles (see the profile).
+-- The lines of a numbering: the full map's numbers for the clumps of tiles (profile).
 use Rattle.std.specs.Prelude.{ℕ, ◌≡◌, ◌+◌, ◌-◌, ◌==◌, length, sum, List, [], ◌∷◌, ◌++◌, flat_map, take, drop, codes, decimal, if◌then◌else◌}
 use Rattle.std.specs.List.{join_with_byte, range_with_len}
 use Rattle.cell_core_values.specs.Letters.{byte}

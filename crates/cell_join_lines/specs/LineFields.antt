@@ -49,7 +49,7 @@ entry_of_fields null_text (field ∷ next ∷ fields) = cell_before (cell_of_fie
 abbrev pub entry_of_line : ℕ → List ℕ → List ℕ → Result (Combination × ℕ) TableKind
 entry_of_line separator null_text line = entry_of_fields null_text (slice_split (λ b. b == separator) line)
 
--- the cell in a field, given the label after it: the label of null is `no data` (see the profile), and a category may
+-- the cell in a field, given the label after it: the label of null is `no data` (profile), and a category may
 -- have any label
 abbrev pub labelled_cell : List ℕ → List ℕ → List ℕ → Option CellValue
 labelled_cell null_text field label = if bytes_eq field null_text then (if bytes_eq label (codes "no data") then Some None else None) else option_map Some (category_of_field field)

@@ -1,5 +1,5 @@
 //! Reads the texts from which tiles are joined: tables with counts, as printed by r.stats, and numberings. Each line of
-//! a numbering describes a run, in our own format (see the profile): a tile, the run's first and last clump in the
+//! a numbering describes a run, in our own format (profile): a tile, the run's first and last clump in the
 //! tile, and the first clump's number in the full map.
 //!
 //! - `text`: `TableText` reads the entries of a table one by one; `table_fault`: `TableFault`

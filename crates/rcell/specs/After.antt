@@ -1,4 +1,4 @@
--- The shelf after each statement (see the profile).
+-- The shelf after each statement (profile).
 use Rattle.std.specs.Prelude.{◌≡◌}
 use Rattle.cell_core.specs.Shelf.{ShelfValue}
 use Rattle.rcell.specs.Making.{IsWithValues, IsWithClasses, IsWithNumbers}

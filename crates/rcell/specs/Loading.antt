@@ -1,4 +1,4 @@
--- Reads grids onto a shelf, in order, up to the first error (see the profile).
+-- Reads grids onto a shelf, in order, up to the first error (profile).
 use Rattle.std.specs.Prelude.{ℕ, ◌+◌, List, [], ◌∷◌, ◌++◌, Option, Some, None, Result, Ok, Err, if◌then◌else◌}
 use Rattle.cell_core.specs.Grid.{Grid}
 use Rattle.cell_core_values.specs.Name.{place_of}

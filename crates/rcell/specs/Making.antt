@@ -1,5 +1,4 @@
--- The maps that r.mapcalc, r.reclass and r.clump make (see their manuals); each is added at the end of the shelf (see
--- the profile).
+-- The maps that r.mapcalc, r.reclass and r.clump make (their manuals); each is added at the end of the shelf (profile).
 use Rattle.std.specs.Prelude.{ℕ, ◌≡◌, ◌<◌, List, [], ◌∷◌, ◌++◌, Option, Some, None, slice_get}
 use Rattle.cell_calc_binding.specs.Formula.{Formula}
 use Rattle.cell_calc_binding.specs.Applied.{grid_position}

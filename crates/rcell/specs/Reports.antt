@@ -1,4 +1,4 @@
--- Where a run's error is reported, and its text (see the profile).
+-- Where a run's error is reported, and its text (profile).
 use Rattle.std.specs.Prelude.{ℕ, List, [], codes, slice_get, unwrap_or}
 use Rattle.rcell.specs.declared.run_fault.RunFault.{RunFault}
 use Rattle.rcell.specs.declared.run_fault.RunFault.TheVariants.{GridTwice, GridRegion, Grid, ScriptRead, ScriptSize, Script, Memory, Write}

@@ -1,4 +1,4 @@
--- The text of a script (the profile sets its maximum length).
+-- The text of a script, whose length is limited (profile).
 use Rattle.std.specs.Prelude.{ℕ, nat_lt, List, length, Result, Ok, Err, if◌then◌else◌}
 use Rattle.cell_core_devices.specs.Device.{Coming}
 use Rattle.rcell.specs.declared.run_fault.RunFault.{RunFault}

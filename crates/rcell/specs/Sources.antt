@@ -1,4 +1,4 @@
--- The contents of named sources (see the profile).
+-- The contents of named sources (profile).
 use Rattle.std.specs.Prelude.{ℕ, ◌≡◌, List, Option, Some}
 use Rattle.std.specs.List.{AllZip}
 use Rattle.cell_core_devices.specs.Device.{Coming}

@@ -157,7 +157,7 @@ pub fn run<R: Source + Drop, W: Sink>(
         → IsAccepted named text shelf statements
         → Writes shelf statements (W.taken out.old) (W.taken out.new)
         (has_failed (W.faults out.new)) result) }
-    // The same guarantee for any statements as which the script can be read over a shelf.
+    // Any statements as which the script can be read over a shelf have the same guarantee.
     ensures complete { OfTexts R.coming grids.items script
         (λ named text. (shelf : ShelfValue) (statements : List Statement)
         → IsReadScript named text shelf statements

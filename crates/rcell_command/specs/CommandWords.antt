@@ -1,4 +1,4 @@
--- The words of a command line (see the profile).
+-- The words of a command line (profile).
 use Rattle.std.specs.Prelude.{ℕ, Bool, not, List, [], ◌∷◌, ◌==◌, false, codes}
 use Rattle.std.specs.List.{list_any}
 use Rattle.cell_core_values.specs.Letters.{byte}

@@ -1,4 +1,4 @@
--- What is known about a process, and how its calls change this (see the profile).
+-- What is known about a process, and how its calls change this (profile).
 use Rattle.std.specs.Prelude.{ℕ, ◌≡◌, Bool, false, List, [], ◌∷◌}
 use Rattle.std.specs.Prelude.{◌++◌, Option, None, Some, IfSome, if◌then◌else◌, bytes_eq, take}
 use Rattle.cell_core_devices.specs.Device.{Coming}

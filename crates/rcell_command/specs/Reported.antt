@@ -1,4 +1,4 @@
--- The place at which an error is reported, and its exit status (see the profile).
+-- The place at which an error is reported, and its exit status (profile).
 use Rattle.std.specs.Prelude.{ℕ, List, Option, None, Some}
 
 -- the source of an error, its line, or 0 if it has none, and the exit status

@@ -9,7 +9,7 @@ use crate::shown::Shown;
 use std::fmt;
 use std::marker::Model;
 
-/// The source of an error, its line, and the exit status (see the profile). The line is 0 if the error has none. The
+/// The source of an error, its line, and the exit status (profile). The line is 0 if the error has none. The
 /// status is 1 if a text was rejected, 2 for the command line, 3 if memory ran out, and 4 if a file could not be
 /// opened, read or written.
 #[derive(Drop)]
@@ -48,7 +48,7 @@ pub trait Reported: fmt::Display {
         ensures { result ≡ place self.now };
 }
 
-/// Prints the line `PROGRAM: SOURCE:LINE: TEXT` for an error (see the profile) to standard error. Returns the exit
+/// Prints the line `PROGRAM: SOURCE:LINE: TEXT` for an error (profile) to standard error. Returns the exit
 /// status, which is 0 if there is no error. The status does not depend on whether standard error accepts the line.
 pub fn report<R: Eprint, T: Reported>(rt: &R, program: &str, reported: &T) -> u8
     ensures { result ≡ status_of (T.place reported.now) }

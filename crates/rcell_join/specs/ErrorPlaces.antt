@@ -1,4 +1,4 @@
--- Where errors are reported, and their exit statuses (see the profile).
+-- Where errors are reported, and their exit statuses (profile).
 use Rattle.std.specs.Prelude.{ℕ, ◌-◌, List, [], codes, length, slice_get, unwrap_or}
 use Rattle.cell_ascii_meaning.specs.declared.grid_fault.GridKind.{GridKind}
 use Rattle.cell_ascii_meaning.specs.declared.grid_fault.GridKind.TheVariants as grid_kinds

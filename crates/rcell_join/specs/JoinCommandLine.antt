@@ -1,4 +1,4 @@
--- The request in a command line: rcell-join tables, border, clumps or sizes, with arguments (see the profile).
+-- The request in a command line: rcell-join tables, border, clumps or sizes, with arguments (profile).
 use Rattle.std.specs.Prelude.{ℕ, Bool, not, List, [], ◌∷◌, ◌||◌, false, true, map, Result, Ok, Err, is_some, unwrap_or, if◌then◌else◌, bytes_eq, codes}
 use Rattle.std.specs.List.{filter, list_any}
 use Rattle.cell_ascii_meaning.specs.Header.{usual_null}

@@ -1,4 +1,4 @@
--- Errors before anything is joined (see the profile).
+-- Errors before anything is joined (profile).
 use Rattle.std.specs.Prelude.{ℕ, ◌<◌}
 use Rattle.rcell_join.specs.declared.join_refusal.JoinRefusal.{JoinRefusal}
 use Rattle.rcell_join.specs.declared.join_refusal.JoinRefusal.TheVariants.{Usage, BadOption, Memory, File}

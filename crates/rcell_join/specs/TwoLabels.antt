@@ -1,4 +1,4 @@
--- Two labels for one category (see the profile).
+-- Two labels for one category (profile).
 use Rattle.std.specs.Prelude.{ℕ, ◌≡◌, ◌≢◌, ◌==◌, List, [], ◌∷◌, ◌++◌}
 use Rattle.std.specs.List.{slice_split}
 

@@ -1,4 +1,4 @@
-//! Where a text has an error, with the exit status: 4 if a read failed, 3 if memory ran out, and 1 otherwise.
+//! Returns where a text has an error, and the exit status: 4 if a read failed, 3 if memory ran out, and 1 otherwise.
 
 ghost use Rattle.std.specs.Prelude.{◌≡◌, map};
 ghost use Rattle.rcell_command.specs.Reported.{on_line};

@@ -1,5 +1,5 @@
 -- What `rcell-pipe` does, in terms of the bytes that it reads, the bytes that its writes accept, and its exit status
--- (see the profile).
+-- (profile).
 use Rattle.std.specs.Prelude.{ℕ, ◌≡◌, false, List, drop, length, Option, None}
 use Rattle.cell_core_devices.specs.Device.{Faults, after_flush, append_known}
 use Rattle.cell_core_devices.specs.declared.source.Asked.{Asked}

@@ -1,5 +1,5 @@
 -- The bytes that a caller writes for maps and a script: each length or count precedes what it counts, and numbers have
--- their lowest byte first (see the profile).
+-- their lowest byte first (profile).
 use Rattle.std.specs.Prelude.{ℕ, ℤ, pos, ◌+◌, ◌*◌, Bool, true, false, List, [], ◌∷◌, ◌++◌, length, map, flat_map}
 use Rattle.std.specs.Prelude.{Option, is_some, unwrap_or, if◌then◌else◌}
 use Rattle.std.specs.Int.{Width, w8, w16, w32, w64, to_le_bytes, cast_unsigned}

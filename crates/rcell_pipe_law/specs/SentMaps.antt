@@ -1,4 +1,4 @@
--- The maps that a caller of rcell-pipe sends, and the cells that their numbers denote (see the profile).
+-- The maps that a caller of rcell-pipe sends, and the cells that their numbers denote (profile).
 use Rattle.std.specs.Prelude.{ℕ, ℤ, ◌≡◌, ◌<◌, ◌^◌, Bool, true, false, ◌&&◌, ◌||◌, List, ◌∷◌, length, map, All}
 use Rattle.std.specs.Prelude.{IfSome, Some, None, if◌then◌else◌}
 use Rattle.std.specs.Int.{w32, w64}

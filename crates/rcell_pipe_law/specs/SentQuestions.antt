@@ -1,4 +1,4 @@
--- A caller's questions about the patches of a map, and their bytes (see the profile).
+-- A caller's questions about the patches of a map, and their bytes (profile).
 use Rattle.std.specs.Prelude.{ℕ, ◌≡◌, ◌<◌, ◌≤◌, ◌^◌, ◌+◌, true, List, [], ◌∷◌, ◌++◌, length, flat_map}
 use Rattle.std.specs.Prelude.{IfSome, Option, unwrap_or}
 use Rattle.std.specs.Int.{w8, w32, to_le_bytes}

@@ -1,4 +1,4 @@
--- The meaning of the bytes of a request's questions (see the profile).
+-- The meaning of the bytes of a request's questions (profile).
 use Rattle.std.specs.Prelude.{ℕ, ◌+◌, List, [], ◌∷◌, ◌++◌, length, map, nat_le, Option, Some, None, Ok, Err}
 use Rattle.std.specs.Prelude.{◌==◌, if◌then◌else◌}
 use Rattle.std.specs.Int.{w8, w32}

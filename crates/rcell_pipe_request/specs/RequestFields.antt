@@ -1,5 +1,5 @@
 -- Requests are read from left to right, up to the first error. Numbers have their lowest byte first, and each length
--- precedes its bytes (see the profile).
+-- precedes its bytes (profile).
 use Rattle.std.specs.Prelude.{ℕ, ℤ, zero, suc, Bool, true, false, List, length, take, Result, Ok, Err, nat_lt}
 use Rattle.std.specs.Prelude.{◌==◌, if◌then◌else◌}
 use Rattle.std.specs.Int.{Width, byte_len, from_le_bytes, cast_signed}

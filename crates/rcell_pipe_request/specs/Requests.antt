@@ -1,5 +1,5 @@
--- The meaning of a request's bytes: maps of one region with distinct names, the bytes of a script, and questions (see
--- the profile).
+-- The meaning of a request's bytes: maps of one region with distinct names, the bytes of a script, and questions
+-- (profile).
 use Rattle.std.specs.Prelude.{ℕ, ◌+◌, ◌-◌, ◌&&◌, nat_le, List, [], ◌∷◌, ◌++◌, length, Option, Some, None, Result, Ok, Err, ◌==◌, if◌then◌else◌}
 use Rattle.std.specs.FinMap as finmap
 use Rattle.std.specs.Ordering.{int_cmp}

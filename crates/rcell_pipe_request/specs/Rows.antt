@@ -1,4 +1,4 @@
--- The rows of a map in a request: each row's numbers, then its mask, if any (see the profile).
+-- The rows of a map in a request: each row's numbers, then its mask, if any (profile).
 use Rattle.std.specs.Prelude.{ℕ, ◌*◌, List, Option, Some, None, Ok, Err, if◌then◌else◌}
 use Rattle.cell_core_devices.specs.Device.{Coming}
 use Rattle.cell_core.specs.Grid.{CellValue}

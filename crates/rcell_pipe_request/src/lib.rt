@@ -1,5 +1,5 @@
 //! Requests to `rcell-pipe`: parses bytes into maps, a script and questions, or reports the first error. docs/pipe.md
-//! defines the bytes (see the profile).
+//! defines the bytes (profile).
 //!
 //! - `request`: `read_run` reads a `Request`: maps of one region, a script, and questions
 //! - `question`: `Question`, about the patches of a map; private `questions` reads them

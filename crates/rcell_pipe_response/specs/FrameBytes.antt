@@ -1,4 +1,4 @@
--- The bytes of a response: a magic line, the frames, and a last frame that reports how the run ended (see the profile).
+-- The bytes of a response: a magic line, the frames, and a last frame that reports how the run ended (profile).
 use Rattle.std.specs.Prelude.{ℕ, pos, negsuc, Bool, true, false, List, [], ◌∷◌, ◌++◌, length, map, flat_map, codes, Option, Some, None, if◌then◌else◌, nat_le}
 use Rattle.std.specs.List.{list_all, zip}
 use Rattle.std.specs.Option.{is_some}

@@ -1,5 +1,4 @@
--- The frames for questions about the maps at the end of a script, and the questions that are rejected (see the
--- profile).
+-- The frames for questions about the maps at the end of a script, and the questions that are rejected (profile).
 use Rattle.std.specs.Prelude.{ℕ, ◌+◌, ◌≡◌, Bool, false, ◌||◌, List, [], ◌∷◌, length, slice_get}
 use Rattle.std.specs.Prelude.{Option, Some, None, if◌then◌else◌}
 use Rattle.std.specs.Option.{is_none}

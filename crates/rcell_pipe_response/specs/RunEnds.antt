@@ -1,4 +1,4 @@
--- What a run of `rcell-pipe` has written when it ends (see the profile).
+-- What a run of `rcell-pipe` has written when it ends (profile).
 use Rattle.std.specs.Prelude.{ℕ, ◌≡◌, ◌⊎◌, ◌++◌, ⊤, Bool, true, false, List, [], ◌∷◌, length, codes, Option, Some, None}
 use Rattle.std.specs.Prelude.{Result, Ok, Err, if◌then◌else◌}
 use Rattle.cell_core_devices.specs.Device.{Faults, append_known, after_put, after_flush}

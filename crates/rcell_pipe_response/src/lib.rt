@@ -1,5 +1,5 @@
 //! Responses of `rcell-pipe`: a frame for each statement that writes and for each question, and a last frame that
-//! reports how the run ended; or the text that `rcell` prints. docs/pipe.md defines the bytes (see the profile).
+//! reports how the run ended; or the text that `rcell` prints. docs/pipe.md defines the bytes (profile).
 //!
 //! - `frame_run`: `run_request` runs a request and writes its response in a `RunForm`; `PipeOutcome`
 //! - `end`: `End`, the fields of the last frame; `PipeError`, why a run failed

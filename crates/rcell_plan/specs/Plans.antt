@@ -1,5 +1,4 @@
--- What statements read, and how far they depend on the given maps, directly or through maps made earlier (see the
--- profile).
+-- What statements read, and how far they depend on the given maps, directly or through maps made earlier (profile).
 use Rattle.std.specs.Prelude.{ℕ, zero, suc, ◌+◌, Bool, true, false, List, [], ◌∷◌, ◌++◌, map, flat_map, length}
 use Rattle.std.specs.Prelude.{slice_get, unwrap_or, Option, Some, None, if◌then◌else◌}
 use Rattle.cell_calc_binding.specs.Formula.{Formula}

@@ -1,4 +1,4 @@
--- Details that a plan reports about the text of a statement (see the profile).
+-- Details that a plan reports about the text of a statement (profile).
 use Rattle.std.specs.Prelude.{ℕ, ℤ, ◌-◌, List, [], slice_get, unwrap_or}
 use Rattle.std.specs.List.{filter_map}
 use Rattle.cell_cats.specs.Reclass.{label_entry}

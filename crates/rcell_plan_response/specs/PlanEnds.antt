@@ -1,4 +1,4 @@
--- The response to a plan request (see the profile).
+-- The response to a plan request (profile).
 use Rattle.std.specs.Prelude.{ℕ, ◌≡◌, List, [], Option, Some, None, Result, Ok, Err}
 use Rattle.rcell_script.specs.Lines.{script_lines}
 use Rattle.rcell_script.specs.Scripts.{IsScript}

@@ -1,4 +1,4 @@
--- The frames of a plan, and the response to a plan request (see the profile).
+-- The frames of a plan, and the response to a plan request (profile).
 use Rattle.std.specs.Prelude.{ℕ, ℤ, List, [], ◌∷◌, ◌++◌, length, map, flat_map, codes, Option, Some, None}
 use Rattle.std.specs.Int.{w32, to_le_bytes, cast_unsigned}
 use Rattle.std.specs.List.{zip}

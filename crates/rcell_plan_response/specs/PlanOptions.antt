@@ -1,4 +1,4 @@
--- The options of a statement in a plan (see the profile).
+-- The options of a statement in a plan (profile).
 use Rattle.std.specs.Prelude.{ℕ, ◌+◌, ◌*◌, List, [], ◌∷◌, ◌++◌, length, flat_map, Option, Some, None}
 use Rattle.cell_stats_combinations.specs.Combinations.{Combination}
 use Rattle.cell_stats_combinations.specs.declared.skip.Skip.{Skip}

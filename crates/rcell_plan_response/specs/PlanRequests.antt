@@ -1,4 +1,4 @@
--- The meaning of a plan request's bytes: distinct names of maps, and the bytes of a script (see the profile).
+-- The meaning of a plan request's bytes: distinct names of maps, and the bytes of a script (profile).
 use Rattle.std.specs.Prelude.{ℕ, nat_le, List, [], ◌∷◌, ◌++◌, length, Ok, Err, if◌then◌else◌}
 use Rattle.std.specs.Option.{is_none}
 use Rattle.std.specs.Int.{w32}

@@ -1,4 +1,4 @@
--- The calls of position functions in an r.mapcalc (see the profile).
+-- The calls of position functions in an r.mapcalc (profile).
 use Rattle.std.specs.Prelude.{ℕ, Bool, true, false, ◌&&◌, List, [], ◌∷◌, Option, Some, None, Result, Ok, Err, if◌then◌else◌}
 use Rattle.std.specs.Option.{option_map, option_and_then}
 use Rattle.cell_calc_grammar.specs.declared.calc_fault.CalcFault.{CalcFault}

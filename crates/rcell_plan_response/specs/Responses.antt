@@ -1,4 +1,4 @@
--- The response to a request of any form (see the profile).
+-- The response to a request of any form (profile).
 use Rattle.std.specs.Prelude.{ℕ, ◌≡◌, ◌≢◌, Bool, true, false, List, length, Option, Some, None}
 use Rattle.std.specs.Prelude.{Result, Ok, Err, if◌then◌else◌, codes}
 use Rattle.std.specs.Prelude.{bytes_eq}

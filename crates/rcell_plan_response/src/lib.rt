@@ -1,5 +1,5 @@
 //! Responses of `rcell-pipe` to requests of each form: a run, with frames or as text, or a plan. docs/pipe.md defines
-//! the bytes (see the profile).
+//! the bytes (profile).
 //!
 //! - `responding`: `respond` reads a request and writes its response: all that `rcell-pipe` does
 //! - `plan_request`: `read_plan` reads names of maps and a script, or reports the first error

@@ -1,4 +1,4 @@
--- Where an error before a run is reported, and its exit status (see the profile).
+-- Where an error before a run is reported, and its exit status (profile).
 use Rattle.std.specs.Prelude.{ℕ, ◌≡◌, ◌<◌, ⊤, List, [], length, Option, None, codes, slice_get, unwrap_or}
 use Rattle.std.specs.Option.{option_map}
 use Rattle.cell_core_devices.specs.Device.{Coming}

@@ -1,4 +1,4 @@
--- What `rcell` does: the words of its process, the files that it opens, its output and its error (see the profile).
+-- What `rcell` does: the words of its process, the files that it opens, its output and its error (profile).
 use Rattle.std.specs.Prelude.{ℕ, ◌≡◌, ◌<◌, Bool, false, true, ⊤, List, []}
 use Rattle.std.specs.Prelude.{◌∷◌, drop, length, take, Option, None, Some, IfSome, IsNone, codes}
 use Rattle.std.specs.List.{AllZip}

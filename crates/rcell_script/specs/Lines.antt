@@ -1,4 +1,4 @@
--- The numbered lines of a script (see the profile).
+-- The numbered lines of a script (profile).
 use Rattle.std.specs.Prelude.{ℕ, List, [], ◌∷◌, map, ◌+◌}
 use Rattle.bstr.specs.Text.{lines_of, without_terminator}
 

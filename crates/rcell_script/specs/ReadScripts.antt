@@ -1,4 +1,4 @@
--- How a text is read as statements, and its error if it is not a script (see the profile).
+-- How a text is read as statements, and its error if it is not a script (profile).
 use Rattle.std.specs.Prelude.{ℕ, ◌≡◌, List, Ok, Err}
 use Rattle.rcell_script.specs.Lines.{script_lines}
 use Rattle.rcell_script.specs.ScriptsRead.{IsScriptReading, start}

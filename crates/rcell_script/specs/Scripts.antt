@@ -1,4 +1,4 @@
--- Which texts are scripts, and of which statements (see the profile, and the GRASS manual for the commands).
+-- Which texts are scripts, and of which statements (profile; commands: GRASS manual).
 use Rattle.std.specs.Prelude.{ℕ, List, ◌≤◌, [], ◌∷◌, ◌++◌, length, All}
 use Rattle.cell_cats.specs.Rule.{RuleValue}
 use Rattle.rcell_script.specs.KnownMaps.{known_after}

@@ -1,4 +1,4 @@
--- Reads a script line by line from the top, to its end or its first error (see the profile).
+-- Reads a script line by line from the top, to its end or its first error (profile).
 use Rattle.std.specs.Prelude.{ℕ, ◌≡◌, ◌+◌, List, [], ◌∷◌, ◌++◌, nat_lt, length, Option, Some, None, Result, Ok, Err, MatchResult, if◌then◌else◌}
 use Rattle.cell_cats.specs.Rule.{RuleValue}
 use Rattle.cell_cats.specs.RuleReading.{with_line}

@@ -1,4 +1,4 @@
--- The maps that options name (order of errors: see the profile).
+-- The maps that options name (order of errors: profile).
 use Rattle.std.specs.Prelude.{ℕ, List, Option, Some, None, Result, Ok, Err, if◌then◌else◌}
 use Rattle.std.specs.Option.{ok_or}
 use Rattle.cell_core_values.specs.Answers.{◌>>=◌}

@@ -1,5 +1,4 @@
--- Valid null texts in a table (r.stats manual) and in a written grid (r.out.ascii manual); the profile lists the bytes
--- allowed.
+-- Valid null texts in a table (r.stats manual) and in a written grid (r.out.ascii manual); the bytes allowed: profile.
 use Rattle.std.specs.Prelude.{ℕ, Bool, not, ◌&&◌, ◌==◌, nat_le, List, length, codes}
 use Rattle.std.specs.List.{list_all}
 use Rattle.cell_core_values.specs.Letters.{byte}

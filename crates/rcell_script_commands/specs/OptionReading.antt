@@ -1,4 +1,4 @@
--- Reads the words after a command in order, up to the first error (order of errors: see the profile).
+-- Reads the words after a command in order, up to the first error (order of errors: profile).
 use Rattle.std.specs.Prelude.{ℕ, Bool, false, ◌&&◌, ◌||◌, ◌==◌, nat_lt, List, [], ◌∷◌, map, length, Option, Some, None, is_some, Result, Ok, Err, if◌then◌else◌, bytes_eq, codes}
 use Rattle.std.specs.Borrow.{Bor}
 use Rattle.std.specs.List.{list_all}

@@ -1,5 +1,5 @@
 -- Which options the words after a command spell, in any order: flags after a dash, and keys with their values (r.stats,
--- r.clump, r.reclass and r.out.ascii manuals; the profile sets the limits).
+-- r.clump, r.reclass and r.out.ascii manuals; limits: profile).
 use Rattle.std.specs.Prelude.{ℕ, ◌≡◌, ◌≤◌, ◌⊎◌, Bool, true, not, ◌&&◌, ◌==◌, List, [], ◌∷◌, length, Option, Some, None, is_some, unwrap_or, if◌then◌else◌, bytes_eq, codes}
 use Rattle.std.specs.List.{list_all, list_any, flat_map, filter_map}
 use Rattle.std.specs.Option.{option_and_then}

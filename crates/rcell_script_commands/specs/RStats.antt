@@ -1,4 +1,4 @@
--- r.stats and its options (r.stats manual; `after` is defined by the profile).
+-- r.stats and its options (r.stats manual; `after`: profile).
 use Rattle.std.specs.Prelude.{ℕ, ◌≡◌, Bool, true, false, List, [], ◌∷◌, length, All, Some, None, if◌then◌else◌, codes}
 use Rattle.cell_ascii_meaning.specs.GridWords.{usual_null}
 use Rattle.cell_core_values.specs.Words.{words_of}

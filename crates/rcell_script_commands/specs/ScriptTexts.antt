@@ -1,4 +1,4 @@
--- The texts of a script's errors (see the profile).
+-- The texts of a script's errors (profile).
 use Rattle.std.specs.Prelude.{ℕ, List, ◌++◌, codes, decimal, Option, Some, None}
 use Rattle.cell_calc_grammar.specs.declared.calc_fault.CalcKind.{CalcKind}
 use Rattle.cell_calc_grammar.specs.declared.calc_fault.CalcKind.TheVariants as calc

@@ -1,4 +1,4 @@
--- Lines without a command (see the profile).
+-- Lines without a command (profile).
 use Rattle.std.specs.Prelude.{ℕ, Bool, false, ◌==◌, List, [], ◌∷◌, ◌≡◌, true, codes}
 use Rattle.cell_cats.specs.RuleLine.{is_skipped}
 use Rattle.cell_core_values.specs.Blanks.{trimmed_text}

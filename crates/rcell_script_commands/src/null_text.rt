@@ -15,7 +15,7 @@ use std::marker::Model;
 /// Maximum length of a null text in bytes.
 const MOST_BYTES: usize = 64;
 
-/// The null text of a grid that is written: 1 to 64 bytes from `!` to `~`, except colons (see the profile).
+/// The null text of a grid that is written: 1 to 64 bytes from `!` to `~`, except colons (profile).
 #[derive(Drop)]
 pub struct NullText {
     bytes: Vec<u8>,
@@ -32,7 +32,7 @@ impl Model for NullText {
     ghost invariant = { λ t. is_null_text t.bytes.items ≡ true };
 }
 
-/// The null text of a table: 1 to 64 bytes from `!` to `~` (see the profile).
+/// The null text of a table: 1 to 64 bytes from `!` to `~` (profile).
 #[derive(Drop)]
 pub struct TableNullText {
     bytes: Vec<u8>,

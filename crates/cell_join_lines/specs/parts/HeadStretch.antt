@@ -5,7 +5,7 @@ use Rattle.cell_join_lines.specs.declared.stretch.Stretch.{Stretch}
 use Rattle.cell_join_lines.specs.declared.areas_fault.AreasKind.{AreasKind}
 use Rattle.cell_join_lines.specs.AreasReading.{next_stretch}
 
--- an optional run, from a result
+-- a run as an optional run
 abbrev pub head_if : Result Stretch AreasKind → Result (Option Stretch) AreasKind
 head_if (Ok s) = Ok (Some s)
 head_if (Err kind) = Err kind

@@ -1,5 +1,5 @@
--- An accepted script over grids of one region (r.in.ascii, r.stats and r.out.ascii manuals; the profile defines names,
--- the common region and the form of a script).
+-- An accepted script over grids of one region (r.in.ascii, r.stats and r.out.ascii manuals; names, the common region
+-- and the form of scripts: profile).
 use Rattle.std.specs.Prelude.{◌≡◌, ◌<◌, ◌≤◌, false, List, length, map, All}
 use Rattle.std.specs.List.{AllZip}
 use Rattle.cell_core_devices.specs.Device.{Coming}

@@ -1,5 +1,5 @@
--- How a run ends: it succeeds, is rejected with the first error in its input (in the profile's order), or stops during
--- execution.
+-- How a run ends: it succeeds, is rejected with the first error in its input, in a fixed order (profile), or stops
+-- during execution.
 use Rattle.std.specs.Prelude.{ℕ, ◌≡◌, List, Option, Some, None, Result, Ok, Err}
 use Rattle.cell_core_devices.specs.Device.{Coming}
 use Rattle.cell_core.specs.Shelf.{ShelfValue}

@@ -1,4 +1,4 @@
--- What has been written when the execution of statements stops (see the profile).
+-- What has been written when the execution of statements stops (profile).
 use Rattle.std.specs.Prelude.{ℕ, ◌≡◌, Bool, true, false, List, ◌∷◌, ◌++◌, length, Option, Result, Ok, Err}
 use Rattle.cell_core_devices.specs.Device.{append_known}
 use Rattle.cell_core.specs.Shelf.{ShelfValue}

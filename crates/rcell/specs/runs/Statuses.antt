@@ -1,4 +1,4 @@
--- The exit statuses of a run (see the profile).
+-- The exit statuses of a run (profile).
 use Rattle.std.specs.Prelude.{ℕ, Option, Some, None}
 use Rattle.cell_ascii_meaning.specs.declared.grid_fault.GridKind.{GridKind}
 use Rattle.cell_ascii_meaning.specs.declared.grid_fault.GridKind.TheVariants as grid_kinds

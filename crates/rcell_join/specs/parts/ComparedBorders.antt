@@ -1,4 +1,4 @@
--- What a rejected border is compared with (see the profile).
+-- What a rejected border is compared with (profile).
 use Rattle.std.specs.Prelude.{ℕ, zero, suc, ◌-◌, Bool, true, false, List, [], codes, if◌then◌else◌}
 use Rattle.cell_cats_areas.specs.declared.clump.Joining.TheVariants as joinings
 use Rattle.cell_join_clumps.specs.declared.clumps_fault.ClumpsFault.{ClumpsFault}
