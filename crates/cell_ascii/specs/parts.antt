@@ -1,4 +1,4 @@
--- Cells read within one line, what reading a word's cell requires, and a reader before its first row.
+-- Cells read within one line, the requirements for reading a word's cell, and a reader before its first row.
 pub mod InLine
 pub mod WordPlaces
 pub mod BlankRuns

@@ -21,7 +21,7 @@ const FEW_WORDS: usize = 16;
 pub(crate) enum Way {
     /// Reads each repeated word once.
     Repeated,
-    /// Looks words up among those read before.
+    /// Looks words up in the table of words read before.
     Sought,
     /// Converts numbers digit by digit.
     Digits,

@@ -1,2 +1,2 @@
--- Tables of what bytes contribute to the values of words.
+-- Tables of the contributions of bytes to the values of words.
 pub mod LaneTables

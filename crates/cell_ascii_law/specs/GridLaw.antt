@@ -10,7 +10,7 @@ use Rattle.cell_ascii_meaning.specs.Header.{OpenedText, header_of_text}
 abbrev pub GridReadingAgrees : Type 0
 GridReadingAgrees = (c : Coming) (m : Grid) → (grid_of c ≡ Ok m) ↔ Denotes c m
 
--- the header read from a text is the one that its header lines define, whether or not the data is valid
+-- the header read from a text is defined by its header lines, whether or not the data is valid
 abbrev pub HeadersAgree : Type 0
 HeadersAgree =
     (c : Coming) (o : OpenedText) → header_of_text c ≡ Ok o

@@ -8,8 +8,7 @@ pub fn grid_reading_denotes()
     ensures { GridReadingAgrees }
 {}
 
-/// The header read from a text is the header that its header lines define, even if the data is invalid (r.in.ascii
-/// manual).
+/// The header read from a text is defined by its header lines, even if the data is invalid (r.in.ascii manual).
 pub fn opening_denotes()
     ensures { HeadersAgree }
 {}

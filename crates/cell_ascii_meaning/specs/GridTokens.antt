@@ -19,7 +19,7 @@ newlines bs = count_by is_line_feed bs
 abbrev pub grid_fault : GridKind → ℕ → GridFault
 grid_fault kind line = record { kind = kind; line = line }
 
--- the line of the next word and the bytes from there on, or the end, or an error before either
+-- the line of the next word and the bytes that start with it; or the end; or an error before them
 pub data Start : Type 0 where
   Begins : ℕ → Coming → Start
   Ends : ℕ → Start

@@ -161,7 +161,7 @@ line_from rest keys (Begins line c) =
     word_from line [] c
     >>= (λ w. if has_colon w.0 then key_line line keys w.0 w.1 >>= after_line rest line else opened_text keys line (Some w.0) w.1)
 
--- The header from a line on. Each line adds a new key and there are nine keys, so fuel for ten lines is enough.
+-- The header that starts at a line. Each line adds a new key and there are nine keys, so fuel for ten lines is enough.
 -- Counting the keys that are left instead would need a proof here.
 unfoldable pub header_from : ℕ → KeyValues → ℕ → ℕ → Coming → Result OpenedText GridFault
 header_from zero keys line run c = Err (grid_fault BadHeader line)

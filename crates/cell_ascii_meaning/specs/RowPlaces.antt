@@ -54,7 +54,7 @@ end_table gap token words place = stuck gap place or token_begins token place or
 abbrev pub run_of : ℕ → List ℕ → ℕ
 run_of run before = if list_all is_space before then run + length before else gap_of_place before
 
--- the error at a place that follows another place and the bytes `before`; a pending token precedes these bytes
+-- the error at a place that follows a position and then the bytes `before`; a pending token precedes these bytes
 abbrev pub reported_behind : RowTable → At → List ℕ → FaultPlace → Option GridFault
 reported_behind table at before place = option_map (λ kind. grid_fault kind (at.line + newlines before))
     (table (run_of at.run before) (token_at_place (unwrap_or at.pending [] ++ before)) (grid_words_of (unwrap_or at.pending [] ++ before)) place)

@@ -6,8 +6,8 @@
 //!
 //! - specs/GridText.antt: `Denotes`, built on the terms of specs/GridWords.antt, specs/EdgeNumbers.antt and
 //!   specs/KeyNames.antt
-//! - specs/FaultPlaces.antt: `text_fault`, the error at the first byte that shows one; specs/RowPlaces.antt: the same
-//!   for the remaining rows
+//! - specs/FaultPlaces.antt: `text_fault`, the error at the first byte that shows one; specs/RowPlaces.antt: the error
+//!   in the remaining rows
 //! - specs/GridTokens.antt, Header.antt, CellTexts.antt: `grid_of`, which reads the text from left to right;
 //!   `cell_ascii_law` and `cell_ascii_law_faults` prove that both definitions agree
 //! - specs/Writing.antt: `grid_text`, the text written for a map

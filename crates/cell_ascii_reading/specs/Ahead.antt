@@ -4,8 +4,8 @@ use Rattle.std.specs.Option.{option_map}
 use Rattle.cell_core_devices.specs.Asking.{Heard}
 use Rattle.cell_core_devices.specs.Device.{Coming}
 
--- the buffered bytes, the remaining bytes of the source if they are known, whether the source has ended, and what it
--- has reported
+-- the buffered bytes, the remaining bytes of the source if they are known, whether the source has ended, and the
+-- reader's knowledge about it
 pub record Ahead : Type 0 where
   pub buffered : List ℕ
   pub rest : Option Coming

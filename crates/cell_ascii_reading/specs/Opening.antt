@@ -10,7 +10,7 @@ use Rattle.cell_ascii_reading.specs.declared.header_reading.Ending.TheVariants.{
 use Rattle.cell_ascii_reading.specs.declared.header_reading.HeaderLine.{HeaderLine}
 use Rattle.cell_ascii_reading.specs.declared.header_reading.HeaderLine.TheVariants.{Key, Data, Last}
 
--- the value of a line, which is the word from index `at` on, or the error of the call
+-- the value of a line, which starts at index `at` of the word, or the error of the call
 abbrev pub value_seen : Result ℕ GridFault → List ℕ → Coming → Result (List ℕ × Coming) GridFault
 value_seen (Ok at) word c = Ok (drop at word, c)
 value_seen (Err f) word c = Err f
@@ -37,7 +37,7 @@ abbrev pub after_key : ℕ → KeyValues × LineEnd → Result AfterLine GridFau
 after_key line (keys, None) = Ok (Stop keys line None header_ended)
 after_key line (keys, Some (run, c)) = Ok (More keys (line + 1) run c)
 
--- the state after a line, which is read from its first word on
+-- the state after a line, which is read from its first word
 abbrev pub line_read : KeyValues → Start → Result AfterLine GridFault
 line_read keys (Stops f) = Err f
 line_read keys (Ends line) = Ok (Stop keys line None header_ended)

@@ -34,7 +34,7 @@ fn in_units(whole: &[u8], part: &[u8]) -> Option<u64>
     Some(value_of_digits(whole) * 100000000 + value_of_digits(part) * scale)
 }
 
-/// Returns the index of the first such byte, or the length of the text if there is none.
+/// Returns the index of the first occurrence of `byte`, or the length of the text if there is none.
 pub fn byte_place(byte: u8, text: &[u8]) -> usize
     ensures place { result ≡ position_or_len (λ b. b == byte) text.now }
     ensures within { result ≤ length text.now }

@@ -73,7 +73,7 @@ fn expect_same<R: Abort + AllocGlobal>(
     }
 }
 
-// Checks that each text is read the same in one piece and in pieces that end at any of its bytes.
+// Checks that reading each text in pieces gives the same result, whichever byte a piece ends at.
 fn agrees_in_pieces<R: Abort + AllocGlobal>(rt: &R, piece: usize) -> Result<(), Fail>
     requires { 0 < piece }
 {

@@ -91,8 +91,8 @@ fn put_other_cells(
     }
 }
 
-// Writes a space and a cell `count` times into a line. Checks for numbers with few digits first, because most cells are
-// such numbers.
+// Writes a space and a cell `count` times into a line. Checks for numbers with few digits first, because they are most
+// common.
 #[inline(always)]
 pub(crate) fn put_run(
     line: &mut [u8],

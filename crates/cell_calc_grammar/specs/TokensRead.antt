@@ -21,7 +21,7 @@ abbrev pub tail : List Placed → List Placed
 tail [] = []
 tail (s ∷ ts) = ts
 
--- the value read from the first tokens, and the remaining tokens; or an error, and the tokens from its position on
+-- the value read from the first tokens, and the remaining tokens; or an error, and the tokens that start at it
 abbrev pub PartOfExpression : Type 0 → Type 0
 PartOfExpression A = Result (A × List Placed) (CalcKind × List Placed)
 
@@ -72,7 +72,7 @@ to_bracket down ts = read_then (offset ts) (λ right us. read_then (bracket_at (
 abbrev pub offsets : List Placed → PartOfExpression (ℤ × ℤ)
 offsets ts = read_then (offset ts) (λ down us. read_then (comma_at (head us) us) (λ _ vs. to_bracket down vs))
 
--- an expression or arguments, and the remaining tokens; or an error, and the tokens from its position on
+-- an expression or arguments, and the remaining tokens; or an error, and the tokens that start at it
 pub data ReadOutcome : Type 0 where
   Got : (a : Term) (rest : List Placed) → ReadOutcome
   GotAll : (xs : Terms) (rest : List Placed) → ReadOutcome
@@ -169,7 +169,7 @@ move name c (Err e) = Stops e.0 e.1
 abbrev pub call_judged : Bool → Function → Terms → (from rest : List Placed) → ReadOutcome
 call_judged b f xs from rest = cond b (Got (Call f xs) rest) (Stops BadArguments from)
 
--- the outcome after a function's name and the opening parenthesis, where `from` are the tokens from the name on
+-- the outcome after a function's name and the opening parenthesis, where the tokens `from` start with the name
 abbrev pub call : Function → List Placed → ReadOutcome → ReadOutcome
 call f from (Got a rest) = Stops Expected rest
 call f from (GotAll xs rest) = call_judged (accepts f (count xs)) f xs from rest

@@ -22,7 +22,7 @@ use std::alloc::Global;
 #[derive(Clone, Copy)]
 pub(crate) enum ParseStop<'a> {
     Memory,
-    /// An error, and the tokens from its position on.
+    /// An error, and the tokens that start at it.
     At(CalcKind, &'a [Placed]),
 }
 

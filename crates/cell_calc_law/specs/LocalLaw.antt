@@ -57,7 +57,7 @@ abbrev pub GivesValues : (Combination → CellValue) → Formula → List ℕ �
 GivesValues given f picks =
     (maps : List Grid) (s : GridPosition) → value f maps s ≡ given (combination_at maps picks s.row s.col)
 
--- every local expression has such a function
+-- for every local expression, a function of the combination gives its values
 abbrev pub LocalGoesByCombinations : Type 0
 LocalGoesByCombinations =
     (f : Formula) (picks : List ℕ) → IsLocal f → ReadsAmong picks f

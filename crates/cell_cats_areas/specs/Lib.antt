@@ -1,4 +1,4 @@
--- Clumps: what public contracts use; and, in parts, what only private functions and proofs use.
+-- Definitions of clumps for public contracts; and, in parts, for private functions and proofs.
 pub mod Areas
 pub mod ClumpLaw
 pub mod parts

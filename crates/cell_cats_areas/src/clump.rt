@@ -54,13 +54,12 @@ fn label_map(alloc: Global, map: &CellMap, joining: Joining) -> Result<MapLabels
     label_cells(alloc, map, joining, count_of_runs)
 }
 
-/// Returns the map in which each non-null cell has the number of its clump. The region is the same, and there are no
-/// labels. Null stays null.
+/// Returns the map in which each non-null cell has the number of its clump. It has the same region and no labels. Null
+/// stays null.
 ///
-/// Two cells are in the same clump if a path of adjacent cells of the same category connects them (r.clump
-/// manual). Clumps are numbered 1, 2, .. in the order of their first cells, row by row from the top
-/// left (profile). For example, the rows `1 2` and `2 1` become `1 2` and `3 4` by edges, but `1 2` and `2 1` by
-/// edges and corners.
+/// Two cells are in the same clump if a path of adjacent cells of the same category connects them (r.clump manual).
+/// Clumps are numbered 1, 2, .. in the order of their first cells, row by row from the top left (profile). For example,
+/// the rows `1 2` and `2 1` become `1 2` and `3 4` by edges, but `1 2` and `2 1` by edges and corners.
 ///
 /// In addition to the result, it allocates at most twelve bytes per run (or, if most runs are short, four bytes per
 /// cell and per run), 32 bytes per row, and a few rows.

@@ -21,7 +21,7 @@ abbrev pub ReclassedPartsHaveTheLabels : Type 0
 ReclassedPartsHaveTheLabels = (rules : List RuleValue) (r : Rectangle) (whole part : List Grid)
     → AreCutOut r whole part → HaveTheLabels (map (reclassed_map rules) whole) (map (reclassed_map rules) part)
 
--- if tiles have the labels of the full maps, a table is printed the same for both
+-- if tiles have the labels of the full maps, a table is printed identically for both
 abbrev pub PartsPrintTheWhole : Type 0
 PartsPrintTheWhole = (whole part : List Grid) → HaveTheLabels whole part
     → (format : FormatValue) (picks : List ℕ) (table : Pairs)

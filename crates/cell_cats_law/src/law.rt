@@ -45,7 +45,7 @@ pub fn reclassed_parts_have_the_labels()
     ensures { ReclassedPartsHaveTheLabels }
 {}
 
-/// If tiles have the labels of the full maps, a table is printed the same for both.
+/// If tiles have the labels of the full maps, a table is printed identically for both.
 pub fn parts_print_the_whole()
     ensures { PartsPrintTheWhole }
 {}

@@ -81,7 +81,7 @@ impl OutputBlock {
         Ok(())
     }
 
-    // Returns the number of bytes held.
+    // Returns the number of held bytes.
     fn len(&self) -> usize
         ensures value { result ≡ length self.now.held }
         ensures within { result ≤ room }
@@ -89,14 +89,14 @@ impl OutputBlock {
         self.len
     }
 
-    // Returns the bytes held.
+    // Returns the held bytes.
     fn bytes(&self) -> &[u8]
         ensures { result.now ≡ self.now.held }
     {
         &self.bytes[..self.len]
     }
 
-    // Appends bytes to those held.
+    // Appends bytes to the held bytes.
     fn hold_bytes(&mut self, bytes: &[u8])
         requires { length self.old.held + length bytes.now ≤ room }
         ensures { self.new ≡ record {

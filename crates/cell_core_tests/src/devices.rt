@@ -4,7 +4,7 @@ ghost use Rattle.std.specs.Prelude.{◌≤◌, IfOk};
 
 use std::io::{self, ErrorKind, Read, Write};
 
-/// What a device does at one call.
+/// The behaviour of a device in one call.
 #[derive(Clone, Copy)]
 pub enum Step {
     /// Fails.

@@ -1,5 +1,5 @@
--- Whole numbers, and those in the range of categories (GRASS: CELL values; accepting leading zeros and a plus sign is
--- our own choice).
+-- Whole numbers, and their range for categories (GRASS: CELL values; accepting leading zeros and a plus sign is our own
+-- choice).
 use Rattle.std.specs.Prelude.{ℕ, ℤ, pos, neg_ℤ, int_le, Bool, ◌&&◌, ◌==◌, List, [], ◌∷◌, Option, Some, None, Result, Ok, Err, if◌then◌else◌, codes}
 use Rattle.std.specs.Option.{option_map}
 use Rattle.cell_core_values.specs.Letters.{byte}

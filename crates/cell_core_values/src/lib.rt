@@ -1,14 +1,14 @@
 //! Defines the values that maps are made of, and reads words and numbers from lines of text.
 //!
-//! Cells and regions follow the GRASS manual (r.in.ascii, g.region). Names, blanks and the
-//! limits of regions are our own choice (profile).
+//! Cells and regions follow the GRASS manual (r.in.ascii, g.region). Names, blanks and the limits of regions are our
+//! own choice (profile).
 //!
 //! - `cell`: `Cell`, a category from -2147483647 to 2147483647, or null
 //! - `region`: `Region`, four edges in units of 10^-8, and 1 to 65535 rows and columns
 //! - `name`: `Name`, 1 to 64 bytes; `Names`, distinct names, each with its index
 //! - `memory`: `Memory`, the error of a call that ran out of memory
 //! - `blanks`, `words`: blanks, words, parts between commas, `KEY=VALUE`
-//! - `whole_numbers`: whole numbers in decimal, and those in the range of categories
+//! - `whole_numbers`: whole numbers in decimal, and their range for categories
 //! - `small_cells`: rows of nulls and categories from 0 to 254, stored in one byte per cell
 //!
 //! Edges 4, 3, 2 and 1, six rows and five columns:

@@ -1,4 +1,5 @@
--- The patches of a map, their measures and their main zones; and, in parts, what private functions and proofs use.
+-- The patches of a map, their measures and their main zones; and, in parts, definitions for private functions and
+-- proofs.
 pub mod Patches
 pub mod Zones
 pub mod parts

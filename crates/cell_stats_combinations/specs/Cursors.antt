@@ -6,13 +6,13 @@ use Rattle.cell_core.specs.Grid.{Grid, CellValue, row_at}
 use Rattle.cell_core.specs.Runs.{RunValue, written_out}
 use Rattle.cell_core.specs.Shelf.{ShelfValue}
 
--- the remaining runs, the current cell, and the number of columns from the position on with this cell
+-- the remaining runs, the current cell, and the remaining number of columns with this cell
 pub record CursorValue : Type 0 where
   pub runs : List RunValue
   pub cell : CellValue
   pub left : ℕ
 
--- the cells from the position on
+-- the cells from the current position to the end of the row
 abbrev pub to_come : CursorValue → List CellValue
 to_come c = replicate c.left c.cell ++ written_out c.runs
 

@@ -93,7 +93,7 @@ impl Combo {
         }
     }
 
-    /// Overwrites the cells with the same number of other cells.
+    /// Overwrites the cells with an equal number of new cells.
     #[inline(always)]
     pub fn write(&mut self, cells: &[Cell])
         requires { length cells.now ≡ length self.old }

@@ -14,7 +14,7 @@ use cell_core::stretches::Stretches;
 use std::alloc::Global;
 use std::marker::Model;
 
-/// A position in a row: its cell, the number of columns from there on with the same cell, and the runs after them.
+/// A position in a row: the current cell, the remaining number of columns with this cell, and the runs after them.
 #[derive(Drop)]
 pub struct Cursor<'a> {
     runs: Stretches<'a>,

@@ -1,11 +1,11 @@
--- Runs of blanks, given as bits from an index on.
+-- Runs of blanks, given as bits that start at an index.
 use Rattle.std.specs.Prelude.{ℕ, ◌-◌, ◌≡◌, ◌<◌, ◌≤◌, true, List, drop, take, length, slice_index_or}
 use Rattle.std.specs.List.{list_all}
 use Rattle.std.specs.Simd.Lanes.{mask_l}
 use Rattle.cell_ascii_meaning.specs.GridTokens.{is_space}
 use Rattle.cell_ascii.specs.TableWords.{blanks, cleared_front}
 
--- the byte at the index is a blank, and the bits mark the blanks from there on
+-- the byte at the index is a blank, and the bits mark the blanks from this index
 pub record IsAtBlank (bs : List ℕ) (ends at : ℕ) : Type 0 where
   pub buffered : 64 ≤ length bs
   pub bits : ends ≡ mask_l (cleared_front at (blanks bs))

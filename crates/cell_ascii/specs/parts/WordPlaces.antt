@@ -1,4 +1,4 @@
--- What reading a word's cell into a row requires.
+-- The requirements for reading a word's cell into a row.
 use Rattle.std.specs.Prelude.{ℕ, ◌≡◌, ◌<◌, ◌≤◌, All, List, length}
 use Rattle.cell_core.specs.Grid.{CellValue}
 use Rattle.cell_ascii_meaning.specs.Header.{HeaderValue}

@@ -1,4 +1,4 @@
--- What a byte contributes to the value of a word, as tables.
+-- Tables of the contributions of bytes to the values of words.
 use Rattle.std.specs.Prelude.{ℕ, ◌+◌, ◌*◌, ◌%◌, ◌≡◌, ◌<◌, List, slice_index_or, min, bit_and, nat_lt, if◌then◌else◌}
 
 -- a table of 16 entries, repeated four times

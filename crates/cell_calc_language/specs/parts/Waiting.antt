@@ -53,7 +53,7 @@ latest_first fs = reverse fs
 abbrev pub waiting : Reader → List Frame
 waiting r = latest_first r.frames.items
 
--- any outcome of the state t completes what the reader has read of the state s
+-- any outcome of the state t completes the part of the state s that was read
 abbrev pub IsAwaited : State → Reader → State → Type 0
 IsAwaited s r t = Awaits s (waiting r) r.steps.items t
 

@@ -36,8 +36,7 @@ pub record AreNumbered (j : Joining) (m : Grid) (labels : List ℕ) (open_of : �
   pub done : (k : ℕ) → k < place → slice_index table k ≡ area_number j m labels (open_of k)
   pub counted : count ≡ length (firsts_below j m labels place)
 
--- what numbering requires of the labels from `place` on: none points to a larger label, and no entry exceeds the length
--- of the table
+-- the labels from `place` can be numbered: none points to a larger label, and no entry exceeds the length of the table
 pub record CanNumber (place : ℕ) (table : List ℕ) : Type 0 where
   pub down : (k : ℕ) → place ≤ k → slice_index table k ≤ k
   pub most : (k : ℕ) → slice_index table k ≤ length table

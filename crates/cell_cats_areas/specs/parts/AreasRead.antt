@@ -1,4 +1,4 @@
--- What the labels guarantee after the first cells of a map were read, in row order.
+-- Properties of the labels after the first cells of a map were read, in row order.
 use Rattle.std.specs.Prelude.{ℕ, ℤ, suc, ◌+◌, ◌*◌, ◌<◌, ◌≤◌, ◌≡◌, ◌≢◌, ◌⊎◌, List, [], ◌∷◌, ◌++◌, length, Option, Some, None, IsSome, true, slice_index, slice_index_or}
 use Rattle.cell_core.specs.Grid.{Grid, CellValue}
 use Rattle.cell_cats_areas.specs.declared.clump.Joining.{Joining}
@@ -49,7 +49,7 @@ pub record AreNear (m : Grid) (count : ℕ) (label_of : Position → ℕ) (r c :
   pub above : IsLabelledCell m count label_of (IsAbove r c) near.above
   pub upper_right : IsLabelledCell m count label_of (IsUpperRight r c) near.upper_right
 
--- the line holds row r up to column c, the row above from there on, and a null at the end
+-- the line holds row r before column c, the row above from column c, and a null at the end
 pub record IsLine (m : Grid) (count : ℕ) (label_of : Position → ℕ) (r c : ℕ) (line : List Labelled) : Type 0 where
   pub wide : length line ≡ m.region.cols + 1
   pub end : (d : Labelled) → (slice_index_or line m.region.cols d).cell ≡ None
@@ -84,7 +84,7 @@ pub record AreInside (count : ℕ) (near : Near) : Type 0 where
   pub above : (v : ℤ) → near.above.cell ≡ Some v → near.above.label < count
   pub upper_right : (v : ℤ) → near.upper_right.cell ≡ Some v → near.upper_right.label < count
 
--- what sharing a label requires: a non-null cell, and a table that contains the labels of its neighbours
+-- the cell can share a label: it is not null, and the table contains the labels of its neighbours
 pub record CanShare (cell : CellValue) (table : List ℕ) (near : Near) : Type 0 where
   pub some : IsSome cell
   pub down : PointDown table

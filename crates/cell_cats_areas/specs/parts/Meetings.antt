@@ -1,4 +1,4 @@
--- What the labels guarantee about clumps while the labels of adjacent cells are joined one after another.
+-- Properties of the labels while the labels of adjacent cells are joined one after another.
 use Rattle.std.specs.Prelude.{ℕ, ◌<◌, ◌≡◌, ◌⊎◌, List, length}
 use Rattle.cell_core.specs.Grid.{Grid}
 use Rattle.cell_cats_areas.specs.declared.clump.Joining.{Joining}

@@ -70,7 +70,7 @@ abbrev pub marks : CellValue → List CellValue → List Bool
 marks x [] = []
 marks x (y ∷ cells) = not (cell_eq y x) ∷ marks y cells
 
--- the marks as the bits of a number, from the lowest bit on
+-- the marks as the bits of a number, with the first mark in the lowest bit
 abbrev pub mark_bits : CellValue → List CellValue → ℕ
 mark_bits x cells = mask_l (marks x cells)
 

@@ -193,7 +193,7 @@ pub record IsFoundIn (lines : NearRows) (cell category : CellValue) (steps depth
   pub row : found.row ≡ r
   pub col : found.col ≡ c
 
--- what reading a cell requires, and what reading a row requires
+-- the requirements for reading a cell, and for reading a row
 pub record IsCellReady (maps : MapPair) (depth r c : ℕ) (lines : NearRows) (class : CellValue)
     (steps : ℕ) : Type 0 where
   pub numbered : ArePatchNumbers maps
@@ -214,7 +214,7 @@ pub record IsRowReady (maps : MapPair) (depth r : ℕ) (lines : NearRows) (class
   pub long : length classes ≡ maps.numbers.region.cols
   pub have_steps : AreSteps maps.numbers r steps
 
--- what reading the next rows requires, and what holds after a row
+-- the requirements for reading the next rows, and the state after a row
 pub record IsRowsReady (maps : MapPair) (depth r : ℕ) (above second_above : List ℕ)
     (patches : List Patch) : Type 0 where
   pub numbered : ArePatchNumbers maps
