@@ -12,9 +12,8 @@ use Rattle.cell_ascii_reading.specs.Scan.{FailsInText}
 use Rattle.cell_ascii_meaning.specs.declared.grid_fault.GridKind.TheVariants.{Memory, Failed}
 use Rattle.cell_ascii_meaning.specs.declared.grid_fault.GridFault.{GridFault}
 
--- the header, the number of unread rows, a pending data token that was not checked yet, the line, the length of the
--- current run of blanks and line feeds, whether the reader has failed, the bytes to come if they are known, and the
--- source's state
+-- the header, the number of unread rows, a pending token, the line, the length of the current run of blanks and line
+-- feeds, whether the reader has failed, the bytes to come if they are known, and the source's state
 pub record ReaderValue : Type 0 where
   pub header : HeaderValue
   pub rows_left : ℕ

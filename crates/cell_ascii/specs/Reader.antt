@@ -12,8 +12,7 @@ use Rattle.cell_ascii.specs.GridReaders.{ReaderValue, reader_place}
 use Rattle.cell_ascii_meaning.specs.declared.grid_fault.GridKind.TheVariants.{TooFew}
 use Rattle.cell_ascii_meaning.specs.declared.grid_fault.GridFault.{GridFault}
 
--- the header, a pending word that was not checked yet, the line, the length of the current run of blanks and line
--- feeds, and the bytes ahead
+-- the header, a pending word, the line, the length of the current run of blanks and line feeds, and the bytes ahead
 pub record ReaderPlace : Type 0 where
   pub header : HeaderValue
   pub pending : Option (List ℕ)

@@ -100,8 +100,7 @@ fn header_at(keys: HeaderKeys, line: u64) -> Result<Header, GridFault>
     keys.into_header().map_err(|kind| GridFault { kind, line })
 }
 
-// Reads the header of an unread text and the first word after it. Returns the header, and whether there is a word after
-// it.
+// Reads the header of an unread text and the first word after it. Returns the header, and whether a word follows it.
 fn read_opening<R: Source>(scanner: &mut Scanner<R>) -> Result<(Header, bool), GridFault>
     requires start { (scanner.old.line ≡ 1) × (scanner.old.run ≡ 0) }
     ensures opened { IfOk result (λ r. IsBehindHeader r scanner.old scanner.new) }

@@ -10,21 +10,20 @@ use Rattle.cell_ascii_meaning.specs.FaultPlaces.{text_fault, opening_fault}
 use Rattle.cell_ascii_meaning.specs.RowPlaces.{IsPlaceOf, cells_fault, end_fault}
 use Rattle.cell_ascii_meaning.specs.declared.grid_fault.GridFault.{GridFault}
 
--- reading a text fails with an error if and only if it is the first error that the text reports
+-- reading a text fails exactly with the first error that the error table reports
 abbrev pub FaultsAgree : Type 0
 FaultsAgree = (c : Coming) (f : GridFault) → (grid_of c ≡ Err f) ↔ (text_fault c ≡ Some f)
 
--- reading the header of a text, up to the end of its first data token, fails with an error if and only if it is the
--- first error reported up to there
+-- reading the header of a text, up to the end of its first data token, fails exactly with the first error reported up
+-- to there
 abbrev pub OpeningAgrees : Type 0
 OpeningAgrees = (c : Coming) (f : GridFault) → (header_of_text c ≡ Err f) ↔ (opening_fault c ≡ Some f)
 
--- reading the next cells from a position after the header fails with an error if and only if it is the first error
--- reported up to their end
+-- reading the next cells from a position after the header fails exactly with the first error reported up to their end
 abbrev pub CellsAgree : Type 0
 CellsAgree = (h : HeaderValue) (count : ℕ) (at : At) (f : GridFault) → IsPlaceOf at → (many (cell_from h) count at ≡ Err f) ↔ (cells_fault h count at ≡ Some f)
 
--- reading the end fails with an error if and only if it is the first error reported up to the first byte of a token
+-- reading the end fails exactly with the first error reported up to the first byte of a token
 abbrev pub EndAgrees : Type 0
 EndAgrees = (at : At) (f : GridFault) → IsPlaceOf at → at.pending ≡ None → (end_of (grid_start at.line at.run at.coming) ≡ Err f) ↔ (end_fault at ≡ Some f)
 

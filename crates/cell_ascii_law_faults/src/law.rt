@@ -2,25 +2,24 @@
 
 ghost use Rattle.cell_ascii_law_faults.specs.FaultLaw.{CellsAgree, CellsKeepPlaces, EndAgrees, FaultsAgree, OpeningAgrees, OpeningKeepsPlaces, GridTextsAreJudged};
 
-/// Reading a text fails with an error if and only if the error table reports this error first, at this line.
+/// Reading a text fails exactly with the first error that the error table reports.
 pub fn reading_faults()
     ensures { FaultsAgree }
 {}
 
-/// Reading the header of a text, up to the end of its first data token, fails with an error if and only if it is the
-/// first error reported up to there, not counting errors in cells.
+/// Reading the header of a text, up to the end of its first data token, fails exactly with the first error reported up
+/// to there, not counting errors in cells.
 pub fn opening_faults()
     ensures { OpeningAgrees }
 {}
 
-/// Reading the next cells from a position after the header fails with an error if and only if it is the first error
-/// reported up to the end of the last cell.
+/// Reading the next cells from a position after the header fails exactly with the first error reported up to the end of
+/// the last cell.
 pub fn cells_faults()
     ensures { CellsAgree }
 {}
 
-/// Reading the end after the last cell fails with an error if and only if it is the first error reported up to the next
-/// token.
+/// Reading the end after the last cell fails exactly with the first error reported up to the next token.
 pub fn end_faults()
     ensures { EndAgrees }
 {}

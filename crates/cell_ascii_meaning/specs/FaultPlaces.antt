@@ -211,9 +211,8 @@ read_fails (Byte b) = None
 read_fails End = None
 read_fails Fails = Some Read
 
--- a function that returns the error at a place, given the gap before it, the token that may continue, whether the line
--- is a header line, the words of each earlier line, the words of the current line, the header, and the words of the
--- data
+-- the error at each place, given the gap before it, the token that may continue, whether the line is a header line, the
+-- words of earlier lines and of the current line, the header, and the words of the data
 abbrev pub Table : Type 0
 Table = ℕ → List ℕ → Bool → List (List (List ℕ)) → List (List ℕ) → Result HeaderValue GridKind → List (List ℕ) → FaultPlace → Option GridKind
 

@@ -126,8 +126,8 @@ key_line line keys word c =
     >>= (λ end. at_line line (with_header_key keys (header_key_of (before_first is_colon word)) value.0)
     >>= (λ more. Ok (more, end))))
 
--- a position in the data: a pending word that was not checked yet, the line, the length of the current run of blanks
--- and line feeds, and the bytes to come
+-- a position in the data: a pending word that was read but not checked yet, the line, the length of the current run of
+-- blanks and line feeds, and the bytes to come
 pub record At : Type 0 where
   pub pending : Option (List ℕ)
   pub line : ℕ

@@ -12,8 +12,7 @@ use Rattle.cell_ascii_meaning.specs.declared.grid_fault.GridKind.{GridKind}
 use Rattle.cell_ascii_meaning.specs.declared.grid_fault.GridKind.TheVariants.{TooFew, TooMany}
 use Rattle.cell_ascii_meaning.specs.declared.grid_fault.GridFault.{GridFault}
 
--- a function that returns the error at a place, given the gap before it, the token that may continue, and the words so
--- far
+-- the error at each place, given the gap before it, the token that may continue, and the words so far
 abbrev pub RowTable : Type 0
 RowTable = ℕ → List ℕ → List (List ℕ) → FaultPlace → Option GridKind
 

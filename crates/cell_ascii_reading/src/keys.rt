@@ -35,7 +35,7 @@ impl Model for HeaderKeys {
     ghost view = { λ k. record { north = k.north; south = k.south; east = k.east; west = k.west; rows = k.rows; cols = k.cols; null = k.null; kind = k.kind; multiplier = k.multiplier } };
 }
 
-// Returns the value of a key. It must be a number, and the first value of this key.
+// Returns the value of a key. It must be a number, and the key must be new.
 fn value_given<T: Copy>(old: Option<T>, value: Option<T>) -> Result<T, GridKind>
     ensures { result ≡ given_value old value }
 {
@@ -46,7 +46,7 @@ fn value_given<T: Copy>(old: Option<T>, value: Option<T>) -> Result<T, GridKind>
     }
 }
 
-// Returns the null text. It must be the first one, and must not contain a colon.
+// Returns the null text. It must be given for the first time, and must not contain a colon.
 fn given_null(old: &Option<HeaderNull>, text: &[u8]) -> Result<HeaderNull, GridKind>
     requires { length text.now ≤ 64 }
     ensures { result ≡ given_null old.now text.now }
@@ -60,7 +60,7 @@ fn given_null(old: &Option<HeaderNull>, text: &[u8]) -> Result<HeaderNull, GridK
     }
 }
 
-// Checks the type, which must be the first one and `int`.
+// Checks that the type is given for the first time and is `int`.
 fn given_type(old: bool, text: &[u8]) -> Result<bool, GridKind>
     ensures { result ≡ given_type old text.now }
 {

@@ -1,5 +1,4 @@
-//! Tests of texts read in pieces of many sizes, so that each byte of a text is the last of a piece, and of the reader's
-//! buffer, at least once.
+//! Tests of texts read in pieces of many sizes, so that a piece, and the reader's buffer, end at each byte of a text.
 
 ghost use Rattle.std.specs.Prelude.{◌<◌};
 

@@ -12,7 +12,7 @@ pub(crate) struct Strip {
     pub(crate) width: usize,
 }
 
-/// The values of an operand along a strip. A number or a map is copied into a row only when one is needed.
+/// The values of an operand along a strip. A number or a map is copied into a row only when a row is needed.
 #[derive(Drop)]
 pub(crate) enum Operand {
     Number(u32),

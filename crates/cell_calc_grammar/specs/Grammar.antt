@@ -24,8 +24,7 @@ pub data AreOffsets : List Placed → ℤ → ℤ → Type 0 where
       → AreOffsets (ts ++ sign_at Comma c ∷ (us ++ sign_at CloseBracket d ∷ [])) down right
 
 mutual
-  -- level 0 contains operands; each other level contains the level below it, and an expression of its own level, an
-  -- operator, and an expression of the level below
+  -- level 0 = operand; level k + 1 = level k | level k + 1 operator level k
   pub data Stands : ℕ → List Placed → Term → Type 0 where
     number : {n c : ℕ} → Stands zero (token_number_at n c ∷ []) (Number n)
     map : {name : List ℕ} {c : ℕ} → Stands zero (name_at name c ∷ []) (Map (map_name name c) (pos 0) (pos 0))
@@ -43,7 +42,7 @@ mutual
         → operator_of s.token ≡ Some op → level_of op ≡ k → Stands (suc k) ts a → Stands k us b
         → Stands (suc k) (ts ++ s ∷ us) (Binary op a b)
 
-  -- expr = or | or "?" expr ":" expr, where the second form is a call of `if`
+  -- expr = level 6 | level 6 "?" expr ":" expr, where the second form is a call of `if`
   pub data IsExpression : List Placed → Term → Type 0 where
     plain : {ts : List Placed} {a : Term} → Stands top ts a → IsExpression ts a
     choice : {ts us vs : List Placed} {x a b : Term} (c d : ℕ) → Stands top ts x → IsExpression us a → IsExpression vs b

@@ -69,8 +69,8 @@ asks_cols Column = true
 asks_cols ColumnCount = true
 asks_cols f = false
 
--- the rectangle contains everything that the expression reads, and all rows of the region if the expression uses row
--- numbers, and all columns if it uses column numbers
+-- the rectangle contains everything that the expression reads; it has all rows if the expression uses row numbers, and
+-- all columns if it uses column numbers
 pub record HasHalo (f : Formula) (region : RegionValue) (r : Rectangle) (row col : ℕ) : Type 0 where
   pub reads : ReadsWithin f region r row col
   pub rows : (calls asks_rows f ≡ false) ⊎ ((r.top ≡ 0) × (r.rows ≡ region.rows))

@@ -1,4 +1,4 @@
-//! Cuts the number line into pieces of categories with the same output, so that the time to find a cell's new category
+//! Cuts the number line into pieces of categories with the same output. The time to find a cell's new category then
 //! grows only with the logarithm of the number of ranges.
 
 ghost use Rattle.std.specs.Prelude.{◌≡◌, ℤ, negsuc, ◌≤ℤ◌, List, Option, IfOk, OnOk};

@@ -11,8 +11,8 @@ use cell_core::memory::Memory;
 use cell_core::region::Region;
 use std::alloc::Global;
 
-// Returns the clump map. Frees the labels of each row before its numbers are stored, so that both together take no more
-// memory than one of them.
+// Returns the clump map. Frees the labels of each row before its numbers are stored, so that labels and numbers
+// together take no more memory than one of the two.
 pub(crate) fn number_rows(
     alloc: Global,
     region: Region,

@@ -11,7 +11,7 @@ use Rattle.cell_parts.specs.Parts.{Rectangle, AreCutOut}
 abbrev pub HaveTheLabels : (whole part : List Grid) → Type 0
 HaveTheLabels whole part = map (λ m. m.labels) part ≡ map (λ m. m.labels) whole
 
--- cutting a rectangle out of maps and then reclassifying it gives the same as cutting it out of the reclassified maps
+-- reclassifying maps commutes with cutting a rectangle out of them
 abbrev pub ReclassedPartsAreParts : Type 0
 ReclassedPartsAreParts = (rules : List RuleValue) (r : Rectangle) (whole part : List Grid)
     → AreCutOut r whole part → AreCutOut r (map (reclassed_map rules) whole) (map (reclassed_map rules) part)

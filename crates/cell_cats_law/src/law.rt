@@ -35,7 +35,7 @@ pub fn corners_add_no_area()
     ensures { CornersAddNoArea }
 {}
 
-/// Cutting a rectangle out of maps and then reclassifying it gives the same as cutting it out of the reclassified maps.
+/// Reclassifying maps commutes with cutting a rectangle out of them.
 pub fn reclassed_parts_are_parts()
     ensures { ReclassedPartsAreParts }
 {}

@@ -19,8 +19,8 @@ use std::collections::BTreeMap;
 use std::marker::Model;
 
 /// A raster map of whole numbers (GRASS: a CELL map) with its region, its rows from the top, and the labels of its
-/// categories. Rows and columns are counted from 0. A row is stored as runs, or as cells if these take less memory;
-/// cells take one byte each if all of them are null or from 0 to 254.
+/// categories. Rows and columns are counted from 0. A row is stored as runs, or as cells if these take less memory.
+/// Cells take one byte each if all cells of the row are null or from 0 to 254.
 #[derive(Debug, Drop)]
 pub struct CellMap {
     alloc: Global,

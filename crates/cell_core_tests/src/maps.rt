@@ -155,7 +155,7 @@ const MANY_RUNS: [i32; 18] = [
     501, 502, 501, 502, 501, 502, 501, 502, 501, 502, 501, 502, 501, 502, 501, 502, 501, 502,
 ];
 
-// Checks that a row with few runs is read run by run, and another row cell by cell.
+// Checks that a row with few runs is read run by run, and a row with many runs cell by cell.
 #[test]
 fn gives_its_stretches(rt: HostRuntime) -> Result<(), Fail> {
     let map = map_of(rt.alloc(), 1, 18, &FEW_RUNS)?;

@@ -56,7 +56,7 @@ fn byte_of_cell(cell: Cell) -> u8
 pub fn are_small(cells: &[Cell]) -> bool
     ensures { result ≡ true → All IsSmall cells.now }
 {
-    // In a row with larger categories, the first cell usually has one.
+    // If a row contains larger categories, its first cell usually does.
     if let Some(first) = cells.first() {
         if !is_small(*first) {
             return false;

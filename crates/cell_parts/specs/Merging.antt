@@ -16,6 +16,6 @@ pub record PartGroup : Type 0 where
   pub tables : List Pairs
   pub merged : Pairs
 
--- merging the merges of groups of tables is the same as merging all tables
+-- merging the merges of groups of tables gives the merge of all tables
 abbrev pub MergesMerge : Type 0
 MergesMerge = (groups : List PartGroup) → All (λ group. IsMerge group.tables group.merged) groups → (pairs : Pairs) → IsMerge (map (λ group. group.merged) groups) pairs → IsMerge (flat_map (λ group. group.tables) groups) pairs

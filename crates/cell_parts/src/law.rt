@@ -25,7 +25,7 @@ pub fn tables_merge()
     ensures { TablesMerge }
 {}
 
-/// Merging the merges of groups of tables is the same as merging all tables.
+/// Merging the merges of groups of tables gives the merge of all tables.
 pub fn merges_merge()
     ensures { MergesMerge }
 {}

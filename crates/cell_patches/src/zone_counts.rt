@@ -72,8 +72,8 @@ fn add_cells(
     Ok(count)
 }
 
-// Counts cells for each pair of a patch number and a zone, in a table and in a run of equal pairs that is not in the
-// table yet. Most cells continue the run, so they need no lookup.
+// Counts the cells of each pair of a patch number and a zone. A run of equal pairs is counted separately before it is
+// added to the table, because most cells continue the run and then need no lookup.
 #[derive(Drop)]
 pub(crate) struct ZoneCounts {
     pub(crate) table: HashMap<(i32, i32), u64>,

@@ -1,6 +1,6 @@
-//! Tests the rules of r.reclass (each form of a line, worked maps, and random rules), the clumps of a map (worked maps,
-//! shapes, and comparisons with a plain, slow search), patches and their measures (a worked map), and tables and their
-//! printed text (worked maps, wide picks, and a table with many combinations).
+//! Tests the rules of r.reclass with each form of a line, worked maps, and random rules. Tests clumps with worked maps,
+//! shapes, and comparisons with a plain, slow search. Tests patches with a worked map. Tests tables and their printed
+//! text with worked maps, wide picks, and many combinations.
 #![tactic(auto)]
 
 #[cfg(test)]

@@ -10,8 +10,8 @@ use Rattle.cell_ascii_reading.specs.Scan.{Scan}
 use Rattle.cell_ascii_reading.specs.declared.scanner.ScanStep.{ScanStep}
 use Rattle.cell_ascii_reading.specs.declared.scanner.ScanStep.TheVariants.{Blank, Feed as FeedStep, Word as WordStep, End}
 
--- the result of a step, given whether the byte is a blank or line feed, whether the run may grow by one byte, and
--- whether the byte is a line feed
+-- the result of a step at a byte, given whether it is a blank or line feed, whether the run may grow, and whether it is
+-- a line feed
 abbrev pub step_at : Bool → Bool → Bool → ℕ → Coming → Coming → Result ScanStep GridFault × Coming
 step_at false room feed line here past = (Ok WordStep, here)
 step_at true false feed line here past = (Err (grid_fault ReaderStuck line), here)

@@ -17,11 +17,11 @@ pub record IsOutputAt (starts : ℤ → Option (Option Output)) (x : ℤ) (outpu
 abbrev pub AreOutputs : (ℤ → Option Output) → (ℤ → Option (Option Output)) → Type 0
 AreOutputs outputs starts = (x : ℤ) → negsuc 2147483647 ≤ℤ x → IsOutputAt starts x (outputs x)
 
--- the outputs after the categories of a range were assigned a new one
+-- the outputs after a new output was assigned to the categories of a range
 abbrev pub painted_outputs : ℤ × ℤ → Output → (ℤ → Option Output) → ℤ → Option Output
 painted_outputs ends output outputs x = if is_in_ends ends x then Some output else outputs x
 
--- the outputs after the categories that a rule lists were assigned its output
+-- the outputs after the output of a rule was assigned to the categories that it lists
 abbrev pub ruled_outputs : RuleValue → (ℤ → Option Output) → ℤ → Option Output
 ruled_outputs rule outputs x = if lists x rule then Some rule.output else outputs x
 
