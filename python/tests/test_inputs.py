@@ -87,7 +87,7 @@ def test_an_output_is_none_of_the_inputs(room: pathlib.Path, capsys: Any, line: 
     assert main(line.split()) == 2
     told = capsys.readouterr()
     assert (told.out, told.err.count("\n"), files_of(room)) == ("", 1, before)
-    assert "choose another name" in told.err or "a table is written as" in told.err
+    assert "choose another name" in told.err or "the name of a table must end" in told.err
 
 
 def test_a_table_has_the_ending_of_one(room: pathlib.Path, capsys: Any) -> None:
@@ -99,7 +99,7 @@ def test_a_table_has_the_ending_of_one(room: pathlib.Path, capsys: Any) -> None:
         assert main(["composition", "m.tif", "--out", name]) == 2
         assert (
             capsys.readouterr().err
-            == f"rcell-gis: {name}: a table is written as .csv, .tsv, .txt, .md or .json\n"
+            == f"rcell-gis: {name}: the name of a table must end in .csv, .tsv, .txt, .md or .json\n"
         )
     assert files_of(room) == before
 

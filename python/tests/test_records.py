@@ -181,7 +181,7 @@ def test_a_record_of_r_is_reported_and_verified_there(folder: pathlib.Path) -> N
         rcell.verify(path)
     page = pathlib.Path(rcell.report([path], folder / "r.html")).read_text()
     assert "Rscript -e &#x27;rcell::rcell_verify(&quot;t.csv&quot;)&#x27;" in page
-    assert "The cells of each class, in all or in each zone." in page
+    assert "The number of cells of each class, in total or by zone." in page
 
 
 def test_a_record_of_another_call_fails_with_a_line(folder: pathlib.Path) -> None:

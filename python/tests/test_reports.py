@@ -65,7 +65,7 @@ def test_a_page_has_the_table_what_it_means_and_how_to_verify_it(table: pathlib.
     for part in (
         "Land <cover>",
         "wood & <b>water</b>",
-        "The cells of each class, in all or in each zone.",
+        "The number of cells of each class, in total or by zone.",
         "composition('lc.tif')",
         "script 1: r.stats -c -n input=map",
         "rcell-gis verify t.csv",

@@ -105,7 +105,7 @@ def test_a_report_is_a_page_in_a_file_or_on_standard_output(
         (
             ["aggregate", "MAP", "o.tif", "--factor", "2", "--shares", "s.png"],
             2,
-            "s.png: shares are written as .tif or .tiff",
+            "s.png: the name of shares must end in .tif or .tiff",
         ),
         (
             ["trajectories", "MAP", "MAP", "--years", "1,2", "--map", "last=o.tif"],
@@ -120,7 +120,7 @@ def test_a_report_is_a_page_in_a_file_or_on_standard_output(
         (
             ["composition", "MAP", "MAP", "--record", "--out", "t.csv"],
             2,
-            "--record takes one map; got 2",
+            "--record accepts one map; got 2",
         ),
         (
             ["verify", "t.csv"],

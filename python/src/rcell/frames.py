@@ -1,5 +1,5 @@
 # SPDX-License-Identifier: Apache-2.0 OR GPL-2.0-or-later
-"""The calls of the package: results of the core as DataFrames and Rasters."""
+"""Define the calls of the package, which return DataFrames and Rasters."""
 
 from __future__ import annotations
 
@@ -76,7 +76,10 @@ Returned = TypeVar("Returned", covariant=True)
 
 
 class Call(Protocol[Words, Returned]):
-    """A call of the package: its function's parameters and two more, for which type checkers need a signature each."""
+    """A call of the package: a function of the core with the parameters that all calls share.
+
+    Type checkers need a signature for each set of parameters.
+    """
 
     @overload
     def __call__(self, *words: Words.args, **named: Words.kwargs) -> Returned:
@@ -103,7 +106,7 @@ class Call(Protocol[Words, Returned]):
         ...
 
 
-# What all calls have besides their own parameters, and the place for it in their documentation.
+# The parameters that all calls share, and their documentation.
 _WORK_TYPES = {
     "workers": "int | distributed.Client | None",
     "resume": "str | os.PathLike[str] | None",
@@ -113,30 +116,37 @@ _DEFAULTS: dict[str, Any] = {"workers": None, "resume": None, "compute": True}
 _RETURNS = "\n\n    Returns\n"
 _WORK_WORDS = """
     workers : int or distributed.Client, optional
-        The number of tiles of a large map that are processed at a time, or the client of a cluster that processes them. By default the
-        current client of Dask, or else one tile for each processor.
+        The number of tiles of a large map to process at a time, or a client whose cluster
+        processes them. By default, the current Dask client is used, or else one tile per processor.
     resume : path, optional
-        A folder that keeps the results of tiles of large maps: after a call was ended, the same call with this folder continues.
+        A folder for the results of tiles of large maps. If a call is interrupted, the same call
+        with this folder continues.
     compute : bool
         """
 _COMPUTE_WORDS = {
-    "table": "Whether the result is computed now; else it is a Delayed of Dask.",
-    "map": "Whether the map is computed now; else it is a DataArray that Dask computes, in the chunks of the map.",
-    "": "It must be True: other calls can leave their results to Dask.",
+    "table": "Whether to compute the result now; otherwise, it is a Dask Delayed.",
+    "map": (
+        "Whether to compute the map now; otherwise, it is a DataArray of Dask with the map's "
+        "chunks."
+    ),
+    "": "Must be True, because Dask cannot compute this result.",
 }
 
 
 def frame_of(table: Table) -> pandas.DataFrame:
-    """Return a table as a DataFrame: classes as nullable Int64, counts as int64, measures as float64, labels as text.
+    """Convert a table to a DataFrame.
+
+    Classes become nullable Int64, counts int64, measures float64, and labels text.
 
     Examples
     --------
-    >>> frame_of(Table([Column("lc", "class", np.array([1, 2])), Column("cells", "count", np.array([2, 1]))]))
+    >>> lc, cells = np.array([1, 2]), np.array([2, 1])
+    >>> frame_of(Table([Column("lc", "class", lc), Column("cells", "count", cells)]))
        lc  cells
     0   1      2
     1   2      1
     """
-    import pandas  # imported here, since it takes longer to load than everything else
+    import pandas  # imported here because it is slow to load
 
     frame = pandas.DataFrame({column.name: _series(column) for column in table.data})
     if isinstance(table, Matrix):
@@ -159,10 +169,10 @@ def _series(column: Column) -> Any:
 def _returning(
     kind: str, convert: Callable[[Made], Returned], lazy: str = ""
 ) -> Callable[[Callable[Words, Made]], Call[Words, Returned]]:
-    """Return a decorator that converts a function's result with `convert`; `help` shows the result as `kind`.
+    """Return a decorator that converts a function's result, which `help` shows as `kind`.
 
-    It also gets the parameters `workers` and `resume`, which control how large maps are processed,
-    and `compute`, if its result, a table or a map, can be left to Dask.
+    The decorator adds the parameters `workers` and `resume`, which control the processing of large
+    maps, and `compute`, with which Dask can compute the result later.
     """
 
     def wrap(make: Callable[Words, Made]) -> Call[Words, Returned]:
@@ -190,7 +200,7 @@ def _returning(
 
 
 def _signature_of(make: Callable[..., Any], kind: str) -> inspect.Signature:
-    """Return the signature of a call: its function's, with the parameters that all calls share."""
+    """Return the signature of a call: its function's parameters and those that all calls share."""
     signature = inspect.signature(make)
     own, more = list(signature.parameters.values()), []
     if own[-1].kind is inspect.Parameter.VAR_KEYWORD:
@@ -207,13 +217,13 @@ def _signature_of(make: Callable[..., Any], kind: str) -> inspect.Signature:
 def _lazily(
     make: Callable[..., Any], lazy: str, work: dict[str, Any], words: Any, named: dict[str, Any]
 ) -> Any:
-    """Return the result of a call as Dask computes it."""
+    """Return the result of a call as an object that Dask computes."""
     if not lazy:
-        rule = f"must be True: {make.__name__} cannot leave its result to Dask"
+        rule = f"must be True: Dask cannot compute the result of {make.__name__}"
         raise BadArgument("compute", f"{rule}; got False")
     for word, value in work.items():
         if value is not None:
-            rule = "must be left out with compute=False: Dask decides where it computes"
+            rule = "must be left out with compute=False, because Dask decides where to compute"
             raise BadArgument(word, f"{rule}; got {value!r}")
     from .readers.lazy import lazy_map, lazy_table
 
@@ -231,7 +241,7 @@ def _accuracy_of(result: Accuracy) -> Accuracy:
 
 
 def _raster_of(result: Any) -> Raster:
-    """Return a map of the core, or a map and an account of how it was made, as a Raster."""
+    """Convert a map of the core to a Raster, with an `Aligned` or `Sieved` if there is one."""
     return Raster._of(*result) if isinstance(result, tuple) else Raster._of(result)
 
 
@@ -250,7 +260,9 @@ def _trajectories_of(result: Trajectories) -> Trajectories:
 
 
 class Result(Sequence[Any]):
-    """The outputs of a script in the order of its statements: a DataFrame for each r.stats, a Raster for each r.out.ascii.
+    """The outputs of a script, in the order of its statements.
+
+    The sequence contains a DataFrame for each r.stats and a Raster for each r.out.ascii.
 
     Parameters
     ----------
@@ -269,7 +281,7 @@ class Result(Sequence[Any]):
 
     @property
     def tables(self) -> list[pandas.DataFrame]:
-        """Only the tables.
+        """The tables among the outputs.
 
         Examples
         --------
@@ -281,7 +293,7 @@ class Result(Sequence[Any]):
 
     @property
     def grids(self) -> dict[str, Raster]:
-        """Only the maps, by their names.
+        """The maps among the outputs, by name.
 
         Examples
         --------

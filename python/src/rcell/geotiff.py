@@ -1,5 +1,5 @@
 # SPDX-License-Identifier: Apache-2.0 OR GPL-2.0-or-later
-"""Grids as GeoTIFF."""
+"""Write maps as GeoTIFF."""
 
 from __future__ import annotations
 
@@ -25,9 +25,9 @@ __all__ = ["profile_of", "smallest_type", "write_geotiff"]
 TILE = 256
 # A file with at least this many cells may exceed 4 GB before compression.
 _BIG_FROM = 1 << 29
-# Files of up to this many cells are made in memory.
+# Files with up to this many cells are created in memory.
 _IN_MEMORY = 1 << 25
-# Cells that are written at a time, and bytes that GDAL may keep of them.
+# The number of cells to write at a time, and the bytes that GDAL may cache.
 _BLOCK_CELLS = 1 << 23
 _CACHE = 64 << 20
 _COG = {
@@ -39,7 +39,7 @@ _COG = {
 
 
 def smallest_type(least: int, greatest: int) -> tuple[str, int]:
-    """Return the smallest type that holds all categories and one more value for nodata, and that nodata.
+    """Return the smallest type with room for all categories and nodata, and the nodata value.
 
     Examples
     --------
@@ -58,7 +58,7 @@ def smallest_type(least: int, greatest: int) -> tuple[str, int]:
 def profile_of(
     rows: int, cols: int, transform: tuple[float, ...], crs: Any, dtype: str, nodata: float
 ) -> dict[str, Any]:
-    """Return rasterio's creation profile of a GeoTIFF.
+    """Return rasterio's creation profile for a GeoTIFF.
 
     Examples
     --------
@@ -84,26 +84,27 @@ def profile_of(
 
 
 def write_geotiff(grid: Raster, path: str, is_cog: bool = False) -> None:
-    """Write a grid as a GeoTIFF, completely or not at all, some rows at a time.
+    """Write a map as a GeoTIFF, completely or not at all, in blocks of rows.
 
-    The library does not report a full disk, so a large file is read back before it gets its name.
+    The library does not report a full disk. Large files are therefore read back before they replace
+    the target.
 
     Parameters
     ----------
     grid : Raster
     path : str
     is_cog : bool
-        Whether it is cloud optimised: tiled, with overviews by the nearest cell.
+        Whether to write a cloud-optimised file: tiled, with overviews from nearest cells.
 
     Raises
     ------
     WriteFailed
         The file cannot be written.
     BadMap
-        It cannot hold a label.
+        The file cannot store a label.
     """
     rasterio = need("rasterio", "gis", "to write a GeoTIFF")
-    # Labels of rules may have bytes that are not text.
+    # Labels from rules may contain bytes that are not text.
     labels = checked_labels(grid.name, grid.labels)
     dtype, nodata = smallest_type(*_range_of(grid))
     profile = profile_of(*grid.region.shape, grid.transform, grid.crs, dtype, nodata)
@@ -125,7 +126,7 @@ def write_geotiff(grid: Raster, path: str, is_cog: bool = False) -> None:
 def _write_from_memory(
     grid: Raster, path: str, profile: dict[str, Any], make: Callable[..., None]
 ) -> None:
-    """Make a file in memory and write it with Python, which reports errors in full, and accepts any path."""
+    """Create a file in memory, and write it with Python, which reports all errors."""
     with need("rasterio.io", "gis", "to write a GeoTIFF").MemoryFile(ext=".tif") as memory:
         make(grid, memory.name, profile)
         with open(path, "wb") as file:
@@ -133,7 +134,7 @@ def _write_from_memory(
 
 
 def _write_cog(grid: Raster, path: str, profile: dict[str, Any]) -> None:
-    """Write a grid as a plain GeoTIFF first: cloud optimised ones are copies."""
+    """Write a plain GeoTIFF first, and copy it to a cloud-optimised GeoTIFF."""
     plain = path + ".plain.tif"
     _write(grid, plain, profile)
     shutil = need("rasterio.shutil", "gis", "to write a GeoTIFF")
@@ -142,11 +143,11 @@ def _write_cog(grid: Raster, path: str, profile: dict[str, Any]) -> None:
 
 
 def _write(grid: Raster, path: str, profile: dict[str, Any]) -> None:
-    """Write the cells of a map, and its colours if its type has a colour table."""
+    """Write the cells of a map, and its colours if its type supports a colour table."""
     dtype, nodata = profile["dtype"], profile["nodata"]
     rasterio = need("rasterio", "gis", "to write a GeoTIFF")
     with rasterio.open(path, "w", **profile) as dataset:
-        # Of the three types only bytes have a colour table.
+        # Only bytes support a colour table.
         if grid.colors and dtype == "uint8":
             colors = {
                 code: tuple(bytes.fromhex(color[1:]))
@@ -159,7 +160,7 @@ def _write(grid: Raster, path: str, profile: dict[str, Any]) -> None:
 
 
 def _check(grid: Raster, path: str, profile: dict[str, Any]) -> None:
-    """Raise OSError unless a file has the cells of a grid."""
+    """Raise OSError unless a file contains the cells of a map."""
     with need("rasterio", "gis", "to write a GeoTIFF").open(path) as dataset:
         for row, cells in _rows_of(grid):
             expected = cells.filled(profile["nodata"]).astype(profile["dtype"])
@@ -174,7 +175,7 @@ def _window(row: int, cells: Any) -> Any:
 
 
 def _range_of(grid: Raster) -> tuple[int, int]:
-    """Return the smallest and the largest category, 0 and 0 if all cells are null."""
+    """Return the smallest and the largest category, or 0 and 0 if all cells are null."""
     lowest, highest = [], []
     for _, cells in _rows_of(grid):
         if np.ma.count(cells):
@@ -184,7 +185,7 @@ def _range_of(grid: Raster) -> tuple[int, int]:
 
 
 def _rows_of(grid: Raster) -> Iterator[tuple[int, Any]]:
-    """Yield the rows of a grid, some at a time, each with the number of the first."""
+    """Yield the rows of a map in blocks, each with the index of its first row."""
     rows, cols = grid.region.shape
     step = max(_BLOCK_CELLS // cols // TILE, 1) * TILE
     for row in range(0, rows, step):

@@ -1,5 +1,5 @@
 # SPDX-License-Identifier: Apache-2.0 OR GPL-2.0-or-later
-"""Raster: a map in memory, which calls accept and return."""
+"""Define Raster, a map in memory that calls accept and return."""
 
 from __future__ import annotations
 
@@ -26,26 +26,27 @@ from .core.sources import ArrayMap, array_map, null_cells
 
 __all__ = ["Raster"]
 
-# The longer side of the picture in a notebook, in pixels.
+# The longer side of pictures in notebooks, in pixels.
 THUMBNAIL = 320
-# With more categories, a legend cannot be read.
+# A legend with more categories would be unreadable.
 LEGEND_LIMIT = 30
 _PALETTES = ("tab20", "tab20b", "tab20c")
 _COG = (".cog.tif", ".cog.tiff")
 
 
 class Raster:
-    """A map in memory, with everything that an array does not store.
+    """A map in memory, with the properties that an array does not store.
 
-    If only an array is given to a call, it has cells of side 1; `(array, transform)` is short for this class.
+    If a call gets only an array, its cells have size 1. `(array, transform)` is a short form of
+    this class.
 
     Parameters
     ----------
     array : array, masked array, or nested lists of whole numbers, rows x cols
         Any integer type, bool, or floats that are whole numbers; masked cells and NaN are null.
     transform : rasterio's Affine, six numbers, or Region, optional
-        Where the cells are; rows from south to north are flipped. By default, cells have side 1,
-        and the bottom left corner is at 0, 0.
+        The position of the cells; rows from south to north are flipped. By default, cells have size
+        1, and the bottom left corner is at 0, 0.
     crs : any, optional
         A reference system of rasterio or pyproj, or its well-known text.
     nodata : float, optional
@@ -55,7 +56,7 @@ class Raster:
     colors : mapping of int to str, optional
         As `#rrggbb`.
     name : str
-        The name of the map in errors, plots and DataArrays.
+        The name of the map in messages, plots and DataArrays.
 
     Examples
     --------
@@ -84,7 +85,7 @@ class Raster:
         self._set(array_map(name, array, transform, crs, nodata, legend.labels, given_colors), None)
 
     def _set(self, source: ArrayMap, account: Aligned | Sieved | None) -> None:
-        """Take the cells, the place and the labels of a map of the core."""
+        """Copy the attributes of a map of the core."""
         self._source = source
         self.name = source.name
         self.region = source.region
@@ -97,14 +98,14 @@ class Raster:
 
     @classmethod
     def _of(cls, source: ArrayMap, account: Aligned | Sieved | None = None) -> Raster:
-        """Return a map of the core, and an account of how it was made."""
+        """Convert a map of the core, with an account of its creation."""
         raster = cls.__new__(cls)
         raster._set(source, account)
         return raster
 
     @cached_property
     def array(self) -> Any:
-        """The cells as a masked array, rows from north to south; null cells are masked.
+        """The cells as a masked array with rows from north to south; null cells are masked.
 
         Examples
         --------
@@ -115,7 +116,9 @@ class Raster:
         return self._masked(0, self.region.rows)
 
     def rows(self, first: int, end: int) -> Any:
-        """Return some rows of `array`; rows of a map that is larger than memory are read from its file.
+        """Return consecutive rows of `array`.
+
+        If the map is larger than memory, the rows are read from its file.
 
         Parameters
         ----------
@@ -125,7 +128,7 @@ class Raster:
         Returns
         -------
         numpy.ma.MaskedArray
-            These rows.
+            The rows.
 
         Examples
         --------
@@ -145,7 +148,7 @@ class Raster:
 
     @property
     def shape(self) -> tuple[int, int]:
-        """Rows and columns.
+        """The number of rows and of columns.
 
         Examples
         --------
@@ -169,7 +172,7 @@ class Raster:
 
     @property
     def bounds(self) -> tuple[float, float, float, float]:
-        """West, south, east and north.
+        """The west, south, east and north edges.
 
         Examples
         --------
@@ -180,17 +183,17 @@ class Raster:
         return self.region.bounds
 
     def source(self, name: str) -> ArrayMap:
-        """Return the map as the core knows it, under a name; calls that take maps do this.
+        """Convert the map to a map of the core with this name; used by calls that accept maps.
 
         Parameters
         ----------
         name : str
-            The name of the map in errors.
+            The name of the map in messages.
 
         Returns
         -------
         ArrayMap
-            Its cells with their region.
+            The cells with their region.
 
         Examples
         --------
@@ -206,7 +209,7 @@ class Raster:
         Returns
         -------
         list of int
-            Each category once.
+            The categories, each once.
 
         Examples
         --------
@@ -223,12 +226,13 @@ class Raster:
         Parameters
         ----------
         path : path
-            `.tif` or `.tiff` for a GeoTIFF (compressed, of the smallest type that holds the categories and nodata) with transform,
-            reference system, nodata, labels as category names and colours as a colour table; `.txt` for an rcell grid, which GRASS
-            also reads. An existing file is replaced.
+            The path, which ends in `.tif` or `.tiff` for a GeoTIFF, or in `.txt` for an rcell grid,
+            which GRASS can also read. A GeoTIFF is compressed, has the smallest type with room for
+            the categories and nodata, and contains the transform, the reference system, nodata,
+            labels as category names, and colours as a colour table. An existing file is replaced.
         cog : bool
-            Whether a GeoTIFF is cloud optimised, with overviews; always if its name ends in
-            `.cog.tif`.
+            Whether to write a cloud-optimised GeoTIFF with overviews; always true if the name ends
+            in `.cog.tif`.
 
         Returns
         -------
@@ -240,9 +244,9 @@ class Raster:
         WriteFailed
             The file cannot be written; an old file is unchanged.
         Refused
-            The map was made from this file.
+            The map was created from this file.
         BadArgument
-            The format of the file name extension is not known.
+            The file name extension is not supported.
         MissingLibrary
             Rasterio is required and not installed.
 
@@ -250,8 +254,9 @@ class Raster:
         --------
         >>> import os, rcell, tempfile
         >>> with tempfile.TemporaryDirectory() as folder:
-        ...     print(open(rcell.Raster([[5, 7, 5]]).write(os.path.join(folder, "lc.txt"))).read().split())
-        ['north:', '1', 'south:', '0', 'east:', '3', 'west:', '0', 'rows:', '1', 'cols:', '3', '5', '7', '5']
+        ...     path = rcell.Raster([[5, 7, 5]]).write(os.path.join(folder, "lc.txt"))
+        ...     print(open(path).read().splitlines()[-1])
+        5 7 5
         """
         from .core.files import check_output
         from .core.writing import write_beside
@@ -269,12 +274,12 @@ class Raster:
         return text
 
     def text(self) -> bytes:
-        """Return the map as a grid text, which the program reads.
+        """Return the map as a text grid, which the program can read.
 
         Returns
         -------
         bytes
-            The header and the rows.
+            The header and the rows of the text grid.
 
         Examples
         --------
@@ -287,12 +292,15 @@ class Raster:
         return grid_text(self.source("map"))
 
     def to_xarray(self) -> Any:
-        """Return the map as a DataArray, with coordinates of cell centres and the reference system as rioxarray stores it.
+        """Convert the map to a DataArray with coordinates of cell centres.
+
+        The reference system is stored as in rioxarray.
 
         Returns
         -------
         xarray.DataArray
-            Of int32, y x x; null is -2147483648, which its attribute `_FillValue` says.
+            An int32 array, y x x. Null is -2147483648, which is stored in the attribute
+            `_FillValue`.
 
         Raises
         ------
@@ -315,9 +323,10 @@ class Raster:
         Parameters
         ----------
         ax : matplotlib.axes.Axes, optional
-            Where to draw the map; by default in a new figure.
+            The axes for the map; by default, the axes of a new figure.
         legend : bool
-            Whether to draw a legend of the labels, or of the categories, next to the map; for more than 30 categories it is a scale.
+            Whether to draw a legend of labels or categories next to the map; for more than 30
+            categories, a colour scale is drawn.
 
         Returns
         -------
@@ -368,7 +377,7 @@ class Raster:
         )
 
     def _picture(self) -> bytes:
-        """Return a small picture as a PNG, with null transparent."""
+        """Return a small PNG picture in which null is transparent."""
         step = -(-max(self.shape) // THUMBNAIL)
         places, colors, norm = _colored(self.array[::step, ::step], self.categories(), self.colors)
         scale = need("matplotlib.cm", "plot", "to draw a map").ScalarMappable(norm, colors)
@@ -396,7 +405,10 @@ class Raster:
 
 
 def _colored(array: Any, categories: list[int], colors: dict[int, str]) -> tuple[Any, Any, Any]:
-    """Return the values to draw, their colours and their scale: indices of a few categories, or the categories themselves."""
+    """Return the values to draw, their colour map and its scale.
+
+    The values are indices of categories or, for many categories, the categories themselves.
+    """
     matplotlib = need("matplotlib", "plot", "to draw a map")
     colors_of = need("matplotlib.colors", "plot", "to draw a map")
     if not 0 < len(categories) <= LEGEND_LIMIT:

@@ -26,11 +26,11 @@ def record(
     table: Optional[str] = None,
     **named: Any,
 ) -> Any:
-    """Run a call, write its table to a CSV, and write next to it, as `PATH.json`, a record of what it was made from.
+    """Run a call, and write its table to a CSV with a record of its inputs.
 
-    The record has the call, each script that was run, the SHA-256 of the cells of each map as they were sent, of the program and of
-    the CSV, and the versions. Type, nodata value and compression of a raster do not change the
-    checksum of its cells.
+    The record is written next to the CSV as `PATH.json`. It contains the call, each script that was
+    run, the versions, and SHA-256 checksums of the cells of each map, the program and the CSV. The
+    type, nodata value and compression of a raster do not affect the checksum of its cells.
 
     Parameters
     ----------
@@ -39,10 +39,11 @@ def record(
     call : callable
         A call of this package that returns tables, for example `rcell.composition`.
     *words, **named
-        Its arguments: paths, numbers, texts, and lists and dicts of these. Paths are recorded relative to the CSV.
+        The arguments of the call: paths, numbers, texts, and lists and dicts of them. Paths are
+        recorded relative to the CSV.
     table : str, optional
-        The table to write if the call returns several, for example `summary` of `rcell.change`; by
-        default the first.
+        The table to write if the call returns several tables, for example `summary` of
+        `rcell.change`; by default, the first table.
 
     Returns
     -------
@@ -54,7 +55,7 @@ def record(
     BadArgument
         The call is not one of this package, or an argument cannot be recorded.
     Refused
-        As for the call; the CSV is one of its files.
+        See the call; also raised if the CSV is one of its input files.
     WriteFailed
         The CSV or the record cannot be written.
 
@@ -78,22 +79,24 @@ def record(
 
 
 def verify(path: str | os.PathLike[str]) -> list[str]:
-    """Run the call of a recorded table again, and return what differs.
+    """Run the call of a recorded table again, and return the differences.
 
     Parameters
     ----------
     path : path
-        The CSV that `record` has written; `PATH.json`, next to it, is its record, which has the paths of inputs relative to the CSV.
+        The CSV that `record` wrote. Its record `PATH.json`, next to it, contains the paths of
+        inputs relative to the CSV.
 
     Returns
     -------
     list of str
-        What differs: the CSV, the cells of a map, a legend, a script, the program, or the result. It is empty if the table is verified.
+        A text for each difference in the CSV, the cells of a map, a legend, a script, the program,
+        or the result. An empty list means that the table is verified.
 
     Raises
     ------
     Refused
-        There is no record, or the package for R has made it.
+        There is no record, or the R package wrote it.
 
     Examples
     --------

@@ -1,5 +1,5 @@
 # SPDX-License-Identifier: Apache-2.0 OR GPL-2.0-or-later
-"""Shares: a map of the percentages of each class in blocks of cells."""
+"""Define Shares, the percentages of classes in blocks of cells."""
 
 from __future__ import annotations
 
@@ -21,13 +21,13 @@ __all__ = ["Shares"]
 class Shares:
     """The percentage of each class in each block of cells; returned by `rcell.aggregate`.
 
-    `classes` has the classes, `names` their labels or numbers, and `percent` the percentages, classes x rows x columns, NaN in
-    blocks that are null. `shares[31]` is the map of the class 31.
+    `classes` contains the classes, `names` their labels or numbers, and `percent` the percentages,
+    classes x rows x columns, with NaN in null blocks. `shares[31]` is the map of class 31.
 
     Parameters
     ----------
     shares : BlockShares
-        As the core returns them.
+        The shares that the core returns.
 
     Examples
     --------
@@ -67,7 +67,8 @@ class Shares:
         Parameters
         ----------
         path : path
-            It ends in `.tif` or `.tiff`. The bands are described by the labels of their classes.
+            The path, which must end in `.tif` or `.tiff`. The description of each band is the label
+            of its class.
 
         Returns
         -------
@@ -79,7 +80,7 @@ class Shares:
         WriteFailed
             The file cannot be written; an old file is unchanged.
         BadArgument
-            The file name extension is not supported, or there is no class.
+            The file name extension is not supported, or there are no classes.
         MissingLibrary
             Rasterio is required and not installed.
 
@@ -88,7 +89,8 @@ class Shares:
         >>> import os, rasterio, rcell, tempfile
         >>> land = rcell.Raster([[1, 1], [2, 1]], (10, 0, 0, 0, -10, 20))
         >>> with tempfile.TemporaryDirectory() as folder:
-        ...     path = rcell.aggregate(land, factor=2).shares.write(os.path.join(folder, "shares.tif"))
+        ...     shares = rcell.aggregate(land, factor=2).shares
+        ...     path = shares.write(os.path.join(folder, "shares.tif"))
         ...     rasterio.open(path).descriptions
         ('1', '2')
         """
@@ -100,7 +102,10 @@ class Shares:
         return text
 
     def _write(self, path: str) -> None:
-        """Write the file, whose compressed form is made in memory, since the library does not report a full disk."""
+        """Compress the file in memory and write it.
+
+        The library itself does not report a full disk.
+        """
         if not self.classes:
             raise BadMap("shares", "no class has a share: all cells are null")
         rasterio = need("rasterio", "gis", "to write a GeoTIFF")

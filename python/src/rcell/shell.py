@@ -1,5 +1,9 @@
 # SPDX-License-Identifier: Apache-2.0 OR GPL-2.0-or-later
-"""The command line of rcell-gis. A command imports what it needs: texts are converted and explained without numpy."""
+"""Run the command line of rcell-gis.
+
+Each command imports only the modules that it needs, so text grids are converted and explained
+without numpy.
+"""
 
 from __future__ import annotations
 
@@ -36,11 +40,13 @@ from .shell_options import NOTES, OPTIONS
 __all__ = ["emit", "main", "script_of"]
 
 NAME = "rcell-gis"
-DESCRIPTION = "Tables and maps of rasters, counted with rcell."
+DESCRIPTION = "Count the cells of rasters with rcell, and write tables and maps."
 EPILOG = """\
-MAP is anything that GDAL reads, or an rcell grid. ZONES may also be polygons: a cell is in the one that contains its centre.
-A legend is a CSV with the columns value and label, or a QGIS style (.qml). `rcell-gis COMMAND --help` lists options.
-Status: 0 done; 1 bad input; 2 command line; 3 out of memory; 4 a file could not be read or written."""
+MAP is any raster that GDAL reads, or an rcell grid. ZONES may also be polygons: a cell belongs to
+the polygon that contains its centre. A legend is a CSV with the columns value and label, or a QGIS
+style (.qml). `rcell-gis COMMAND --help` lists the options of a command.
+Exit status: 0 success; 1 invalid input; 2 invalid command line or missing library; 3 out of memory;
+4 a file could not be read or written."""
 ENDINGS = {
     "": "csv",
     ".csv": "csv",
@@ -49,12 +55,12 @@ ENDINGS = {
     ".md": "markdown",
     ".json": "json",
 }
-# The options of commands that count, and the commands that have none of them.
+# The options of commands that count, and the commands without these options.
 _WORK = ("workers", "resume", "dry_run")
 _WITHOUT_WORK = ("convert", "explain", "report")
-_SYNOPSIS = 30  # columns of the help
+_SYNOPSIS = 30  # the width of the help's first column
 BAD_INPUT, COMMAND_LINE, MEMORY, FILES, INTERRUPTED = 1, 2, 3, 4, 130
-LONGEST_NAME = 255  # bytes of the name of a file
+LONGEST_NAME = 255  # the longest file name in bytes
 RECORD_IS_AN_OPTION = "add --record and --out FILE.csv to the command that makes the table"
 
 
@@ -66,13 +72,16 @@ class _Parser(argparse.ArgumentParser):
         super().__init__(allow_abbrev=False, formatter_class=formatter, **words)
 
     def error(self, message: str) -> NoReturn:
-        """End with status 2 and a message of one line."""
+        """Print a message of one line, and exit with status 2."""
         sys.stderr.write(f"{self.prog}: {message}; see {self.prog} --help\n")
         sys.exit(COMMAND_LINE)
 
 
 class Command(NamedTuple):
-    """A command: its synopsis, what it does, its words and options as OPTIONS has them, and the function that runs it."""
+    """A command: its synopsis, summary, arguments, options, and function.
+
+    Arguments and options are keys of OPTIONS.
+    """
 
     synopsis: str
     does: str
@@ -81,11 +90,11 @@ class Command(NamedTuple):
     run: Callable[[argparse.Namespace], Optional[int]]
 
 
-# The words of a command line
+# Parsing
 
 
 def _pairs(words: Sequence[str]) -> dict[str, str]:
-    """Return arguments NAME=PATH as a dict."""
+    """Parse arguments NAME=PATH, and return them as a dict."""
     paths: dict[str, str] = {}
     for word in words:
         name, equals, path = word.partition("=")
@@ -98,7 +107,7 @@ def _pairs(words: Sequence[str]) -> dict[str, str]:
 
 
 def _parsed(words: list[str]) -> argparse.Namespace:
-    """Return the settings of a command line; end with status 2 if it is invalid."""
+    """Parse a command line, or exit with status 2 if it is invalid."""
     parser, commands = _parser()
     if words and not words[0].startswith("-") and words[0] not in commands:
         close = [f"did you mean {name}?" for name in near(words[0], commands)]
@@ -116,7 +125,7 @@ def _parsed(words: list[str]) -> argparse.Namespace:
 
 
 def _joined(words: list[str]) -> list[str]:
-    """Join an option and its value if that begins like a negative number: argparse takes `-1,2` for an option."""
+    """Join options with values like `-1,2`, which argparse would treat as options."""
     joined: list[str] = []
     for word in words:
         if joined and re.match(r"-\d", word) and re.match(r"--\w[^=]*$", joined[-1]):
@@ -127,24 +136,28 @@ def _joined(words: list[str]) -> list[str]:
 
 
 def _line(synopsis: str, does: str) -> str:
-    """Return the help on a command; a long synopsis has a line of its own."""
+    """Return the help line of a command; a long synopsis gets a separate line."""
     gap = f"\n  {'':<{_SYNOPSIS}}" if len(synopsis) > _SYNOPSIS else ""
     return f"  {synopsis:<{_SYNOPSIS}}{gap} {does}"
 
 
+def _sentence(does: str) -> str:
+    return f"{does[0].upper()}{does[1:]}."
+
+
 def _parser() -> tuple[_Parser, dict[str, _Parser]]:
-    """Return the parser of the command line, and the parsers of the commands."""
+    """Create the parser of the command line, and the parsers of the commands."""
     lines = (_line(f"{name} {each.synopsis}", each.does) for name, each in COMMANDS.items())
     text = "\n".join([DESCRIPTION, "", *lines])
     parser = _Parser(prog=NAME, description=text, epilog=EPILOG, usage=f"{NAME} COMMAND ..")
-    parser.add_argument("--version", action="store_true", help="prints the name and the version")
+    parser.add_argument("--version", action="store_true", help="print the name and the version")
     commands = parser.add_subparsers(
         prog=NAME, dest="command", metavar="COMMAND", parser_class=_Parser, help=argparse.SUPPRESS
     )
     parsers = {}
     for name, command in COMMANDS.items():
         parsers[name] = commands.add_parser(
-            name, description=f"Writes {command.does}.", epilog=NOTES.get(name)
+            name, description=_sentence(command.does), epilog=NOTES.get(name)
         )
         parsers[name].set_defaults(run=command.run, options=command.options.split())
         work = () if name in _WITHOUT_WORK else _WORK
@@ -158,7 +171,7 @@ def _parser() -> tuple[_Parser, dict[str, _Parser]]:
 
 
 def _call(words: argparse.Namespace) -> Callable[..., Any]:
-    """Return the call of a command, which returns its table as columns, and is recorded if asked for."""
+    """Return the call of a command, which returns columns and is recorded on request."""
     rcell = importlib.import_module("rcell")
     call: Callable[..., Any] = getattr(rcell, words.command).__wrapped__
     if not words.__dict__.get("record"):
@@ -166,7 +179,7 @@ def _call(words: argparse.Namespace) -> Callable[..., Any]:
     if words.format not in (None, "csv") or not (words.out or "").lower().endswith(".csv"):
         raise Refused("--record needs --out with a name that ends in .csv", status=COMMAND_LINE)
     if words.command in MANY and len(words.maps) > 1:
-        raise Refused(f"--record takes one map; got {len(words.maps)}", status=COMMAND_LINE)
+        raise Refused(f"--record accepts one map; got {len(words.maps)}", status=COMMAND_LINE)
     make = importlib.import_module("rcell.core.record").make
 
     def recorded(*arguments: Any, **named: Any) -> Any:
@@ -177,7 +190,7 @@ def _call(words: argparse.Namespace) -> Callable[..., Any]:
 
 
 def _options(words: argparse.Namespace) -> dict[str, Any]:
-    """Return the options of a call that are given."""
+    """Return the options that are given, as arguments of the call."""
     names = [ARGUMENTS.get(name, name) for name in words.options if name not in NO_ARGUMENTS]
     if words.command in ("zonal", "dominant"):
         names.append("zones")
@@ -190,7 +203,7 @@ def _options(words: argparse.Namespace) -> dict[str, Any]:
 
 
 def _map(words: argparse.Namespace, path: str, name: str = "map") -> Any:
-    """Return a map for a call: its path, or one of its bands."""
+    """Return a map argument for a call: a path, or a band of a raster."""
     if words.__dict__.get("band") is None:
         return path
     if words.__dict__.get("record"):
@@ -199,7 +212,7 @@ def _map(words: argparse.Namespace, path: str, name: str = "map") -> Any:
 
 
 def _of_each(words: argparse.Namespace) -> None:
-    """Write the tables of one or more maps, below each other."""
+    """Write the tables of one or more maps, one below the other."""
     call, options, tables = _call(words), _options(words), []
     for path in words.maps:
         words.map_paths = {"values" if words.command == "zonal" else "map": path}
@@ -257,7 +270,7 @@ def _sample(words: argparse.Namespace) -> None:
 
 
 def _to_map(words: argparse.Namespace) -> None:
-    """Write the map that a call returns."""
+    """Write the map that a call returns, and print an account of it if there is one."""
     words.map_paths = {"map": words.map, **({"to": words.to} if words.command == "align" else {})}
 
     def make_maps() -> list[Any]:
@@ -272,10 +285,10 @@ def _to_map(words: argparse.Namespace) -> None:
 
 
 def _aggregate(words: argparse.Namespace) -> None:
-    """Write a coarser map, and the shares of its classes if they are asked for."""
+    """Write a coarser map and, if requested, the shares of its classes."""
     words.map_paths = {"map": words.map}
     if words.shares and not words.shares.lower().endswith((".tif", ".tiff")):
-        rule = f"{words.shares}: shares are written as .tif or .tiff"
+        rule = f"{words.shares}: the name of shares must end in .tif or .tiff"
         raise Refused(rule, status=COMMAND_LINE)
 
     def make_maps() -> list[Any]:
@@ -287,7 +300,7 @@ def _aggregate(words: argparse.Namespace) -> None:
 
 
 def _trajectories(words: argparse.Namespace) -> None:
-    """Write a table of trajectories, and the maps that are asked for."""
+    """Write a table of trajectories, and the requested maps."""
     words.map_paths = {f"map_{number}": path for number, path in enumerate(words.maps, 1)}
     paths, results = _pairs(words.outs), []
     known = importlib.import_module("rcell.core.trajectories").MAPS
@@ -307,7 +320,7 @@ def _trajectories(words: argparse.Namespace) -> None:
 
 
 def _run(words: argparse.Namespace) -> None:
-    """Run a script, write the maps that are asked for, and print its tables."""
+    """Run a script, write the requested maps, and print its tables."""
     words.map_paths, paths = _pairs(words.maps), _pairs(words.outs)
     if words.each is not None:
         _run_each(words)
@@ -326,7 +339,7 @@ def _run(words: argparse.Namespace) -> None:
 
 
 def _outputs(words: argparse.Namespace, wanted: Sequence[str] = ()) -> list[Any]:
-    """Return what a script writes, and then the requested maps."""
+    """Run a script, and return its outputs, followed by the requested maps."""
     maps = {name: _map(words, path, name) for name, path in words.map_paths.items()}
     scripts = importlib.import_module("rcell.core.scripts")
     run = scripts.Run(script_of(words.script), maps, {}, words.crs)
@@ -340,12 +353,15 @@ def _outputs(words: argparse.Namespace, wanted: Sequence[str] = ()) -> list[Any]
 
 
 def _run_each(words: argparse.Namespace) -> None:
-    """Write each table and map of a script to a file of a new folder, which gets its name when all are complete."""
+    """Write each table and map of a script to a file in a new folder.
+
+    The folder gets its name when all files are complete.
+    """
     folder = os.path.abspath(words.each)
     if os.path.lexists(folder):
-        raise Refused(f"{words.each} is there already: choose another name", status=COMMAND_LINE)
+        raise Refused(f"{words.each} already exists: choose another name", status=COMMAND_LINE)
     if words.outs:
-        raise Refused("--each and --out exclude each other", status=COMMAND_LINE)
+        raise Refused("--each and --out cannot be used together", status=COMMAND_LINE)
     outputs = _outputs(words)
     errors_of = importlib.import_module("rcell.core.writing").write_errors
     with errors_of(words.each), contextlib.ExitStack() as cleanup:
@@ -369,7 +385,7 @@ def _run_each(words: argparse.Namespace) -> None:
                     file.write(table_text(form, table.columns, table.rows))
             else:
                 write_map(output, path, ending)
-        os.mkdir(folder)  # a folder that another process has made meanwhile is an error
+        os.mkdir(folder)  # fails if another process has created it meanwhile
         room.rename(folder)
         os.chmod(folder, 0o777 & ~_mask())
 
@@ -381,7 +397,7 @@ def _mask() -> int:
 
 
 def _ending_of_maps(words: argparse.Namespace) -> str:
-    """Return .txt if all maps of a run are grids of rcell, else .tif."""
+    """Return .txt if all input maps are rcell grids, otherwise .tif."""
     is_text = all(path.lower().endswith(".txt") for path in words.map_paths.values())
     return ".txt" if is_text else ".tif"
 
@@ -395,7 +411,7 @@ def _convert(words: argparse.Namespace) -> None:
     is_plain = words.band is None and words.like is None and words.crs is None
     if words.target == "-" or ending in (".txt", ".asc"):
         with writing(words.target):
-            # A text grid needs no GDAL: its text is converted as it is read.
+            # Text grids are converted while they are read, without GDAL.
             text = converting.converted(words.map, is_esri) if is_plain else None
             if text is None:
                 text = converting.printed_map(_raster(words), is_esri)
@@ -407,7 +423,7 @@ def _convert(words: argparse.Namespace) -> None:
 
 
 def _raster(words: argparse.Namespace) -> Any:
-    """Return a map to convert, with the reference system and the extent of another one if asked for."""
+    """Return the map to convert, with the reference system and extent of `--like`, if given."""
     grid = importlib.import_module("rcell").grid
     grid_of_map = grid("", "map", {"map": _map(words, words.map)}, crs=words.crs)
     if words.like is None:
@@ -436,7 +452,7 @@ def _explain(words: argparse.Namespace) -> int:
     return status
 
 
-# What is written
+# Output
 
 
 def _write_table(
@@ -460,19 +476,19 @@ def _write_table(
 
 @contextlib.contextmanager
 def _writing_a_table(path: Optional[str]) -> Iterator[None]:
-    """While the block runs, raise Refused if the file of a table is read; raise it at once if its ending is wrong."""
+    """Raise Refused if the table's file is read in this block, or its ending is unknown."""
     if path is None:
         yield
         return
     if os.path.splitext(path)[1].lower() not in ENDINGS:
-        rule = f"{path}: a table is written as .csv, .tsv, .txt, .md or .json"
+        rule = f"{path}: the name of a table must end in .csv, .tsv, .txt, .md or .json"
         raise Refused(rule, status=COMMAND_LINE)
     with writing(path):
         yield
 
 
 def emit(text: str) -> None:
-    """Write to standard output immediately, so that Python does not try again at exit after an error."""
+    """Write to standard output without buffering, so that Python does not retry at exit."""
     sys.stdout.flush()
     printable = _printable(text) if os.isatty(1) else text
     with file_errors("-"), Output("-") as output:
@@ -480,7 +496,7 @@ def emit(text: str) -> None:
 
 
 def script_of(word: str) -> str:
-    """Return the text of a script: from a file, from standard input, or the word itself."""
+    """Return the text of a script: a file, standard input, or the word itself."""
     if word != "-" and not os.path.exists(word) and word.startswith("r."):
         return word
     try:
@@ -497,7 +513,7 @@ def script_of(word: str) -> str:
     return raw.decode("utf-8", "surrogateescape")
 
 
-# The commands, with the words and options that each accepts, and the arguments of options that have another name.
+# The arguments of calls whose names differ from the names of options.
 ARGUMENTS = {"each_zone": "each", "of_classes": "classes", "smallest": "min_cells"}
 NO_ARGUMENTS = {
     *("band", "format", "legends", "out", "part", "record", "shares", "table"),
@@ -510,161 +526,164 @@ _TABLE = "band crs format out record"
 COMMANDS = {
     "composition": Command(
         "MAP...",
-        "the cells, area and percentage of each class, in all or by zone",
+        "count the cells, area and percentage of each class, in total or by zone",
         "maps",
         f"{_ZONES} each_zone labels area include_null {_TABLE}",
         _of_each,
     ),
     "cross": Command(
         "NAME=MAP...",
-        "how often the classes of several maps occur together",
+        "count how often the classes of several maps occur together",
         "named",
         f"legends area include_null {_TABLE}",
         _cross,
     ),
     "change": Command(
         "MAP MAP...",
-        "what became of each class between two or more years",
+        "report the change of each class between two or more years",
         "maps",
         f"years table labels area {_TABLE}",
         _change,
     ),
     "dominant": Command(
         "MAP... ZONES",
-        "the most frequent class of each zone, and the rarest",
+        "find the most frequent and the rarest class of each zone",
         "maps zone_map",
         f"zone_field zone_labels layer each_zone labels area {_TABLE}",
         _of_each,
     ),
     "accuracy": Command(
         "MAP REFERENCE",
-        "the accuracy of a map, and the areas of its classes corrected by a sample",
+        "estimate the accuracy of a map, and correct its class areas with a sample",
         "map reference",
         f"areas part field layer labels area {_TABLE}",
         _accuracy,
     ),
     "sample": Command(
         "MAP --n N --seed SEED",
-        "random cells of each class, the same for each run",
+        "draw random cells of each class; the same seed draws the same cells",
         "map",
         f"n seed allocation labels {_TABLE}",
         _sample,
     ),
     "metrics": Command(
         "MAP...",
-        "landscape metrics of classes, of patches or of the full map",
+        "compute landscape metrics of classes, patches or the full map",
         "maps",
         f"level connectivity {_ZONES} each_zone labels area {_TABLE}",
         _of_each,
     ),
     "trajectories": Command(
         "MAP MAP... --years ..",
-        "each sequence of classes over the years, and maps of when classes changed",
+        "count the sequences of classes over years, and map when classes changed",
         "maps",
         f"years of_trajectories maps_of_years labels area {_TABLE}",
         _trajectories,
     ),
     "patches": Command(
         "MAP...",
-        "the patches of a map: connected cells of one class",
+        "list the patches of a map: connected cells of one class",
         "maps",
-        f"connectivity classes min_cells core_depth summary {_ZONES} each_zone labels area {_TABLE}",
+        f"connectivity classes min_cells core_depth summary {_ZONES} each_zone labels area "
+        f"{_TABLE}",
         _of_each,
     ),
     "zonal": Command(
         "VALUES... ZONES",
-        "sums, means and quantiles by zone",
+        "compute sums, means and quantiles by zone",
         "maps zone_map",
         f"quantiles scale zone_field zone_labels layer each_zone {_TABLE}",
         _of_each,
     ),
     "adjacency": Command(
         "MAP...",
-        "how often cells of two classes share an edge",
+        "count how often cells of two classes share an edge",
         "maps",
         f"labels {_TABLE}",
         _of_each,
     ),
     "majority": Command(
         "MAP OUT",
-        "the most frequent class of the square around each cell",
+        "write a map with the most frequent class of the square around each cell",
         "map target",
         "size fill band crs",
         _to_map,
     ),
     "reclass": Command(
         "MAP OUT --rules FILE",
-        "a map with other classes, by a CSV with the columns value, new and label",
+        "write a map with new classes, from a CSV with the columns value, new and label",
         "map target",
         "rules other band crs",
         _to_map,
     ),
     "clump": Command(
         "MAP OUT",
-        "a map with the number of the patch of each cell",
+        "write a map with each cell's patch number",
         "map target",
         "connectivity classes min_cells band crs",
         _to_map,
     ),
     "sieve": Command(
         "MAP OUT --min-cells N",
-        "a map without small patches, which are merged into their neighbours, and an account of it",
+        "write a map in which small patches are merged into their neighbours, and count the "
+        "changes",
         "map target",
         "smallest min_ha connectivity drop band crs format",
         _to_map,
     ),
     "within": Command(
         "MAP OUT --classes .. --distances ..",
-        "a map of what is within distances of some classes: buffers",
+        "write a map of the cells within distances of classes (buffers)",
         "map target",
         "of_classes distances band crs",
         _to_map,
     ),
     "aggregate": Command(
         "MAP OUT --factor N",
-        "a coarser map with the most frequent class of blocks of cells, and the share of each class",
+        "write a coarser map with the most frequent class of each block, and the share of each "
+        "class",
         "map target",
         "factor min_percent shares band crs",
         _aggregate,
     ),
     "align": Command(
         "MAP OUT --to OTHER",
-        "a map on the grid of another one, and an account of used and lost cells",
+        "write a map on the grid of another map, and count used and lost cells",
         "map target",
         "to resample band crs format",
         _to_map,
     ),
     "run": Command(
         "SCRIPT NAME=MAP...",
-        "the tables of a script, and maps in files",
+        "run a script, print its tables, and write its maps to files",
         "script named",
         "outs each band crs format",
         _run,
     ),
     "convert": Command(
         "IN OUT",
-        "GeoTIFF, ESRI ASCII or what GDAL reads, as .tif, .asc, .txt (an rcell grid) or a picture",
+        "convert any raster that GDAL reads to .tif, .asc, .txt (an rcell grid) or a picture",
         "map target",
         "band like crs",
         _convert,
     ),
     "report": Command(
         "FILE.csv... --out FILE.html",
-        "a page for people with recorded tables, pictures of their maps, and how to verify them",
+        "write an HTML page with recorded tables, pictures of their maps, and verify commands",
         "tables",
         "page title",
         _report,
     ),
     "verify": Command(
         "FILE.csv...",
-        "what differs if the recorded calls of tables are run again",
+        "run the recorded calls of tables again, and print the differences",
         "tables",
         "",
         _verify,
     ),
     "explain": Command(
         "SCRIPT NAME=GRID...",
-        "what rcell writes; if it fails, the line with a mark and what to write instead",
+        "run rcell; if it fails, mark the place in the line and propose a correction",
         "script named",
         "",
         _explain,
@@ -672,7 +691,7 @@ COMMANDS = {
 }
 
 
-# The end
+# Running
 
 
 def main(words: Optional[Sequence[str]] = None) -> int:
@@ -699,15 +718,18 @@ def main(words: Optional[Sequence[str]] = None) -> int:
 
 
 def _end_on_interrupt(*_: Any) -> None:
-    """End at once if nothing would be left, since libraries turn an interrupt of their import into other errors."""
+    """Exit immediately if there is nothing to clean up, otherwise raise KeyboardInterrupt.
+
+    Libraries turn an interrupt during their import into other errors.
+    """
     if not has_work():
         os._exit(INTERRUPTED)
-    sys.unraisablehook = lambda _: None  # raised where Python ignores it, it would be printed
+    sys.unraisablehook = lambda _: None  # Python would print an interrupt that it ignores
     raise KeyboardInterrupt
 
 
 def _status_of(arguments: list[str]) -> int:
-    """Run a command line, and return its status; errors become a line on standard error."""
+    """Run a command line, print errors on one line, and return the exit status."""
     if arguments == ["--version"]:
         emit(f"{NAME} {importlib.import_module('rcell').__version__}\n")
         return 0
@@ -740,7 +762,7 @@ def _status_of(arguments: list[str]) -> int:
 
 
 def _working(settings: argparse.Namespace) -> contextlib.AbstractContextManager[None]:
-    """Set how large maps are processed, as the options say."""
+    """Apply the options for processing large maps."""
     options = {name: settings.__dict__.get(name) for name in _WORK}
     if not any(value is not None and value is not False for value in options.values()):
         return contextlib.nullcontext()
@@ -752,7 +774,7 @@ def _working(settings: argparse.Namespace) -> contextlib.AbstractContextManager[
 
 
 def _run_command(settings: argparse.Namespace) -> int:
-    """Run a command, or print how it would run."""
+    """Run a command or, with --dry-run, print its plan."""
     if not settings.__dict__.get("dry_run"):
         return settings.run(settings) or 0
     dry_run = importlib.import_module("rcell.core.tiling").DryRun
@@ -774,12 +796,15 @@ def _tell(text: str) -> None:
 
 
 def _printable(text: str) -> str:
-    """Return a text without bytes that a terminal would interpret."""
+    """Escape control characters that a terminal would interpret."""
     return re.sub(r"[\0-\x08\x0b-\x1f\x7f-\x9f]", lambda match: f"\\x{ord(match[0]):02x}", text)
 
 
 def _in_one_line(error: RcellError, path: Optional[str]) -> str:
-    """Return an error on one line, with the path if there are several maps, the script's line and a correction."""
+    """Format an error on one line, with the path, the script's line and a correction.
+
+    The path is included only if there are several maps.
+    """
     if not isinstance(error, Refused):
         return "; ".join(line.strip() for line in str(error).split("\n"))
     source = path or error.source if error.source in ("map", "values") else error.source
@@ -795,7 +820,10 @@ def _in_one_line(error: RcellError, path: Optional[str]) -> str:
 
 
 def _align_words(error: Refused, paths: dict[str, str]) -> Optional[str]:
-    """Return the command that aligns a map with the first one; only its option if one of them is not known."""
+    """Return the command that aligns a map with the first map.
+
+    Only its option is returned if one of the maps is unknown.
+    """
     if not error.advice:
         return None
     first = next(iter(paths), "")

@@ -1,5 +1,5 @@
 # SPDX-License-Identifier: Apache-2.0 OR GPL-2.0-or-later
-"""The maps that `rcell-gis` writes, all or none."""
+"""Write the maps of `rcell-gis`, either all of them or none."""
 
 from __future__ import annotations
 
@@ -19,15 +19,20 @@ _COMMAND_LINE = 2
 
 
 def write_maps(targets: Sequence[str], make: Callable[[], list[Any]]) -> None:
-    """Write maps to files, all or none; raise Refused if a file is also read, or its format is unknown."""
+    """Write either all maps or none.
+
+    Raises Refused if a file is an input or has an unknown format."""
     for path in targets:
         if not path.lower().endswith(MAPS):
-            rule = f"{path}: a map is written as .tif, .tiff, .txt, .asc or a picture ({', '.join(PICTURES)})"
+            rule = (
+                f"{path}: the name of a map must end in .tif, .tiff, .txt, .asc, "
+                f"{', '.join(PICTURES)}"
+            )
             raise Refused(rule, status=_COMMAND_LINE)
     with writing(*targets):
         maps = make()
     replacing = importlib.import_module("rcell.core.writing").replacing
-    with contextlib.ExitStack() as files:  # the files get their names at the end
+    with contextlib.ExitStack() as files:  # files get their names when the block ends
         parts = [files.enter_context(replacing(path)) for path in targets]
         for raster, path, part in zip(maps, targets, parts):
             try:
@@ -37,13 +42,16 @@ def write_maps(targets: Sequence[str], make: Callable[[], list[Any]]) -> None:
 
 
 def map_ending(path: str) -> str:
-    """Return the ending of a map; a cloud optimised GeoTIFF has `.cog.tif`."""
+    """Return the ending of a map's path; for cloud-optimised GeoTIFFs, `.cog.tif`."""
     stem, ending = os.path.splitext(path.lower())
     return f".cog{ending}" if stem.endswith(".cog") else ending
 
 
 def write_map(raster: Any, path: str, ending: str) -> None:
-    """Write a map in the format given by `ending`. (`path` may end otherwise, because links have been resolved.)"""
+    """Write a map in the format of `ending`.
+
+    `path` may have another ending, because links have been resolved.
+    """
     if ending in (".txt", ".asc"):
         converting = importlib.import_module("rcell.core.converting")
         with file_errors(path), open(path, "wb") as file:
@@ -62,7 +70,7 @@ def write_map(raster: Any, path: str, ending: str) -> None:
 
 
 def file_errors(path: str) -> contextlib.AbstractContextManager[None]:
-    """Raise errors with files as WriteFailed with a path."""
+    """Convert OSError to WriteFailed with this path."""
     errors: contextlib.AbstractContextManager[None] = importlib.import_module(
         "rcell.core.writing"
     ).write_errors("standard output" if path == "-" else path)

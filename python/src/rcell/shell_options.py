@@ -1,5 +1,5 @@
 # SPDX-License-Identifier: Apache-2.0 OR GPL-2.0-or-later
-"""The options of `rcell-gis`, by the names of their values."""
+"""Define the options of `rcell-gis`, by the names of their values."""
 
 from __future__ import annotations
 
@@ -10,23 +10,27 @@ __all__ = ["NOTES", "OPTIONS"]
 
 FORMATS = ("csv", "tsv", "markdown", "json")
 
-# What the help of a command says after its options.
+# Texts that follow the options in the help of a command.
 NOTES = {
     "accuracy": """\
-If the sample was drawn class by class, as `sample` does, give --areas map: without it, all but the user's accuracies and
-their errors are wrong. --table summary has the overall accuracy.""",
+If the sample was drawn class by class, as by `sample`, give --areas map. Otherwise only the user's
+accuracies and their errors are correct. --table summary contains the overall accuracy.""",
     "metrics": """\
-By class: cells, area_ha, percent, patches, patches_km2, largest_patch_percent, mean_patch_ha, area_weighted_mean_patch_ha,
-effective_mesh_ha, edge_m, edge_density_m_ha, mean_shape_index, aggregation_index, cohesion, interspersion_index.
-The landscape is all cells of the map or zone that have data. Borders of zones and no data are not edges.""",
+The columns by class are cells, area_ha, percent, patches, patches_km2, largest_patch_percent,
+mean_patch_ha, area_weighted_mean_patch_ha, effective_mesh_ha, edge_m, edge_density_m_ha,
+mean_shape_index, aggregation_index, cohesion and interspersion_index. The landscape consists of all
+cells of the map or zone that are not null. Borders of zones and sides next to null are not
+edges.""",
     "sieve": """\
-The smallest patch is merged first, into the neighbour with the longest common border. patches_below counts small patches
-that are left: they touch no other class.""",
+The smallest patch is merged first, into the neighbour with the longest common border. patches_below
+counts the remaining small patches, which touch no other class.""",
     "verify": """\
-Hand over FILE.csv, FILE.csv.json and the files that it names, whose paths are relative to FILE.csv.""",
+To let others verify a table, give them FILE.csv, FILE.csv.json and the files that the record names.
+Their paths are relative to FILE.csv.""",
     "within": """\
-OUT is 0 in the classes, 1 up to the first distance, and 2 beyond it and up to the second. Distances are between centres of
-cells. `composition MAP --zones OUT` lists the classes in each ring.""",
+OUT is 0 in the classes, 1 up to the first distance, and 2 from there up to the second distance.
+Distances are between cell centres. `composition MAP --zones OUT` lists the classes in each
+ring.""",
 }
 
 
@@ -64,7 +68,7 @@ OPTIONS: dict[str, tuple[str, dict[str, Any]]] = {
         {
             "metavar": "NAME=MAP",
             "nargs": "+",
-            "help": "maps, by their names in the table or script",
+            "help": "maps, with their names in the table or script",
         },
     ),
     "target": (
@@ -95,7 +99,10 @@ OPTIONS: dict[str, tuple[str, dict[str, Any]]] = {
     ),
     "each_zone": (
         "--each",
-        {"action": "store_true", "help": "takes one polygon after another: they may overlap"},
+        {
+            "action": "store_true",
+            "help": "process polygons one after another, because they overlap",
+        },
     ),
     "band": ("--band", {"type": int, "metavar": "N", "help": "the band, if there are several"}),
     "labels": ("--labels", {"metavar": "LEGEND", "help": "the labels of the classes"}),
@@ -105,29 +112,29 @@ OPTIONS: dict[str, tuple[str, dict[str, Any]]] = {
             "metavar": "NAME=LEGEND",
             "action": "append",
             "default": [],
-            "help": "a legend for a map; may be given again",
+            "help": "a legend for a map; may be repeated",
         },
     ),
     "area": (
         "--area",
-        {"choices": ["ha", "km2", "m2", "none"], "help": "the unit of areas; ha if not given"},
+        {"choices": ["ha", "km2", "m2", "none"], "help": "the unit of areas; default: ha"},
     ),
-    "include_null": ("--include-null", {"action": "store_true", "help": "adds null cells"}),
+    "include_null": ("--include-null", {"action": "store_true", "help": "also count null cells"}),
     "crs": (
         "--crs",
         {"metavar": "EPSG:CODE", "help": "the reference system to assume for maps that have none"},
     ),
     "connectivity": (
         "--connectivity",
-        {"type": int, "choices": [4, 8], "help": "4: by edges, if not given; 8: also by corners"},
+        {"type": int, "choices": [4, 8], "help": "4: by edges (default); 8: also by corners"},
     ),
     "classes": (
         "--classes",
-        {"type": _wholes, "metavar": "CLASS,..", "help": "only patches of these classes"},
+        {"type": _wholes, "metavar": "CLASS,..", "help": "list only patches of these classes"},
     ),
     "min_cells": (
         "--min-cells",
-        {"type": int, "metavar": "N", "help": "only patches of at least N cells"},
+        {"type": int, "metavar": "N", "help": "list only patches with at least N cells"},
     ),
     "of_classes": (
         "--classes",
@@ -144,29 +151,38 @@ OPTIONS: dict[str, tuple[str, dict[str, Any]]] = {
             "type": _distances,
             "required": True,
             "metavar": "METRES,..",
-            "help": "in metres, ascending",
+            "help": "the distances in metres, ascending",
         },
     ),
     "smallest": (
         "--min-cells",
-        {"type": int, "metavar": "N", "help": "the smallest number of cells of a patch"},
+        {"type": int, "metavar": "N", "help": "the smallest number of cells in a patch"},
     ),
     "min_ha": (
         "--min-ha",
         {"type": float, "metavar": "HA", "help": "the smallest area of a patch in hectares"},
     ),
-    "drop": ("--drop", {"action": "store_true", "help": "leaves small patches out"}),
+    "drop": ("--drop", {"action": "store_true", "help": "set small patches to null"}),
     "summary": (
         "--summary",
-        {"choices": ["class"], "help": "a row per class instead of per patch"},
+        {"choices": ["class"], "help": "write a row per class instead of a row per patch"},
     ),
     "factor": (
         "--factor",
-        {"type": int, "required": True, "metavar": "N", "help": "rows and columns of a block"},
+        {
+            "type": int,
+            "required": True,
+            "metavar": "N",
+            "help": "the number of rows and of columns in a block",
+        },
     ),
     "min_percent": (
         "--min-percent",
-        {"type": float, "metavar": "P", "help": "of a block's cells that must not be null"},
+        {
+            "type": float,
+            "metavar": "P",
+            "help": "the percentage of a block's cells that must not be null",
+        },
     ),
     "shares": (
         "--shares",
@@ -187,14 +203,18 @@ OPTIONS: dict[str, tuple[str, dict[str, Any]]] = {
             "metavar": "NAME=FILE",
             "action": "append",
             "default": [],
-            "help": "changes, first_change or last_change, and a file for this map",
+            "help": "changes, first_change or last_change, and the file for this map",
         },
     ),
     "core_depth": (
         "--core-depth",
-        {"type": int, "metavar": "N", "help": "steps from the border of a patch to its core"},
+        {
+            "type": int,
+            "metavar": "N",
+            "help": "the number of steps from the border of a patch to its core",
+        },
     ),
-    "years": ("--years", {"type": _wholes, "metavar": "YEAR,..", "help": "one for each map"}),
+    "years": ("--years", {"type": _wholes, "metavar": "YEAR,..", "help": "the year of each map"}),
     "table": (
         "--table",
         {
@@ -207,7 +227,10 @@ OPTIONS: dict[str, tuple[str, dict[str, Any]]] = {
         "--areas",
         {
             "metavar": "AREAS",
-            "help": "areas of the classes, for a sample by class: map counts them, or a CSV with value, area",
+            "help": (
+                "class areas for a sample by class: map, or a CSV with the columns value "
+                "and area"
+            ),
         },
     ),
     "n": (
@@ -215,22 +238,32 @@ OPTIONS: dict[str, tuple[str, dict[str, Any]]] = {
         {
             "required": True,
             "metavar": "N",
-            "help": "cells in all, or of each class, for example 11:50,31:100",
+            "help": "the cells in total, or of each class, for example 11:50,31:100",
         },
     ),
     "seed": (
         "--seed",
-        {"required": True, "metavar": "SEED", "help": "a number or a text; it decides the draw"},
+        {
+            "required": True,
+            "metavar": "SEED",
+            "help": "a number or a text that determines the draw",
+        },
     ),
     "allocation": (
         "--allocation",
-        {"choices": ["equal", "proportional"], "help": "how N is divided; equally if not given"},
+        {
+            "choices": ["equal", "proportional"],
+            "help": "how to divide N among classes; default: equal",
+        },
     ),
     "level": (
         "--level",
-        {"choices": ["class", "landscape", "patch"], "help": "class if not given"},
+        {
+            "choices": ["class", "landscape", "patch"],
+            "help": "the objects to measure; default: class",
+        },
     ),
-    "field": ("--field", {"metavar": "FIELD", "help": "the field of points with their class"}),
+    "field": ("--field", {"metavar": "FIELD", "help": "the field with the class of each point"}),
     "part": (
         "--table",
         {
@@ -241,26 +274,26 @@ OPTIONS: dict[str, tuple[str, dict[str, Any]]] = {
     ),
     "quantiles": (
         "--quantiles",
-        {"type": _shares, "metavar": "Q,..", "help": "from 0 to 1; the median if not given"},
+        {"type": _shares, "metavar": "Q,..", "help": "quantiles from 0 to 1; default: the median"},
     ),
     "scale": (
         "--scale",
-        {"type": int, "metavar": "N", "help": "rounds decimals to 1/N, for example 100"},
+        {"type": int, "metavar": "N", "help": "round decimals to 1/N, for example 100"},
     ),
     "size": (
         "--size",
-        {"type": int, "metavar": "N", "help": "rows and columns of the square: odd, 3 to 15"},
+        {"type": int, "metavar": "N", "help": "the side of the square in cells: odd, 3 to 15"},
     ),
-    "fill": ("--fill", {"action": "store_true", "help": "also gives null cells a class"}),
+    "fill": ("--fill", {"action": "store_true", "help": "also give null cells a class"}),
     "rules": (
         "--rules",
         {"required": True, "metavar": "FILE", "help": "a CSV with the columns value and new"},
     ),
     "other": (
         "--other",
-        {"choices": ["keep", "null"], "help": "what becomes of classes without a rule"},
+        {"choices": ["keep", "null"], "help": "keep classes without a rule, or set them to null"},
     ),
-    "to": ("--to", {"required": True, "metavar": "OTHER", "help": "the map whose grid it gets"}),
+    "to": ("--to", {"required": True, "metavar": "OTHER", "help": "the map with the new grid"}),
     "resample": (
         "--resample",
         {
@@ -270,23 +303,23 @@ OPTIONS: dict[str, tuple[str, dict[str, Any]]] = {
     ),
     "like": (
         "--like",
-        {"metavar": "MAP", "help": "takes the reference system and the extent of this map"},
+        {"metavar": "MAP", "help": "use the reference system and the extent of this map"},
     ),
     "workers": (
         "--workers",
         {
             "type": int,
             "metavar": "N",
-            "help": "tiles of large maps at a time; one for each processor if not given",
+            "help": "the number of tiles to process at a time; default: one per processor",
         },
     ),
     "resume": (
         "--resume",
-        {"metavar": "DIR", "help": "keeps finished tiles there, and reuses them"},
+        {"metavar": "DIR", "help": "keep the results of finished tiles there, and reuse them"},
     ),
     "dry_run": (
         "--dry-run",
-        {"action": "store_true", "help": "prints the plan: tiles, memory, reading; runs nothing"},
+        {"action": "store_true", "help": "print the plan (tiles, memory, reading) and run nothing"},
     ),
     "outs": (
         "--out",
@@ -295,20 +328,23 @@ OPTIONS: dict[str, tuple[str, dict[str, Any]]] = {
             "metavar": "NAME=FILE",
             "action": "append",
             "default": [],
-            "help": "a map, and the file for it; may be given again",
+            "help": "a map and its file; may be repeated",
         },
     ),
     "each": (
         "--each",
-        {"metavar": "DIR", "help": "a new folder with a file for each table and map"},
+        {"metavar": "DIR", "help": "write each table and map to a file in this new folder"},
     ),
     "tables": ("tables", {"metavar": "FILE.csv", "nargs": "+", "help": "tables with records"}),
     "page": ("--out", {"dest": "page", "metavar": "FILE.html", "help": "the page to write"}),
     "title": ("--title", {"metavar": "TEXT", "default": "Report", "help": "the title of the page"}),
     "record": (
         "--record",
-        {"action": "store_true", "help": "also writes a record, which `verify` checks"},
+        {"action": "store_true", "help": "also write a record, which `verify` checks"},
     ),
-    "format": ("--format", {"choices": FORMATS, "help": "csv if the file does not say otherwise"}),
-    "out": ("--out", {"metavar": "FILE", "help": "a file in place of standard output"}),
+    "format": (
+        "--format",
+        {"choices": FORMATS, "help": "default: from the ending of the file, or csv"},
+    ),
+    "out": ("--out", {"metavar": "FILE", "help": "write to a file instead of standard output"}),
 }

@@ -1,8 +1,9 @@
 # SPDX-License-Identifier: Apache-2.0 OR GPL-2.0-or-later
-"""`import rcell.xarray` gives the DataArrays and Datasets of xarray an accessor, `.rcell`.
+"""Add the accessor `.rcell` to the DataArrays and Datasets of xarray.
 
-A DataArray is a map under its own name, or `map` if it has none; a Dataset has its variables as maps. Cells that Dask holds are computed
-window by window, with the client that is current. Maps made of them stay in Dask; with `compute=False` tables do as well.
+The name of a DataArray, or `map` if it has none, is the name of the map. The variables of a Dataset
+are maps. Dask arrays are computed window by window with the current client. Maps that are computed
+from them stay in Dask; with `compute=False`, tables also stay in Dask.
 """
 
 from __future__ import annotations
@@ -37,12 +38,12 @@ _NAME = re.compile(r"[A-Za-z_][A-Za-z0-9_.]{0,63}")
 
 
 def _work_of(named: dict[str, Any]) -> dict[str, Any]:
-    """Remove the words about large maps, which are not names of maps, and return them."""
+    """Remove and return the keywords for processing large maps, which are not names of maps."""
     return {word: named.pop(word) for word in ("workers", "resume", "compute") if word in named}
 
 
 class Accessor:
-    """The `.rcell` accessor of a DataArray or a Dataset: the calls of rcell, with the array as the first map.
+    """The `.rcell` accessor: the calls of rcell, with the DataArray or Dataset as the first map.
 
     Parameters
     ----------
@@ -76,7 +77,7 @@ class Accessor:
         crs: Any = None,
         **more: MapLike,
     ) -> pandas.DataFrame:
-        """Return the table of a script with one r.stats; see `rcell.table`.
+        """Run a script with one r.stats and return its table; see `rcell.table`.
 
         Parameters
         ----------
@@ -98,7 +99,8 @@ class Accessor:
         Examples
         --------
         >>> import numpy as np, rcell.xarray, xarray
-        >>> years = xarray.Dataset({year: (("y", "x"), np.array([[1, value]])) for year, value in (("before", 1), ("after", 2))})
+        >>> before, after = (("y", "x"), np.array([[1, 1]])), (("y", "x"), np.array([[1, 2]]))
+        >>> years = xarray.Dataset({"before": before, "after": after})
         >>> years.rcell.table("r.stats -c input=before,after")
            before  after  cells
         0       1      1      1
@@ -109,12 +111,13 @@ class Accessor:
         return frames.table(script, maps, area=area, percent=percent, crs=crs, **work)
 
     def grid(self, script: str, *, crs: Any = None, **more: MapLike) -> Any:
-        """Return the map that an expression makes.
+        """Evaluate an expression and return its map.
 
         Parameters
         ----------
         script : str
-            An assignment `NAME = EXPRESSION`, or statements of which the last makes the map: r.mapcalc and r.reclass.
+            An assignment `NAME = EXPRESSION`, or r.mapcalc and r.reclass statements, of which the
+            last one creates the map.
         crs : any, optional
             The coordinate reference system to assume for maps that have none.
         **more : DataArray or path
@@ -123,14 +126,15 @@ class Accessor:
         Returns
         -------
         DataArray
-            Of int32, with the dimensions and coordinates of the first map; null is -2147483648, which its attribute `_FillValue` says. If
-            Dask holds the cells of all maps, Dask also computes the result, in the chunks of the
-            first map, unless `compute` is True.
+            An int32 array with the dimensions and coordinates of the first map. Null is
+            -2147483648, which is stored in the attribute `_FillValue`. If all maps are Dask arrays,
+            the result is a Dask array with the chunks of the first map, unless `compute` is True.
 
         Examples
         --------
         >>> import numpy as np, rcell.xarray, xarray
-        >>> xarray.DataArray(np.array([[1, 1, 2]]), dims=("y", "x")).rcell.grid("edge = if(map != map[0,1], map, 0)").values.tolist()
+        >>> land = xarray.DataArray(np.array([[1, 1, 2]]), dims=("y", "x"))
+        >>> land.rcell.grid("edge = if(map != map[0,1], map, 0)").values.tolist()
         [[0, 1, -2147483648]]
         """
         work = _work_of(more)
@@ -145,7 +149,7 @@ class Accessor:
     def _made(
         self, call: Any, *words: Any, maps: Any = None, is_local: bool = True, **options: Any
     ) -> Any:
-        """Return a map as a DataArray, which stays in Dask if Dask holds all maps that it is made of."""
+        """Return a map as a DataArray, which stays in Dask if all its inputs are Dask arrays."""
         all_maps = (self._maps if maps is None else maps).values()
         work = {word for word in ("workers", "resume") if options.get(word) is not None}
         stays = is_local and not work and all(map(is_lazy, all_maps))
@@ -201,14 +205,15 @@ def _with_account(accessor: Accessor, raster: Raster) -> Any:
 
 
 class _Method(NamedTuple):
-    """How the accessor offers a call: with which maps, what becomes of its result, and an example."""
+    """The settings of a method: its maps, the conversion of its result, and an example."""
 
     example: str
     result: str
     argument_of: Callable[[Accessor], Any] = _only
     convert: Callable[[Accessor, Any], Any] = _unchanged
     returns: str = ""
-    # Of a map of the cells of the array: whether it can stay in Dask, from the arguments.
+    # Whether the resulting map can stay in Dask, as a function of the arguments; None if the result
+    # is not such a map.
     is_local: Optional[Callable[[Mapping[str, Any]], bool]] = None
 
 
@@ -217,14 +222,14 @@ def _always(arguments: Mapping[str, Any]) -> bool:
 
 
 def _has_other(arguments: Mapping[str, Any]) -> bool:
-    return arguments.get("other") is not None  # otherwise all cells must be seen
+    return arguments.get("other") is not None  # otherwise all cells must be checked
 
 
 def _selects_nothing(arguments: Mapping[str, Any]) -> bool:
     return arguments.get("classes") is None and arguments.get("min_cells") is None
 
 
-_MAP = "DataArray\n        With the dimensions and coordinates of the array."
+_MAP = "DataArray\n        The map, with the dimensions and coordinates of the array."
 _YEARS = "xarray.concat([land, land * 2], xarray.Variable('time', [2000, 2010])).rcell"
 _METHODS = {
     "accuracy": _Method("land.rcell.accuracy(land).overall", "1.0"),
@@ -233,13 +238,16 @@ _METHODS = {
         "land.rcell.aggregate(3).majority.values.tolist()",
         "[[1]]",
         convert=_blocks,
-        returns="Aggregate\n        As `rcell.aggregate` returns it, with `majority` and `cells` as DataArrays.",
+        returns=(
+            "Aggregate\n        As in `rcell.aggregate`, with `majority` and `cells` as "
+            "DataArrays."
+        ),
     ),
     "align": _Method(
         "land.rcell.align(to=land).values.tolist()",
         "[[1, 1, 2]]",
         convert=_on_its_grid,
-        returns="DataArray\n        On the grid of the other map.",
+        returns="DataArray\n        The map on the grid of the other map.",
     ),
     "change": _Method("land.rcell.change(land * 2).table['cells'].tolist()", "[2, 1]"),
     "clump": _Method(
@@ -270,13 +278,13 @@ _METHODS = {
         "land.rcell.sieve(min_cells=2).values.tolist()",
         "[[1, 1, 1]]",
         convert=_with_account,
-        returns=f"{_MAP} Its attributes have the numbers of patches and of changed cells.",
+        returns=f"{_MAP} Its attributes count patches and changed cells.",
     ),
     "trajectories": _Method(
         f"{_YEARS}.trajectories().table['class_2010'].tolist()",
         "[2, 4]",
         convert=_with_maps,
-        returns="Trajectories\n        As `rcell.trajectories` returns it, with maps as DataArrays.",
+        returns="Trajectories\n        As in `rcell.trajectories`, with maps as DataArrays.",
     ),
     "within": _Method(
         "land.assign_attrs(crs='EPSG:25832').rcell.within([2], [1]).values.tolist()",
@@ -290,7 +298,7 @@ _SECTION = re.compile(r"\n\n    (\w+)\n    -+\n")
 
 
 def _method_of(name: str, how: _Method) -> Callable[..., Any]:
-    """Return a call as a method: the array is its first map."""
+    """Convert a call to a method, with the array as the call's first map."""
     call: Any = getattr(frames, name)
 
     signature = inspect.signature(call)
@@ -313,7 +321,7 @@ def _method_of(name: str, how: _Method) -> Callable[..., Any]:
 
 
 def _doc_of(name: str, how: _Method, doc: str, first: str) -> str:
-    """Return the docstring of a call without its first map, as the docstring of a method."""
+    """Convert the docstring of a call to the docstring of a method, without the first map."""
     head, *rest = _SECTION.split(doc)
     sections = dict(zip(rest[::2], rest[1::2]))
     section = re.sub(

@@ -246,7 +246,10 @@ def _check_strata(classes: Integers, mapped: Floats, rows: Integers) -> None:
     """Raise an error if a class has an area but no sample cells, or sample cells but no area."""
     lacking = classes[(mapped > 0) & (rows == 0)].tolist()
     if lacking:
-        problem = f"no cell of the sample is in the class {first_of(lacking)} of the map, which has an area"
+        problem = (
+            f"no cell of the sample is in the class {first_of(lacking)} of the map, which has an "
+            "area"
+        )
         raise Refused(f"{problem}: add cells, or merge the class with another one", "reference")
     extra = classes[(mapped == 0) & (rows > 0)].tolist()
     if extra:

@@ -48,7 +48,8 @@ def adjacency(map: MapLike, *, labels: Any = None, crs: Any = None) -> Table:
     Examples
     --------
     >>> import numpy as np, rcell
-    >>> lc = rcell.Raster(np.array([[1, 1, 2], [1, 2, 2]]), (10, 0, 0, 0, -10, 20), crs="EPSG:25832")
+    >>> cells = np.array([[1, 1, 2], [1, 2, 2]])
+    >>> lc = rcell.Raster(cells, (10, 0, 0, 0, -10, 20), crs="EPSG:25832")
     >>> rcell.adjacency(lc)
        class  neighbour  sides  border_m
     0      1          1      2      20.0

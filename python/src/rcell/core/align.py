@@ -97,8 +97,10 @@ def align(
     >>> import rcell
     >>> lc = rcell.Raster([[1, 2, 3]], (10, 0, 0, 0, -10, 10))
     >>> found = rcell.align(lc, to=rcell.Raster([[0, 0]], (10, 0, 20, 0, -10, 10)))
-    >>> found.array.tolist(), found.aligned
-    ([[3, None]], Aligned(shift_rows=0, shift_columns=2, cells_used=1, cells_repeated=0, cells_lost=2))
+    >>> found.array.tolist()
+    [[3, None]]
+    >>> found.aligned
+    Aligned(shift_rows=0, shift_columns=2, cells_used=1, cells_repeated=0, cells_lost=2)
     """
     if resample not in (None, "nearest"):
         raise BadArgument("resample", f'must be "nearest" or None; got {resample!r}')

@@ -95,8 +95,10 @@ def known_names(noun: str, names: Iterable[str]) -> str:
 
     Examples
     --------
-    >>> known_names("field", ["name"]), known_names("field", ["name", "code"]), known_names("field", [])
-    ('the only field is name', 'the fields are name, code', 'there are no fields')
+    >>> known_names("field", ["name"]), known_names("field", [])
+    ('the only field is name', 'there are no fields')
+    >>> known_names("field", ["name", "code"])
+    'the fields are name, code'
     """
     known = list(names)
     if len(known) == 1:

@@ -64,8 +64,10 @@ class Watch:
         for value, count in zip(self._values, self.counts.tolist()):
             if 2 * count > border:
                 warn(
-                    f"{self._name}: {count:,} of the {border:,} cells along its border are {value}, and no nodata value is declared: "
-                    f"if {value} means nodata, declare it, for example with gdal_edit.py -a_nodata {value}"
+                    f"{self._name}: {count:,} of the {border:,} cells along its border are "
+                    f"{value}, and no nodata value is declared: "
+                    f"if {value} means nodata, declare it, for example with gdal_edit.py "
+                    f"-a_nodata {value}"
                 )
 
 

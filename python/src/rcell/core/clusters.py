@@ -134,7 +134,7 @@ def result_of(future: Future[Made]) -> Made:
         raise RcellError(problem) from None
     except ModuleNotFoundError as error:
         problem = f"a worker of the cluster cannot run the package rcell: {error}"
-        raise MissingProgram(f"{problem}; install it there, as here") from None
+        raise MissingProgram(f"{problem}; install the package there") from None
     except Exception as error:
         if type(error).__name__ != "KilledWorker":
             raise

@@ -72,7 +72,8 @@ def composition(
     Examples
     --------
     >>> import numpy as np, rcell
-    >>> lc = rcell.Raster(np.array([[1, 1, 2], [3, 2, 2]]), (100, 0, 0, 0, -100, 200), labels={1: "wood", 2: "water", 3: "town"})
+    >>> cells, labels = np.array([[1, 1, 2], [3, 2, 2]]), {1: "wood", 2: "water", 3: "town"}
+    >>> lc = rcell.Raster(cells, (100, 0, 0, 0, -100, 200), labels=labels)
     >>> rcell.composition(lc, crs="EPSG:25832")
        class  label  cells  area_ha    percent
     0      1   wood      2      2.0  33.333333
@@ -148,7 +149,10 @@ def cross(
             if isinstance(legends, Mapping)
             else labels
         )
-        rule = f'must be by the names of the maps; got {wrong!r}: write {{{next(iter(sources))!r}: "legend.csv"}}'
+        rule = (
+            f"must be by the names of the maps; got {wrong!r}: write {{{next(iter(sources))!r}: "
+            f'"legend.csv"}}'
+        )
         raise BadArgument("labels", rule)
     crossed = Maps(sources, crs)
     measure = crossed.measure(area)

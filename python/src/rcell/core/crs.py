@@ -271,7 +271,8 @@ def metres_of_unit(crs: Any) -> float:
         return 1.0
     if system.kind != "projected":
         raise Refused(
-            f"cells have no area in a {system.kind} reference system, and the map has {system.name}: "
+            f"cells have no area in a {system.kind} reference system, and the map has "
+            f"{system.name}: "
             f"reproject it, or leave areas out",
             "map",
         )

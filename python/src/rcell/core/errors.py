@@ -183,8 +183,9 @@ class OtherRegion(BadMap):
     >>> try:
     ...     rcell.table("r.stats -c input=a,b", a=np.ones((2, 2), int), b=np.ones((2, 3), int))
     ... except rcell.OtherRegion as error:
-    ...     print(error.text.splitlines()[0])
-    its grid differs from `a`, and rcell does not resample: east is 3, not 2 (1 more); cols is 3, not 2 (1 more)
+    ...     print(*error.text.splitlines()[0].split(": "), sep="\\n")
+    its grid differs from `a`, and rcell does not resample
+    east is 3, not 2 (1 more); cols is 3, not 2 (1 more)
     """
 
 
@@ -203,8 +204,8 @@ class OtherCrs(BadMap):
     >>> try:
     ...     rcell.table("r.stats -c input=a,b", a=utm, b=arctic)
     ... except rcell.OtherCrs as error:
-    ...     print(error.source, error.text.partition(",")[0])
-    b its coordinate reference system is EPSG:3413 (WGS 84 / NSIDC Sea Ice Polar Stereographic North)
+    ...     print(error.source, error.text.partition(" (")[0], sep=": ")
+    b: its coordinate reference system is EPSG:3413
     """
 
 
@@ -275,8 +276,9 @@ class Killed(RcellError):
     >>> import rcell
     >>> print(rcell.Killed(9))
     the program was killed by signal 9 (SIGKILL): too little memory, or someone ended it
-    >>> print(rcell.Killed(4))
-    the program was killed by signal 4 (SIGILL): the processor is older than x86-64-v2, which the program needs
+    >>> print(*str(rcell.Killed(4)).split(": "), sep="\\n")
+    the program was killed by signal 4 (SIGILL)
+    the processor is older than x86-64-v2, which the program needs
     """
 
     def __init__(self, signal: int) -> None:
@@ -287,7 +289,10 @@ class Killed(RcellError):
         from signal import Signals
 
         name = next((f" ({known.name})" for known in Signals if known == self.signal), "")
-        return f"the program was killed by signal {self.signal}{name}: {_CAUSES.get(self.signal, 'someone ended it')}"
+        return (
+            f"the program was killed by signal {self.signal}{name}: "
+            f"{_CAUSES.get(self.signal, 'someone ended it')}"
+        )
 
 
 class WriteFailed(RcellError, OSError):
@@ -320,8 +325,10 @@ class MissingLibrary(RcellError, ImportError):
     Examples
     --------
     >>> import rcell
-    >>> print(rcell.MissingLibrary("rasterio", "gis", "to read GeoTIFF"))
-    to read GeoTIFF the library rasterio is needed: pip install 'rcell[gis]', or Debian's package python3-rasterio
+    >>> error = rcell.MissingLibrary("rasterio", "gis", "to read GeoTIFF")
+    >>> print(*str(error).split(": "), sep="\\n")
+    to read GeoTIFF the library rasterio is needed
+    pip install 'rcell[gis]', or Debian's package python3-rasterio
     """
 
     def __init__(self, library: str, extra: str, purpose: str, reason: str = "") -> None:
@@ -333,9 +340,15 @@ class MissingLibrary(RcellError, ImportError):
 
     def __str__(self) -> str:
         if self.reason:
-            return f"{self.purpose} the library {self.library} is needed, but it cannot be loaded: {self.reason}"
+            return (
+                f"{self.purpose} the library {self.library} is needed, but it cannot be loaded: "
+                f"{self.reason}"
+            )
         package = f"Debian's package python3-{self.library}"
-        return f"{self.purpose} the library {self.library} is needed: pip install 'rcell[{self.extra}]', or {package}"
+        return (
+            f"{self.purpose} the library {self.library} is needed: pip install "
+            f"'rcell[{self.extra}]', or {package}"
+        )
 
 
 # Tracebacks show the public names.

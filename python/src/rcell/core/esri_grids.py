@@ -111,7 +111,8 @@ class _Header:
         old_text = edge_text(round(high * UNITS))
         if new_text != old_text:
             warn(
-                f"{name}: {new_text}, because the {decimals} decimals of the cell size would make it "
+                f"{name}: {new_text}, because the {decimals} decimals of the cell size would "
+                "make it "
                 f"{old_text}"
             )
         return low, corrected

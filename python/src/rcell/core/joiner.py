@@ -105,7 +105,8 @@ def check_files(count: int) -> None:
     needed, most = FILES_EACH * count + OTHER_FILES, resource.getrlimit(resource.RLIMIT_NOFILE)[1]
     if most != resource.RLIM_INFINITY and most < needed:
         raise WriteFailed(
-            f"to join {count:,} tiles, {needed:,} files are open at once, and this system allows {most:,}: raise its limit, as ulimit -Hn shows it"
+            f"to join {count:,} tiles, {needed:,} files are open at once, and this system allows "
+            f"{most:,}: raise its limit, as ulimit -Hn shows it"
         )
 
 

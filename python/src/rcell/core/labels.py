@@ -39,10 +39,10 @@ def checked_labels(name: str, labels: Any) -> dict[int, str]:
 
     Examples
     --------
-    >>> checked_labels("land", {"1": "wood"})
+    >>> checked_labels("land", {"1": "wood"})  # doctest: +ELLIPSIS
     Traceback (most recent call last):
       ...
-    rcell.BadMap: land: a label of '1': labels belong to whole numbers from -2147483647 to 2147483647, for example {1: 'wood'}
+    rcell.BadMap: land: a label of '1': labels belong to whole numbers from ...
     """
     if not isinstance(labels, Mapping):
         raise BadMap(
@@ -52,7 +52,8 @@ def checked_labels(name: str, labels: Any) -> dict[int, str]:
         if not (isinstance(category, numbers.Integral) and abs(int(category)) < -NULL):
             raise BadMap(
                 name,
-                f"a label of {category!r}: labels belong to whole numbers from -2147483647 to 2147483647, for example {{1: 'wood'}}",
+                f"a label of {category!r}: labels belong to whole numbers from -2147483647 to "
+                f"2147483647, for example {{1: 'wood'}}",
             )
         if not isinstance(label, str):
             raise BadMap(name, f"the label of {category} is {label!r}, which is not text")
@@ -80,7 +81,8 @@ def legend_of_band(band: ElementTree.Element, path: str) -> Legend:
     Examples
     --------
     >>> names = "<CategoryNames><Category/><Category>wood</Category></CategoryNames>"
-    >>> legend_of_band(ElementTree.fromstring(f"<VRTRasterBand>{names}</VRTRasterBand>"), "lc.tif").labels
+    >>> band = ElementTree.fromstring(f"<VRTRasterBand>{names}</VRTRasterBand>")
+    >>> legend_of_band(band, "lc.tif").labels
     {1: 'wood'}
     """
     table = _Attributes.of(band)

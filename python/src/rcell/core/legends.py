@@ -208,7 +208,10 @@ def _lines_of(source: str, path: str) -> List[str]:
         text = content.decode("utf-8-sig")
     except UnicodeDecodeError as error:
         line = content.count(b"\n", 0, error.start) + 1
-        cure = "save it as UTF-8 (in Excel: CSV UTF-8), or convert it, for example from Latin-1 with iconv -f latin1 -t utf8"
+        cure = (
+            "save it as UTF-8 (in Excel: CSV UTF-8), or convert it, for example from Latin-1 "
+            "with iconv -f latin1 -t utf8"
+        )
         raise Refused(f"line {line} is not UTF-8: {cure}", source, status=1) from None
     return list(io.StringIO(text, newline=""))
 
@@ -286,7 +289,8 @@ def whole_number(value: Any) -> Optional[int]:
 
     Examples
     --------
-    >>> [whole_number(value) for value in (1.0, " +2.00 ", "1e3", "1.5", True, float("nan"), "0x1f")]
+    >>> values = (1.0, " +2.00 ", "1e3", "1.5", True, float("nan"), "0x1f")
+    >>> [whole_number(value) for value in values]
     [1, 2, None, None, None, None, None]
     """
     if isinstance(value, str):

@@ -71,14 +71,14 @@ def majority_script(size: int, fill: bool) -> str:
 
     Examples
     --------
-    >>> print(majority_script(3, True))
-    r.mapcalc majority = nmode(map[-1,-1],map[-1,0],map[-1,1],map[0,-1],map,map[0,1],map[1,-1],map[1,0],map[1,1])
+    >>> print(majority_script(3, True)[:57])
+    r.mapcalc majority = nmode(map[-1,-1],map[-1,0],map[-1,1]
     """
     reach = range(-(size // 2), size // 2 + 1)
     terms: dict[tuple[int, int], str] = {}
     tokens: dict[tuple[int, int], int] = {}
     for row, col in itertools.product(reach, reach):
-        # The tokens of a term and its comma: map [ row , col ] ,  plus a sign for each negative offset.
+        # The seven tokens `map[row,col],`, and a sign for each negative offset.
         terms[row, col] = f"map[{row},{col}]"
         tokens[row, col] = 7 + (row < 0) + (col < 0)
     terms[0, 0], tokens[0, 0] = "map", _TOKENS_OF_NAME

@@ -94,7 +94,8 @@ def metrics(
     Examples
     --------
     >>> import numpy as np, rcell
-    >>> lc = rcell.Raster(np.array([[1, 1, 2], [1, 2, 2]]), (10, 0, 0, 0, -10, 20), crs="EPSG:25832")
+    >>> cells = np.array([[1, 1, 2], [1, 2, 2]])
+    >>> lc = rcell.Raster(cells, (10, 0, 0, 0, -10, 20), crs="EPSG:25832")
     >>> rcell.metrics(lc, area="m2")[["class", "area_m2", "patches", "edge_m", "aggregation_index"]]
        class  area_m2  patches  edge_m  aggregation_index
     0      1    300.0        1    30.0              100.0

@@ -139,7 +139,8 @@ def _warn_of_overlaps(mosaic: MosaicMap) -> None:
         later, earlier = (mosaic.parts[index].source.name for index in pairs[0])
         more = f", and {len(pairs) - 1:,} more pairs of files" if len(pairs) > 1 else ""
         warn(
-            f"{mosaic.name}: {earlier} and {later} overlap{more}: the later file has the cells, unless they are null there"
+            f"{mosaic.name}: {earlier} and {later} overlap{more}: the later file has the cells, "
+            "unless they are null there"
         )
 
 

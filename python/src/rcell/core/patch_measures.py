@@ -180,10 +180,14 @@ def _script(
     """Return a script that counts the sides, cores, rows, columns and zones of patches."""
     leaves = "(isnull(patch[{0}]) ||| patch[{0}] != patch)"
     north, south, west, east = (leaves.format(place) for place in ("-1,0", "1,0", "0,-1", "0,1"))
-    core = "if({0}[-1,0] == {0} && {0}[1,0] == {0} && {0}[0,-1] == {0} && {0}[0,1] == {0}, {0}, null())"
+    core = (
+        "if({0}[-1,0] == {0} && {0}[1,0] == {0} && {0}[0,-1] == {0} && {0}[0,1] == {0}, {0}, "
+        "null())"
+    )
     lines = [clump_line(connectivity)]
     lines += [
-        f"r.mapcalc side = if(isnull(patch), null(), {north} + {south} + {_FLANK} * ({west} + {east}))"
+        f"r.mapcalc side = if(isnull(patch), null(), {north} + {south} + {_FLANK} * ({west} + "
+        f"{east}))"
     ]
     lines += [
         f"r.mapcalc core{step + 1} = {core.format(f'core{step}' if step else 'patch')}"

@@ -134,7 +134,10 @@ def _field_of(layer: Layer, field: Optional[str]) -> str:
     if field is None and len(usual) == 1:
         return usual[0]
     if field is None and usual:
-        problem = f"has the fields {' and '.join(usual)}: name one, for example {option('field', usual[1])}"
+        problem = (
+            f"has the fields {' and '.join(usual)}: name one, for example "
+            f"{option('field', usual[1])}"
+        )
         raise BadMap(layer.name, problem)
     if field is None or field not in layer.fields:
         wanted = " or ".join(_FIELDS) if field is None else field

@@ -32,7 +32,10 @@ READ_BYTES = 1 << 18
 SET_PIPE_SIZE = getattr(fcntl, "F_SETPIPE_SZ", 1031)  # in fcntl since Python 3.10
 WATCH_SECONDS = 0.1
 LARGE_PAGES = {"GLIBC_TUNABLES": "glibc.malloc.hugetlb=1"}
-"""Use pages of 2 MiB if the system supports them. Pages of 4 KiB took an eighth of a table's time."""
+"""Use pages of 2 MiB if the system supports them.
+
+Allocating pages of 4 KiB took an eighth of a table's time.
+"""
 
 MESSAGE_LIMIT = 1 << 16
 """The most that is kept of a program's standard error. rcell's programs print one line."""

@@ -87,7 +87,10 @@ def find_beside(
         is_beside = "RCELL" in os.environ and os.path.isfile(beside)
         path = beside if is_beside else next(candidates(name), "")
     if not path:
-        places = f"neither in the environment variable {variable}, nor next to this Python, nor on the path"
+        places = (
+            f"neither in the environment variable {variable}, nor next to this Python, nor on "
+            "the path"
+        )
         raise MissingProgram(f"the program {name} was not found: {places}")
     return known_after(probe, os.path.abspath(path))
 

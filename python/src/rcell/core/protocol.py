@@ -589,7 +589,10 @@ def text(
         _check(_response(iter([held])), status, message)
 
 
-_PROBE_SCRIPT = b"r.clump -d input=probe output=k\nr.stats -c input=probe,k after=7,1\nr.stats -1 input=k\nr.out.ascii input=k\n"
+_PROBE_SCRIPT = (
+    b"r.clump -d input=probe output=k\nr.stats -c input=probe,k after=7,1\nr.stats -1 "
+    b"input=k\nr.out.ascii input=k\n"
+)
 _PROBE_CELLS = [struct.pack("<4i", 12, 2, NULL, NULL), struct.pack("<3i", 1, NULL, 2), b"\1\xff\2"]
 
 

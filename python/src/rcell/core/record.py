@@ -252,7 +252,10 @@ def differences(path: str, version: str) -> Iterator[str]:
         yield "the table has changed since it was written"
     yield from _other_texts([record["call"]["words"], record["call"]["named"]], folder)
     if _sum_of_program() != record["program"]:
-        yield f"the program differs: it was rcell {record['versions']['rcell']}, and this is {version}"
+        yield (
+            f"the program differs: it was rcell {record['versions']['rcell']}, and this is "
+            f"{version}"
+        )
     try:
         repeated = _recorded(record["call"], call, folder)
     except (RcellError, KeyError, TypeError) as error:

@@ -326,7 +326,10 @@ class Region:
 
     def __str__(self) -> str:
         north, south, east, west = self.edges
-        return f"north {north}, south {south}, east {east}, west {west}, {self.rows} rows, {self.cols} columns"
+        return (
+            f"north {north}, south {south}, east {east}, west {west}, {self.rows} rows, "
+            f"{self.cols} columns"
+        )
 
 
 @dataclass(frozen=True)
@@ -372,7 +375,7 @@ class Shift:
 
     @property
     def has_other_cells(self) -> bool:
-        """Whether the sizes of cells differ so much that the last cell is off."""
+        """Whether cell sizes differ so much that the last cells do not coincide."""
         rows, cols = self.shape
         down, across = abs(self.height - 1) * rows, abs(self.width - 1) * cols
         return max(down, across) > NEARLY_WHOLE
@@ -384,7 +387,7 @@ class Shift:
         return is_shifted_by_cells and not self.has_other_cells
 
     def centres(self) -> tuple[NDArray[np.float64], NDArray[np.float64]]:
-        """Return the centres of the rows and columns, in rows and columns of the other grid."""
+        """Return the centres of rows and columns, in units of the other grid's cells."""
         rows, cols = self.shape
         if self.is_whole:
             return self.rows + np.arange(rows) + 0.5, self.cols + np.arange(cols) + 0.5
@@ -393,7 +396,7 @@ class Shift:
         return down, across
 
     def misfit(self, name: str) -> str:
-        """Return the reason why whole cells cannot be taken."""
+        """Return the reason why the grids do not coincide."""
         if self.has_other_cells:
             mine, its = (f"{width:.10g} x {height:.10g}" for height, width in self.sizes)
             return f"cells of {mine}, and those of `{name}` are {its}"

@@ -1,5 +1,5 @@
 # SPDX-License-Identifier: Apache-2.0 OR GPL-2.0-or-later
-"""Reports for people: one HTML page with recorded tables, pictures of their maps, and how to verify them."""
+"""Write reports: an HTML page with recorded tables, pictures of maps, and verify commands."""
 
 from __future__ import annotations
 
@@ -31,7 +31,7 @@ from .writing import write_beside
 
 __all__ = ["page_of", "report"]
 
-# The rows of a table, the classes of a legend, and the longer side of a picture in pixels, at most.
+# Limits: the rows of a table, the classes in a legend, and the longer side of a picture in pixels.
 MOST_ROWS = 200
 MOST_CLASSES = 40
 MOST_PIXELS = 480
@@ -45,16 +45,17 @@ def report(
     out: str | os.PathLike[str],
     title: str = "Report",
 ) -> str:
-    """Write one HTML page with recorded tables: what they mean, a picture of the map, and how to verify them.
+    """Write an HTML page that shows recorded tables, pictures of their maps, and verify commands.
 
     Parameters
     ----------
     tables : sequence of path
-        CSVs that `record` has written. The page loads nothing from elsewhere, and is the same for the same records and maps.
+        CSVs that `record` has written. The page loads nothing from other sites, and the same
+        records and maps always result in the same page.
     out : path
-        The page to write; it ends in `.html`.
+        The path of the page, which must end in `.html`.
     title : str
-        Its title.
+        The title of the page.
 
     Returns
     -------
@@ -66,7 +67,7 @@ def report(
     Refused
         A table has no record, or has changed since it was written.
     BadArgument
-        The path has another ending, or there is no table.
+        The path does not end in `.html`, or no tables are given.
     WriteFailed
         The page cannot be written.
 
@@ -95,7 +96,7 @@ def report(
 
 
 def page_of(paths: Sequence[str], title: str) -> str:
-    """Return the HTML page of recorded tables; the same records have the same page.
+    """Return the HTML page for recorded tables.
 
     Raises
     ------
@@ -107,7 +108,7 @@ def page_of(paths: Sequence[str], title: str) -> str:
 
 
 def _section_of(path: str) -> str:
-    """Return the part of a page about a table."""
+    """Return the section of a page about one table."""
     record, name = read_record(path), os.path.basename(path)
     if file_sum(path) != record["table"]["sha256"]:
         raise Refused("it has changed since it was written: record it again", path)
@@ -137,7 +138,7 @@ def _text(value: Any) -> str:
 
 
 def _table_of(path: str, name: str) -> Iterator[str]:
-    """Yield the lines of a table: its first rows, and how many more there are."""
+    """Yield the HTML lines of a table: its first rows, and the number of further rows."""
     with open(path, encoding="utf-8", errors="replace", newline="") as file:
         titles, *rows = csv.reader(file)
     columns = [_shown(column) for column in zip(*rows)] or [(False, [])] * len(titles)
@@ -155,7 +156,10 @@ def _table_of(path: str, name: str) -> Iterator[str]:
 
 
 def _shown(column: Sequence[str]) -> tuple[bool, list[str]]:
-    """Return whether a column has numbers, and its texts; decimals have about six digits in all."""
+    """Return whether a column is numeric, and its texts.
+
+    Decimals are rounded to about six digits.
+    """
     try:
         numbers = [float(text) if text else None for text in column]
     except ValueError:
@@ -169,7 +173,7 @@ def _shown(column: Sequence[str]) -> tuple[bool, list[str]]:
     return True, ["" if number is None else f"{number:.{decimals}f}" for number in numbers]
 
 
-# Calls and sums
+# Calls and checksums
 
 
 def _call_text(call: Mapping[str, Any]) -> str:
@@ -191,7 +195,7 @@ def _argument(value: Any) -> str:
 
 
 def _sums_of(record: Mapping[str, Any]) -> str:
-    """Return a table with all SHA-256 of a record."""
+    """Return a table with all SHA-256 checksums in a record."""
     sums = {}
     for number, run in enumerate(record["runs"], 1):
         for line in run["script"].split("\n"):
@@ -211,7 +215,7 @@ def _sums_of(record: Mapping[str, Any]) -> str:
 
 
 def _picture_of(record: Mapping[str, Any], folder: str) -> Iterator[str]:
-    """Yield the picture of the first map of a call, with a legend; or why there is none."""
+    """Yield a picture of a call's first map with a legend, or the reason for its absence."""
     first = next(files_in([record["call"]["words"], record["call"]["named"]]), None)
     if first is None or not record["runs"]:
         return
@@ -248,7 +252,7 @@ def _picture_of(record: Mapping[str, Any], folder: str) -> Iterator[str]:
 
 
 def _thinned(source: Source) -> tuple[NDArray[np.int64], int]:
-    """Return each nth cell of each nth row of a map, as many as fit into a picture."""
+    """Thin out a map so that it fits into a picture, and return every nth cell and n."""
     step = -(-max(source.region.shape) // MOST_PIXELS)
     rows, first = [], 0
     for block in source.blocks():
@@ -260,14 +264,14 @@ def _thinned(source: Source) -> tuple[NDArray[np.int64], int]:
 
 
 def _png(cells: NDArray[np.int64], colours: Mapping[int, str]) -> bytes:
-    """Return a picture with null transparent; small maps are enlarged."""
+    """Return a PNG picture in which null is transparent; small maps are enlarged."""
     classes = [NULL, *colours]
     shades = [(0, 0, 0, 0), *((*bytes.fromhex(colour[1:7]), 255) for colour in colours.values())]
     pixels = np.array(shades, np.uint8)[np.searchsorted(classes, cells)]
     times = max(1, MOST_PIXELS // 2 // max(cells.shape))
     pixels = pixels.repeat(times, 0).repeat(times, 1)
     rows, cols = pixels.shape[:2]
-    # Each row begins with the number of its filter, which is 0 for none.
+    # Each row begins with the number of its filter; 0 means no filter.
     lines = np.concatenate([np.zeros((rows, 1), np.uint8), pixels.reshape(rows, -1)], axis=1)
     head = struct.pack(">IIBBBBB", cols, rows, 8, _RGBA, 0, 0, 0)
     chunks = (b"IHDR", head), (b"IDAT", zlib.compress(lines.tobytes(), 9)), (b"IEND", b"")

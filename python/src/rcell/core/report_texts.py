@@ -1,60 +1,67 @@
 # SPDX-License-Identifier: Apache-2.0 OR GPL-2.0-or-later
-"""The texts of reports about calls, and the layout of their pages."""
+"""Define the texts and the page layout of reports."""
 
 from __future__ import annotations
 
 __all__ = ["DEFINITIONS", "PAGE", "WORDS"]
 
 _AREAS = (
-    "The area is the number of cells times the area of a cell; in degrees each row of cells has the area of "
-    "its part of the ellipsoid. Percentages are of the area, or of the cells if there is no area, that is not null."
+    "The area is the number of cells times the area of a cell. In degrees, each row of cells has "
+    "the area of its part of the ellipsoid. Percentages refer to the area (or, without areas, to "
+    "the cells) that is not null."
 )
 DEFINITIONS = {
-    "composition": f"The cells of each class, in all or in each zone. {_AREAS}",
-    "cross": f"The cells of each combination of the classes of several maps. {_AREAS}",
+    "composition": f"The number of cells of each class, in total or by zone. {_AREAS}",
+    "cross": f"The number of cells of each combination of the classes of several maps. {_AREAS}",
     "change": (
-        "What became of the cells that are null in neither year. Gain and loss of a class are what changed into it "
-        "and out of it, net is gain less loss, swap is twice the smaller of the two, persistence is what stayed. "
+        "The change of the cells that are null in neither year. A class gains the cells that "
+        "changed into it and loses the cells that changed out of it. Net change is gain minus "
+        "loss, swap is twice the smaller of the two, and persistence counts unchanged cells. "
         f"{_AREAS}"
     ),
     "trajectories": (
-        "Each sequence of classes of the cells that are null in no year. A change is seen first in the year that has the "
-        f"new class. The uniform percentage is the change of a year if all years changed alike. {_AREAS}"
+        "Each sequence of classes of the cells that are null in no year. A change is dated to the "
+        "first year with the new class. The uniform percentage is the annual change if all years "
+        f"changed at the same rate. {_AREAS}"
     ),
     "patches": (
-        "The patches of the map: cells of one class that are connected by edges, with connectivity 8 also by corners. "
-        "The perimeter has all sides to other patches, to null and to the edge of the map. A cell is in the core if all "
-        "cells within the depth, across edges, are in its patch."
+        "The patches of the map: cells of one class that are connected by edges or, with "
+        "connectivity 8, also by corners. The perimeter includes all sides to other patches, to "
+        "null and along the edge of the map. A cell is in the core if all cells within the core "
+        "depth, across edges, are in its patch."
     ),
     "zonal": (
-        "Statistics of the values of each zone. The variance is the population's; quantiles between two values are "
-        "interpolated."
+        "Statistics of the values in each zone. The variance is the population variance. Quantiles "
+        "between two values are interpolated."
     ),
-    "adjacency": "How many sides the cells of two classes share; each side counts once.",
+    "adjacency": "The number of sides that the cells of two classes share. Each side counts once.",
     "dominant": (
-        "The most frequent and the rarest class of each zone by cells; of several, the smallest. "
-        f"{_AREAS}"
+        "The most frequent and the rarest class of each zone, by number of cells. In a tie, the "
+        f"smallest class is used. {_AREAS}"
     ),
     "accuracy": (
-        "The map is compared with a reference. With areas, the classes are strata and all estimates with their "
-        "standard errors follow Olofsson et al. 2014, equations 1 to 11. User's accuracy is the share of a class of the map "
-        "that is right, producer's accuracy the share of a class of the reference that the map has."
+        "The map is compared with a reference. With areas, the classes are strata, and all "
+        "estimates and their standard errors follow equations 1 to 11 of Olofsson et al. 2014. "
+        "User's accuracy is the share of a map class that is correct. Producer's accuracy is the "
+        "share of a reference class that the map contains."
     ),
     "metrics": (
-        "Landscape metrics as FRAGSTATS 4 defines them, without a border. Each zone is a landscape of its own."
+        "Landscape metrics as defined by FRAGSTATS 4, without a border. Each zone is a separate "
+        "landscape."
     ),
     "sample": (
-        "A stratified random sample without replacement. The same map, size and seed give the same cells in each package."
+        "A stratified random sample without replacement. The same map, size and seed draw the same "
+        "cells in each package."
     ),
 }
 
 WORDS = {
     "call": "Call",
-    "made": "Made of",
+    "made": "Inputs",
     "rows": "The table has {0} more rows; they are in {1}.",
-    "rounded": "Numbers are rounded here; the CSV has all digits.",
+    "rounded": "Numbers are rounded here. The CSV contains all digits.",
     "verify": "To verify this table, run in the folder of {0}:",
-    "changed": "No picture: the cells of {0} have changed since the table was made.",
+    "changed": "No picture: the cells of {0} have changed since the table was written.",
     "absent": "No picture: {0} cannot be read.",
 }
 

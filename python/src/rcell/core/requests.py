@@ -1,5 +1,5 @@
 # SPDX-License-Identifier: Apache-2.0 OR GPL-2.0-or-later
-"""The bytes of a request to rcell-pipe: maps, a script, and questions about maps."""
+"""Write the bytes of a request to rcell-pipe: maps, a script, and questions about maps."""
 
 from __future__ import annotations
 
@@ -11,24 +11,24 @@ from typing import NamedTuple, Optional, Union
 __all__ = ["Block", "Buffer", "Map", "Margin", "Question", "plan_request", "request"]
 
 CELL_BYTES = {"u8": 1, "i8": 1, "u16": 2, "i16": 2, "u32": 4, "i32": 4, "i64": 8}
-"""The types of cells that go in, in the order of their codes, which begin at 1."""
+"""The cell types of input maps, in the order of their codes, from 1."""
 
 _CODES = {name: code for code, name in enumerate(CELL_BYTES, 1)}
-_PATCHES = 1  # a kind of question
-# Rows and their masks are put together in pieces that stay in the cache of a processor.
+_PATCHES = 1  # the code of a question about patches
+# Rows and masks are interleaved in pieces that fit in a processor's cache.
 PIECE_BYTES = 1 << 18
 
 Buffer = Union[bytes, bytearray, memoryview]
 
 
 class Block(NamedTuple):
-    """Some complete rows of a map: C-contiguous bytes in the byte order of x86.
+    """Complete rows of a map, as C-contiguous bytes in the byte order of x86.
 
     Attributes
     ----------
     cells : buffer
     mask : buffer, optional
-        A byte for each cell, 1 if it is null; needed if the map is masked.
+        A byte for each cell, which is 1 if the cell is null; required if the map is masked.
     """
 
     cells: Buffer
@@ -37,19 +37,20 @@ class Block(NamedTuple):
 
 @dataclass(frozen=True)
 class Map:
-    """A map that goes in.
+    """An input map.
 
     Attributes
     ----------
     name : str
     edges : tuple of str
-        North, south, east and west, as decimal texts.
+        The north, south, east and west edges as decimal texts.
     rows, cols : int
     type : {"u8", "i8", "u16", "i16", "u32", "i32", "i64"}
     blocks : iterable of Block
-        All rows from north to south. They are asked for one after another, while the program reads.
+        All rows from north to south. Blocks are requested one after another, while the program
+        reads.
     nodata : int, optional
-        A value of the type that is null.
+        The value of this type that marks null.
     is_masked : bool
         Whether each block has a mask.
     labels : mapping of int to str
@@ -71,7 +72,7 @@ class Map:
         Raises
         ------
         ValueError
-            The blocks have another number of rows.
+            The blocks do not contain the expected number of rows.
         """
         yield self._head()
         row_bytes, rows = self.cols * CELL_BYTES[self.type], 0
@@ -128,7 +129,7 @@ def _interleaved(cells: memoryview, mask: memoryview, row_bytes: int, cols: int)
 
 
 class Margin(NamedTuple):
-    """Rows above and below, and columns to the left and to the right of a cell."""
+    """The rows above and below, and the columns left and right, that are needed around a cell."""
 
     up: int = 0
     down: int = 0
@@ -142,12 +143,14 @@ class Question(NamedTuple):
     Attributes
     ----------
     map : str
-        An input map, or a map that the script makes.
+        An input map, or a map that the script creates.
     connectivity : {4, 8}
     depth : int
-        A cell is in the core of its patch if all cells within this many steps, across edges, are in it.
+        A cell is in the core of its patch if all cells within this many steps, across edges, are in
+        the patch.
     zones : str
-        A map of zones, or empty: each patch comes with the zone of most of its cells.
+        A map of zones, or empty. With zones, each patch is returned with the zone that contains
+        most of its cells.
     """
 
     map: str
@@ -162,7 +165,7 @@ class Question(NamedTuple):
 
     @property
     def reach(self) -> Margin:
-        """How far the cells are from a cell that decide whether it is in the core."""
+        """The margin around a cell that decides whether the cell is in the core."""
         return Margin(*[self.depth] * 4)
 
     def bytes(self) -> bytes:
@@ -171,7 +174,7 @@ class Question(NamedTuple):
         return bytes([_PATCHES]) + _short(self.map) + numbers + _short(self.zones)
 
     def text(self) -> str:
-        """Return the question as records have it, after a script."""
+        """Return the question as a comment for records, which follows the script."""
         numbers = f"connectivity {self.connectivity}, core depth {self.depth}"
         zones = f", zones {self.zones}" if self.zones else ""
         return f"# question: patches of {self.map}, {numbers}{zones}"

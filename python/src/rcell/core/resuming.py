@@ -1,5 +1,5 @@
 # SPDX-License-Identifier: Apache-2.0 OR GPL-2.0-or-later
-"""Results of finished tiles, kept in a folder, so that a call that was ended can continue."""
+"""Keep the results of finished tiles in a folder, so that an interrupted call can continue."""
 
 from __future__ import annotations
 
@@ -22,19 +22,19 @@ from .writing import replacing, write_errors
 
 __all__ = ["Shelf", "state_of"]
 
-# What a map is of its files: its band, and what is null.
+# The attributes that define how a map is read from its files, such as its band.
 _DETAILS = ("layer", "band", "null_ranges", "file_nodata", "scale")
 
 
 @dataclass(frozen=True)
 class Shelf:
-    """A folder of results, or none.
+    """A folder with the results of tiles, or no folder.
 
     Attributes
     ----------
     folder : str or None
     state : bytes
-        What differs for other maps and programs: paths, sizes and times of files.
+        Identifies the maps and the program by the paths, sizes and times of their files.
     """
 
     folder: Optional[str]
@@ -42,7 +42,7 @@ class Shelf:
 
     @classmethod
     def of(cls, folder: Optional[str], maps: Mapping[str, Source], shape: tuple[int, int]) -> Shelf:
-        """Return the shelf of a folder for some maps; create the folder if it is missing."""
+        """Return the shelf in a folder for these maps; create the folder if it is missing."""
         if folder is None:
             return cls(None, b"")
         with write_errors(folder):
@@ -55,7 +55,7 @@ class Shelf:
         return cls(folder, "\0".join(parts).encode("utf-8", "surrogateescape"))
 
     def known(self, work: TileWork) -> TileWork:
-        """Return the work of a tile with its results if they are in the folder, else with the place where they will be kept."""
+        """Return a tile's work with its kept results, or with the path for its future results."""
         if self.folder is None:
             return work
         maps: dict[str, Any] = {}
@@ -70,7 +70,10 @@ class Shelf:
         return work
 
     def _sum_of(self, work: TileWork, maps: Mapping[str, Any]) -> str:
-        """Return a checksum of everything that the results of a tile depend on: files are known by their size and time, other maps by their cells."""
+        """Return a checksum of everything on which a tile's results depend.
+
+        Files are identified by size and time, and other maps by their cells.
+        """
         texts = [work.text, *(question.text() for question in work.questions)]
         words = "\n".join(texts).encode("utf-8", "surrogateescape")
         sum_of = hashlib.sha256(b"\0".join([self.state, words, repr(tuple(work.place)).encode()]))
@@ -83,14 +86,14 @@ class Shelf:
         return sum_of.hexdigest()
 
     def keep(self, path: str, done: TileDone) -> None:
-        """Keep the results of a tile, if they have a place."""
+        """Keep the results of a tile, if a path is given."""
         if path:
             with replacing(path) as beside, write_errors(path):
                 _save(beside, done.results)
 
 
 def _save(path: str, arrays: Sequence[NDArray[Any]]) -> None:
-    """Write arrays as numpy's `savez_compressed` does, several times as fast: maps of few classes become as small."""
+    """Write arrays in the format of numpy's `savez_compressed`, with faster compression."""
     write_array: Any = np.lib.format.write_array
     with ZipFile(path, "w", ZIP_DEFLATED, compresslevel=1) as archive:
         for number, array in enumerate(arrays):
@@ -99,7 +102,7 @@ def _save(path: str, arrays: Sequence[NDArray[Any]]) -> None:
 
 
 def state_of(path: str) -> str:
-    """Return a value that changes if a file changes."""
+    """Return a text that changes if a file changes."""
     try:
         state = os.stat(path)
     except OSError:

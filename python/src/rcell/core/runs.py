@@ -1,5 +1,5 @@
 # SPDX-License-Identifier: Apache-2.0 OR GPL-2.0-or-later
-"""Runs of rcell-pipe, which takes maps as bytes and returns tables and maps as bytes."""
+"""Run scripts with rcell-pipe, which reads binary maps and returns binary tables and maps."""
 
 from __future__ import annotations
 
@@ -35,19 +35,19 @@ __all__ = [
 
 @dataclass(frozen=True)
 class Output:
-    """What one statement of a script wrote.
+    """The output of one statement in a script.
 
     Attributes
     ----------
     command : {"r.stats", "r.out.ascii"}
     line : int
-        The line of the script; 0 for a map that was asked for by name.
+        The line of the script; 0 for a map that was requested by name.
     maps : tuple of str
-        The maps that it read.
+        The maps that the statement read.
     values : array
-        Of a table int64, entries x columns: the categories of each map, and the number of cells if it was asked for. `NULL` is null.
-        Of a map rows x cols, int32 with `NULL` for null, or bytes with 255 for null. Assembled from
-        tiles, it may have 64-bit patch numbers.
+        For a table, int64, entries x columns: the categories of each map, with `NULL` for null, and
+        the number of cells if it was requested. For a map, rows x cols: int32 with `NULL` for null,
+        or bytes with 255 for null. A map assembled from tiles may contain 64-bit patch numbers.
     has_counts, has_labels : bool
         Whether the statement has the flags `-c` and `-l`.
     """
@@ -61,17 +61,20 @@ class Output:
 
 
 class Fold(Protocol):
-    """Takes the table of an r.stats over patches, so that no table of all patches is ever made."""
+    """Receives the table of an r.stats over patches in parts, without a table of all patches."""
 
     def add(self, tile: int, table: NDArray[Any], waiting: NDArray[Any]) -> None:
-        """Take the table of a tile, with the numbers that its patches have in it, and the patches that may continue in other tiles."""
+        """Receive a tile's table, and the patches that may continue in other tiles.
+
+        Patches have the numbers of the tile.
+        """
 
     def join(self, numbers_of: Callable[[int, NDArray[Any]], NDArray[Any]]) -> None:
-        """Count the patches that waited, by the numbers that the patches of each tile have in the full map."""
+        """Count the waiting patches, using their numbers in the full map."""
 
 
 class PatchFold(Protocol):
-    """Takes what the program counts of patches."""
+    """Receives the program's measures of patches."""
 
     def add(
         self,
@@ -81,10 +84,14 @@ class PatchFold(Protocol):
         waiting: NDArray[Any],
         tables: list[NDArray[Any]],
     ) -> None:
-        """Take the rows of a tile, the patches that may continue in other tiles, and tables that begin with patches, numbered in the tile."""
+        """Receive the patches of a tile, numbered in the tile.
+
+        `waiting` lists the patches that may continue in other tiles. The first column of `tables`
+        is the patch.
+        """
 
     def join(self, numbers_of: Callable[[int, NDArray[Any]], NDArray[Any]]) -> None:
-        """Join the patches, by the numbers that the patches of each tile have in the full map."""
+        """Join the patches, using their numbers in the full map."""
 
 
 def execute(
@@ -95,34 +102,34 @@ def execute(
     program: Path | None = None,
     fold: Fold | None = None,
 ) -> list[Output]:
-    """Run a script over maps of one region: in one run, or in tiles if the maps are large, with equal outputs.
+    """Run a script over maps of one region, in one run or in tiles with the same outputs.
 
-    Every call gets its tables and maps here.
+    All calls get their tables and maps from this function.
 
     Parameters
     ----------
     script : str
     maps : mapping of str to Source
-        By their names; at least one. They all have the region of the first.
+        One or more maps, by name. All maps must have the region of the first map.
     wanted : sequence of str
-        Maps of the planned script. Their cells are returned after its outputs.
+        Maps of the script whose cells are returned after the script's outputs.
     program : path, optional
-        Of rcell-pipe.
+        The path of rcell-pipe.
     fold : Fold, optional
-        Gets the table of the script, which has an r.clump and an r.stats of its map, tile by tile as it comes. Then the table is not
-        among the outputs.
+        Receives the table of a script with an r.clump and an r.stats over its map, tile by tile.
+        The table is then not among the outputs.
 
     Returns
     -------
     list of Output
-        In the order of the script's statements, then the requested maps.
+        The outputs in the order of the script's statements, then the requested maps.
 
     Raises
     ------
     Refused
-        The program rejects a map or the script; it has the line of the caller's script.
+        The program rejects a map or the script; the line is a line of the caller's script.
     BadMap
-        A cell can't be sent.
+        A cell cannot be sent.
     OutOfMemory, Killed, MissingProgram, WrongProgram
     """
     from .tile_runs import demand_of, run_tiles
@@ -157,7 +164,7 @@ def execute_once(
     wanted: Sequence[str] = (),
     program: Path | None = None,
 ) -> list[Output]:
-    """Run a script over maps in one run; otherwise the same as `execute`."""
+    """Run a script over maps in one run, without tiles; see `execute`."""
     frames = _frames(script, maps, (), wanted, program)
     return _numbered([_output(frame) for frame in frames], len(wanted))
 
@@ -168,20 +175,22 @@ def ask(
     maps: Mapping[str, Source],
     fold: PatchFold,
 ) -> bool:
-    """Give the patches of a map to a fold: in one run, or by tiles if the maps are large.
+    """Give the patches of a map to a fold, in one run or in tiles.
 
     Parameters
     ----------
     question : Question
     clump : str
-        The line of a script that numbers the patches as `patch`, for tiles. These count the zones of patches in a table.
+        The script line that numbers the patches as `patch`. Tiles use it to count the zones of
+        patches in a table.
     maps : mapping of str to Source
     fold : PatchFold
 
     Returns
     -------
     bool
-        Whether it was done: the host may run scripts in its own way, which has no questions.
+        Whether the patches were given to the fold. A host that runs scripts itself does not support
+        questions.
     """
     from .tile_patches import PATCH, ZONED_PATCH
     from .tile_runs import ask_tiles, demand_of
@@ -212,14 +221,20 @@ def ask(
 def planned(
     script: str, names: Iterable[str], *, program: Path | None = None
 ) -> list[protocol.Statement]:
-    """Return what each statement of a script reads, makes and needs, over maps of some names; the errors are the same as in `execute`."""
+    """Return the plan of a script: what each statement reads, creates and needs.
+
+    Raises the same errors as `execute`.
+    """
     known = list(names)
     with program_errors(script, known, path := find_pipe(program)):
         return protocol.plan(path, known, protocol.script_bytes(script), watch=host().watch)
 
 
 def printed(script: str, maps: Mapping[str, Source], *, program: Path | None = None) -> bytes:
-    """Return what rcell prints for a script in one run; arguments and errors are the same as in `execute`."""
+    """Return the text that rcell prints for a script in one run.
+
+    Arguments and errors are the same as in `execute`.
+    """
     check_size(maps)
     with program_errors(script, list(maps), path := find_pipe(program)):
         return b"".join(
@@ -239,7 +254,7 @@ def _frames(
     wanted: Sequence[str] = (),
     program: Path | None = None,
 ) -> list[protocol.Frame]:
-    """Return the frames of a script, then the frames of some of its maps, and then the frames of questions."""
+    """Return the frames of outputs, then of requested maps, then of questions."""
     check_size(maps)
     lines = [script, *(f"r.out.ascii input={name}" for name in wanted)]
     _tell_host("\n".join([script, *(question.text() for question in questions)]), maps)
@@ -255,7 +270,7 @@ def _tell_host(script: str, maps: Mapping[str, Source]) -> None:
 
 
 def check_size(maps: Mapping[str, Source]) -> None:
-    """Raise BadMap if maps are too large for one run, which some calls need."""
+    """Raise BadMap if maps are too large for one run, for calls that cannot use tiles."""
     source = next(iter(maps.values()))
     if not fits_one_run(source.region.shape):
         rows, cols = source.region.shape
@@ -265,7 +280,7 @@ def check_size(maps: Mapping[str, Source]) -> None:
 
 
 def _sent(maps: Mapping[str, Source]) -> list[protocol.Map]:
-    """Return maps for the program; their blocks are sent unchanged, one after another."""
+    """Convert maps for the program; their blocks are sent unchanged, one after another."""
     progress = _Progress(sum(source.region.rows * source.region.cols for source in maps.values()))
     return [
         protocol.Map(
@@ -289,7 +304,7 @@ def _pieces(name: str, source: Source, progress: _Progress) -> Iterator[protocol
 
 
 class _Progress:
-    """Reports the share of the cells that were sent to the host."""
+    """Reports to the host the share of cells that have been sent."""
 
     def __init__(self, cells: int) -> None:
         self._cells = cells
@@ -304,13 +319,13 @@ class _Progress:
 
 
 def _numbered(outputs: list[Output], wanted: int) -> list[Output]:
-    """Return outputs; maps that were requested by name get no line."""
+    """Return outputs, in which requested maps have line 0."""
     first = len(outputs) - wanted
     return outputs[:first] + [replace(output, line=0) for output in outputs[first:]]
 
 
 def _output(frame: protocol.Frame) -> Output:
-    """Return a table or a map of the program as an output."""
+    """Convert a frame with a table or a map to an output."""
     if isinstance(frame, protocol.GridFrame):
         return Output("r.out.ascii", frame.line, (frame.name,), _cells(frame))
     assert isinstance(frame, protocol.TableFrame)
@@ -325,7 +340,7 @@ def _output(frame: protocol.Frame) -> Output:
 
 
 def entries_of(frame: protocol.TableFrame) -> NDArray[np.int64]:
-    """Return the entries of a table, with their counts if it has them, column by column in memory."""
+    """Return a table's entries and counts as an array that is stored by column."""
     width = len(frame.names)
     columns = np.empty((width + (frame.counts is not None), frame.entries), np.int64)
     columns[:width] = np.asarray(frame.cells).reshape(frame.entries, width).T
@@ -335,5 +350,5 @@ def entries_of(frame: protocol.TableFrame) -> NDArray[np.int64]:
 
 
 def _cells(frame: protocol.GridFrame) -> NDArray[Any]:
-    """Return the cells of a map as they came: bytes with `NULL_BYTE` for null, or int32 with `NULL`."""
+    """Return the cells of a map: bytes with `NULL_BYTE` for null, or int32 with `NULL`."""
     return np.asarray(frame.cells).reshape(frame.rows, frame.cols)

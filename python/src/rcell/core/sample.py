@@ -1,5 +1,5 @@
 # SPDX-License-Identifier: Apache-2.0 OR GPL-2.0-or-later
-"""Random cells of each class, for a reference sample."""
+"""Draw random cells of each class for a reference sample."""
 
 from __future__ import annotations
 
@@ -23,11 +23,11 @@ from .sources import MapLike
 __all__ = ["drawn", "sample"]
 
 ALLOCATIONS = ("equal", "proportional")
-# Its product with the number of cells of a map is exact in the floats of R, which draws the same cells.
+# The limit keeps products with cell counts exact in R's floats, so that R draws the same cells.
 MOST_POINTS = 1_000_000
-# The most cells that one run lists.
+# The largest number of cells that one run lists.
 _MOST_LISTED = 1 << 22
-# Bits of a hash that are used: floats of R are exact for them.
+# The number of bits used of a hash, for which R's floats are exact.
 _BITS = 48
 _OF_CLASSES = re.compile(r"-?[0-9]+:[0-9]+(,-?[0-9]+:[0-9]+)*")
 
@@ -43,20 +43,23 @@ def sample(
     labels: Any = None,
     crs: Any = None,
 ) -> Table:
-    """Draw cells at random from each class of a map, without replacement; each cell of a class has the same chance.
+    """Draw cells at random from each class of a map, without replacement.
 
-    The draw depends only on the cells, `n`, `allocation` and `seed`. It is the same in all packages, and stays the same in all versions:
-    the cells of a class are chosen with SHA-256.
+    All cells of a class have the same probability. The draw depends only on the cells, `n`,
+    `allocation` and `seed`. Cells are chosen with SHA-256, so the draw is the same in all packages
+    and versions.
 
     Parameters
     ----------
     map : path, array, or any map that `run` accepts
-        The strata: one for each class.
+        The strata, one for each class.
     n : int, or dict of int by class
-        How many cells in all, or of each class; as a text, `500` or `11:50,31:100`.
+        The number of cells in total, or of each class. Also accepted as a text, such as `500` or
+        `11:50,31:100`.
     seed : int or str
     allocation : {"equal", "proportional"}
-        How a number of cells in all is divided; the remainder goes to the first classes, or to the largest fractions.
+        How to divide a total among classes. The remainder goes to the first classes ("equal") or to
+        the largest fractions ("proportional").
     labels : path, dict, Series or DataFrame, optional
         A legend, as in `composition`.
     crs : any, optional
@@ -66,14 +69,14 @@ def sample(
     -------
     pandas.DataFrame
         Columns `point`, `class`, `label`, `row`, `col` (from 1 at the top left), and `x`, `y` of
-        the centre of the cell. If a class has too few cells, all of them are drawn, with a warning.
+        the cell's centre. If a class has too few cells, all of them are drawn, with a warning.
 
     Raises
     ------
     Refused
         See `run`; also raised for invalid legends.
     BadArgument
-        An argument is out of range, or `n` has a class that does not occur.
+        An argument is out of range, or `n` contains a class that does not occur.
 
     Examples
     --------
@@ -96,7 +99,7 @@ def sample(
     sizes = np.diff([*before[first], *until[-1:]]).tolist()
     wanted = _divided(requested, allocation, classes, sizes)
     _warn_of_few(classes, sizes, wanted)
-    # The class and the row of each cell, and its place among the row's cells of this class.
+    # The class and row of each cell, and its position among the row's cells of this class.
     picked: list[tuple[int, int, int]] = []
     for code, size, start, count in zip(classes, sizes, before[first].tolist(), wanted):
         ranks = start + np.array(drawn(f"{seed}:{code}", size, count), np.int64)
@@ -120,7 +123,7 @@ def sample(
 
 
 def _columns(maps: Maps, picked: Sequence[tuple[int, int, int]]) -> Integers:
-    """Return the columns of the selected cells; the program lists the cells of their rows, some rows at a time."""
+    """Return the columns of the selected cells, by listing their rows in blocks."""
     rows = sorted({row for _, row, _ in picked})
     step = max(1, _MOST_LISTED // maps.first.region.cols)
     columns: dict[tuple[int, ...], Integers] = {}
@@ -135,10 +138,10 @@ def _columns(maps: Maps, picked: Sequence[tuple[int, int, int]]) -> Integers:
 
 
 def drawn(key: str, size: int, count: int) -> list[int]:
-    """Return different numbers from 0 to size - 1, in ascending order: Floyd's algorithm, with numbers of `key`.
+    """Draw distinct numbers from 0 to size - 1 with Floyd's algorithm, and sort them.
 
-    Each number below a limit comes from the first 48 bits of the SHA-256 of `KEY:COUNTER`, where the counter begins at 1 and grows with
-    each hash. Numbers that would make some values more likely are left out.
+    Random numbers are the first 48 bits of the SHA-256 of `KEY:COUNTER`, whose counter begins at 1
+    and grows with each hash. Numbers that would make some values more likely are rejected.
 
     Examples
     --------
@@ -159,7 +162,7 @@ def drawn(key: str, size: int, count: int) -> list[int]:
 
 
 def _requested(n: Any, allocation: Any) -> int | dict[int, int]:
-    """Return the number of cells requested: in all, or for each class."""
+    """Return the requested number of cells, in total or for each class."""
     if allocation not in ALLOCATIONS:
         raise BadArgument("allocation", f"must be equal or proportional; got {allocation!r}")
     if isinstance(n, str) and _OF_CLASSES.fullmatch(n):
@@ -182,7 +185,7 @@ def _requested(n: Any, allocation: Any) -> int | dict[int, int]:
 def _divided(
     requested: int | dict[int, int], allocation: str, classes: list[int], sizes: list[int]
 ) -> list[int]:
-    """Return how many cells are wanted of each class."""
+    """Return the number of cells to draw from each class."""
     if isinstance(requested, dict):
         lacking = sorted(set(requested) - set(classes))
         if lacking:

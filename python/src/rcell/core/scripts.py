@@ -1,5 +1,5 @@
 # SPDX-License-Identifier: Apache-2.0 OR GPL-2.0-or-later
-"""The calls that take a script: run, table and grid."""
+"""Define the calls that run scripts: run, table and grid."""
 
 from __future__ import annotations
 
@@ -21,13 +21,13 @@ from .sources import ArrayMap, MapLike, Source, named_once, sources_of
 
 __all__ = ["Run", "Stats", "grid", "run", "table"]
 
-# The words of the calls that take maps by name.
+# Parameters of calls with maps by name, which cannot be names of maps.
 WORDS = ("area", "percent", "pivot", "crs")
 
 
 @dataclass(frozen=True)
 class Stats:
-    """The result of an r.stats of a script.
+    """The result of an r.stats in a script.
 
     Attributes
     ----------
@@ -36,11 +36,11 @@ class Stats:
     maps : tuple of str
         The maps, in the order of the columns.
     categories : array of int64, entries x maps
-        -2147483648 is null.
+        The categories of each combination; -2147483648 is null.
     cells : array of int64, optional
         The number of cells of each combination, with the flag `-c`.
     labels : mapping
-        The labels of the categories of each map, by its name, with the flag `-l`.
+        The labels of each map's categories, by the name of the map, with the flag `-l`.
     """
 
     line: int
@@ -50,7 +50,7 @@ class Stats:
     labels: Mapping[str, Mapping[int, str]] = field(default_factory=dict)
 
     def table(self, measure: Optional[Measure] = None, percent: bool = False) -> Table:
-        """Return a table: the categories and labels of each map, `cells`, the area and `percent`."""
+        """Return a table of categories and labels, `cells`, areas and `percent`."""
         columns: list[Column] = []
         for place, name in enumerate(self.maps):
             codes = self.categories[:, place]
@@ -67,7 +67,7 @@ class Stats:
         return Table(columns)
 
     def matrix(self, measure: Optional[Measure] = None, percent: bool = False) -> Matrix:
-        """Return the table of two maps as a matrix: of percentages or areas, or else of cells."""
+        """Return the table of two maps as a matrix of percentages, areas or cells."""
         if len(self.maps) != 2:
             problem = f"pivot= needs a table of two maps, and this one has {len(self.maps)}"
             raise Refused(problem, "script", self.line)
@@ -91,7 +91,7 @@ class Stats:
 
 
 class Run:
-    """A script over maps, and what its results need to know about them.
+    """A script over maps, with the properties of the maps that its results need.
 
     Parameters
     ----------
@@ -111,7 +111,7 @@ class Run:
 
     @cached_property
     def made(self) -> dict[str, Statement]:
-        """The statements that make maps, by their names."""
+        """The statement that creates each map, by the name of the map."""
         plan = planned(self.script, self.sources)
         return {statement.made: statement for statement in plan if statement.made}
 
@@ -128,12 +128,12 @@ class Run:
         ]
 
     def maps(self, names: Sequence[str]) -> list[ArrayMap]:
-        """Return some maps of the script, or of its inputs."""
+        """Return maps that the script creates or reads, by name."""
         outputs = self.outputs(names)
         return [output for output in outputs[-len(names) :] if isinstance(output, ArrayMap)]
 
     def labels(self, name: str) -> Mapping[int, str]:
-        """Return the labels of a map: from the rules that made it, or from the input map."""
+        """Return the labels of a map, from its rules or from its input map."""
         if name in self.sources:
             return self.sources[name].labels
         return self.made[name].labels
@@ -145,7 +145,7 @@ class Run:
         return Stats(output.line, output.maps, output.values[:, :count], cells, labels)
 
     def _map(self, output: Output) -> ArrayMap:
-        """Return an output as a map on the grid of the inputs, with its labels and colours."""
+        """Convert an output to a map on the inputs' grid, with labels and colours."""
         [name] = output.maps
         is_narrow = output.values.dtype == np.uint8
         colors: Mapping[int, str] = {}
@@ -183,22 +183,24 @@ def run(
     script : str
         The lines of the script.
     maps : mapping, optional
-        Maps by name, as in `named`; for names that Python has no keyword for.
+        Maps by name, for names that cannot be Python keyword arguments.
     **named
-        Maps by name. A map is a path to anything that rasterio opens or to an rcell grid; an array or masked array of whole numbers (with cells of side 1), `(array, region)`
-        or `(array, transform)`; a `Raster`; a DataArray; an open dataset or a band of rasterio.
+        Maps by name. A map is the path of an rcell grid or of a file that rasterio can open; an
+        array or masked array of whole numbers (with cells of size 1); `(array, region)` or `(array,
+        transform)`; a `Raster`; a DataArray; or an open dataset or band of rasterio.
     crs : any, optional
         The reference system to assume for maps that have none.
 
     Returns
     -------
     Result
-        A DataFrame for each r.stats and a Raster for each r.out.ascii, in order.
+        A DataFrame for each r.stats and a Raster for each r.out.ascii, in the order of the script.
 
     Raises
     ------
     Refused
-        The program rejects the script or a map, with source, line and text; BadMap and OtherRegion if a map cannot be sent.
+        The program rejects the script or a map; the error contains the source, line and message.
+        Raised as BadMap or OtherRegion if a map cannot be sent.
     RcellError
         The program is missing, wrong or killed.
 
@@ -233,16 +235,18 @@ def table(
     Parameters
     ----------
     script : str
-        A line `r.stats ..`, or a script with one.
+        A line `r.stats ..`, or a script that contains one such line.
     maps : mapping, optional
         See `run`.
     area : {"m2", "ha", "km2"}, optional
-        Adds a column of areas. A map in degrees is an error, since the area of a cell differs from row to row: `composition` and
-        `cross` weight the rows. So is a map without a reference system.
+        Add a column of areas. Maps without a reference system or in degrees are an error, because
+        in degrees the area of a cell differs from row to row. `composition` and `cross` weight the
+        rows.
     percent : bool
-        Adds a column of percentages of all cells of the table.
+        Add a column with percentages of all cells in the table.
     pivot : bool
-        Returns a table of two maps as a matrix, of percentages or areas if these are asked for, else of cells.
+        Return the table of two maps as a matrix of percentages or areas, if `percent` or `area` is
+        given, otherwise of cells.
     crs : any, optional
         The reference system to assume for maps that have none.
     **named
@@ -251,14 +255,14 @@ def table(
     Returns
     -------
     pandas.DataFrame
-        Columns by map name (nullable Int64), `NAME_label` with the flag `-l` (text), `cells`, `area_ha` or another unit, and
-        `percent`.
+        Columns by map name (nullable Int64), `NAME_label` with the flag `-l` (text), `cells`,
+        `area_ha` or another unit, and `percent`.
 
     Raises
     ------
     Refused
-        As in `run`; also raised if the script does not have exactly one table, or if areas are not
-        known.
+        See `run`; also raised if the script does not produce exactly one table, or if areas are
+        unknown.
 
     Examples
     --------
@@ -296,9 +300,9 @@ def grid(
     Parameters
     ----------
     script : str
-        Need not write any output; output is ignored.
+        The lines of the script. Its outputs, if any, are ignored.
     name : str
-        A map that it makes, or one of the given maps.
+        A map that the script creates, or a given map.
     maps : mapping, optional
         See `run`.
     crs : any, optional
@@ -309,14 +313,14 @@ def grid(
     Returns
     -------
     Raster
-        The map, with the labels of the rules that made it, or of the map that was given.
+        The map, with the labels of its rules or of the given map.
 
     Raises
     ------
     Refused
         As `run`.
     BadArgument
-        There is no such map.
+        The script has no map with this name.
 
     Examples
     --------

@@ -1,5 +1,5 @@
 # SPDX-License-Identifier: Apache-2.0 OR GPL-2.0-or-later
-"""The progress of long work, where people see it."""
+"""Show the progress of long calls."""
 
 from __future__ import annotations
 
@@ -11,12 +11,12 @@ from .host import Host
 
 __all__ = ["Bar"]
 
-# Work that ends earlier needs no bar.
+# No bar is shown for calls that end earlier.
 SECONDS = 2.0
 
 
 class Bar:
-    """A bar of tqdm on a terminal or in a notebook, unless the host shows progress itself.
+    """A tqdm bar on a terminal or in a notebook, unless the host shows progress itself.
 
     Parameters
     ----------
@@ -34,7 +34,7 @@ class Bar:
                 self._bar = tqdm(total=steps, unit="tile", delay=SECONDS, leave=False)
 
     def step(self) -> None:
-        """Show that a tile is done."""
+        """Advance the bar by one finished tile."""
         if self._bar is not None:
             self._bar.update()
 

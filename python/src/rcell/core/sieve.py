@@ -1,5 +1,5 @@
 # SPDX-License-Identifier: Apache-2.0 OR GPL-2.0-or-later
-"""A minimum mapping unit: small patches are merged into their neighbours."""
+"""Apply a minimum mapping unit by merging small patches into their neighbours."""
 
 from __future__ import annotations
 
@@ -25,7 +25,7 @@ from .sources import ArrayMap, MapLike, Source, source_of
 
 __all__ = ["Sieved", "cells_of_hectares", "sieve"]
 
-# Digits that a number of cells is rounded to, before a part of a cell counts as one more.
+# A number of cells is rounded to this many decimals before it is rounded up.
 _DIGITS = 9
 _SIDES = {"right": "0,1", "below": "1,0"}
 _CORNERS = {"falling": "1,1", "rising": "1,-1"}
@@ -35,16 +35,17 @@ Integers = NDArray[np.int64]
 
 
 class Sieved(NamedTuple):
-    """What `rcell.sieve` did to a map, as counted in the result.
+    """The effect of `rcell.sieve` on a map, as counted in the result.
 
     Parameters
     ----------
     patches_before, patches_after : int
-        The patches of the map and of the result.
+        The number of patches in the map and in the result.
     cells_changed : int
-        The cells with another class, or none.
+        The number of cells whose class changed, or that became null.
     patches_below : int
-        The patches below the smallest size that are left: they share no side with another class.
+        The number of remaining patches below the smallest size, which share no side with another
+        class.
 
     Examples
     --------
@@ -68,19 +69,20 @@ def sieve(
     *,
     crs: Any = None,
 ) -> tuple[ArrayMap, Sieved]:
-    """Merge patches below a size into their neighbours, or leave them out.
+    """Merge patches below a size into their neighbours, or set them to null.
 
-    While a patch below the size shares a side with another class, the smallest such patch (of several, the one whose first cell comes
-    first) gets the class of the neighbour with which it shares most sides (of several, the one whose first cell comes first). It
-    then becomes one patch with all patches of this class that it touches.
+    As long as a patch below the size shares a side with another class, the smallest of these
+    patches gets the class of the neighbour with which it shares most sides. It is then joined to
+    all patches of this class that it touches. In a tie, the patch whose first cell comes first is
+    used.
 
     Parameters
     ----------
     map : path, array, or any map that `run` accepts
     min_cells : int
-        The smallest number of cells of a patch.
+        The smallest number of cells in a patch.
     min_ha : float
-        The smallest area of a patch in hectares, in place of `min_cells`; not in degrees.
+        The smallest area of a patch in hectares, instead of `min_cells`; not for maps in degrees.
     connectivity : {4, 8}
         4 connects cells that share an edge, 8 also cells that share a corner.
     drop : bool
@@ -91,15 +93,16 @@ def sieve(
     Returns
     -------
     Raster
-        With the labels and colours of the map. Its attribute `sieved` has the numbers of patches and of changed cells, which are
-        counted in the result. A map without small patches is returned unchanged.
+        The new map, with the labels and colours of the map. Its attribute `sieved` is a `Sieved`,
+        which counts patches and changed cells. A map without small patches is returned unchanged.
 
     Raises
     ------
     Refused
         See `run`.
     BadArgument
-        Both sizes are given, or none; a size is out of range, or in hectares for a map in degrees or without a reference system.
+        Both sizes or no size is given; a size is out of range; or `min_ha` is given for a map in
+        degrees or without a reference system.
 
     Examples
     --------
@@ -139,7 +142,7 @@ def sieve(
 
 
 def _fewest(min_cells: Any, min_ha: Any, source: Source, crs: Any) -> int:
-    """Return the smallest number of cells of a patch."""
+    """Return the smallest number of cells in a patch, from either argument."""
     if (min_cells is None) == (min_ha is None):
         outcome = "neither" if min_cells is None else "both"
         raise BadArgument(
@@ -151,7 +154,7 @@ def _fewest(min_cells: Any, min_ha: Any, source: Source, crs: Any) -> int:
 
 
 def cells_of_hectares(name: str, hectares: Any, source: Source, crs: Any) -> int:
-    """Return the number of cells in some hectares; parts of a cell count as one."""
+    """Convert hectares to a number of cells, rounded up."""
     is_number = isinstance(hectares, numbers.Real) and not isinstance(hectares, bool)
     if not is_number or not 0 < hectares < math.inf:
         raise BadArgument(name, f"must be a number above 0; got {hectares!r}")
@@ -161,7 +164,7 @@ def cells_of_hectares(name: str, hectares: Any, source: Source, crs: Any) -> int
 
 
 def _script(name: str, connectivity: int, tables: Sequence[str], steps: Mapping[str, str]) -> str:
-    """Return a script with tables of patches, and of the pairs of patches that are one step from each other."""
+    """Return a script that counts patches, and pairs of patches that are one step apart."""
     lines = [clump_line(connectivity, name), *(f"r.stats -c -n input={maps}" for maps in tables)]
     for title, step in steps.items():
         other = f"if(patch != patch[{step}], patch[{step}], null())"
@@ -170,7 +173,10 @@ def _script(name: str, connectivity: int, tables: Sequence[str], steps: Mapping[
 
 
 class _Touching(NamedTuple):
-    """The patches that each patch touches, and how often: patch `n` has the entries from `starts[n]` up to `starts[n + 1]`."""
+    """The patches that each patch touches, and how often.
+
+    Entries `starts[n]` up to `starts[n + 1]` belong to patch `n`.
+    """
 
     starts: list[int]
     near: memoryview
@@ -178,7 +184,7 @@ class _Touching(NamedTuple):
 
     @classmethod
     def of(cls, patches: int, tables: Sequence[Any]) -> _Touching:
-        """Return the pairs of patches in tables, in both directions; patches count from 0."""
+        """Return the pairs of patches in tables, in both directions, numbered from 0."""
         pairs = [table.categories - 1 for table in tables] or [np.empty((0, 2), np.int64)]
         both = np.concatenate([*pairs, *(pair[:, ::-1] for pair in pairs)])
         order = np.argsort(both[:, 0], kind="stable")
@@ -189,7 +195,7 @@ class _Touching(NamedTuple):
 
 
 class _Merging:
-    """The patches of a map that become larger patches; a patch has the smallest number of its parts.
+    """Merges the patches of a map; a merged patch keeps the smallest number of its parts.
 
     Parameters
     ----------
@@ -213,14 +219,15 @@ class _Merging:
         waiting: defaultdict[int, list[int]] = defaultdict(list)
         for patch in np.flatnonzero(np.array(cells) < fewest).tolist():
             waiting[cells[patch]].append(patch)
-        # A patch that grows is larger than all that were tried, so that each size has all its patches in its turn.
+        # A merged patch is larger than all patches tried so far, so each size is complete when its
+        # turn comes.
         for size in range(1, min(fewest, sum(cells) + 1)):
             for patch in sorted(waiting.pop(size, ())):
                 if into[patch] != patch or cells[patch] != size:
-                    continue  # it is part of another patch, or has grown
+                    continue  # merged into another patch, or grown
                 shared = self._shared(patch, self._sides)
                 if not shared:
-                    continue  # it borders null alone
+                    continue  # borders only null
                 most = max(shared.values())
                 code = classes[min([near for near, times in shared.items() if times == most])]
                 if self._corners.near.nbytes:
@@ -236,7 +243,7 @@ class _Merging:
         return np.array(self._classes, np.int64)[roots]
 
     def _shared(self, patch: int, touching: _Touching) -> dict[int, int]:
-        """Return how often a small patch touches each other patch."""
+        """Count how often a small patch touches each other patch."""
         shared: dict[int, int] = {}
         starts, into = touching.starts, self._into
         for part in self._parts.get(patch, (patch,)):
@@ -248,7 +255,7 @@ class _Merging:
         return shared
 
     def _join(self, joined: list[int], fewest: int) -> int:
-        """Merge patches into one and return it; the parts are kept only if it is still small."""
+        """Merge patches and return the new patch; its parts are kept only while it is small."""
         grown = min(joined)
         cells = sum(self._cells[part] for part in joined)
         parts = (self._parts.pop(part, [part]) for part in joined)
@@ -268,11 +275,11 @@ class _Merging:
 
 
 def _counted(run: Run, fewest: int, before: int) -> Sieved:
-    """Check the result by counting: a remaining small patch must not share a side with another class."""
+    """Count the result, and check that no remaining small patch borders another class."""
     sizes, changes, *pairs = (part for part in run.outputs() if isinstance(part, Stats))
     assert sizes.cells is not None and changes.cells is not None
     small = sizes.categories[sizes.cells < fewest, 0]
     if any(np.isin(small, pair.categories).any() for pair in pairs):
-        raise RcellError("a small patch with a neighbour is left: this is a bug in rcell")
+        raise RcellError("a small patch with a neighbour remains: this is a bug in rcell")
     counts = dict(zip(changes.categories[:, 0].tolist(), changes.cells.tolist()))
     return Sieved(before, sizes.cells.size, counts.get(1, 0), small.size)

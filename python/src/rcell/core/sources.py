@@ -1,5 +1,5 @@
 # SPDX-License-Identifier: Apache-2.0 OR GPL-2.0-or-later
-"""Input maps: what a caller passes, as cells that the program accepts."""
+"""Convert the maps that a caller passes to cells that the program accepts."""
 
 from __future__ import annotations
 
@@ -48,15 +48,16 @@ __all__ = [
 ]
 
 MAX_CATEGORY = 2_147_483_647
-# Cells of a block, about: large enough that a block costs more than its call, small enough for the cache of a processor.
+# The approximate number of cells in a block: large compared with the cost of a call, but small
+# enough for a processor's cache.
 BLOCK_CELLS = 1 << 20
-# Beyond it a float of 32 bits does not have every whole number.
+# Larger whole numbers are not all exact in 32-bit floats.
 _EXACT_FLOAT32 = 1 << 24
 
-# By what the decimals of the map that is read are multiplied, before they are rounded; None for other maps.
+# The factor for the decimals of the map that is being read, before rounding; None for other maps.
 _scale: contextvars.ContextVar[int | None] = contextvars.ContextVar("rcell.scale", default=None)
 
-# How to round a map, outside of Python and in it.
+# How to round a map, outside Python and in Python.
 _ROUNDED = (
     'gdal_calc.py -A {0}.tif --calc="rint(A)" --type=Int32 --outfile={0}_rounded.tif',
     "rcell.Raster(np.rint(array), transform, crs)",
@@ -64,7 +65,8 @@ _ROUNDED = (
 
 Cells = NDArray[Any]
 Mask = NDArray[np.bool_]
-# A map of a call: a path, a list or a pattern of paths, an array, an array with its place, a Raster, a DataArray, or a dataset or band of rasterio.
+# A map argument: a path, a list or a pattern of paths, an array, an array with its region or
+# transform, a Raster, a DataArray, or a dataset or band of rasterio.
 MapLike = Union[str, "os.PathLike[str]", "list[str]", ArrayLike, tuple[Any, Any], "Source", Any]
 
 
@@ -76,7 +78,8 @@ class Block:
     ----------
     cells : array of the type of its source, rows x cols, C-contiguous
     null : array of bool or None
-        True where a cell is null, aside from the nodata of its source; None if the source is not masked.
+        True if a cell is null for a reason other than the source's nodata value; None if the source
+        is not masked.
     """
 
     cells: Cells
@@ -84,12 +87,12 @@ class Block:
 
 
 class Source(Protocol):
-    """A map as the program needs it.
+    """A map that the program can read.
 
-    Maps that can be read in parts also have `window(row, col, rows, cols)`, which returns a block
-    of them, from any thread; a map that keeps its cells in blocks has their `block_shape`. A map
-    that has the cells of its files, unchanged, has `is_file`. A map that other processes can read
-    without its cells has `sent(window)`, which returns what they need, or None.
+    Maps that can be read in parts also define `window(row, col, rows, cols)`, which returns a block
+    and can be called from any thread. Optional attributes are `block_shape`, for maps that store
+    cells in blocks; `is_file`, which is true if the cells are its files' unchanged cells; and
+    `sent(window)`, which returns a map that other processes can read, or None.
     """
 
     @property
@@ -102,27 +105,27 @@ class Source(Protocol):
 
     @property
     def transform(self) -> Transform:
-        """The transform of the map, which its results also get."""
+        """The transform of the map and of its results."""
 
     @property
     def dtype(self) -> np.dtype[Any]:
-        """The type of its blocks: any of 8, 16 or 32 bits, or int64."""
+        """The data type of its blocks: any integer of 8, 16 or 32 bits, or int64."""
 
     @property
     def nodata(self) -> int | None:
-        """A value of the type that marks null."""
+        """The value of this type that marks null, or None."""
 
     @property
     def is_masked(self) -> bool:
-        """Whether its blocks say which cells are null."""
+        """Whether its blocks have masks of null cells."""
 
     @property
     def labels(self) -> Mapping[int, str]:
-        """Labels of its categories."""
+        """The labels of its categories."""
 
     @property
     def colors(self) -> Mapping[int, str]:
-        """Colours of its categories, as `#rrggbb`."""
+        """The colours of its categories, as `#rrggbb`."""
 
     @property
     def crs(self) -> Any:
@@ -130,7 +133,7 @@ class Source(Protocol):
 
     @property
     def files(self) -> tuple[str, ...]:
-        """The files that it is read from, or was made of."""
+        """The files from which it is read or was created."""
 
     def blocks(self) -> Iterator[Block]:
         """Yield the rows from north to south."""
@@ -140,7 +143,7 @@ class Source(Protocol):
 
 
 def as_bools(array: NDArray[Any]) -> Mask:
-    """Return booleans in which True is the byte 1; a view of other bytes has any.
+    """Return booleans in which True is always the byte 1, unlike in views of other arrays.
 
     Examples
     --------
@@ -152,7 +155,7 @@ def as_bools(array: NDArray[Any]) -> Mask:
 
 
 def unmasked(cells: Any) -> tuple[Cells, Mask | None]:
-    """Return the cells of an array and which of them are masked, None if it is not a masked array.
+    """Return the cells and the mask of an array; the mask is None for a plain array.
 
     Examples
     --------
@@ -165,7 +168,10 @@ def unmasked(cells: Any) -> tuple[Cells, Mask | None]:
 
 
 def is_converted(dtype: np.dtype[Any]) -> bool:
-    """Return whether cells of a type become int32, with -2147483648 for null: floats and uint64. The program takes all others as they are."""
+    """Return whether cells of a type are converted to int32: floats and uint64.
+
+    -2147483648 is then null. The program accepts all other types unchanged.
+    """
     return dtype.kind == "f" or (dtype.kind == "u" and dtype.itemsize == 8)
 
 
@@ -185,12 +191,14 @@ def type_of(dtype: np.dtype[Any]) -> np.dtype[Any]:
 
 
 def nodata_of(dtype: np.dtype[Any], value: float | None) -> int | None:
-    """Return the value that marks null in the type in which cells are sent, if the cells had such a value.
+    """Return the nodata value in the type in which cells are sent, or None.
 
     Examples
     --------
-    >>> nodata_of(np.dtype("uint8"), 255.0), nodata_of(np.dtype("uint8"), -9999.0), nodata_of(np.dtype("float32"), -9999.0)
-    (255, None, -2147483648)
+    >>> nodata_of(np.dtype("uint8"), 255.0), nodata_of(np.dtype("uint8"), -9999.0)
+    (255, None)
+    >>> nodata_of(np.dtype("float32"), -9999.0)
+    -2147483648
     """
     if is_converted(dtype):
         return NULL
@@ -201,22 +209,27 @@ def nodata_of(dtype: np.dtype[Any], value: float | None) -> int | None:
 
 
 def check_computed(name: str, cells: Cells, dtype: np.dtype[Any], shape: tuple[int, ...]) -> None:
-    """Reject cells that Dask has computed in another type or shape than announced, in which they would be other numbers.
+    """Raise BadMap if Dask computed another type or shape than it announced.
 
     Examples
     --------
-    >>> check_computed("m", np.array([[-1]], np.int16), np.dtype(np.uint16), (1, 1))
+    >>> cells = np.array([[-1]], np.int16)
+    >>> check_computed("m", cells, np.dtype(np.uint16), (1, 1))  # doctest: +ELLIPSIS
     Traceback (most recent call last):
       ...
-    rcell.BadMap: m: its cells are of the type int16, but Dask expected uint16: state it, as in map_blocks(.., dtype='int16')
+    rcell.BadMap: m: its cells are of the type int16, but Dask expected uint16: ...
     """
     if (is_converted(cells.dtype), type_of(cells.dtype)) != (is_converted(dtype), type_of(dtype)):
-        problem = f"its cells are of the type {cells.dtype}, but Dask expected {dtype}: state it, as in map_blocks(.., dtype='{cells.dtype}')"
+        problem = (
+            f"its cells are of the type {cells.dtype}, but Dask expected {dtype}: state it, as "
+            f"in map_blocks(.., dtype='{cells.dtype}')"
+        )
         raise BadMap(name, problem)
     if cells.shape != shape:
         raise BadMap(
             name,
-            f"a part of {' x '.join(map(str, shape))} cells has the shape {cells.shape}: state the chunks, as in map_blocks(.., chunks=..)",
+            f"a part of {' x '.join(map(str, shape))} cells has the shape {cells.shape}: state "
+            "the chunks, as in map_blocks(.., chunks=..)",
         )
 
 
@@ -228,23 +241,24 @@ def checked(
     first_row: int = 0,
     first_col: int = 0,
 ) -> Block:
-    """Return cells of any type of whole numbers as a block of the type in which they are sent.
+    """Convert cells to a block of the type in which they are sent, and check their values.
 
     Parameters
     ----------
     name : str
-        The name of the map, for the error.
+        The name of the map, for messages.
     cells : array, rows x cols
     null : array of bool or None
     nodata : float or None
-        The value that is null, compared by value.
+        The value that marks null, compared by value.
     first_row, first_col : int
-        The place of the first cell in the map, for the error.
+        The row and column of the first cell in the map, for messages.
 
     Raises
     ------
     BadMap
-        With the first cell that is neither null nor a whole number from -2147483647 to 2147483647.
+        A cell is neither null nor a whole number from -2147483647 to 2147483647; the error contains
+        the first such cell.
     """
     cells = np.ascontiguousarray(
         as_bools(cells).view(np.uint8) if cells.dtype.kind == "b" else cells,
@@ -269,13 +283,14 @@ def checked(
     whole = np.where(is_null, exact.dtype.type(0), exact)
     if scale is None and cells.dtype == np.float32 and np.abs(whole).max() > _EXACT_FLOAT32:
         warn(
-            f"{name}: floats of 32 bits are not exact beyond {_EXACT_FLOAT32}, and the map has larger values"
+            f"{name}: floats of 32 bits are not exact beyond {_EXACT_FLOAT32}, and the map has "
+            "larger values"
         )
     return Block(np.where(is_null, np.int32(NULL), whole.astype(np.int32)), None)
 
 
 def null_cells(cells: Cells, null: Mask | None, nodata: float | None) -> Mask:
-    """Return what is null, with the cells of nodata and those that are not numbers."""
+    """Return a mask of all null cells, including nodata and NaN."""
     parts = [] if null is None else [null]
     if cells.dtype.kind == "f":
         parts.append(np.isnan(cells))
@@ -284,13 +299,13 @@ def null_cells(cells: Cells, null: Mask | None, nodata: float | None) -> Mask:
         parts.append(cells == value)
     if not parts:
         return np.zeros(cells.shape, np.bool_)
-    # A mask that was given belongs to its owner.
+    # Do not change the caller's mask.
     first = parts[0].copy() if len(parts) == 1 and null is not None else parts[0]
     return functools.reduce(np.logical_or, parts[1:], first)
 
 
 def _value_of(dtype: np.dtype[Any], nodata: float | None) -> Any:
-    """Return nodata as a value of a type, or None if no cell of the type can have it."""
+    """Convert nodata to a type, or return None if no cell of this type can equal it."""
     if nodata is None or nodata != nodata or sys.float_info.max < abs(nodata) < math.inf:
         return None
     if dtype.kind == "f":
@@ -298,7 +313,7 @@ def _value_of(dtype: np.dtype[Any], nodata: float | None) -> Any:
             value = dtype.type(nodata)
         return value if np.isinf(value) == math.isinf(nodata) else None
     limits = np.iinfo(dtype)
-    # By whole numbers: floats do not have all of 64 bits.
+    # Compare as integers, because floats are not exact for all 64-bit integers.
     is_value = (
         math.isfinite(nodata) and nodata == int(nodata) and limits.min <= int(nodata) <= limits.max
     )
@@ -306,7 +321,7 @@ def _value_of(dtype: np.dtype[Any], nodata: float | None) -> Any:
 
 
 def _good(cells: Cells) -> Mask:
-    """Return where cells are whole numbers in range."""
+    """Return a mask of the cells that are whole numbers in range."""
     if cells.dtype.kind == "f":
         with np.errstate(invalid="ignore"):
             return np.asarray((np.rint(cells) == cells) & (np.abs(cells) < MAX_CATEGORY + 1.0))
@@ -315,10 +330,13 @@ def _good(cells: Cells) -> Mask:
 
 
 def _bad_cell(name: str, row: int, col: int, value: float, scale: int | None) -> BadMap:
-    """Return the error of a cell that is not a whole number in range, with the advice to round."""
+    """Return the error for a cell that is not a whole number in range, with advice."""
     number = f"{value:.15g}" if isinstance(value, float) else str(value)
     if scale is not None:
-        problem = f"{option('scale', scale)} does not fit: the cell at row {row}, column {col} is {number}"
+        problem = (
+            f"{option('scale', scale)} does not fit: the cell at row {row}, column {col} is "
+            f"{number}"
+        )
         return BadMap(
             name, f"{problem}, and {scale} times that is beyond {MAX_CATEGORY}", row, col, value
         )
@@ -335,7 +353,7 @@ def _bad_cell(name: str, row: int, col: int, value: float, scale: int | None) ->
 
 
 class Scaled:
-    """A map whose values are multiplied and rounded when it is read, so that decimals become whole numbers.
+    """A map whose decimals are multiplied by a scale and rounded when they are read.
 
     Parameters
     ----------
@@ -351,7 +369,7 @@ class Scaled:
         self.source, self.scale = source, scale
 
     def __getattr__(self, name: str) -> Any:
-        if name == "source" or name.startswith("__"):  # a copy that is being made has no map yet
+        if name == "source" or name.startswith("__"):  # while it is copied, the map is not set yet
             raise AttributeError(name)
         return getattr(self.source, name)
 
@@ -380,7 +398,7 @@ class Scaled:
 
 
 def has_windows(source: Any) -> bool:
-    """Return whether a map can be read in parts; text grids cannot."""
+    """Return whether a map can be read in windows; text grids cannot."""
     return hasattr(source.source if isinstance(source, Scaled) else source, "window")
 
 
@@ -396,23 +414,23 @@ class ArrayMap:
     name : str
         The name of the map, for errors.
     array : array of whole numbers, rows x cols
-        Its type may be any integer, bool, or float where all cells are whole numbers; NaN is null.
+        Its type may be any integer, bool, or a float if all cells are whole numbers; NaN is null.
     region : Region
     null : array of bool, optional
-        Of the same shape; True where a cell is null.
+        An array of the same shape that is True for null cells.
     nodata_value : float, optional
-        A value that is null, compared by value.
+        The value that marks null, compared by value.
     labels : mapping, optional
     crs : any, optional
     exact_transform : tuple of six float, optional
-        The transform that results get; None: the transform of the region.
+        The transform for results; by default, the region's transform.
     is_narrow : bool
-        Whether the array is of bytes to save memory, and people get its cells as int32.
+        Whether the array contains bytes to save memory, and users get its cells as int32.
 
     Raises
     ------
     BadMap
-        If the array is not a map; a cell that is wrong is found when it is sent.
+        The array is not a map. Invalid cells are only found when they are sent.
     """
 
     name: str
@@ -435,12 +453,13 @@ class ArrayMap:
             rows, cols = self.array.shape
             raise BadMap(
                 self.name,
-                f"an array of {rows} x {cols} cells, and a region of {self.region.rows} x {self.region.cols}",
+                f"an array of {rows} x {cols} cells, and a region of {self.region.rows} x "
+                f"{self.region.cols}",
             )
 
     @property
     def transform(self) -> Transform:
-        """The transform that results get."""
+        """The transform for results."""
         return self.exact_transform or self.region.transform
 
     @property
@@ -459,7 +478,7 @@ class ArrayMap:
         return self.null is not None and not is_converted(self.array.dtype)
 
     def filled(self, null: int) -> Cells:
-        """Return all cells of a map of whole numbers, with a number for null."""
+        """Return all cells of a map of whole numbers, with this number for null."""
         is_null = null_cells(self.array, self.null, self.nodata_value)
         wide = np.promote_types(self.array.dtype, np.int32)
         return np.where(is_null, wide.type(null), self.array)
@@ -479,14 +498,15 @@ class ArrayMap:
 
 
 def check_array(name: str, array: Any) -> None:
-    """Reject an array that does not have numbers in rows and columns."""
+    """Raise BadMap unless an array contains numbers in rows and columns."""
     if array.dtype.kind not in "iufb":
         raise BadMap(name, f"not a map of whole numbers: its cells are of the type {array.dtype}")
     if array.ndim != 2:
         shape = " x ".join(map(str, array.shape)) or "one number"
         raise BadMap(
             name,
-            f"an array of {array.ndim} dimensions ({shape}), and a map has two; pass one band of a raster, for example read(1)",
+            f"an array of {array.ndim} dimensions ({shape}), and a map has two; pass one band of "
+            "a raster, for example read(1)",
         )
     if array.size == 0:
         raise BadMap(name, f"an array without cells ({array.shape[0]} x {array.shape[1]})")
@@ -502,7 +522,7 @@ def array_map(
     colors: Mapping[int, str] | None = None,
     files: tuple[str, ...] = (),
 ) -> ArrayMap:
-    """Return an array as a map.
+    """Convert an array to a map.
 
     Parameters
     ----------
@@ -510,14 +530,14 @@ def array_map(
         The name of the map, for errors.
     cells : array, masked array, or nested lists of whole numbers
     place : Region, or a transform, optional
-        Cells have side 1 if it is not given.
+        By default, cells have size 1.
     crs, nodata, labels, colors, files
         As in ArrayMap.
 
     Raises
     ------
     BadMap
-        It is not an array of two dimensions, or its place is not upright.
+        The array is not two-dimensional, or the transform is not upright.
     """
     try:
         array, null = unmasked(cells)
@@ -536,7 +556,7 @@ def array_map(
 def _placed(
     name: str, array: Cells, null: Mask | None, place: Any
 ) -> tuple[Cells, Mask | None, Region, Transform]:
-    """Return an array with its rows from north to south, its region and its transform."""
+    """Return an array with rows from north to south, its region and its transform."""
     rows, cols = array.shape
     if isinstance(place, Region):
         return array, null, place, place.transform
@@ -545,7 +565,7 @@ def _placed(
         return array, null, region, region.transform
     a, b, c, d, e, f = six_numbers(name, place)
     if e > 0 and not b and not d:
-        # The rows go from south to north.
+        # Flip rows that are ordered from south to north.
         array = array[::-1]
         null = None if null is None else null[::-1]
         e, f = -e, f + e * rows
@@ -555,7 +575,7 @@ def _placed(
 
 
 def in_region(name: str, make: Any, *words: Any) -> Region:
-    """Return a region; its errors name the map."""
+    """Call a function that returns a region, and name the map in its errors."""
     try:
         region: Region = make(*words)
     except BadMap as refusal:
@@ -564,17 +584,18 @@ def in_region(name: str, make: Any, *words: Any) -> Region:
 
 
 def source_of(name: str, map: Any) -> Source:
-    """Return the map that a caller passes.
+    """Convert a map argument to a source.
 
     Parameters
     ----------
     name : str
-    map : path, list or pattern of paths, array, masked array, (array, region or transform), Raster, DataArray, dataset or band of rasterio
+    map : path, list or pattern of paths, array, masked array, (array, region or transform), Raster,
+    DataArray, dataset or band of rasterio
 
     Raises
     ------
     BadMap
-        It can't be a map.
+        The argument cannot be a map.
     """
     if hasattr(map, "blocks") and hasattr(map, "region"):
         source: Source = map
@@ -615,7 +636,7 @@ def source_of(name: str, map: Any) -> Source:
 
 
 def _are_paths(map: Any) -> bool:
-    """Return whether a map is given as several files, which contain its parts."""
+    """Return whether a map is given as a list of files."""
     return (
         isinstance(map, (list, tuple))
         and bool(map)
@@ -627,17 +648,23 @@ _NAME = re.compile(r"[A-Za-z_][A-Za-z0-9_.]{0,63}")
 
 
 def check_names(names: Iterable[str]) -> None:
-    """Raise BadArgument for the first text that cannot be the name of a map."""
+    """Raise BadArgument for the first invalid name of a map."""
     for name in names:
         if not (isinstance(name, str) and _NAME.fullmatch(name)):
             better = re.sub(r"[^A-Za-z0-9_.]", "_", str(name))[:64]
             better = better if _NAME.fullmatch(better) else f"m_{better[:60]}"
-            rule = f"must have names of 1 to 64 letters, digits, _ and ., a letter or _ first; got {name!r}: write {better}"
+            rule = (
+                "must have names of 1 to 64 letters, digits, _ and ., a letter or _ first; got "
+                f"{name!r}: write {better}"
+            )
             raise BadArgument("maps", rule)
 
 
 def named_once(maps: Any, named: Mapping[str, Any]) -> dict[str, Any]:
-    """Return the maps of a mapping, or the variables of a Dataset, and of keywords, unless one is in both."""
+    """Merge maps from a mapping or a Dataset with keyword maps.
+
+    Raises BadArgument if a name is in both.
+    """
     if type(maps).__module__.partition(".")[0] == "xarray":
         from ..readers.xarray import variables_of
 
@@ -651,7 +678,7 @@ def named_once(maps: Any, named: Mapping[str, Any]) -> dict[str, Any]:
 def sources_of(
     maps: Mapping[str, Any], crs: Any = None, written: Mapping[str, Any] | None = None
 ) -> tuple[dict[str, Source], Any]:
-    """Return the maps of a call, and the coordinate reference system that they have in common.
+    """Convert the maps of a call, and return them with their common reference system.
 
     Parameters
     ----------
@@ -664,9 +691,10 @@ def sources_of(
     Raises
     ------
     OtherCrs
-        A map's reference system differs from the others, or is missing while others have one and `crs` does not state it.
+        Reference systems differ, or only some maps have one and `crs` is not given.
     OtherRegion
-        The region of a map differs from the first; the text says which edges differ, by how much, and how to align it.
+        A map's region differs from the first map's; the message lists the differences and the call
+        that aligns the map.
     """
     if not maps:
         raise BadArgument("maps", 'must be given by name, for example a="a.tif"; got none')
@@ -686,7 +714,7 @@ def sources_of(
 
 
 def _other_region(first: Source, source: Source) -> OtherRegion:
-    """Return the error of a map whose region differs from the first."""
+    """Return the error for a map whose region differs from the first map's."""
     differences = "; ".join(first.region.differences(source.region))
     text = f"its grid differs from `{first.name}`, and rcell does not resample: {differences}"
     regions = f"  {first.name}: {first.region}\n  {source.name}: {source.region}"
@@ -694,7 +722,7 @@ def _other_region(first: Source, source: Source) -> OtherRegion:
 
 
 def _alignment(name: str, mine: str, its: str, is_whole: bool) -> str:
-    """Return the call that brings a map onto the grid of the first."""
+    """Return the call that aligns a map with the first map."""
     if host().words == "qgis":
         nearest = "" if is_whole else " and RESAMPLE nearest"
         return f"rcell:align with INPUT {mine}, TO {its}{nearest}"
@@ -703,7 +731,7 @@ def _alignment(name: str, mine: str, its: str, is_whole: bool) -> str:
 
 
 def _written(name: str, map: Any) -> str:
-    """Return a map as a caller would write it: its path, or its name."""
+    """Return a map in the caller's notation: its path or its name."""
     if host().words == "qgis":
         return f'"{map.name}"'
     return (

@@ -1,5 +1,5 @@
 # SPDX-License-Identifier: Apache-2.0 OR GPL-2.0-or-later
-"""Tables as texts: CSV, TSV, JSON and Markdown."""
+"""Format tables as CSV, TSV, JSON and Markdown."""
 
 from __future__ import annotations
 
@@ -13,7 +13,10 @@ __all__ = ["table_text"]
 
 
 def table_text(form: str, columns: Sequence[str], rows: Sequence[Sequence[Any]]) -> str:
-    """Return a table as text: numbers in the shortest form that reads back the same, missing values empty or null."""
+    """Format a table as text.
+
+    Numbers have the shortest form that reads back unchanged; missing values are empty or null.
+    """
     if form == "json":
         objects = (json.dumps(dict(zip(columns, row)), ensure_ascii=False) for row in rows)
         return "[" + ",\n ".join(objects) + "]\n"
@@ -31,7 +34,7 @@ def _shortest(value: Any) -> Any:
 
 
 def _markdown(columns: Sequence[str], rows: Sequence[Sequence[Any]]) -> str:
-    """Return a table in Markdown, with columns of numbers to the right."""
+    """Format a table in Markdown, with right-aligned columns of numbers."""
     sides = []
     for index in range(len(columns)):
         has_texts = any(isinstance(row[index], str) for row in rows)

@@ -1,5 +1,5 @@
 # SPDX-License-Identifier: Apache-2.0 OR GPL-2.0-or-later
-"""Text grids, which the program rcell reads."""
+"""Read text grids with the program rcell."""
 
 from __future__ import annotations
 
@@ -28,7 +28,7 @@ from .region import Region, Transform, fits_one_run, units_of
 
 __all__ = ["TextMap", "is_grid", "open_path"]
 
-# Room for a header of six short lines, and for blank lines before it.
+# Enough for a header of six short lines, with blank lines before it.
 HEADER_BYTES = 1 << 16
 _EDGE = re.compile(r"[+-]?[0-9]+\.?[0-9]*")
 _VIRTUAL = re.compile(r"/vsi|[A-Za-z][A-Za-z0-9+.-]+:")
@@ -36,7 +36,7 @@ _VIRTUAL = re.compile(r"/vsi|[A-Za-z][A-Za-z0-9+.-]+:")
 
 @dataclass(frozen=True)
 class TextMap:
-    """A file that contains a grid; made by `open_path`.
+    """A file that contains a text grid; created by `open_path`.
 
     Attributes
     ----------
@@ -44,7 +44,7 @@ class TextMap:
     path : str
     region : Region
     held : bytes
-        The bytes that were already read from a pipe.
+        The bytes that have already been read from a pipe.
     stream : io.FileIO or None
         The rest of the pipe; None for a file, which can be read again.
     """
@@ -63,7 +63,7 @@ class TextMap:
     is_masked: bool = False
 
     def with_labels(self, labels: Mapping[int, str]) -> TextMap:
-        """Return the map with other labels."""
+        """Return the map with these labels."""
         return replace(self, labels=labels)
 
     @property
@@ -101,7 +101,7 @@ def is_grid(path: str) -> bool:
 
 
 def open_path(name: str, path: str | os.PathLike[str]) -> Source:
-    """Return a path as a map: a text grid, or anything that rasterio opens.
+    """Open a path as a map: a text grid, or a file that rasterio can open.
 
     Raises
     ------
@@ -150,7 +150,7 @@ def _raster(name: str, path: str) -> Source:
 
 
 def _head_of(stream: io.FileIO, is_file: bool) -> bytes:
-    """Return the first bytes: a fixed number from a file, the complete header from a pipe."""
+    """Read the first bytes: a fixed number from a file, the complete header from a pipe."""
     head = b""
     while len(head) < HEADER_BYTES:
         piece = stream.read(HEADER_BYTES - len(head))
@@ -174,7 +174,7 @@ def _fields(head: bytes) -> tuple[dict[str, str], bool]:
 
 
 def _region_of(name: str, head: bytes) -> Region | None:
-    """Return the region of a header, or None if it is invalid, which rcell then reports."""
+    """Return the region in a header; None if the header is invalid, which rcell reports."""
     fields = _fields(head + b"\n")[0]
     try:
         edges = [_edge_of(fields[key]) for key in ("north", "south", "east", "west")]
@@ -190,13 +190,13 @@ def _region_of(name: str, head: bytes) -> Region | None:
 
 
 def _edge_of(text: str) -> float | Fraction:
-    """Return an edge as a float if that is exact enough for the program, otherwise exactly."""
+    """Return an edge as a float if that is exact enough for the program, or as a Fraction."""
     exact = Fraction(text) if _EDGE.fullmatch(text) else Fraction(float(text))
     return float(exact) if units_of(float(exact)) == units_of(exact) else exact
 
 
 def _refused_region(name: str, path: str, is_file: bool) -> Region:
-    """Raise rcell's error about a grid whose header is invalid."""
+    """Raise rcell's error about a grid with an invalid header."""
     if is_file:
         for _ in TextMap(name, path, Region.of_cells(1, 1)).blocks():
             pass

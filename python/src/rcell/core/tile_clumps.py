@@ -1,8 +1,8 @@
 # SPDX-License-Identifier: Apache-2.0 OR GPL-2.0-or-later
-"""Clumps of tiles, joined to the clumps of the full map and numbered.
+"""Join the clumps of tiles, and number them as in the full map.
 
-The proved program rcell-join does that (`rcell.core.joiner`). This module writes the borders that it reads, and reads the numbering that
-it writes into numpy arrays; it makes no Python object for a clump.
+The proved program rcell-join joins the clumps (see `rcell.core.joiner`). This module writes borders
+for rcell-join, and reads its numbering into numpy arrays, without a Python object per clump.
 """
 
 from __future__ import annotations
@@ -23,27 +23,28 @@ __all__ = ["Joined", "TileNumbers", "border_text", "join", "renumber", "sides_te
 Integers = NDArray[Any]
 
 NO_CLUMP = 0
-"""Null in a map of clumps, whose numbers begin at 1."""
+"""Null in a map of clumps, which are numbered from 1."""
 
 LEAST_WIDTH = 4
-"""The least columns of a border, whose ninth row has four numbers."""
+"""The smallest number of columns of a border, because its ninth row contains four numbers."""
 
 PIECE = 2**18
-"""The number of cells that get their numbers at a time: they need little memory, and fit into the cache of a processor."""
+"""The number of cells that are renumbered at a time, which fit in a processor's cache."""
 
 
 @dataclass(frozen=True, eq=False)
 class TileNumbers:
-    """The numbers that the clumps of a tile have in the full map, by runs of the numbering.
+    """The full map's numbers of a tile's clumps, as runs of consecutive numbers.
 
     Attributes
     ----------
     clumps : int
-        How many clumps the tile has.
+        The number of clumps in the tile.
     firsts : ndarray of int64, shape (n,)
-        Ascending: of each run the number of its first clump in the tile.
+        The tile's number of each run's first clump, ascending.
     numbers : ndarray of int64, shape (n,)
-        The number that this clump has in the full map; those after it, up to the next run, have the next ones.
+        The full map's number of each run's first clump. The following clumps, up to the next run,
+        have the following numbers.
     """
 
     clumps: int
@@ -51,7 +52,7 @@ class TileNumbers:
     numbers: Integers
 
     def looked_up(self, numbers: Integers) -> Integers:
-        """Return numbers of the full map in place of numbers of the tile, 0 for null."""
+        """Replace the tile's numbers with the full map's numbers; 0 is null."""
         if not self.clumps:
             return np.zeros(numbers.shape, dtype=np.int64)
         run = np.maximum(np.searchsorted(self.firsts, numbers, side="right") - 1, 0)
@@ -60,7 +61,7 @@ class TileNumbers:
 
 @dataclass(frozen=True, eq=False)
 class Joined:
-    """The number of clumps of the full map, and the numbers of all tiles in the order they were given."""
+    """The number of clumps in the full map, and the numbers of each tile in the given order."""
 
     clumps: int
     tiles: Sequence[TileNumbers]
@@ -69,13 +70,13 @@ class Joined:
 def border_text(
     place: Rectangle, cells: Integers, numbers: Integers, diagonal: bool = False
 ) -> bytes:
-    """Return the border of a tile as rcell-join reads it: the same bytes as `rcell-join border` writes of its cells.
+    """Return the border of a tile, with the same bytes that `rcell-join border` writes.
 
     Parameters
     ----------
     place : Rectangle
     cells : ndarray of integers, rows x cols
-        With `NULL` for null.
+        The cells of the tile, with `NULL` for null.
     numbers : ndarray of integers, rows x cols
         The numbers that r.clump gives in the tile, 0 for null.
     diagonal : bool
@@ -87,7 +88,8 @@ def border_text(
     >>> text.splitlines()[6:8], text.splitlines()[-2:]
     ([b'8 9 * *', b'1 2 * *'], [b'1 2 2 4', b'2 * * *'])
     """
-    # Clumps are numbered by their first cells: the largest number in the first rows is how many begin there.
+    # Clumps are numbered in the order of their first cells, so the largest number in the rows so
+    # far counts the clumps begun.
     begun = np.maximum.accumulate(numbers.max(axis=1))
     sides = [(slice(0, 1), slice(None)), (slice(-1, None), slice(None))]
     sides += [(slice(None), slice(0, 1)), (slice(None), slice(-1, None))]
@@ -100,7 +102,11 @@ def sides_text(
     begun: Integers,
     diagonal: bool,
 ) -> bytes:
-    """Return the border of a tile from the cells and numbers of its first and last row and column, and the clumps begun up to each row."""
+    """Return the border of a tile from its outermost cells and their clump numbers.
+
+    `sides` contains the first and last row and column; `begun` counts the clumps that begin up to
+    each row.
+    """
     lines = [
         _words(values.ravel().tolist(), null)
         for side in sides
@@ -120,14 +126,15 @@ def _words(values: Iterable[int], null: Optional[int] = None) -> list[str]:
 
 
 def join(borders: Sequence[bytes], diagonal: bool = False) -> Joined:
-    """Join the clumps of tiles to the clumps of the full map, and number these by their first cells.
+    """Join the clumps of tiles, and number them by their first cells in the full map.
 
     Parameters
     ----------
     borders : sequence of bytes
-        The borders of all tiles, as `rcell-join border` writes them, row by row of tiles from the top left (law `grids_cover`).
+        The borders of all tiles in the format of `rcell-join border`, row by row from the top left
+        (law `grids_cover`).
     diagonal : bool
-        Whether cells that touch at a corner are connected: as for the borders.
+        Whether cells that touch at a corner are connected; must be the same as for the borders.
 
     Examples
     --------
@@ -154,14 +161,15 @@ def renumber(numbers: Integers, tile: TileNumbers, out: Optional[Integers] = Non
     numbers : ndarray of integers, any shape
         Numbers that r.clump gives in the tile, 0 for null.
     tile : TileNumbers
-        What `join` found for the tile.
+        The result of `join` for the tile.
     out : ndarray of integers, the same shape, optional
-        Where to put them: it may be `numbers` itself. Its type has room for the number of clumps of the full map.
+        The array for the result, which may be `numbers`. Its type must be able to hold the number
+        of clumps in the full map.
 
     Returns
     -------
     ndarray, the same shape
-        The numbers that r.clump gives in the full map, 0 for null: `out`, or an array of int64.
+        The clump numbers in the full map, with 0 for null: `out`, or a new int64 array.
 
     Examples
     --------

@@ -1,5 +1,5 @@
 # SPDX-License-Identifier: Apache-2.0 OR GPL-2.0-or-later
-"""The measures of patches by tiles: the program measures each tile, and what a tile alone lacks along its border is added."""
+"""Measure patches in tiles: the program measures each tile, and cells on borders are corrected."""
 
 from __future__ import annotations
 
@@ -37,9 +37,12 @@ PATCH = np.dtype(
         for name in ("cells", "ends", "flanks", "core", "top", "bottom", "left", "right")
     ]
 )
-"""What the program counts of a patch; `ends` are north and south sides of cells on its border, `flanks` west and east sides."""
+"""The program's measures of a patch.
+
+`ends` counts north and south sides of cells on its border, `flanks` west and east sides.
+"""
 ZONED_PATCH = np.dtype([*PATCH.descr, ("zones", "<i4")])
-"""The same with the zone of most cells of the patch."""
+"""The measures of a patch, and the zone that contains most of its cells."""
 assert (PATCH.itemsize, ZONED_PATCH.itemsize) == (PATCH_BYTES, PATCH_BYTES + ZONE_BYTES)
 
 _JOINED_BY: dict[str, Any] = {
@@ -58,7 +61,10 @@ Bools = NDArray[np.bool_]
 
 
 def measures_of(work: TileWork, frames: Sequence[Frame]) -> list[Integers]:
-    """Return of a tile its border, as a text, the measures of its patches, those that may continue outside, and tables."""
+    """Return a tile's border, its patch measures, its open patches, and its tables.
+
+    The border is a text. Open patches may continue outside the tile.
+    """
     [question] = work.questions
     grid, *tables, patches = frames
     assert isinstance(grid, GridFrame) and isinstance(patches, PatchesFrame)
@@ -89,7 +95,7 @@ class _Tile:
     cells: Integers
 
     def classes(self, place: Rectangle) -> Integers:
-        """Return the classes of a part of the tile and its halo."""
+        """Return the classes in a rectangle of the tile and its halo."""
         null = self.block.null
         cells = place.part_of(self.outer, self.block.cells)
         mask = None if null is None else place.part_of(self.outer, null)
@@ -97,11 +103,11 @@ class _Tile:
         return np.where(is_null, NULL, cells.astype(np.int64))
 
     def numbers(self, place: Rectangle) -> Integers:
-        """Return the numbers of the patches in a part of the tile."""
+        """Return the patch numbers in a rectangle of the tile."""
         return wide(place.part_of(self.place, self.cells), NO_CLUMP)
 
     def sides(self) -> list[tuple[Rectangle, Rectangle, str]]:
-        """Return the first and last row and column, each with the cells beyond it, and the name of the sides between them."""
+        """Return each side of the tile, the cells beyond it, and the measure of its cell sides."""
         top, left, rows, cols = self.place
         low, right = top + rows - 1, left + cols - 1
         return [
@@ -112,7 +118,7 @@ class _Tile:
         ]
 
     def leave_out_inner_sides(self, rows: Integers) -> None:
-        """Leave out the sides to cells of the same class in other tiles: these are in the same patch."""
+        """Subtract sides to cells of the same class in other tiles, which are in the same patch."""
         for side, beyond, name in self.sides():
             if beyond.is_within(self.outer):
                 classes = self.classes(side)
@@ -120,7 +126,7 @@ class _Tile:
                 _add(rows[name], self.numbers(side)[is_inner], -1)
 
     def add_core_cells(self, rows: Integers, question: Question) -> None:
-        """Add the core cells near the border of the tile, where the tile alone has none."""
+        """Add core cells near the border of the tile, which only the halo can identify."""
         for band in _bands(self.place, question.depth):
             around = band.with_halo(question.reach, self.shape)
             is_core = band.part_of(around, _core(self.classes(around), question.depth))
@@ -128,7 +134,7 @@ class _Tile:
 
 
 def _bands(place: Rectangle, depth: int) -> list[Rectangle]:
-    """Return the cells of a tile that are fewer steps than this from the cells around it, each once."""
+    """Return rectangles with the cells of a tile that are within `depth` steps of its border."""
     top, left, rows, cols = place
     high, broad = min(depth, rows), min(depth, cols)
     low, far = max(rows - depth, high), max(cols - depth, broad)
@@ -141,7 +147,7 @@ def _bands(place: Rectangle, depth: int) -> list[Rectangle]:
 
 
 def _core(classes: Integers, depth: int) -> Bools:
-    """Return which cells have only cells of their class within some steps, across edges.
+    """Return which cells have only cells of their class within `depth` steps, across edges.
 
     Examples
     --------
@@ -160,7 +166,7 @@ def _core(classes: Integers, depth: int) -> Bools:
 
 
 def _add(counts: Integers, numbers: Integers, step: int) -> None:
-    """Add a step to the count of each number, as often as it is there; numbers begin at 1."""
+    """Add a step to the count of each number, for each occurrence; numbers begin at 1."""
     found, times = np.unique(numbers, return_counts=True)
     counts[found - 1] += step * times
 
@@ -169,9 +175,9 @@ def _add(counts: Integers, numbers: Integers, step: int) -> None:
 
 
 class PatchSum:
-    """Patch measures collected from all tiles.
+    """Collects patch measures from all tiles.
 
-    Patches that are not wanted are left out at once, unless they may continue in other tiles.
+    Excluded patches are dropped immediately, unless they may continue in other tiles.
 
     Parameters
     ----------
@@ -191,7 +197,7 @@ class PatchSum:
     def add(
         self, tile: int, place: Rectangle, rows: Integers, waiting: Integers, tables: list[Integers]
     ) -> None:
-        """Take the patches of a tile, those that may continue outside, and tables that begin with their numbers."""
+        """Add the patches of a tile, its open patches, and tables that begin with the patch."""
         is_open = np.zeros(len(rows), np.bool_)
         is_open[waiting - 1] = True
         kept = is_open | (rows["cells"] >= self._fewest)
@@ -204,7 +210,7 @@ class PatchSum:
         self._tiles[tile] = np.flatnonzero(kept) + 1, rows, tables
 
     def join(self, numbers_of: Callable[[int, Integers], Integers]) -> None:
-        """Join the patches, by the numbers that the patches of each tile have in the full map."""
+        """Join the patches, using their numbers in the full map."""
         found = [(tile, *self._tiles.pop(tile)) for tile in sorted(self._tiles)]
         numbers = np.concatenate([numbers_of(tile, own) for tile, own, _, _ in found])
         order = np.argsort(numbers, kind="stable")
@@ -225,7 +231,7 @@ class PatchSum:
 
 
 def _summed(table: Integers) -> Integers:
-    """Return a table of cells with each combination once."""
+    """Add up the cells of equal combinations in a table."""
     table = table[order_of(table[:, :-1])]
     first = places_of(table[:, :-1])
     found = table[first]

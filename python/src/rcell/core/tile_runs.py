@@ -1,9 +1,9 @@
 # SPDX-License-Identifier: Apache-2.0 OR GPL-2.0-or-later
-"""A script over the tiles of maps, with the outputs of one run over the full maps.
+"""Run a script over tiles, with the same outputs as one run over the full maps.
 
-Tables add up, and maps are put together. An r.clump is processed first, tile by tile: its clumps
-are joined, and its map is then one of the given maps. That tiles give the same is proved in the
-crate `cell_parts` of this project; each step names its law.
+Tables are added up, and maps are assembled. Each r.clump is processed first, tile by tile: its
+clumps are joined, and its map is then treated as a given map. The crate `cell_parts` of this
+project proves that tiles have the same results; each step names its law.
 """
 
 from __future__ import annotations
@@ -44,7 +44,7 @@ Put = Callable[[Rectangle, list[Integers]], list[Integers]]
 
 
 def demand_of(plan: Sequence[Statement], maps: Mapping[str, Source]) -> Demand:
-    """Return the memory that a script needs for each cell of a tile."""
+    """Return the memory that a script needs per cell of a tile."""
     script = TileScript.of(plan, outputs_in(plan), maps)
     grids = sum(output.command == "r.out.ascii" for output in script.outputs)
     clumps = sum(statement.command == "r.clump" for statement in plan)
@@ -52,7 +52,7 @@ def demand_of(plan: Sequence[Statement], maps: Mapping[str, Source]) -> Demand:
 
 
 def outputs_in(plan: Sequence[Statement]) -> list[Statement]:
-    """Return the statements of a plan that write something."""
+    """Return the statements of a plan that write an output."""
     return [statement for statement in plan if statement.command in ("r.stats", "r.out.ascii")]
 
 
@@ -62,14 +62,14 @@ def run_tiles(
     demand: Demand,
     fold: Fold | None = None,
 ) -> list[Output]:
-    """Return the outputs of a script over maps of one region, in tiles.
+    """Run a script over maps of one region in tiles, and return its outputs.
 
     Parameters
     ----------
     plan : sequence of Statement
         Of the script.
     maps : mapping of str to Source
-        All of them have `window`.
+        The maps, all of which must define `window`.
     demand : Demand
     fold : Fold, optional
         See `execute`.
@@ -77,9 +77,9 @@ def run_tiles(
     Raises
     ------
     OutOfMemory, WriteFailed
-        There is too little memory for a tile, or too little room for the cells of a map.
+        There is not enough memory for a tile, or disk space for the cells of a map.
     Refused, BadMap, Killed, MissingProgram, WrongProgram
-        As from one run.
+        As in one run.
     """
     crew_cluster = cluster()
     size, workers = tile_size(maps, demand, crew_cluster)
@@ -88,7 +88,7 @@ def run_tiles(
     clumps = [statement for statement in plan if statement.command == "r.clump"]
     outputs = outputs_in(plan)
     if clumps:
-        find_joiner()  # it is needed at the end, and missed at the beginning
+        find_joiner()  # needed only at the end, but reported now if it is missing
         check_files(len(places))
     states = _states(maps)
     numbered = {clump.made for clump in clumps}
@@ -126,9 +126,9 @@ def ask_tiles(
     ----------
     question : Question
     plan : sequence of Statement
-        Of a script that numbers the patches and writes them as a map, and counts tables of them.
+        The plan of a script that numbers patches, writes them as a map, and counts tables of them.
     maps, demand
-        See `run_tiles`, also for the errors.
+        See `run_tiles`, which also lists the errors.
     fold : PatchFold
     """
     found_cluster = cluster()
@@ -146,7 +146,7 @@ def ask_tiles(
 
 
 def _states(maps: Mapping[str, Source]) -> dict[str, str]:
-    """Return the states of the files that are read."""
+    """Return the states of the files of these maps."""
     states = {}
     for source in maps.values():
         if is_file(source):
@@ -162,7 +162,7 @@ def _check_states(states: Mapping[str, str]) -> None:
 
 @contextmanager
 def _first_bad_cell(maps: Mapping[str, Source]) -> Iterator[None]:
-    """If a cell of a map is rejected, raise the error of the first one in reading order, as one run does."""
+    """Raise the error of the first invalid cell in reading order, as one run does."""
     try:
         yield
     except BadMap as error:
@@ -179,7 +179,7 @@ def _is_map_of(output: Statement, names: set[str]) -> bool:
 
 
 class _Tiles:
-    """The tiles of a call, and the maps that are known so far.
+    """The tiles of a call, and the maps known so far.
 
     Parameters
     ----------
@@ -198,17 +198,17 @@ class _Tiles:
     ) -> None:
         self._crew, self._maps, self._places, self._shape = crew, maps, places, shape
         self._watches = {name: Watch(name, source, shape) for name, source in maps.items()}
-        self._unread = dict.fromkeys(maps)  # the maps whose cells no run has checked
-        self._call = uuid4().hex  # by which a worker of a cluster knows the call
+        self._unread = dict.fromkeys(maps)  # the maps whose cells have not been checked by any run
+        self._call = uuid4().hex  # identifies the call on the workers of a cluster
         self._shelf = Shelf.of(work().resume, maps, shape)
 
     def finish(self) -> None:
-        """Warn of what was seen along the border of the maps."""
+        """Issue the warnings about nodata values along the border of the maps."""
         for watch in self._watches.values():
             watch.finish()
 
     def outputs(self, plan: Sequence[Statement], outputs: Sequence[Statement]) -> list[Output]:
-        """Return the outputs of statements, once the maps of clumps are known."""
+        """Return the outputs of statements; all maps of clumps must be known."""
         script = self._script(plan, outputs)
         kinds_of_results = outputs_of([is_counted(statement) for statement in outputs])
         sums: list[TableSum | _Grid] = [
@@ -228,7 +228,10 @@ class _Tiles:
     def fold(
         self, plan: Sequence[Statement], clump: Statement, stats: Statement, fold: Fold
     ) -> None:
-        """Give the table of an r.stats over clumps to a fold, tile by tile: no map of the clumps is ever made."""
+        """Give the table of an r.stats over clumps to a fold, tile by tile.
+
+        The map of the clumps is never created.
+        """
         script = self._script(plan, [clump, stats])
         diagonal = is_diagonal(clump)
         text = partial(script.clump_text, clump, stats=stats)
@@ -241,7 +244,7 @@ class _Tiles:
         fold.join(lambda index, numbers: tiles[index].looked_up(numbers))
 
     def measure(self, plan: Sequence[Statement], question: Question, fold: PatchFold) -> None:
-        """Give the measures of patches to a fold, and tables that begin with their numbers, tile by tile."""
+        """Give patch measures, and tables whose first column is the patch, to a fold by tile."""
         script = self._script(plan, outputs_in(plan))
         borders = [b""] * len(self._places)
 
@@ -256,9 +259,10 @@ class _Tiles:
         fold.join(lambda index, numbers: tiles[index].looked_up(numbers))
 
     def add_clumps(self, plan: Sequence[Statement], clump: Statement, is_last: bool) -> None:
-        """Make the map of an r.clump, and add it to the maps that are known.
+        """Compute the map of an r.clump, and add it to the known maps.
 
-        The numbers of a tile are kept until the clumps are joined, and are then replaced by the numbers of the full map.
+        Each tile's numbers are kept until the clumps are joined. They are then replaced with the
+        full map's numbers.
         """
         script = self._script(plan, [clump])
         diagonal = is_diagonal(clump)
@@ -297,16 +301,17 @@ class _Tiles:
         keep: Put | None = None,
         question: Question | None = None,
     ) -> Iterator[tuple[int, list[Integers]]]:
-        """Yield the results of all tiles as they come, each with the index of its tile.
+        """Yield the index and the results of each tile as tiles complete.
 
-        Maps are read if the script needs them, and in the last run also those that no run has read: their cells are checked.
-        Results that are put somewhere at once are too large to be kept for a call that continues.
+        A run reads the maps that the script needs. The last run also reads all maps that no run has
+        read, to check their cells. Results that are stored elsewhere immediately are too large to
+        be kept for resuming.
         """
         read = script.reads
         if is_last:
             read |= set(self._unread)
         maps = {name: source for name, source in self._maps.items() if name in read}
-        if not maps:  # a script that reads no map runs over the first
+        if not maps:  # a script that reads no map runs over the first map
             name = next(iter(self._maps))
             maps = {name: self._maps[name]}
         watched = tuple(name for name in maps if name in self._unread)
@@ -333,7 +338,7 @@ class _Tiles:
             del self._unread[name]
 
     def clumps(self, output: Statement) -> Output:
-        """Return the map of clumps that a statement writes, once no other one reads it."""
+        """Return the map of clumps that a statement writes, after its last use."""
         source = self._maps[output.inputs[0]]
         assert isinstance(source, ArrayMap)
         for place in self._places if source.nodata_value == NO_CLUMP else ():
@@ -347,7 +352,7 @@ class _Tiles:
         return Rectangle(0, 0, *self._shape)
 
     def _numbered(self, numbers: Integers, whole: Joined) -> Integers:
-        """Replace the numbers of tiles with the numbers of the full map, in place if these fit."""
+        """Replace the tiles' numbers with the full map's numbers, in place if they fit."""
         is_wide = whole.clumps > MAX_CATEGORY
         target = cells_for(self._shape, np.int64) if is_wide else numbers
         tiles = dict(zip(self._places, whole.tiles))
@@ -364,7 +369,7 @@ class _Tiles:
 
 @dataclass
 class _Grid:
-    """A map that is put together from tiles: of bytes, until a tile has cells that do not fit."""
+    """A map assembled from tiles; it contains bytes until a tile's cells do not fit in bytes."""
 
     shape: tuple[int, int]
 
@@ -373,7 +378,7 @@ class _Grid:
         self._done: list[Rectangle] = []
 
     def put(self, place: Rectangle, cells: Integers) -> None:
-        """Put the cells of a tile in their place."""
+        """Write the cells of a tile into the map."""
         full = Rectangle(0, 0, *self.shape)
         if cells.dtype == np.int32 and self.cells.dtype == np.uint8:
             narrow, self.cells = self.cells, cells_for(self.shape, np.int32)
@@ -392,7 +397,7 @@ def _output(statement: Statement, total: TableSum | _Grid) -> Output:
 
 
 def table_output(statement: Statement, values: Any) -> Output:
-    """Return the output of an r.stats, of a table that has counts even if the statement has none."""
+    """Return the output of an r.stats, without counts if the statement has no flag `-c`."""
     inputs, options = statement.inputs, statement.options
     has_counts = "c" in options
     values = values if has_counts else values[:, : len(inputs)]

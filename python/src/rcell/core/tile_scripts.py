@@ -1,5 +1,5 @@
 # SPDX-License-Identifier: Apache-2.0 OR GPL-2.0-or-later
-"""Scripts for tiles, written from the program's plan of a script: its statements, and what they need."""
+"""Write the scripts for tiles, from the program's plan of a script."""
 
 from __future__ import annotations
 
@@ -16,7 +16,7 @@ __all__ = ["TileScript", "is_counted", "is_diagonal"]
 
 
 def _short_names(taken: Iterable[str]) -> Iterator[str]:
-    """Yield names that no map has, as short as `row()`: a line has at most 65,535 bytes, and no more in a tile."""
+    """Yield unused map names as short as `row()`, so that lines do not become longer."""
     known = set(taken)
     return (
         name for name in map("".join, product("_", *[ascii_lowercase] * 4)) if name not in known
@@ -32,7 +32,10 @@ def _with_calls(statement: Statement, written: Mapping[str, str]) -> str:
 
 
 def _counting(stats: Statement, inputs: Sequence[str]) -> str:
-    """Return the line of an r.stats over other maps, without labels, and with counts if these or `halo_cells` are needed."""
+    """Return the line of an r.stats over these maps, without labels.
+
+    Cells are counted if the statement or the correction for the halo needs counts.
+    """
     flags = set(stats.options) - {"l"}
     if is_counted(stats):
         flags.add("c")
@@ -44,30 +47,35 @@ def _counting(stats: Statement, inputs: Sequence[str]) -> str:
 
 
 def is_counted(stats: Statement) -> bool:
-    """Return whether tiles count the cells of a table: if it has counts, or an entry of nulls, which cells of a halo also have."""
+    """Return whether tiles count the cells of a table.
+
+    They do if the table has counts, or may have an entry of nulls, which includes the halo's cells.
+    """
     return "c" in stats.options or not {"n", "N"} & {*stats.options}
 
 
 @dataclass(frozen=True)
 class TileScript:
-    """Statements that give the same result for each tile with its halo as for the full map.
+    """Statements that have the same result in a tile with its halo as in the full map.
 
-    In a tile, `row()` and `col()` count from its corner, and `nrows()` and `ncols()` are its size. So `nrows()` and `ncols()`
-    are replaced by the size of the full map, and `row()` and `col()` by maps that are made first: `row() + above` and
-    `col() + left`, with the numbers of rows above and columns to the left of the tile. By the law `reach_is_enough`, such an
-    expression has the value of the full map wherever all cells that it reads are in the tile or outside the full map.
+    In a tile, `row()` and `col()` count from the tile's corner, and `nrows()` and `ncols()` are its
+    size. The text therefore replaces `nrows()` and `ncols()` with the size of the full map, and
+    `row()` and `col()` with maps that are created first: `row() + above` and `col() + left`, with
+    the numbers of rows above and columns left of the tile. By the law `reach_is_enough`, an
+    expression then has the full map's value if all cells that it reads are in the tile or outside
+    the full map.
 
-    Tables count only the cells of the tile: the cells of the halo are null in the maps that they read, and `halo_cells` says how
-    many these are.
+    Tables count only the cells of the tile: the maps that they read are null in the halo, and the
+    number of halo cells is subtracted.
 
     Attributes
     ----------
     statements : tuple of Statement
-        The ones that make what the outputs need, in order.
+        The statements that create the maps for the outputs, in order.
     outputs : tuple of Statement
-        The ones that write, each an r.stats or an r.out.ascii, in order.
+        The statements that write, each an r.stats or an r.out.ascii, in order.
     spare : tuple of str
-        Names that no map of the script has.
+        Names that the script does not use.
     """
 
     statements: tuple[Statement, ...]
@@ -81,7 +89,7 @@ class TileScript:
         outputs: Sequence[Statement],
         names: Iterable[str],
     ) -> TileScript:
-        """Return some outputs of a plan, and the statements that they depend on, over maps of some names."""
+        """Return the script for these outputs of a plan, with the statements that they need."""
         used: list[Statement] = []
         wanted: set[str] = set()
         for output in outputs:
@@ -97,7 +105,10 @@ class TileScript:
 
     @property
     def reach(self) -> Margin:
-        """The halo that a tile needs for all reads: beyond a tile even a map that depends on no file is null."""
+        """The halo that a tile needs for all reads.
+
+        Even maps that depend on no file need a halo, because all maps are null outside the tile.
+        """
         reaches: dict[str, Margin] = {}
         widest = NO_MARGIN
         for statement in (*self.statements, *self.outputs):
@@ -112,7 +123,7 @@ class TileScript:
 
     @property
     def reads(self) -> set[str]:
-        """The maps that are read, whether they are given or made."""
+        """The maps that are read, both given and created."""
         names: set[str] = set()
         for statement in (*self.statements, *self.outputs):
             names.update(statement.reads)
@@ -120,16 +131,16 @@ class TileScript:
 
     @property
     def maps(self) -> int:
-        """The number of maps that it makes for a tile."""
+        """The number of maps that the script creates for a tile."""
         return len(self.statements) + len(self.calls & {"row", "col"})
 
     @property
     def calls(self) -> set[str]:
-        """The functions that its statements call, of those that depend on the place of a cell."""
+        """The position functions that its statements call."""
         return {call.function for statement in self.statements for call in statement.calls}
 
     def text(self, place: Rectangle, outer: Rectangle, shape: tuple[int, int]) -> str:
-        """Return the script for a tile, given with its halo, of a full map of some rows and columns."""
+        """Return the script for a tile with its halo, in a full map of this shape."""
         counted: list[str] = []
         for output in self.outputs:
             if _is_table(output):
@@ -150,9 +161,9 @@ class TileScript:
         shape: tuple[int, int],
         stats: Optional[Statement] = None,
     ) -> str:
-        """Return the script that writes only the patch numbers of a tile, and then the map that they number.
+        """Return a script that writes a tile's clump numbers and the map that they number.
 
-        Before them comes the table of an r.stats over these numbers, if one is given.
+        If an r.stats over the clumps is given, its table is written first.
         """
         read = list(clump.inputs)
         if stats is not None:
@@ -175,7 +186,10 @@ class TileScript:
         shape: tuple[int, int],
         names: Sequence[str],
     ) -> tuple[list[str], dict[str, str]]:
-        """Return the statements for a tile, and the names of maps that are null in its halo, in place of some."""
+        """Return the statements for a tile, and a masked map for each name.
+
+        A masked map is null in the halo.
+        """
         row, col, inside, *others = self.spare
         lines = []
         if "row" in self.calls:
@@ -212,7 +226,7 @@ def _is_table(statement: Statement) -> bool:
 
 
 def _within(place: Rectangle, outer: Rectangle) -> str:
-    """Return an expression that is 1 in a tile, and null in the halo around it."""
+    """Return an expression that is 1 in a tile and null in its halo."""
     above, before = place.top - outer.top, place.left - outer.left
     return (
         f"if(row() > {above} && row() <= {above + place.rows} && "

@@ -1,5 +1,5 @@
 # SPDX-License-Identifier: Apache-2.0 OR GPL-2.0-or-later
-"""Tables of tiles, added up to the table of the full map."""
+"""Add up the tables of tiles to the table of the full map."""
 
 from __future__ import annotations
 
@@ -15,15 +15,15 @@ __all__ = ["TableSum", "in_order", "order_of"]
 
 Integers = NDArray[np.int64]
 
-# How many rows wait before they are added up.
+# The number of rows to collect before they are added up.
 _WAITING = 1 << 20
 _LIMIT = 2**62
-# Adding up is worth while if so large a part of the rows is left, or a smaller one.
+# Adding up early is worthwhile if at most this share of the rows remains.
 _SHRUNK = 0.8
 
 
 class TableSum:
-    """The sum of tables, each of combinations of categories in ascending order, and their numbers of cells if these are counted.
+    """The sum of tables, whose rows are sorted combinations of categories, with or without cells.
 
     Parameters
     ----------
@@ -53,23 +53,23 @@ class TableSum:
             self._sum()
 
     def table(self) -> Integers:
-        """Return the sum: each combination once, in ascending order, null last."""
+        """Return the sum, with each combination once in ascending order, null last."""
         self._sum()
         return self._parts[0]
 
     def _sum(self) -> None:
         if len(self._parts) > 1:
             rows = np.concatenate(self._parts)
-            self._parts = []  # at most these rows are in memory twice
+            self._parts = []  # so that at most these rows are in memory twice
             self._parts = [_added(rows, self._is_counted)]
         before, self._rows = self._rows, len(self._parts[0])
-        # If few combinations are in several tiles, adding them up before the end saves no memory.
+        # If few combinations occur in several tiles, adding up before the end saves no memory.
         is_worth_it = self._rows < _SHRUNK * before
         self._most = max(2 * self._rows, _WAITING) if is_worth_it else sys.maxsize
 
 
 def _added(rows: Integers, is_counted: bool) -> Integers:
-    """Return rows in order, with equal combinations added."""
+    """Sort rows and add up equal combinations."""
     columns = np.ascontiguousarray(rows.T)
     maps = len(columns) - is_counted
     if not columns.shape[1]:
@@ -90,7 +90,7 @@ def _added(rows: Integers, is_counted: bool) -> Integers:
 
 
 def in_order(table: Integers) -> Integers:
-    """Return a table with its rows in ascending order, null last."""
+    """Sort the rows of a table in ascending order, null last."""
     ordered: Integers = table[order_of(table)]
     return ordered
 
@@ -102,18 +102,18 @@ def order_of(classes: Integers) -> NDArray[np.intp]:
 
 
 def _order_of_columns(columns: Integers, keys: Optional[Integers]) -> NDArray[np.intp]:
-    """Return the order of rows by their columns, the first of which counts most."""
+    """Return the indices that sort rows by their columns, beginning with the first column."""
     if keys is None:
         ordered = np.where(columns == NULL, np.iinfo(np.int64).max, columns)
         lexical: NDArray[np.intp] = np.lexsort(ordered[::-1])
         return lexical
-    # Tables of tiles are runs in ascending order, which this sort merges.
+    # A stable sort merges the tables of tiles, which are already sorted.
     order: NDArray[np.intp] = np.argsort(keys, kind="stable")
     return order
 
 
 def _keys_of(columns: Integers) -> Optional[Integers]:
-    """Return a number for each row, in the order of the rows; None if 64 bits are too few."""
+    """Return a sort key for each row; None if the keys need more than 64 bits."""
     keys = np.zeros(columns.shape[1], np.int64)
     span = 1
     for column in list(columns[::-1]) if keys.size else []:

@@ -1,5 +1,5 @@
 # SPDX-License-Identifier: Apache-2.0 OR GPL-2.0-or-later
-"""The work on one tile: a script over the tile and its halo, in a thread of this process or on another machine."""
+"""Process one tile: run a script over the tile and its halo, in a thread or on another machine."""
 
 from __future__ import annotations
 
@@ -49,21 +49,21 @@ class TileWork:
     shape : tuple of two ints
         Of the full map.
     maps : mapping of str to any
-        Maps that have at least the cells of the tile and its halo.
+        Maps that contain at least the cells of the tile and its halo.
     watched : tuple of str
         The maps whose border is watched for nodata values.
     results : callable
-        What is kept of the frames of the script.
+        Extracts the results from the frames of the script.
     words : str
-        How the caller writes options.
+        The form in which the caller writes options.
     call : str
-        Another one for each call.
+        A unique text for each call.
     path : str
-        Where the results are kept, if they are.
+        The path for keeping the results, or empty.
     known : TileDone, optional
-        The results, if they were kept.
+        The results that an earlier call kept, if any.
     questions : tuple of Question
-        If there are some, the program gets the tile without its halo.
+        Questions about patches. With questions, the program reads the tile without its halo.
     """
 
     text: str
@@ -82,7 +82,7 @@ class TileWork:
 
 @dataclass(frozen=True)
 class TileDone:
-    """What became of a tile: its results, the counts of nodata values along the border, and warnings."""
+    """The outcome of a tile: its results, counts of nodata along the border, and warnings."""
 
     results: list[Integers]
     counts: Mapping[str, NDArray[np.int64]] = field(default_factory=dict)
@@ -90,7 +90,7 @@ class TileDone:
 
 
 def run_work(work: TileWork) -> TileDone:
-    """Run the script of a tile, unless its results are known.
+    """Run the script of a tile, unless its results are already known.
 
     Raises
     ------
@@ -113,7 +113,7 @@ def run_work(work: TileWork) -> TileDone:
 
 
 def _frames(work: TileWork, watches: Mapping[str, Watch]) -> list[protocol.Frame]:
-    """Run the program over the tile with its halo, and return what it writes."""
+    """Run the program over the tile with its halo, and return the frames."""
     sent = [_sent(work, name, source, watches) for name, source in work.maps.items()]
     try:
         with program_errors(work.text, list(work.maps), path := find_pipe()):
@@ -125,12 +125,12 @@ def _frames(work: TileWork, watches: Mapping[str, Watch]) -> list[protocol.Frame
 
 
 def _read(source: Any, outer: Rectangle) -> Piece:
-    """Return the cells of a tile with its halo."""
+    """Read the cells of a tile with its halo."""
     return source if isinstance(source, Piece) else Piece.of(source, outer)
 
 
 def _sent(work: TileWork, name: str, source: Piece, watches: Mapping[str, Watch]) -> protocol.Map:
-    """Return a map of the tile with its halo, and watch the border of the full map in the tile."""
+    """Convert a map of the tile with its halo, and count nodata along the full map's border."""
     place, outer, block = work.place, work.outer, source.block
     null = None if block.null is None else place.part_of(outer, block.null)
     own = replace(block, cells=place.part_of(outer, block.cells), null=null)
@@ -152,23 +152,26 @@ def _sent(work: TileWork, name: str, source: Piece, watches: Mapping[str, Watch]
 
 
 def _contiguous(block: Block) -> Block:
-    """Return a block whose rows follow each other in memory."""
+    """Return a block whose arrays are contiguous in memory."""
     null = None if block.null is None else np.ascontiguousarray(block.null)
     return replace(block, cells=np.ascontiguousarray(block.cells), null=null)
 
 
-# What is kept of frames
+# Results
 
 
 def outputs_of(counted: Sequence[bool]) -> partial[list[Integers]]:
-    """Return what keeps the tables and maps of a tile without its halo; says of each table whether its cells are counted."""
+    """Return a function that extracts a tile's tables and maps without the halo.
+
+    `counted` contains whether each table counts cells.
+    """
     return partial(_outputs, tuple(counted))
 
 
 def _outputs(
     counted: Sequence[bool], work: TileWork, frames: Sequence[protocol.Frame]
 ) -> list[Integers]:
-    """Return the cells of the maps and the tables of a tile."""
+    """Return the tables and the cells of maps of a tile."""
     results = []
     for frame, is_counted in zip(frames, counted):
         if isinstance(frame, GridFrame):
@@ -179,12 +182,12 @@ def _outputs(
 
 
 def clumps_of(diagonal: bool) -> partial[list[Integers]]:
-    """Return what keeps the border of a tile, as a text, and the numbers of its clumps."""
+    """Return a function that extracts a tile's border, as a text, and its clump numbers."""
     return partial(_clumps, diagonal)
 
 
 def _clumps(diagonal: bool, work: TileWork, frames: Sequence[protocol.Frame]) -> list[Integers]:
-    """Return the bytes of a tile's border, and its clumps, from the maps of its clumps and of its classes."""
+    """Return the border text and the clump numbers of a tile, from its clumps and classes."""
     numbers, cells = frames
     assert isinstance(numbers, GridFrame) and isinstance(cells, GridFrame)
     clumps = wide(_cells_of(numbers, work), NO_CLUMP)
@@ -193,7 +196,10 @@ def _clumps(diagonal: bool, work: TileWork, frames: Sequence[protocol.Frame]) ->
 
 
 def patches_of(diagonal: bool, is_counted: bool) -> partial[list[Integers]]:
-    """Return what keeps the border of a tile, as a text, a table of its clumps, and which of them may continue outside."""
+    """Return a function that extracts a tile's border, clump table and open clumps.
+
+    The border is a text. Open clumps may continue outside the tile.
+    """
     return partial(_patches, diagonal, is_counted)
 
 
@@ -208,9 +214,10 @@ def _patches(
 
 
 def _cells_of(frame: GridFrame, work: TileWork) -> Integers:
-    """Return the cells of a tile from a map of the tile and its halo.
+    """Return the tile's cells from a map of the tile and its halo.
 
-    They are the full map's, by the law `halo_is_enough`, or `reach_is_enough` if the script uses rows and columns.
+    By the law `halo_is_enough` (or `reach_is_enough`, if the script uses rows and columns), they
+    are the full map's cells.
     """
     cells = np.asarray(frame.cells).reshape(frame.rows, frame.cols)
     if work.place == work.outer:
@@ -219,7 +226,7 @@ def _cells_of(frame: GridFrame, work: TileWork) -> Integers:
 
 
 def wide(cells: Integers, null: int) -> Integers:
-    """Return cells as int32 with another number for null."""
+    """Convert cells to int32, with this number for null."""
     own = protocol.NULL_BYTE if cells.dtype == np.uint8 else NULL
     wide_cells: Integers = cells.astype(np.int32)
     np.copyto(wide_cells, null, where=cells == own)
@@ -227,7 +234,10 @@ def wide(cells: Integers, null: int) -> Integers:
 
 
 def _table_of(frame: protocol.Frame, work: TileWork, is_counted: bool) -> Integers:
-    """Return the table of a tile without its halo, whose cells are null in all maps (law `tables_add_up`)."""
+    """Return a tile's table without its halo, whose cells are null in all maps.
+
+    The halo's cells are subtracted from the entry of nulls (law `tables_add_up`).
+    """
     assert isinstance(frame, protocol.TableFrame)
     table: Integers = entries_of(frame)
     halo = work.outer.cells - work.place.cells if is_counted else 0

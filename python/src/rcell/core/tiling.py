@@ -1,5 +1,5 @@
 # SPDX-License-Identifier: Apache-2.0 OR GPL-2.0-or-later
-"""One run or tiles: which of the two a call uses, and how large the tiles are."""
+"""Decide whether a call uses one run or tiles, and how large the tiles are."""
 
 from __future__ import annotations
 
@@ -31,41 +31,41 @@ __all__ = [
     "working",
 ]
 
-# Below it, starting programs costs more than it saves.
+# Maps with fewer cells use one run, because starting more programs would cost more than it saves.
 SMALL_CELLS = 10_000_000
-# The sides of tiles: with smaller ones halos and programs cost time, with larger ones memory.
+# The sides of tiles. Smaller tiles cost time for halos and programs, larger tiles cost memory.
 LEAST_SIDE, USUAL_SIDE, MOST_SIDE = 256, 1_024, 4_096
-# Tiles for each worker: with several, none waits long for the last one.
+# The number of tiles per worker. With several tiles, no worker waits long for the last tile.
 TILES_EACH = 4
-# The part of the free memory that tiles may take.
+# The share of free memory that tiles may use.
 SHARE = 0.8
-# Bytes of a program and its buffers.
+# The memory of a program and its buffers, in bytes.
 PROGRAM_BYTES = 4 << 20
-# Bytes a cell that the program needs for a map without runs of equal cells, and while it clumps one.
+# The program's memory in bytes per cell, for a map without runs of equal cells and for clumping.
 MAP_BYTES, CLUMP_BYTES = 4.15, 4.0
 _TEST_SIZE = "RCELL_TEST_TILES"
 
 
 @dataclass(frozen=True)
 class Work:
-    """How a call works.
+    """The settings for processing a call.
 
     Attributes
     ----------
     workers : int or None
-        The number of tiles that are processed at a time; None for one for each processor, or for
-        the current client of Dask.
+        The number of tiles to process at a time; None for one tile per processor, or for the
+        current Dask client.
     client : distributed.Client or None
-        The client whose workers work on tiles.
+        The client whose workers process tiles.
     resume : str or None
         A folder that keeps the results of finished tiles.
     size : tuple of two ints or None
-        Rows and columns of tiles, for tests: then all maps are cut.
+        The rows and columns of tiles, for tests. All maps are then cut into tiles.
     is_dry : bool
-        Whether the call ends with a `DryRun` when it would begin to read.
+        Whether the call raises `DryRun` instead of beginning to read.
     engine : callable or None
-        A function that returns outputs instead of running the program: of a script, maps, names of
-        requested maps, and a fold.
+        A function that returns outputs instead of the program. Its arguments are a script, maps,
+        names of requested maps, and a fold.
     """
 
     workers: Optional[int] = None
@@ -80,7 +80,7 @@ _work: contextvars.ContextVar[Work] = contextvars.ContextVar("rcell.work", defau
 
 
 def work() -> Work:
-    """Return how the current call works."""
+    """Return the settings of the current call."""
     current = _work.get()
     size = os.environ.get(_TEST_SIZE)
     if size and current.size is None:
@@ -97,7 +97,7 @@ def working(
     is_dry: bool = False,
     engine: Optional[Callable[..., Any]] = None,
 ) -> Iterator[None]:
-    """Set how the calls in this block work; settings that are not given are unchanged."""
+    """Change settings for the calls in this block; other settings stay unchanged."""
     before = _work.get()
     count, client = before.workers, before.client
     if workers is not None:
@@ -121,7 +121,10 @@ def working(
 
 
 def cluster() -> Optional[Cluster]:
-    """Return the cluster of the current call: the given client's or, unless `workers` is a number, the current client's."""
+    """Return the cluster of the current call, or None.
+
+    It is the given client's cluster or, unless `workers` is a number, the current client's.
+    """
     current = work()
     client = current.client
     if client is None and current.workers is None:
@@ -130,13 +133,13 @@ def cluster() -> Optional[Cluster]:
 
 
 class DryRun(Exception):
-    """Raised to report how a call would work, in place of its result; the argument is a text."""
+    """Raised instead of a result to report the plan of a call; the argument is the plan."""
 
 
 def describe(
     plan: Sequence[Statement], maps: Mapping[str, Source], demand: Demand, reads: int
 ) -> str:
-    """Return how a script over maps would run: its tiles, their memory, and what is read how often."""
+    """Describe how a script would run: its tiles, their memory, and the maps it would read."""
     rows, cols = next(iter(maps.values())).region.shape
     lines = [f"{rows:,} rows and {cols:,} columns: {rows * cols:,} cells"]
     if is_small(maps) or takes_one_run(plan, maps, demand):
@@ -164,12 +167,12 @@ def _megabytes(count: int) -> str:
 
 @dataclass(frozen=True)
 class Demand:
-    """The memory that a tile needs per cell of it, halo included.
+    """The memory that a tile needs per cell, including its halo.
 
     Attributes
     ----------
     bytes : float
-        Bytes a cell.
+        The number of bytes per cell.
     reach : Margin
         The halo.
     """
@@ -186,25 +189,28 @@ class Demand:
         clumps: int,
         reach: Margin,
     ) -> Demand:
-        """Return the demand of a script that makes some maps, of which some are clumps, and writes some."""
+        """Return the demand of a script, from its inputs and its numbers of maps and clumps."""
         read = sum(_read_bytes(source) for source in maps.values())
         program = MAP_BYTES * (len(maps) + results) + CLUMP_BYTES * clumps
-        # A map that is written is there twice: as it came, and in its place.
+        # An output map is in memory twice: in the response and in its result.
         return cls(read + program + 8 * grids, reach)
 
     def of_tile(self, rows: int, cols: int) -> int:
-        """Return the bytes of a tile and its program."""
+        """Return the memory of a tile and its program in bytes."""
         up, down, left, right = self.reach
         cells = (rows + up + down) * (cols + left + right)
         return PROGRAM_BYTES + math.ceil(self.bytes * cells)
 
 
-# Of a cell, in the masks with which cells are checked.
+# The bytes per cell of the masks for checking cells.
 _CHECKING_BYTES = 3
 
 
 def _read_bytes(source: Source) -> int:
-    """Return the bytes of a cell while it is read: cells of more than two bytes are checked, and copied."""
+    """Return the bytes per cell while reading.
+
+    Cells of more than two bytes are checked and copied.
+    """
     size = source.dtype.itemsize
     if size > 2:
         size += size + _CHECKING_BYTES
@@ -212,16 +218,16 @@ def _read_bytes(source: Source) -> int:
 
 
 def is_small(maps: Mapping[str, Source]) -> bool:
-    """Return whether maps are so small that one run is the fastest way."""
+    """Return whether maps are so small that one run is fastest."""
     rows, cols = shape = next(iter(maps.values())).region.shape
     return work().size is None and rows * cols <= SMALL_CELLS and fits_one_run(shape)
 
 
 def takes_one_run(plan: Sequence[Statement], maps: Mapping[str, Source], demand: Demand) -> bool:
-    """Return whether maps that are not small are still processed in one run.
+    """Return whether maps that are not small are nevertheless processed in one run.
 
-    A table with `-1` lists cells, which tiles cannot. Texts can't be read in parts. Tiles are no
-    faster with one processor.
+    A table with `-1` lists cells, which tiles cannot do. Text grids cannot be read in windows. With
+    one processor, tiles are not faster.
     """
     if any("1" in statement.options for statement in plan):
         return True
@@ -238,14 +244,15 @@ def takes_one_run(plan: Sequence[Statement], maps: Mapping[str, Source], demand:
 def tile_size(
     maps: Mapping[str, Source], demand: Demand, cluster: Optional[Cluster] = None
 ) -> tuple[tuple[int, int], int]:
-    """Return the rows and columns of tiles, and how many are processed at a time.
+    """Return the rows and columns of tiles, and the number of tiles to process at a time.
 
-    Tiles are squares; bands of whole rows if the first map keeps whole rows together, since each tile would have to read them whole.
+    Tiles are squares, or bands of complete rows if the first map stores complete rows, because each
+    tile would have to read them completely.
 
     Raises
     ------
     OutOfMemory
-        Even the smallest tile needs more memory than is free.
+        Even the smallest tile needs more memory than is available.
     """
     current = work()
     first = next(iter(maps.values()))
@@ -270,7 +277,7 @@ def tile_size(
 
 
 def _multiple(side: int, block: int) -> int:
-    """Return a side of about this length, a multiple of the blocks' sides if these are smaller."""
+    """Round a side down to a multiple of the block's side, unless the block is larger."""
     return side if block > side else side // block * block
 
 
@@ -289,4 +296,4 @@ def _even_side(length: int, most: int, block: int) -> int:
 
 def _too_little(needed: int, side: int, free: int) -> OutOfMemory:
     problem = f"a tile of {side} x {side} cells may need {needed:,} bytes, and {free:,} are free"
-    return OutOfMemory(f"{problem}: end other programs, or take fewer maps", "arguments", 0, 3)
+    return OutOfMemory(f"{problem}: close other programs, or use fewer maps", "arguments", 0, 3)

@@ -1,5 +1,5 @@
 # SPDX-License-Identifier: Apache-2.0 OR GPL-2.0-or-later
-"""Cells over many years: each sequence of classes, and maps of when classes changed."""
+"""Count the sequences of classes over many years, and map when classes changed."""
 
 from __future__ import annotations
 
@@ -22,9 +22,9 @@ from .sources import MapLike
 
 __all__ = ["MAPS", "Trajectories", "trajectories"]
 
-# The maps that are made on request.
+# The maps that can be requested.
 MAPS = ("changes", "first_change", "last_change")
-# The largest number of changes that fits into an expression of 1,000 tokens.
+# The largest number of comparisons that fit in an expression of 1,000 tokens.
 _TERMS = 50
 
 Integers = NDArray[np.int64]
@@ -36,14 +36,16 @@ class Trajectories(NamedTuple):
     Parameters
     ----------
     table : pandas.DataFrame
-        A row for each sequence of classes: a class and label of each year, `cells`, `area_ha`, `percent`, the number of `changes` and of
-        different `classes`, and the years in which the new class of the first and the last change is first seen.
+        A row for each sequence of classes: the class and label of each year, `cells`, `area_ha`,
+        `percent`, the number of `changes` and of distinct `classes`, and `first_change` and
+        `last_change`, the years in which the new class of the first and of the last change is first
+        seen.
     changes : pandas.DataFrame
         A row for each number of changes: `changes`, `cells`, `area_ha`, `percent`.
     intervals : pandas.DataFrame
-        A row for each pair of consecutive years: what changed between them, `percent_year` of it
-        each year, and `uniform_percent_year`, the same over all years (Aldwaik and Pontius 2012,
-        equations 1 and 2).
+        A row for each pair of consecutive years: the change between them, its annual percentage
+        `percent_year`, and `uniform_percent_year`, the annual percentage over all years (Aldwaik
+        and Pontius 2012, equations 1 and 2).
     maps : dict of str to Raster
         With `include_maps`: `changes`, `first_change` and `last_change`.
 
@@ -72,32 +74,35 @@ def trajectories(
     include_maps: bool = False,
     crs: Any = None,
 ) -> Trajectories:
-    """Count each sequence of classes over the years, over the cells that are null in no year.
+    """Count each sequence of classes over the years, for cells that are null in no year.
 
     Parameters
     ----------
     maps : list of maps of `run`, or DataArray with the dimension `time`
-        Two or more, in the order of their years. More than 16 maps, or 15 in degrees, must have few classes.
+        Two or more maps, in the order of their years. More than 16 maps, or 15 in degrees, are
+        accepted only if they contain few classes.
     years : iterable of int
-        The year of each map, ascending; a DataArray has its own.
+        The year of each map, ascending; not needed for a DataArray.
     area, labels
         See `change`.
     include_maps : bool
-        Whether to make maps of the number of changes, and of the years of the first and the last change.
+        Whether to compute maps of the number of changes, and of the years of the first and the last
+        change.
     crs : any, optional
         The reference system to assume for maps that have none.
 
     Returns
     -------
     Trajectories
-        A named tuple of DataFrames, `table`, `changes` and `intervals`, and of maps by name.
+        A named tuple of the DataFrames `table`, `changes` and `intervals`, and of `maps` by name.
 
     Raises
     ------
     Refused
         See `run`.
     BadArgument
-        Years do not ascend, there is not one for each map, or there are too many maps for the number of classes.
+        The years do not ascend, their number differs from the number of maps, or there are too many
+        maps for the number of classes.
 
     Examples
     --------
@@ -133,7 +138,7 @@ def trajectories(
 
 
 def _labels_of(series: Maps, counts: Counts, legend: Any) -> list[Mapping[int, str]]:
-    """Return the labels of each map: from a legend, its own, or those from the first map that has labels."""
+    """Return each map's labels: from a legend, its own labels, or the first labelled map's."""
     own = [source.labels for source in series.sources.values()]
     shared: Mapping[int, str] = next(filter(None, own), {})
     if legend is not None:
@@ -143,7 +148,7 @@ def _labels_of(series: Maps, counts: Counts, legend: Any) -> list[Mapping[int, s
 
 
 class _Sequences:
-    """The sequences of classes that occur."""
+    """The sequences of classes that occur in a series of maps."""
 
     def __init__(self, counts: Counts, years: list[int], measure: Measure) -> None:
         self.counts, self._years, self._measure = counts, years, measure
@@ -198,7 +203,7 @@ class _Sequences:
 
 
 def _counts(series: Maps, measure: Measure) -> Counts:
-    """Return how often each sequence of classes occurs; the classes of many maps are packed into fewer numbers."""
+    """Count each sequence of classes; the classes of many maps are packed into fewer numbers."""
     names = list(series.sources)
     rows = [] if measure.by_row is None else ["row"]
     if len(names) + len(rows) <= MOST_MAPS:
@@ -226,7 +231,7 @@ def _counts(series: Maps, measure: Measure) -> Counts:
 
 
 def _packing(packs: Sequence[Sequence[str]], classes: Sequence[int], base: int) -> Iterator[str]:
-    """Yield the lines of a script that packs the classes of several maps into one number, by their ranks."""
+    """Yield script lines that pack the class ranks of several maps into one number."""
     rules = "\n".join(f"{code} = {rank}" for rank, code in enumerate(classes))
     for number, pack in enumerate(packs):
         yield from (f"r.reclass input={name} output={name}_rank\n{rules}\nend" for name in pack)
@@ -237,7 +242,7 @@ def _packing(packs: Sequence[Sequence[str]], classes: Sequence[int], base: int) 
 
 
 def _lines_of_maps(names: Sequence[str], years: Sequence[int]) -> Iterator[str]:
-    """Yield the lines of a script that makes the maps of changes; each map is built up from parts of an expression."""
+    """Yield script lines that compute the maps of changes, split into short expressions."""
     moves = list(zip(names, names[1:], years[1:]))
     sums: list[str] = []
     for start in range(0, len(moves), _TERMS):

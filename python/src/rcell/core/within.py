@@ -1,5 +1,5 @@
 # SPDX-License-Identifier: Apache-2.0 OR GPL-2.0-or-later
-"""Cells within a distance of some classes: buffers."""
+"""Find the cells within a distance of classes (buffers)."""
 
 from __future__ import annotations
 
@@ -22,9 +22,9 @@ from .sources import ArrayMap, MapLike
 
 __all__ = ["within"]
 
-# The time that a cell takes grows with the distance in cells.
+# The largest distance in cells. The time per cell grows with it.
 MOST_STEPS = 255
-# Cells of the rows that are processed at a time: they stay in the cache of a processor.
+# The number of cells to process at a time, in complete rows, which fit in a processor's cache.
 _CACHED = 1 << 17
 
 
@@ -35,32 +35,34 @@ def within(
     *,
     crs: Any = None,
 ) -> ArrayMap:
-    """Find the cells within distances of the cells of some classes, measured between the centres of cells.
+    """Find the cells within distances of the given classes, measured between cell centres.
 
     Parameters
     ----------
     map : path, array, or any map that `run` accepts
-        In metres or feet, not in degrees.
+        The map, in metres or feet, not in degrees.
     classes : int or iterable of int
         The classes from which distances are measured.
     distances : float or iterable of float
-        In metres, ascending, up to 255 cells.
+        The distances in metres, ascending, up to 255 cells.
     crs : any, optional
         The reference system to assume for a map that has none.
 
     Returns
     -------
     Raster
-        0 for the cells of the classes, 1 for cells up to the first distance, 2 for those beyond it and up to the second; beyond the
-        last, null. Null cells of the map are treated like any others. Labels have the distances. As `zones=` of `composition` it gives the
-        classes of each ring.
+        A map with 0 in the classes, 1 up to the first distance, 2 from there up to the second
+        distance, and so on; beyond the last distance, null. Null cells of the map are treated like
+        other cells. The labels name the distances. As `zones=` of `composition`, the map yields the
+        classes in each ring.
 
     Raises
     ------
     Refused
         See `run`.
     BadArgument
-        No class is given; a distance is not above the one before, or is too long; the length of the map's unit is not known.
+        No class is given; distances do not ascend or are too long; or the length of the map's unit
+        is unknown.
 
     Examples
     --------
@@ -93,7 +95,7 @@ def within(
 
 
 def _ascending(distances: Any) -> list[float]:
-    """Return distances, after checking that each is above the one before."""
+    """Return distances as floats, or raise BadArgument unless they ascend from above 0."""
     if isinstance(distances, numbers.Real):
         distances = [distances]
     if isinstance(distances, (str, bytes)) or not isinstance(distances, Iterable):
@@ -112,7 +114,7 @@ def _ascending(distances: Any) -> list[float]:
 
 
 def reaches(distance: float, width: float, height: float) -> list[int]:
-    """Return, for 0, 1, 2, .. columns, exactly how many rows away a cell may be.
+    """Return exactly how many rows away a cell may be, for 0, 1, 2, .. columns.
 
     Examples
     --------
@@ -133,8 +135,8 @@ def reaches(distance: float, width: float, height: float) -> list[int]:
 
 
 def _ring_of(cells: Any, rings: Sequence[Sequence[int]], null: int) -> Any:
-    """Return for each cell the first ring in which another cell is 0."""
-    if hasattr(cells, "map_overlap"):  # Dask holds them
+    """Return the index of each cell's smallest ring that contains a 0."""
+    if hasattr(cells, "map_overlap"):  # a Dask array
         sides = rings[-1][0], len(rings[-1]) - 1
         depth = tuple(map(min, sides, cells.shape))
         words = {"rings": rings, "null": NULL, "dtype": np.int32, "boundary": "none"}
@@ -156,7 +158,7 @@ def _ring_of(cells: Any, rings: Sequence[Sequence[int]], null: int) -> Any:
 
 
 def _rows_away(cells: Any, most: int) -> Any:
-    """Return how many rows away the next cell of each column is that is 0, or `most` if that is fewer."""
+    """Return how many rows away the nearest 0 in each column is, at most `most`."""
     far = cells_for(cells.shape, np.min_scalar_type(most + 1))
     before: Any = np.full(cells.shape[1], most, far.dtype)
     for line, row in zip(cells, far):

@@ -1,5 +1,5 @@
 # SPDX-License-Identifier: Apache-2.0 OR GPL-2.0-or-later
-"""Files that are written completely or not at all."""
+"""Write files completely or not at all."""
 
 from __future__ import annotations
 
@@ -15,16 +15,16 @@ from .errors import RcellError, WriteFailed
 
 __all__ = ["replacing", "write_errors", "write_beside"]
 
-# A disk with less free space than this counts as full: a block did not fit.
+# A disk with less free space is treated as full, because a block did not fit.
 FULL_BELOW = 1 << 18
 
 
 @contextlib.contextmanager
 def write_errors(path: str, *kinds: type[Exception]) -> Iterator[None]:
-    """Raise errors with files, and the given kinds of exceptions, as WriteFailed with a path.
+    """Convert OSError, and other given exceptions, to WriteFailed with this path.
 
     Raster libraries report a full disk only on standard error, if at all, and fail later for
-    another reason: so the free space is checked.
+    another reason. This function therefore checks the free space.
 
     Examples
     --------
@@ -49,13 +49,15 @@ def write_errors(path: str, *kinds: type[Exception]) -> Iterator[None]:
 
 @contextlib.contextmanager
 def replacing(path: str) -> Iterator[str]:
-    """Yield a new path, whose file replaces another at the end of the block, unless something went wrong.
+    """Yield a temporary path, whose file replaces the target at the end of the block.
+
+    If an error is raised, nothing is replaced.
 
     Raises
     ------
     WriteFailed
-        The folder is missing, or the file cannot be replaced. Nothing is left then, and an old file
-        is unchanged.
+        The folder is missing, or the file cannot be replaced. The temporary file is then removed,
+        and an old file is unchanged.
 
     Examples
     --------

@@ -1,5 +1,5 @@
 # SPDX-License-Identifier: Apache-2.0 OR GPL-2.0-or-later
-"""Statistics of the values of a map by zone."""
+"""Compute statistics of a map's values by zone."""
 
 from __future__ import annotations
 
@@ -42,9 +42,11 @@ def zonal(
     zones : map, or path of polygons, GeoDataFrame or GeoSeries
         See `composition`.
     quantiles : iterable of float
-        From 0 to 1; each is a column: 0.5 is `q50`, 0.025 is `q2_5`. They are interpolated linearly, as numpy does by default.
+        Quantiles from 0 to 1, each of which becomes a column: 0.5 is `q50`, 0.025 is `q2_5`. They
+        are interpolated linearly, like numpy's default.
     scale : int, optional
-        For a map of decimals: its values are rounded to 1 / `scale`, with a warning that says so. `scale=100` keeps two decimals.
+        For maps of decimals: round values to 1 / `scale`, with a warning. `scale=100` keeps two
+        decimals.
     zone_field, layer : str, optional
         See `composition`.
     each : bool
@@ -57,14 +59,14 @@ def zonal(
     Returns
     -------
     pandas.DataFrame
-        Columns `zone`, `zone_label`, `cells`, `sum`, `mean`, `minimum`, `maximum`, `variance` (of the population), and the quantiles.
-        Zones without a value have no row. All are computed with integers, and divided by `scale` at
-        the end.
+        Columns `zone`, `zone_label`, `cells`, `sum`, `mean`, `minimum`, `maximum`, `variance` (of
+        the population), and the quantiles. Zones with only null values have no row. All statistics
+        are computed with integers and divided by `scale` at the end.
 
     Raises
     ------
     Refused
-        See `run`; a value is too large for `scale`.
+        See `run`; also raised if a value is too large for `scale`.
     BadArgument
         A quantile is not from 0 to 1.
 
@@ -103,7 +105,7 @@ def zonal(
 
 
 def _title(quantile: Any) -> str:
-    """Return the name of the column of a quantile: q and its percentage, with _ for the point."""
+    """Return the column name of a quantile: q and its percentage, with _ for the point."""
     try:
         number = float(quantile)
     except (TypeError, ValueError):
@@ -118,7 +120,7 @@ def _title(quantile: Any) -> str:
 def _moments(
     values: Integers, cells: Integers, first: NDArray[np.intp], scale: int | None
 ) -> list[Column]:
-    """Return sums, means, extremes and variances, with integers until the final division."""
+    """Return sums, means, extremes and variances, using integers until the final division."""
     if not first.size:
         sums = squares = count = least = most = np.empty(0, np.int64)
     else:
@@ -151,7 +153,7 @@ def _quantiles(
     titled_quantiles: list[tuple[str, float]],
     scale: int | None,
 ) -> list[Column]:
-    """Return quantiles, interpolated between neighbouring cells of a zone like numpy's method `linear`."""
+    """Return quantiles by zone, interpolated like numpy's method `linear`."""
     if not first.size:
         return [Column(title, "measure", np.empty(0)) for title, _ in titled_quantiles]
     until = np.cumsum(cells)

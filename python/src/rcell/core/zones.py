@@ -1,5 +1,5 @@
 # SPDX-License-Identifier: Apache-2.0 OR GPL-2.0-or-later
-"""Polygons as zones: the zone of each feature, and the feature to which each cell belongs."""
+"""Convert polygons to zones: find each feature's zone, and the feature that contains each cell."""
 
 from __future__ import annotations
 
@@ -32,7 +32,8 @@ __all__ = ["Feature", "Layer", "Zones", "zones_of"]
 _KINDS = ("Polygon", "MultiPolygon")
 _LARGEST_ID = 2**63 - 1
 _SHOWN = 3
-# Polygons become cells in blocks of this size, whatever the tiles of a call are, so the cells are always the same.
+# Polygons are burned in blocks of this size, independent of the call's tiles, so that results are
+# always the same.
 _BLOCK = 2048
 
 
@@ -43,13 +44,14 @@ class Feature:
     Attributes
     ----------
     id : any
-        Its own id in the layer: the fid, or the index of a GeoDataFrame.
+        Its id in the layer: the fid, or the index of a GeoDataFrame.
     value : any
-        The field's value as a Python object (int, float, str, bool, date, ..); None if it is missing, NaN, or no field is named.
+        The field's value as a Python object (int, float, str, bool, date, ..); None if it is
+        missing, NaN, or no field is named.
     kind : str
-        The type of its geometry in OGC's words, for example `MultiPolygon`; empty if it has none.
+        The OGC name of its geometry type, for example `MultiPolygon`; empty without a geometry.
     geometry : any
-        Only `Layer.burn` of the same layer knows its form.
+        An object for the same layer's `burn` and `bounds`.
     """
 
     id: Any
@@ -59,7 +61,7 @@ class Feature:
 
 
 class Layer(Protocol):
-    """Features with their fields: what a reader of vector files returns."""
+    """Features with their fields, as readers of vector files return them."""
 
     @property
     def name(self) -> str:
@@ -74,12 +76,12 @@ class Layer(Protocol):
         """The names of its fields."""
 
     def features(self, field: Optional[str]) -> Iterable[Feature]:
-        """Yield the features in order, with the values of a field; curves are lines already."""
+        """Yield the features in order, with their values of a field; curves become lines."""
 
     def burn(
         self, shapes: Sequence[tuple[Any, int]], transform: Transform, shape: tuple[int, int]
     ) -> NDArray[np.int32]:
-        """Return a grid with the number of the last geometry that contains each cell's centre, 0 for none."""
+        """Return, for each cell, the number of the last geometry that contains its centre, or 0."""
 
     def bounds(self, geometry: Any) -> tuple[float, float, float, float]:
         """Return west, south, east and north of a geometry."""
@@ -92,7 +94,8 @@ class Zones:
     Attributes
     ----------
     maps : list of ArrayMap
-        With the categories 1, 2, ..; several if polygons that overlap are taken one after another.
+        Maps with the categories 1, 2, ..; several maps if overlapping polygons are processed one
+        after another.
     ids : array of int64
         The zone of each category, ascending.
     labels : dict of int to str
@@ -107,10 +110,12 @@ class Zones:
 def zones_of(
     layer: Layer, field: Optional[str], like: Source, crs: Any = None, each: bool = False
 ) -> Zones:
-    """Return polygons as zones on a map's grid: a cell belongs to the last polygon that contains its centre.
+    """Convert polygons to zones on a map's grid.
 
-    The zone of a feature is its value of a field, or its own id. A feature without geometry, or without a value, has no zone. Whole
-    numbers are zones as they are; other values become 1, 2, .. in the order in which they appear, and have labels.
+    A cell belongs to the last polygon that contains its centre. The zone of a feature is its value
+    of a field, or its id. A feature without geometry or without a value has no zone. Whole numbers
+    are used as zones directly. Other values become zones 1, 2, .. in the order of their appearance,
+    with the values as labels.
 
     Parameters
     ----------
@@ -120,14 +125,15 @@ def zones_of(
     crs : any
         The reference system to assume for maps that have none.
     each : bool
-        Whether to process overlapping polygons one after another, so that none loses a cell.
+        Whether to process overlapping polygons one after another, so that no polygon loses a cell.
 
     Raises
     ------
     OtherCrs
         The polygons' reference system differs from the map's.
     BadMap
-        There is no such field, a feature is not a polygon, or no polygon contains the centre of a cell.
+        The field is missing, a feature is not a polygon, or no polygon contains the centre of a
+        cell.
     """
     if field is not None and field not in layer.fields:
         raise BadMap(layer.name, f"no field {field}: {known_names('field', layer.fields)}")
@@ -147,7 +153,7 @@ def zones_of(
 
 
 def _with_a_zone(layer: Layer, field: Optional[str]) -> list[Feature]:
-    """Return the features that have a geometry and a zone, with their zone as the value."""
+    """Return the features with a geometry and a zone, with the zone as their value."""
     features = []
     for feature in layer.features(field):
         if not feature.kind or feature.geometry is None:
@@ -184,7 +190,7 @@ def _is_id(number: int) -> bool:
 
 
 def _text(value: Any) -> str:
-    """Return a value of a field as the label of its zone.
+    """Convert a field value to the label of its zone.
 
     Examples
     --------
@@ -199,13 +205,13 @@ def _text(value: Any) -> str:
 
 
 def _name(feature: Feature, zone: int, labels: Mapping[int, str]) -> str:
-    """Return the name of a feature in messages: its id, and its zone if that differs."""
+    """Return a feature's name for messages: its id, and its zone if that differs."""
     label = labels.get(zone, str(zone))
     return f"feature {feature.id}" + ("" if label == str(feature.id) else f" ({label})")
 
 
 class _Losses:
-    """The cells that are in more than one polygon, and the features that lost them."""
+    """Counts the cells in more than one polygon, and the features that lost them."""
 
     def __init__(self) -> None:
         self.cells = 0
@@ -214,7 +220,7 @@ class _Losses:
         self._lock = threading.Lock()
 
     def add(self, place: Rectangle, first: NDArray[np.int32], lost: NDArray[np.bool_]) -> None:
-        """Note the cells of a block that the first feature has lost."""
+        """Record the cells of a block that their first feature lost."""
         if not lost.any():
             return
         row, col = np.unravel_index(int(np.argmax(lost)), lost.shape)
@@ -247,7 +253,7 @@ class _Grid:
         self._boxes = np.array(boxes, np.float64)
 
     def map(self, part: Sequence[int]) -> ArrayMap:
-        """Return some features as a map of the categories of their zones, made block by block."""
+        """Return a map of the zone categories of these features, computed block by block."""
         like, name = self.like, self.layer.name
         categories = np.concatenate([[0], self.categories])
         dtype = np.min_scalar_type(int(categories.max()))
@@ -259,7 +265,8 @@ class _Grid:
             last, are_last = self._burnt(part, place)
             first, are_first = self._burnt(part[::-1], place)
             place.part_of(full, cells)[...] = categories[last]
-            # A cell whose first and last polygon differ in their zone is lost to the first.
+            # If a cell's first and last polygon have different zones, the first polygon loses the
+            # cell.
             losses.add(place, first, categories[first] != categories[last])
             return are_first | are_last
 
@@ -270,7 +277,7 @@ class _Grid:
         return ArrayMap(name, cells, like.region, None, 0, {}, like.crs, like.transform)
 
     def _over_blocks(self, burn: Callable[[Rectangle], NDArray[np.bool_]]) -> None:
-        """Burn features in all blocks of the map, and note which of them contain the centre of a cell."""
+        """Burn features in all blocks, and record which of them contain the centre of a cell."""
         places = rectangles_of(self.like.region.shape, (_BLOCK, _BLOCK))
         if len(places) == 1:
             self._has_centre |= burn(places[0])
@@ -282,7 +289,10 @@ class _Grid:
     def _burnt(
         self, part: Sequence[int], place: Rectangle
     ) -> tuple[NDArray[np.int32], NDArray[np.bool_]]:
-        """Return for each cell the last of some features that contains its centre, counted from 1 with 0 for none, and which occur."""
+        """Return each cell's last feature, and which features occur.
+
+        Features are numbered from 1. A cell that no feature contains is 0.
+        """
         width, _, west, _, height, north = self.like.transform
         transform = (width, 0.0, west + width * place.left, 0.0, height, north + height * place.top)
         right, low = (transform[2] + width * place.cols, transform[5] + height * place.rows)
@@ -294,7 +304,7 @@ class _Grid:
         return last, cells > 0
 
     def _find_hidden(self, rest: list[int]) -> None:
-        """Find the features that contain a centre, and that lie between two others."""
+        """Find features that contain a centre, but are hidden between two other features."""
         while rest:
             self._over_blocks(lambda place: self._burnt(rest, place)[1])
             left = [index for index in rest if not self._has_centre[index + 1]]
@@ -306,13 +316,14 @@ class _Grid:
         losers = [self.names[number - 1] for number in sorted(losses.features)]
         row, col = losses.first
         warn(
-            f"{self.layer.name}: {losses.cells:,} cells are in more than one polygon, the first at row {row + 1}, column {col + 1}: "
+            f"{self.layer.name}: {losses.cells:,} cells are in more than one polygon, the first "
+            f"at row {row + 1}, column {col + 1}: "
             f"the later polygon has them, and {first_of(losers, _SHOWN)} lost them; "
             f"{option('each', True)} takes one polygon after another"
         )
 
     def check_centres(self) -> None:
-        """Warn of the features that contain no centre of a cell; raise BadMap if none does."""
+        """Warn of features that contain no centre of a cell, or raise BadMap if no feature does."""
         without = [self.names[index] for index in np.flatnonzero(~self._has_centre[1:]).tolist()]
         if len(without) == len(self.features):
             raise BadMap(self.layer.name, "no polygon contains the centre of a cell")
@@ -324,7 +335,7 @@ class _Grid:
 def _apart(
     bounds: Sequence[tuple[float, float, float, float]], zones: Sequence[int]
 ) -> list[list[int]]:
-    """Split features into parts in which no two zones can overlap, judging by the boxes around them.
+    """Split features into parts in which the bounding boxes of different zones do not overlap.
 
     Examples
     --------
@@ -352,7 +363,7 @@ def _apart(
 
 
 def _meets(box: NDArray[np.float64], others: NDArray[np.float64]) -> NDArray[np.bool_]:
-    """Return which of some boxes a box touches."""
+    """Return a mask of the boxes that a box touches."""
     is_below = (others[:, :2] <= box[2:]).all(axis=1)
     is_above = (others[:, 2:] >= box[:2]).all(axis=1)
     touches: NDArray[np.bool_] = is_below & is_above

@@ -1,5 +1,8 @@
 # SPDX-License-Identifier: Apache-2.0 OR GPL-2.0-or-later
-"""Rasters, polygons and reference systems of other libraries, for the core: rasterio, fiona and pyproj, or GDAL's own Python."""
+"""Read rasters, polygons and reference systems with other libraries.
+
+The libraries are rasterio, fiona and pyproj, or GDAL's own Python bindings.
+"""
 
 from __future__ import annotations
 
@@ -23,7 +26,7 @@ _LAYER = "|layername="
 
 
 def open_raster(name: str, path: str, band: int | None = None) -> Source:
-    """Return a band of a file that rasterio opens as a map, or that GDAL's own Python opens without rasterio.
+    """Open a band of a file as a map, with rasterio or with GDAL's Python bindings.
 
     Without a band, the file must have only one.
 
@@ -41,23 +44,23 @@ def open_raster(name: str, path: str, band: int | None = None) -> Source:
 
 
 def open_features(name: str, source: Any, layer: Optional[str] = None) -> Optional[Layer]:
-    """Return polygons or points as a layer; None for anything else.
+    """Open polygons or points as a layer; return None for other objects.
 
     Parameters
     ----------
     name : str
-        Its name in messages.
+        The name in messages.
     source : path, GeoDataFrame, GeoSeries, GeoJSON as a dict, or Layer
         Paths may name a layer: `FILE|layername=NAME`.
     layer : str, optional
-        The layer of a file.
+        The layer in a file.
 
     Raises
     ------
     ReadFailed
         The file cannot be opened.
     Refused
-        The file has several layers and none is named, or none of this name.
+        The file has several layers and none is named, or it has no layer with this name.
     MissingLibrary
     """
     if hasattr(source, "burn"):
@@ -85,7 +88,7 @@ def open_features(name: str, source: Any, layer: Optional[str] = None) -> Option
 
 
 def crs_of(text: str) -> Crs:
-    """Return a reference system from its text: as pyproj knows it, or osr without pyproj.
+    """Parse the text of a reference system, with pyproj or else with osr.
 
     Raises
     ------
@@ -99,20 +102,20 @@ def crs_of(text: str) -> Crs:
 
 
 def _reader(library: str, other: str, extra: str, purpose: str) -> Any:
-    """Return the reader over a library, or without it the reader over GDAL's own Python.
+    """Return the reader for a library or, without it, the reader for GDAL's Python bindings.
 
-    The QGIS plugin contains only the latter.
+    The QGIS plugin contains only readers for GDAL's bindings.
     """
     reason = ""
     for name, needed in ((library, library), (other, "osgeo")):
         try:
             with warnings.catch_warnings():
-                # In a virtual environment Debian's pyproj warns, although PROJ finds its files.
+                # In a virtual environment, Debian's pyproj warns although PROJ finds its files.
                 warnings.filterwarnings("ignore", "Valid PROJ data directory not found")
                 importlib.import_module(needed)
                 return importlib.import_module(f".{name}", __name__)
         except ModuleNotFoundError:
             continue
-        except ImportError as error:  # it is installed
+        except ImportError as error:  # installed, but cannot be loaded
             reason = reason or str(error)
     raise MissingLibrary(library, extra, purpose, reason)

@@ -1,5 +1,5 @@
 # SPDX-License-Identifier: Apache-2.0 OR GPL-2.0-or-later
-"""Bands of a raster as maps."""
+"""Use the bands of a raster as maps."""
 
 from __future__ import annotations
 
@@ -14,24 +14,24 @@ __all__ = ["bands"]
 
 
 def bands(raster: Any, /, **numbers: int) -> dict[str, Any]:
-    """Return bands of a raster as maps by name, for the calls that take maps.
+    """Return bands of a raster as maps by name, for calls that accept maps.
 
     Parameters
     ----------
     raster : path, open dataset of rasterio, or DataArray of three dimensions
     **numbers : int
-        The number of the band, from 1, by the name that the map gets. Of a DataArray it counts along the dimension that is neither
-        rows nor columns.
+        The number of each band, from 1, by the name of its map. In a DataArray, bands are counted
+        along the dimension that is neither rows nor columns.
 
     Returns
     -------
     dict
-        A mapping of maps, as `run`, `table` and `grid` take it.
+        A mapping of maps, as `run`, `table` and `grid` accept it.
 
     Raises
     ------
     BadMap
-        There is no such band.
+        The raster has no band with this number.
     ReadFailed
         The raster cannot be opened.
 

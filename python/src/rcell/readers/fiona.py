@@ -1,5 +1,5 @@
 # SPDX-License-Identifier: Apache-2.0 OR GPL-2.0-or-later
-"""Polygons of files that fiona reads."""
+"""Read polygons from files with fiona."""
 
 from __future__ import annotations
 
@@ -17,21 +17,24 @@ __all__ = ["open_layer"]
 
 
 def open_layer(name: str, path: str, layer: Optional[str] = None) -> Polygons:
-    """Return a layer of a file.
+    """Open a layer of a file.
 
     Raises
     ------
     ReadFailed
-        It cannot be opened.
+        The file cannot be opened.
     Refused
-        It has several layers and none is named, or none of this name.
+        The file has several layers and none is named, or it has no layer with this name.
     """
     opened(path)
     try:
         layers = fiona.listlayers(path)
         if layer is None and len(layers) > 1:
             choice = option("layer", layers[0])
-            problem = f"has the layers {', '.join(layers)}: name one, as {choice} or {path}|layername={layers[0]}"
+            problem = (
+                f"has the layers {', '.join(layers)}: name one, as {choice} or "
+                f"{path}|layername={layers[0]}"
+            )
             raise Refused(problem, name)
         if layer is not None and layer not in layers:
             raise Refused(f"no layer {layer}: {known_names('layer', layers)}", name)

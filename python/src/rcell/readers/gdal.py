@@ -1,5 +1,5 @@
 # SPDX-License-Identifier: Apache-2.0 OR GPL-2.0-or-later
-"""Rasters that GDAL's own Python opens, as maps: they are read in blocks of rows, never as a whole."""
+"""Open rasters as maps with GDAL's Python bindings, and read them in blocks of rows."""
 
 from __future__ import annotations
 
@@ -36,12 +36,12 @@ from .osr import quiet
 
 __all__ = ["RasterMap", "open_dataset", "open_raster"]
 
-# Ranges of values that are null, both ends included.
+# Ranges of values that are null, including both ends.
 Ranges = Sequence[tuple[float, float]]
 
 
 def open_dataset(name: str, path: str) -> Any:
-    """Return an open dataset.
+    """Open a dataset.
 
     Raises
     ------
@@ -69,30 +69,31 @@ def open_raster(
     uses_nodata: bool = True,
     uses_style: bool = True,
 ) -> RasterMap:
-    """Return a band of a raster as a map; without a band, the raster must have only one.
+    """Open a band of a raster as a map. Without a band, the raster must have only one.
 
     Parameters
     ----------
     name, path, band
     null_ranges : sequence of pairs of float
-        Further ranges of values that are null, each from its first to its last value.
+        Additional ranges of values that are null, each from its first to its last value.
     uses_nodata : bool
-        Whether the nodata value of the file is null.
+        Whether the file's nodata value is null.
     uses_style : bool
-        Whether a QGIS style next to the raster may give the labels.
+        Whether labels may be read from a QGIS style next to the raster.
 
     Raises
     ------
     ReadFailed
         The raster cannot be opened.
     BadMap
-        The raster has several bands, scaled values, a rotated transform, or control points instead of a transform.
+        The raster has several bands, scaled values, a rotated transform, or control points instead
+        of a transform.
     """
     dataset = open_dataset(name, path)
     try:
         with quiet():
             raster = _map_of(name, path, dataset, band, null_ranges, uses_nodata)
-    except RuntimeError as error:  # of GDAL, if its exceptions are in use
+    except RuntimeError as error:  # from GDAL, if its exceptions are enabled
         raise ReadFailed(name, f"cannot open: {path}: {str(error).strip()}") from None
     return raster if uses_style else replace(raster, style_path="")
 
@@ -105,7 +106,7 @@ def _map_of(
     null_ranges: Ranges,
     uses_nodata: bool,
 ) -> RasterMap:
-    """Return a band of an open dataset as a map."""
+    """Convert a band of an open dataset to a map."""
     layer = dataset.GetRasterBand(_only_band(name, dataset) if band is None else band)
     if layer is None:
         count = dataset.RasterCount
@@ -138,20 +139,20 @@ def _map_of(
 
 @dataclass(frozen=True)
 class RasterMap:
-    """A band of a raster as a map; made by `open_raster`.
+    """A band of a raster as a map; created by `open_raster`.
 
     Attributes
     ----------
     name, path, band
     region : Region
     transform : tuple of six float
-        With its rows from north to south.
+        The transform with rows from north to south.
     crs : str or None
     file_type : numpy type
     file_nodata : float, int or None
     null_ranges : tuple of pairs of float
     has_mask : bool
-        Whether the band has a mask of its own, or one for all bands.
+        Whether the band has its own mask, or a mask for all bands.
     alpha : int or None
         The band that marks transparent cells, which are null.
     is_upside_down : bool
@@ -159,9 +160,9 @@ class RasterMap:
     block_shape : tuple of two ints
     files : tuple of str
     style_path : str
-        The raster next to which a style may be; empty for none.
+        The path of the raster next to which a style may be; empty to ignore styles.
     legend : Legend, optional
-        Labels and colours in place of the labels and colours of the file.
+        Labels and colours that replace the file's own.
     """
 
     name: str
@@ -183,17 +184,17 @@ class RasterMap:
     legend: Legend = field(default_factory=lambda: Legend({}, {}))
 
     def sent(self, _: Any) -> RasterMap | None:
-        """Return the map if another process can open it by its path."""
+        """Return the map if another process can open it by path."""
         is_here = self.path.startswith("/vsimem/")
         return None if is_here else replace(self, path=shared_path(self.path))
 
     def with_labels(self, labels: Mapping[int, str]) -> RasterMap:
-        """Return the map with other labels."""
+        """Return the map with these labels."""
         return replace(self, legend=Legend(dict(labels), self.legend.colors))
 
     @property
     def dtype(self) -> np.dtype[Any]:
-        """The type of its blocks."""
+        """The data type of its blocks."""
         return type_of(self.file_type)
 
     @property
@@ -209,12 +210,12 @@ class RasterMap:
 
     @property
     def labels(self) -> Mapping[int, str]:
-        """Labels of its categories."""
+        """The labels of its categories."""
         return self.legend.labels or self._legend_of_file.labels
 
     @property
     def colors(self) -> Mapping[int, str]:
-        """Colours of its categories."""
+        """The colours of its categories."""
         return self.legend.colors or self._legend_of_file.colors
 
     @functools.cached_property
@@ -227,7 +228,7 @@ class RasterMap:
         return legend_of_band(bands[self.band - 1], self.style_path)
 
     def blocks(self) -> Iterator[Block]:
-        """Yield the rows from north to south, in blocks that fit the blocks of the file.
+        """Yield the rows from north to south, in multiples of the file's blocks.
 
         Raises
         ------
@@ -247,7 +248,10 @@ class RasterMap:
             yield checked(self.name, cells, null, self.file_nodata, row)
 
     def window(self, row: int, col: int, rows: int, cols: int) -> Block:
-        """Return some of the cells, counted from the north-west corner; errors are the same as in `blocks`."""
+        """Return a window of cells; rows and columns are counted from the north-west.
+
+        Raises the same errors as `blocks`.
+        """
         dataset = of_this_thread(self.path, lambda: open_dataset(self.name, self.path))
         cells, null = self._read(dataset, row, col, rows, cols)
         return checked(self.name, cells, null, self.file_nodata, row, col)
@@ -255,7 +259,7 @@ class RasterMap:
     def _read(
         self, dataset: Any, row: int, col: int, rows: int, cols: int
     ) -> tuple[Cells, Optional[Mask]]:
-        """Return some cells, and which of them a mask, transparency or a range makes null."""
+        """Return a window of cells, and which of them are null by mask, transparency or range."""
         top = self.region.rows - row - rows if self.is_upside_down else row
         bands = [dataset.GetRasterBand(self.band)]
         if self.has_mask:
@@ -281,7 +285,10 @@ class RasterMap:
 
 
 def _within(cells: Cells, low: float, high: float) -> Mask:
-    """Return where cells are in a range: by whole numbers, since floats do not have all of 64 bits."""
+    """Return which cells are in a range.
+
+    Integers are compared as integers, because floats are not exact for all 64-bit integers.
+    """
     if cells.dtype.kind in "iu":
         limits = np.iinfo(cells.dtype)
         if low > limits.max or high < limits.min:
@@ -326,16 +333,16 @@ def _check_values(name: str, band: Any) -> None:
 
 
 def _dtype_of(band: Any) -> np.dtype[Any]:
-    # Before its version 3.7, GDAL has no type for bytes with a sign, and marks them; their cells come with the sign.
+    # Before version 3.7, GDAL marked signed bytes with metadata instead of a type.
     if band.GetMetadataItem("PIXELTYPE", "IMAGE_STRUCTURE") == "SIGNEDBYTE":
         return np.dtype(np.int8)
     return np.dtype(gdal_array.GDALTypeCodeToNumericTypeCode(band.DataType))
 
 
 def _upright(name: str, dataset: Any) -> tuple[Transform, bool]:
-    """Return the transform with rows from north to south, and whether the file has them the other way.
+    """Return the transform with rows from north to south, and whether the file has them reversed.
 
-    Without a transform, cells have side 1 and the bottom left corner is at 0, 0.
+    Without a transform, cells have size 1 and the bottom left corner is at 0, 0.
     """
     rows = dataset.RasterYSize
     geotransform = dataset.GetGeoTransform(can_return_null=True)

@@ -1,5 +1,5 @@
 # SPDX-License-Identifier: Apache-2.0 OR GPL-2.0-or-later
-"""Open rasters of threads: GDAL lets several threads read at a time, each from a dataset of its own."""
+"""Keep rasters open per thread, because GDAL threads may only read their own datasets."""
 
 from __future__ import annotations
 
@@ -9,7 +9,7 @@ from typing import Any
 
 __all__ = ["begin_call", "of_this_thread"]
 
-# A map of many files must not keep all of them open.
+# Limits the open files of a map with many files.
 MOST_OPEN = 64
 
 _here = threading.local()
@@ -17,7 +17,9 @@ _one_at_a_time = threading.Lock()
 
 
 def of_this_thread(path: str, open_path: Callable[[], Any]) -> Any:
-    """Return the dataset of a path that this thread has opened, or opens now; the one used longest ago is closed if there are many.
+    """Return this thread's open dataset for a path, opening it if necessary.
+
+    If too many datasets are open, the dataset that was unused for longest is closed.
 
     Examples
     --------
@@ -27,7 +29,7 @@ def of_this_thread(path: str, open_path: Callable[[], Any]) -> Any:
     handles: dict[str, Any] = _here.__dict__.setdefault("handles", {})
     dataset = handles.pop(path, None)
     if dataset is None:
-        # Whoever opens a raster may turn off a warning, which Python can't do in one thread alone.
+        # Opening a raster may silence a warning, which Python does for all threads at once.
         with _one_at_a_time:
             dataset = open_path()
         while len(handles) >= MOST_OPEN:
@@ -37,6 +39,9 @@ def of_this_thread(path: str, open_path: Callable[[], Any]) -> Any:
 
 
 def begin_call(call: str) -> None:
-    """Close what this thread has opened for other calls: threads of a cluster last, and files may be replaced between two calls."""
+    """Close the datasets that this thread opened for other calls.
+
+    Threads of a cluster outlive a call, and files may be replaced between two calls.
+    """
     if _here.__dict__.get("call") != call:
         _here.__dict__.update(call=call, handles={})

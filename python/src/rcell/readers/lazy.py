@@ -1,5 +1,5 @@
 # SPDX-License-Identifier: Apache-2.0 OR GPL-2.0-or-later
-"""Results that Dask computes later: the tables and maps of calls as a graph of the work on chunks."""
+"""Build results that Dask computes later, as graphs of the work on chunks."""
 
 from __future__ import annotations
 
@@ -38,7 +38,9 @@ _NOTHING: Integers = np.empty(0, np.int64)
 
 
 def lazy_map(make: Callable[[], Any]) -> Any:
-    """Return the map that a call makes as a DataArray that Dask computes, in the chunks of the first map that Dask holds.
+    """Return the map of a call as a DataArray that Dask computes.
+
+    It has the chunks of the first Dask map.
 
     Parameters
     ----------
@@ -70,9 +72,9 @@ def lazy_map(make: Callable[[], Any]) -> Any:
 
 
 def lazy_table(name: str, words: Sequence[Any], named: Mapping[str, Any]) -> Any:
-    """Return what a call of the package makes of its tables as a Delayed.
+    """Return the result of a call that depends on tables as a Delayed.
 
-    The call runs twice: now, until it asks for its tables, and when these are computed.
+    The call runs twice: now, until it requests its tables, and again when the tables are computed.
     """
     requested: list[Output] = []
 
@@ -95,18 +97,21 @@ def lazy_table(name: str, words: Sequence[Any], named: Mapping[str, Any]) -> Any
 
 
 class _TablesRequested(Exception):
-    """Ends a call that has asked for its tables."""
+    """Raised to end a call that has requested its tables."""
 
 
 class _Hidden:
-    """A wrapper in which Dask does not look for arrays to compute."""
+    """A wrapper that hides arrays from Dask, so that it does not compute them."""
 
     def __init__(self, content: Any) -> None:
         self.content = content
 
 
 def _hollow(argument: Any) -> Any:
-    """Return an argument without its cells if Dask holds them: only its place, type and labels are needed again."""
+    """Replace a Dask argument's cells with zeros.
+
+    Only its position, type and labels are still needed.
+    """
     if isinstance(argument, (list, tuple)):
         return type(argument)(map(_hollow, argument))
     if type(argument).__module__.partition(".")[0] != "xarray":
@@ -122,7 +127,7 @@ def _hollow(argument: Any) -> Any:
 
 
 def _answered(hidden: _Hidden, tables: Sequence[Integers]) -> Any:
-    """Return what a call makes of its tables."""
+    """Return the result of a call from its computed tables."""
     name, words, named, outputs = hidden.content
     scripts: list[str] = []
 
@@ -130,7 +135,7 @@ def _answered(hidden: _Hidden, tables: Sequence[Integers]) -> Any:
         script: str, maps: Mapping[str, Source], wanted: Sequence[str], fold: Fold | None
     ) -> list[Output]:
         if scripts:
-            raise BadArgument("compute", "must be True: this call asks for several tables in turn")
+            raise BadArgument("compute", "must be True: this call needs several tables in turn")
         scripts.append(script)
         if fold is None:
             return [replace(output, values=values) for output, values in zip(outputs, tables)]
@@ -142,14 +147,16 @@ def _answered(hidden: _Hidden, tables: Sequence[Integers]) -> Any:
 
 
 def _graph_of(script: str, maps: Mapping[str, Source], wanted: Sequence[str]) -> list[Output]:
-    """Return the outputs of a script as Dask computes them: maps as its arrays, tables as Delayed."""
+    """Return the outputs of a script for Dask: maps as Dask arrays, tables as Delayed."""
     lines = "\n".join([script, *(f"r.out.ascii input={name}" for name in wanted)])
     plan = planned(lines, maps)
     if any("1" in statement.options for statement in plan):
         raise BadArgument("compute", "must be True: r.stats -1 lists cells, which takes one run")
     for source in maps.values():
         if not hasattr(source, "window"):
-            raise BadMap(source.name, "is read as a whole: convert it, or leave out compute=False")
+            raise BadMap(
+                source.name, "cannot be read in parts: convert it, or leave out compute=False"
+            )
     graph = _Graph(dict(maps), _chunks_of(plan, maps))
     for clump in (statement for statement in plan if statement.command == "r.clump"):
         graph.add_clumps(plan, clump)
@@ -157,7 +164,7 @@ def _graph_of(script: str, maps: Mapping[str, Source], wanted: Sequence[str]) ->
 
 
 def _chunks_of(plan: Sequence[Statement], maps: Mapping[str, Any]) -> Any:
-    """Return the rows and columns of the blocks of results: the chunks of the first map that Dask holds, else tiles."""
+    """Return the rows and columns of result chunks: the first Dask map's chunks, or tiles."""
     for source in maps.values():
         array: Any = getattr(source, "array", None)
         if is_lazy(array) and not isinstance(source, ArrayMap):
@@ -172,7 +179,7 @@ def _chunks_of(plan: Sequence[Statement], maps: Mapping[str, Any]) -> Any:
 
 
 class _Known:
-    """A map that the graph makes, as one that Dask holds."""
+    """A map that the graph computes, as a Dask map."""
 
     def __init__(self, name: str, array: Any, nodata: int) -> None:
         self._name, self._array, self._nodata = name, array, nodata
@@ -185,7 +192,7 @@ class _Known:
 
 
 class _Graph:
-    """The work on the chunks of a map.
+    """The Dask graph of the work on chunks.
 
     Parameters
     ----------
@@ -206,7 +213,7 @@ class _Graph:
         self._dask = need("dask.array", "xarray", "for arrays of Dask")
 
     def outputs(self, plan: Sequence[Statement]) -> list[Output]:
-        """Return the outputs of a plan, once its clumps are known."""
+        """Return the outputs of a plan; all maps of clumps must be known."""
         statements = outputs_in(plan)
         script = self._script(plan, statements)
         results = outputs_of([is_counted(statement) for statement in statements])
@@ -254,7 +261,7 @@ class _Graph:
         return done
 
     def _array_of(self, cells: Sequence[Any]) -> Any:
-        """Return blocks of int32 as one array."""
+        """Combine int32 blocks into one array."""
         arrays = [
             self._dask.from_delayed(block, (place.rows, place.cols), np.int32)
             for block, place in zip(cells, self._places)
@@ -266,7 +273,7 @@ class _Graph:
 
 
 def _added(statement: Statement, index: int, tiles: Sequence[TileDone]) -> Integers:
-    """Return the table of the full map from the tables of chunks."""
+    """Add up the tables of chunks to the table of the full map."""
     total = TableSum(len(statement.inputs), is_counted(statement))
     for tile in tiles:
         total.add(tile.results[index])
@@ -288,5 +295,5 @@ def _joined(tiles: Sequence[TileDone], diagonal: bool) -> Joined:
 
 
 def _renumbered(index: int, tile: TileDone, whole: Joined) -> Integers:
-    """Return the clumps of a chunk with the numbers of the full map."""
+    """Return the clumps of a chunk with the full map's numbers."""
     return renumber(tile.results[1], whole.tiles[index], np.empty(tile.results[1].shape, np.int32))

@@ -1,5 +1,5 @@
 # SPDX-License-Identifier: Apache-2.0 OR GPL-2.0-or-later
-"""Polygons that GDAL's own Python opens."""
+"""Read polygons with GDAL's Python bindings."""
 
 from __future__ import annotations
 
@@ -26,14 +26,14 @@ _INTEGERS = (ogr.OFTInteger, ogr.OFTInteger64)
 
 
 def open_layer(name: str, path: str, layer: Optional[str] = None) -> OgrLayer:
-    """Return a layer of a vector file; without a name, the file must have only one.
+    """Open a layer of a vector file. Without a name, the file must have only one.
 
     Raises
     ------
     ReadFailed
         The file cannot be opened.
     Refused
-        It has several layers, or none of this name.
+        The file has several layers and none is named, or it has no layer with this name.
     """
     try:
         with quiet():
@@ -47,7 +47,10 @@ def open_layer(name: str, path: str, layer: Optional[str] = None) -> OgrLayer:
     names = [source.GetLayer(place).GetName() for place in range(source.GetLayerCount())]
     if layer is None and len(names) > 1:
         choice = option("layer", names[0])
-        problem = f"has the layers {', '.join(names)}: name one, as {choice} or {path}|layername={names[0]}"
+        problem = (
+            f"has the layers {', '.join(names)}: name one, as {choice} or "
+            f"{path}|layername={names[0]}"
+        )
         raise Refused(problem, name)
     if not names or layer is not None and layer not in names:
         raise Refused(f"no layer {layer}: {known_names('layer', names)}", name)
@@ -56,7 +59,7 @@ def open_layer(name: str, path: str, layer: Optional[str] = None) -> OgrLayer:
 
 @dataclass(frozen=True)
 class OgrLayer:
-    """A layer of a vector file, as `core.zones` takes it."""
+    """A layer of a vector file, for `core.zones`."""
 
     name: str
     source: Any
@@ -76,7 +79,7 @@ class OgrLayer:
         return [definition.GetFieldDefn(place).GetName() for place in places]
 
     def features(self, field: Optional[str]) -> Iterator[Feature]:
-        """Yield the features in order, with the values of a field."""
+        """Yield the features in order, with their values of a field."""
         layer = self.source.GetLayerByName(self.layer)
         layer.ResetReading()
         for feature in layer:
@@ -89,7 +92,7 @@ class OgrLayer:
     def burn(
         self, shapes: Sequence[tuple[Any, int]], transform: Transform, shape: tuple[int, int]
     ) -> NDArray[np.int32]:
-        """Return a grid with the number of the last geometry that contains each cell's centre, 0 for none."""
+        """Return, for each cell, the number of the last geometry that contains its centre, or 0."""
         return burn(shapes, transform, shape)
 
     def bounds(self, geometry: Any) -> tuple[float, float, float, float]:
@@ -98,7 +101,7 @@ class OgrLayer:
 
 
 def _value_of(feature: Any, place: int) -> Any:
-    """Return the value of a field as a Python object, None if it is missing."""
+    """Return the value of a field as a Python object; None if it is missing."""
     if not feature.IsFieldSetAndNotNull(place):
         return None
     definition = feature.GetFieldDefnRef(place)
@@ -116,7 +119,9 @@ def _value_of(feature: Any, place: int) -> Any:
 
 
 def feature_of(name: str, number: Any, value: Any, wkb: bytes) -> Feature:
-    """Return a feature from its geometry as well-known bytes, empty for none; curves become lines.
+    """Convert a well-known binary geometry to a feature; curves become lines.
+
+    An empty geometry is allowed.
 
     Raises
     ------
@@ -146,7 +151,7 @@ def bounds_of(geometry: Any) -> tuple[float, float, float, float]:
 def burn(
     shapes: Sequence[tuple[Any, int]], transform: Transform, shape: tuple[int, int]
 ) -> NDArray[np.int32]:
-    """Return a grid with the number of the last geometry that contains each cell's centre, 0 for none."""
+    """Return, for each cell, the number of the last geometry that contains its centre, or 0."""
     source = ogr.GetDriverByName("Memory").CreateDataSource("polygons")
     layer = source.CreateLayer("polygons")
     layer.CreateField(ogr.FieldDefn("number", ogr.OFTInteger))

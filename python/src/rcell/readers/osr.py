@@ -1,5 +1,5 @@
 # SPDX-License-Identifier: Apache-2.0 OR GPL-2.0-or-later
-"""Reference systems of GDAL's own Python."""
+"""Handle reference systems with GDAL's Python bindings."""
 
 from __future__ import annotations
 
@@ -20,7 +20,7 @@ __all__ = ["OsrCrs", "crs_of", "quiet"]
 
 @contextlib.contextmanager
 def quiet() -> Iterator[None]:
-    """Silence GDAL's messages on standard error in this thread; its exceptions stay as others have set them."""
+    """Silence GDAL's messages on standard error in this thread, without changing its exceptions."""
     gdal.PushErrorHandler("CPLQuietErrorHandler")
     try:
         yield
@@ -41,7 +41,7 @@ class OsrCrs(Crs):
     system: Any
 
     def is_equal(self, other: Crs) -> bool:
-        """Return whether osr considers it equal to another one, whatever the order of their axes."""
+        """Return whether osr considers both systems equal, ignoring axis order."""
         assert isinstance(other, OsrCrs)
         with quiet():
             first, second = (osr.SpatialReference() for _ in range(2))
@@ -52,7 +52,7 @@ class OsrCrs(Crs):
     def points(
         self, to: Crs, x: NDArray[Any], y: NDArray[Any]
     ) -> tuple[NDArray[Any], NDArray[Any]]:
-        """Return points in another system; points outside it are not finite."""
+        """Transform points to another system; points outside it become infinite or NaN."""
         assert isinstance(to, OsrCrs)
         with quiet():
             change = osr.CoordinateTransformation(self.system, to.system)
@@ -61,7 +61,7 @@ class OsrCrs(Crs):
 
 
 def crs_of(text: str) -> OsrCrs:
-    """Return the reference system of a text.
+    """Parse the text of a reference system.
 
     Raises
     ------
@@ -111,7 +111,7 @@ def _kind_of(system: Any) -> str:
 
 
 def _codes_of(system: Any) -> tuple[str, ...]:
-    """Return the codes that a system surely has, as it names them itself first."""
+    """Return the codes that identify a system with certainty, beginning with its own."""
     codes = [(system.GetAuthorityName(None), system.GetAuthorityCode(None))]
     with quiet():
         try:

@@ -1,5 +1,5 @@
 # SPDX-License-Identifier: Apache-2.0 OR GPL-2.0-or-later
-"""Polygons in memory, of GeoDataFrames, GeoSeries and GeoJSON, as layers of the core; rasterio burns them."""
+"""Convert GeoDataFrames, GeoSeries and GeoJSON to layers, which rasterio burns."""
 
 from __future__ import annotations
 
@@ -18,7 +18,7 @@ from ..core.zones import Feature
 
 __all__ = ["Polygons", "layer_of"]
 
-# The only reference system of GeoJSON.
+# GeoJSON has only this reference system.
 GEOJSON_CRS = "EPSG:4326"
 _PURPOSE = "to read polygons"
 
@@ -33,7 +33,7 @@ class Polygons:
     crs : any
     fields : tuple of str
     records : sequence of tuples
-        The id, the properties by field, and the geometry as GeoJSON or as shapely has it, None for none.
+        The id, the properties by field, and the geometry as GeoJSON or shapely object, or None.
     """
 
     name: str
@@ -42,7 +42,7 @@ class Polygons:
     records: Sequence[tuple[Any, Mapping[str, Any], Any]]
 
     def features(self, field: Optional[str]) -> Iterator[Feature]:
-        """Yield the features in order, with the values of a field."""
+        """Yield the features in order, with their values of a field."""
         for number, properties, geometry in self.records:
             value = None if field is None else properties[field]
             value = None if is_missing(value) else value
@@ -52,7 +52,7 @@ class Polygons:
     def burn(
         self, shapes: Sequence[tuple[Any, int]], transform: Transform, shape: tuple[int, int]
     ) -> NDArray[np.int32]:
-        """Return a grid with the number of the last geometry that contains each cell's centre, 0 for none."""
+        """Return, for each cell, the number of the last geometry that contains its centre, or 0."""
         affine = need("affine", "gis", _PURPOSE).Affine(*transform)
         rasterize = need("rasterio.features", "gis", _PURPOSE).rasterize
         burnt: NDArray[np.int32] = rasterize(shapes, shape, fill=0, transform=affine, dtype="int32")
@@ -60,7 +60,7 @@ class Polygons:
 
     def bounds(self, geometry: Any) -> tuple[float, float, float, float]:
         """Return west, south, east and north of a geometry."""
-        # rasterio has no bounds of points, nor of geometries as fiona has them.
+        # rasterio cannot compute bounds of points, nor of fiona's geometries.
         is_shape = hasattr(geometry, "bounds")
         corners = () if is_shape else zip(*_places(geometry["coordinates"]))
         x, y = (geometry.bounds[::2], geometry.bounds[1::2]) if is_shape else corners
@@ -68,7 +68,7 @@ class Polygons:
 
 
 def _places(coordinates: Any) -> Iterator[Sequence[float]]:
-    """Yield the corners of a GeoJSON geometry."""
+    """Yield the vertices of a GeoJSON geometry."""
     if isinstance(coordinates[0], numbers.Real):
         yield coordinates[:2]
         return
@@ -77,7 +77,7 @@ def _places(coordinates: Any) -> Iterator[Sequence[float]]:
 
 
 def _kind(geometry: Any) -> str:
-    """Return the type of a geometry; empty for an empty one."""
+    """Return the type of a geometry; empty for an empty geometry."""
     if hasattr(geometry, "is_empty"):
         return "" if geometry.is_empty else str(geometry.geom_type)
     is_empty = not geometry.get("coordinates") and not geometry.get("geometries")
@@ -85,7 +85,7 @@ def _kind(geometry: Any) -> str:
 
 
 def layer_of(name: str, source: Any) -> Optional[Polygons]:
-    """Return a GeoDataFrame, a GeoSeries or GeoJSON in memory as a layer; None for anything else."""
+    """Convert a GeoDataFrame, GeoSeries or GeoJSON to a layer; return None for other objects."""
     if hasattr(source, "geom_type") and hasattr(source, "crs"):
         shapes = source.geometry
         properties: Sequence[Mapping[str, Any]] = [{}] * len(shapes)

@@ -1,5 +1,5 @@
 # SPDX-License-Identifier: Apache-2.0 OR GPL-2.0-or-later
-"""Reference systems of pyproj."""
+"""Handle reference systems with pyproj."""
 
 from __future__ import annotations
 
@@ -22,7 +22,7 @@ class PyprojCrs(Crs):
     system: Any
 
     def is_equal(self, other: Crs) -> bool:
-        """Return whether pyproj considers it equal to another one, whatever the order of their axes."""
+        """Return whether pyproj considers both systems equal, ignoring axis order."""
         assert isinstance(other, PyprojCrs)
         first, second = (pyproj.CRS(eastward(crs.system.to_json())) for crs in (self, other))
         return bool(first.equals(second, ignore_axis_order=True))
@@ -30,7 +30,7 @@ class PyprojCrs(Crs):
     def points(
         self, to: Crs, x: NDArray[Any], y: NDArray[Any]
     ) -> tuple[NDArray[Any], NDArray[Any]]:
-        """Return points in another system; points outside it are not finite."""
+        """Transform points to another system; points outside it become infinite or NaN."""
         assert isinstance(to, PyprojCrs)
         change = pyproj.Transformer.from_crs(self.system, to.system, always_xy=True)
         moved: tuple[NDArray[Any], NDArray[Any]] = change.transform(x, y)
@@ -38,7 +38,7 @@ class PyprojCrs(Crs):
 
 
 def crs_of(text: str) -> PyprojCrs:
-    """Return the reference system of a text.
+    """Parse the text of a reference system.
 
     Raises
     ------
@@ -87,7 +87,7 @@ def _kind_of(system: Any) -> str:
 
 
 def _codes_of(system: Any) -> tuple[str, ...]:
-    """Return the codes that a system surely has, as it names them itself first."""
+    """Return the codes that identify a system with certainty, beginning with its own."""
     own = system.to_authority(min_confidence=100)
     codes = [own] if own else []
     codes += [

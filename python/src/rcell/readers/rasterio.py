@@ -1,5 +1,5 @@
 # SPDX-License-Identifier: Apache-2.0 OR GPL-2.0-or-later
-"""Rasters opened with rasterio, as maps: they are read window by window, never as a whole."""
+"""Open rasters as maps with rasterio, and read them window by window."""
 
 from __future__ import annotations
 
@@ -47,28 +47,29 @@ __all__ = [
 
 _PURPOSE = "to read a raster"
 _IDENTITY: Transform = (1.0, 0.0, 0.0, 0.0, 1.0, 0.0)
-# The most cells of a block, for files whose blocks have very many rows.
+# The largest number of cells in a block, for files whose blocks have very many rows.
 MOST_BLOCK_CELLS = 1 << 23
 _one_thread = threading.Lock()
 
 
 def open_raster(name: str, source: Any, band: int | None = None) -> RasterMap:
-    """Return a raster as a map.
+    """Open a raster as a map.
 
     Parameters
     ----------
     name : str
-        The name of the map, for errors.
+        The name of the map, for messages.
     source : path, rasterio.DatasetReader or rasterio.Band
     band : int, optional
-        Without it, the raster must have only one.
+        The number of the band; by default, the raster must have only one.
 
     Raises
     ------
     ReadFailed
         The raster cannot be opened.
     BadMap
-        The raster has several bands, scaled values, a rotated transform, or control points instead of a transform.
+        The raster has several bands, scaled values, a rotated transform, or control points instead
+        of a transform.
     """
     rasterio = need("rasterio", "gis", _PURPOSE)
     with read_errors(name, "cannot open"):
@@ -84,11 +85,11 @@ def open_raster(name: str, source: Any, band: int | None = None) -> RasterMap:
 
 @contextlib.contextmanager
 def read_errors(name: str, problem: str) -> Iterator[None]:
-    """Raise errors of rasterio and the system about a broken raster as ReadFailed."""
+    """Convert errors of rasterio and the system about a broken raster to ReadFailed."""
     rasterio = need("rasterio", "gis", _PURPOSE)
     gdal_error = need(
         "rasterio._err", "gis", _PURPOSE
-    ).CPLE_BaseError  # some properties of a dataset raise it unchanged
+    ).CPLE_BaseError  # raised directly by some properties of a dataset
     try:
         yield
     except UnicodeEncodeError:
@@ -102,7 +103,7 @@ def read_errors(name: str, problem: str) -> Iterator[None]:
 
 
 def open_dataset(name: str, path: str) -> Any:
-    """Open a dataset with rasterio, without a warning if it has no georeference.
+    """Open a dataset with rasterio, without the warning about a missing georeference.
 
     Raises
     ------
@@ -118,7 +119,7 @@ def open_dataset(name: str, path: str) -> Any:
 
 @dataclass(frozen=True)
 class Layer:
-    """A band of a raster, and what makes its cells null.
+    """A band of a raster, and the rules that make its cells null.
 
     Attributes
     ----------
@@ -126,7 +127,7 @@ class Layer:
     dtype : str
     nodata : float or int or None
     has_mask : bool
-        Whether the band has a mask of its own, or one for all bands.
+        Whether the band has its own mask, or a mask for all bands.
     alpha : int or None
         The band that marks transparent cells, which are null.
     """
@@ -139,7 +140,7 @@ class Layer:
 
     @classmethod
     def of(cls, name: str, dataset: Any, band: int, enums: Any) -> Layer:
-        """Return a band of a dataset; raise BadMap if its values are scaled or not whole numbers."""
+        """Describe a band of a dataset; raise BadMap unless it contains unscaled integers."""
         check_scale(name, dataset, band)
         dtype, nodata = dataset.dtypes[band - 1], dataset.nodatavals[band - 1]
         if dtype.startswith("complex") or dtype not in np.sctypeDict:
@@ -157,7 +158,7 @@ class Layer:
     def read(
         self, name: str, dataset: Any, place: tuple[int, int, int, int], title: str
     ) -> tuple[Cells, Mask | None]:
-        """Return the cells of a window, and which of them a mask or transparency makes null.
+        """Return the cells of a window, and which of them are null by mask or transparency.
 
         Raises
         ------
@@ -174,13 +175,14 @@ class Layer:
             if self.alpha is not None:
                 masks.append(dataset.read(self.alpha, window=window) == 0)
         if cells.dtype.itemsize == 8:
-            # rasterio before 1.4 swaps the names of the two 64-bit types, not the bits.
+            # Before version 1.4, rasterio swaps the names of the two 64-bit types, but not the
+            # bits.
             cells = cells.view(self.dtype)
         return cells, np.logical_or.reduce(masks) if masks else None
 
 
 def _described(dataset: Any) -> ElementTree.Element:
-    """Return GDAL's description of a raster as a VRT, which says what rasterio does not."""
+    """Return GDAL's VRT description of a raster, with details that rasterio lacks."""
     with need("rasterio.io", "gis", _PURPOSE).MemoryFile(ext=".vrt") as memory:
         need("rasterio.shutil", "gis", _PURPOSE).copy(dataset, memory.name, driver="VRT")
         return ElementTree.fromstring(memory.read())
@@ -191,9 +193,9 @@ def _band_of(dataset: Any, band: int) -> ElementTree.Element:
 
 
 def _of_64_bits(dataset: Any, band: int) -> tuple[str, int | None]:
-    """Return the exact type and nodata value of a band of 64 bits.
+    """Return the exact type and nodata value of a 64-bit band.
 
-    rasterio itself has nodata as a float, and before 1.4 swaps the two 64-bit types.
+    rasterio stores nodata as a float and, before version 1.4, swaps the two 64-bit types.
     """
     layer = _band_of(dataset, band)
     nodata = layer.findtext("NoDataValue")
@@ -201,31 +203,32 @@ def _of_64_bits(dataset: Any, band: int) -> tuple[str, int | None]:
 
 
 def legend_of_file(path: str, band: int) -> Legend:
-    """Return the labels and colours of a band of a file."""
+    """Read the labels and colours of a band in a file."""
     return legend_of_band(_band_of(open_dataset(path, path), band), path)
 
 
 @dataclass(frozen=True)
 class RasterMap:
-    """A band of a raster as a map; made by `open_raster`.
+    """A band of a raster as a map; created by `open_raster`.
 
     Attributes
     ----------
     name : str
     dataset : rasterio.DatasetReader
-        The caller's own, or one that stays open as long as this map exists: opening costs milliseconds. None in another process.
+        The caller's dataset, or a dataset that stays open as long as this map exists, because
+        opening takes milliseconds. None in another process.
     layer : Layer
     region : Region
     transform : tuple of six float
-        With its rows from north to south.
+        The transform with rows from north to south.
     crs : rasterio.crs.CRS or None
     is_upside_down : bool
-        Whether its rows go from south to north.
+        Whether its rows go from south to north in the file.
     block_shape : tuple of two ints
     files : tuple of str
-        As GDAL lists them.
+        The files that GDAL lists.
     labels_path : str
-        Its path, or another name that GDAL opens.
+        The path for reading labels, or another name that GDAL can open.
     thread : int
         The thread that opened the dataset.
     """
@@ -245,7 +248,10 @@ class RasterMap:
 
     @classmethod
     def of_dataset(cls, name: str, dataset: Any, band: int | None) -> RasterMap:
-        """Return a band of an open dataset as a map; without a band, the dataset must have only one."""
+        """Convert a band of an open dataset to a map.
+
+        Without a band, the dataset must have only one.
+        """
         enums = need("rasterio.enums", "gis", _PURPOSE)
         band = only_band(name, dataset, enums) if band is None else band
         if band not in dataset.indexes:
@@ -269,12 +275,15 @@ class RasterMap:
         )
 
     def sent(self, _: Any) -> RasterMap | None:
-        """Return the map if another process can open it by its path."""
+        """Return the map if another process can open it by path."""
         return self if self._has_path else None
 
     @property
     def _has_path(self) -> bool:
-        """Return whether it can be opened again: a warped raster has no path, and a file in memory exists only in this process."""
+        """Return whether the raster can be opened again by path.
+
+        A warped raster has no path, and a file in memory exists only in this process.
+        """
         is_reader = self.dataset is None or type(self.dataset).__name__ == "DatasetReader"
         return is_reader and not self.labels_path.startswith("/vsimem/")
 
@@ -284,7 +293,7 @@ class RasterMap:
 
     @property
     def dtype(self) -> np.dtype[Any]:
-        """The type of its blocks."""
+        """The data type of its blocks."""
         return type_of(np.dtype(self.layer.dtype))
 
     @property
@@ -301,12 +310,12 @@ class RasterMap:
 
     @property
     def labels(self) -> Mapping[int, str]:
-        """Labels of its categories."""
+        """The labels of its categories."""
         return self._legend.labels
 
     @property
     def colors(self) -> Mapping[int, str]:
-        """Colours of its categories."""
+        """The colours of its categories."""
         return self._legend.colors
 
     @functools.cached_property
@@ -314,7 +323,7 @@ class RasterMap:
         return legend_of_band(_band_of(self.dataset, self.layer.band), self.labels_path)
 
     def blocks(self) -> Iterator[Block]:
-        """Yield the rows from north to south, in blocks that fit the blocks of the file."""
+        """Yield the rows from north to south, in multiples of the file's blocks."""
         rows, cols = self.region.shape
         height = self.block_shape[0]
         step = max(1, round(BLOCK_CELLS / cols / height)) * height
@@ -323,7 +332,7 @@ class RasterMap:
             yield self.window(row, 0, min(step, rows - row), cols)
 
     def window(self, row: int, col: int, rows: int, cols: int) -> Block:
-        """Return some of the cells, counted from the north-west corner.
+        """Return a window of cells; rows and columns are counted from the north-west.
 
         Raises
         ------
@@ -340,7 +349,7 @@ class RasterMap:
             path = self.labels_path
             own = of_this_thread(path, lambda: open_dataset(self.name, path))
             cells, null = self.layer.read(self.name, own, place, title)
-        else:  # a warped raster, for example, which has no name to open it again
+        else:  # for example a warped raster, which cannot be opened again by name
             with _one_thread:
                 cells, null = self.layer.read(self.name, self.dataset, place, title)
         if self.is_upside_down:
@@ -349,7 +358,11 @@ class RasterMap:
 
 
 def alphas(dataset: Any, enums: Any) -> list[int]:
-    """Return the alpha bands. Reading `colorinterp` once matters: rasterio looks at all bands, 65,535 in a broken file."""
+    """Return the alpha bands.
+
+    `colorinterp` is read only once, because rasterio then examines all bands, of which a broken
+    file may have 65,535.
+    """
     return [
         band
         for band, kind in zip(dataset.indexes, dataset.colorinterp)
@@ -373,14 +386,15 @@ def check_scale(name: str, dataset: Any, band: int) -> None:
     if (scale, offset) != (1, 0):
         raise BadMap(
             name,
-            f"its values are scaled: each cell times {scale:g}, plus {offset:g}; write them out as whole numbers first",
+            f"its values are scaled: each cell times {scale:g}, plus {offset:g}; write them out "
+            "as whole numbers first",
         )
 
 
 def upright(name: str, dataset: Any) -> tuple[Transform, bool]:
-    """Return the transform of a dataset with rows from north to south, and whether the file has them the other way.
+    """Return the transform with rows from north to south, and whether the file has them reversed.
 
-    Without a transform, cells have side 1 and the bottom left corner is at 0, 0.
+    Without a transform, cells have size 1 and the bottom left corner is at 0, 0.
 
     Raises
     ------

@@ -1,5 +1,5 @@
 # SPDX-License-Identifier: Apache-2.0 OR GPL-2.0-or-later
-"""DataArrays of xarray, as maps and as results."""
+"""Convert DataArrays of xarray to maps, and maps to DataArrays."""
 
 from __future__ import annotations
 
@@ -41,7 +41,8 @@ __all__ = [
     "variables_of",
 ]
 
-# Names, CF's standard names and axes, and its units, which alone make a coordinate a latitude or longitude.
+# Names, CF standard names, CF axes, and CF units. Units are enough to identify a latitude or
+# longitude.
 _AXES = {
     "Y": {
         "Y",
@@ -72,13 +73,13 @@ _AXES = {
         "degree_E",
     },
 }
-# By how much of a cell coordinates may be off the grid that they are taken for.
+# The tolerance, in cells, for coordinates to count as evenly spaced.
 _TOLERANCE = 1e-4
 
 
 @dataclass(frozen=True)
 class DataArrayMap:
-    """A DataArray of two dimensions as a map: if Dask holds it, its blocks are computed one at a time."""
+    """A two-dimensional DataArray as a map; blocks of a Dask array are computed one at a time."""
 
     name: str
     array: Any
@@ -91,13 +92,13 @@ class DataArrayMap:
 
     @property
     def files(self) -> tuple[str, ...]:
-        """The file that it was opened from, if it says so."""
+        """The file from which it was opened, if it is known."""
         source = self.array.encoding.get("source")
         return (source,) if isinstance(source, str) else ()
 
     @property
     def dtype(self) -> np.dtype[Any]:
-        """The type of its blocks."""
+        """The data type of its blocks."""
         return type_of(self.array.dtype)
 
     @property
@@ -107,7 +108,7 @@ class DataArrayMap:
 
     @property
     def is_masked(self) -> bool:
-        """Whether its blocks have masks: each block of Dask may have one."""
+        """Whether its blocks have masks, because each Dask chunk may have a mask."""
         return not is_converted(self.array.dtype) and (
             is_lazy(self.array) or isinstance(self.array.data, np.ma.MaskedArray)
         )
@@ -122,18 +123,21 @@ class DataArrayMap:
 
     @property
     def block_shape(self) -> tuple[int, int]:
-        """Rows and columns of a chunk of Dask."""
+        """The rows and columns of a Dask chunk."""
         chunks = self.array.chunks
         return (max(chunks[0]), max(chunks[1])) if chunks else (1, 1)
 
     def window(self, row: int, col: int, rows: int, cols: int) -> Block:
-        """Return some of the cells, counted from the north-west corner; Dask computes the chunks that have them."""
+        """Return a window of cells, computing only the Dask chunks that contain it.
+
+        Rows and columns are counted from the north-west.
+        """
         part = self._part(row, col, rows, cols)
         cells = part.cells.compute() if is_lazy(self.array) else part.cells
         return replace(part, cells=cells).window(row, col, rows, cols)
 
     def sent(self, outer: Rectangle) -> Chunks | None:
-        """Return the chunks with the cells of a window, if Dask holds the cells."""
+        """Return the chunks with the cells of a window, if they are in a Dask array."""
         return self._part(*outer) if is_lazy(self.array) else None
 
     def _part(self, row: int, col: int, rows: int, cols: int) -> Chunks:
@@ -142,7 +146,7 @@ class DataArrayMap:
 
 
 class Flat(NamedTuple):
-    """A DataArray of rows and columns, its rows from north to south, and what is known of its cells."""
+    """A DataArray of rows, from north to south, and columns, with the properties of its cells."""
 
     array: Any
     transform: Transform | None
@@ -152,28 +156,31 @@ class Flat(NamedTuple):
 
 
 def flat_of(name: str, array: Any) -> Flat:
-    """Return what a DataArray says about a map; no cell is read.
+    """Return the properties of a DataArray as a map, without reading cells.
 
     Parameters
     ----------
     name : str
     array : xarray.DataArray
-        Of two dimensions (others have one element), by their names or their CF axes, else rows first; with coordinates of the centres of
-        cells or none at all. Null is NaN, and the value of `_FillValue`, `missing_value` or `nodata` among its attributes or its encoding.
-        The reference system is in the coordinate that `grid_mapping` names, or in `spatial_ref`; labels are CF's `flag_values` and
-        `flag_meanings`.
+        An array with two dimensions (further dimensions must have one element), which are
+        identified by their names or CF axes, or else are rows and columns in this order. Its
+        coordinates are cell centres, or are missing. Null is NaN, and the value of `_FillValue`,
+        `missing_value` or `nodata` in its attributes or its encoding. The reference system is read
+        from the coordinate that `grid_mapping` names, or from `spatial_ref`, and labels from CF's
+        `flag_values` and `flag_meanings`.
 
     Raises
     ------
     BadMap
-        It can't be a map, or its coordinates are not evenly spaced.
+        The array cannot be a map, or its coordinates are not evenly spaced.
     """
     if not hasattr(array, "coords"):
         raise BadMap(name, f"a {type(array).__name__} without coordinates: give a DataArray")
     if not hasattr(array, "ndim"):
         raise BadMap(
             name,
-            f"a {type(array).__name__} of several variables: give it alone, or one of them, for example dataset[{next(iter(array), 'name')!r}]",
+            f"a {type(array).__name__} of several variables: give it alone, or one of them, for "
+            f"example dataset[{next(iter(array), 'name')!r}]",
         )
     if any(size != size for size in array.shape):
         raise BadMap(
@@ -191,7 +198,7 @@ def flat_of(name: str, array: Any) -> Flat:
 
 
 def source_of_data_array(name: str, array: Any) -> DataArrayMap:
-    """Return a DataArray as a map; `flat_of` lists the arrays that are accepted.
+    """Convert a DataArray to a map; `flat_of` describes the arrays that are accepted.
 
     Raises
     ------
@@ -207,7 +214,10 @@ def source_of_data_array(name: str, array: Any) -> DataArrayMap:
 
 
 def open_zarr(name: str, path: str) -> DataArrayMap:
-    """Return the only map of a Zarr store, as it is stored: xarray would make floats of whole numbers with a nodata value."""
+    """Open the only map in a Zarr store with its stored values.
+
+    By default, xarray would convert integers with a nodata value to floats.
+    """
     xarray = need("xarray", "xarray", "to read Zarr")
     need("zarr", "xarray", "to read Zarr")
     try:
@@ -223,7 +233,7 @@ def open_zarr(name: str, path: str) -> DataArrayMap:
 
 
 def variables_of(dataset: Any) -> dict[str, Any]:
-    """Return the maps of a Dataset by their names: all variables except those that locate the cells."""
+    """Return the maps in a Dataset by name: all variables except grid mappings."""
     if not hasattr(dataset, "data_vars"):
         raise BadMap(
             "maps", "the DataArray has no usable name: pass it by keyword, for example lc=array"
@@ -242,11 +252,12 @@ def variables_of(dataset: Any) -> dict[str, Any]:
 
 
 def layers_of(array: Any) -> list[Any]:
-    """Return the maps that a DataArray of three dimensions has along the one that is neither rows nor columns."""
+    """Return the maps along the dimension of a DataArray that is neither rows nor columns."""
     if getattr(array, "ndim", 0) != 3:
         raise BadMap(
             "raster",
-            f"bands must be of a DataArray of three dimensions; got {getattr(array, 'ndim', 'several variables')}",
+            "bands must be of a DataArray of three dimensions; got "
+            f"{getattr(array, 'ndim', 'several variables')}",
         )
     axes = [_axis_of(array, dim) for dim in array.dims]
     across = array.dims[axes.index(None) if {"X", "Y"} <= set(axes) else 0]
@@ -263,12 +274,12 @@ def series_of(array: Any) -> tuple[list[Any], list[int]]:
 
 
 def is_lazy(array: Any) -> bool:
-    """Return whether Dask holds the cells of a DataArray."""
+    """Return whether the cells of a DataArray are in a Dask array."""
     return getattr(array, "chunks", None) is not None
 
 
 def _flat(name: str, array: Any) -> Any:
-    """Return an array with its rows first, by the names of its dimensions, else by their places."""
+    """Return an array with rows first, identified by dimension names or else by position."""
     axes = [_axis_of(array, dim) for dim in array.dims]
     if axes.count("X") > 1 or axes.count("Y") > 1:
         listed = ", ".join(map(str, array.dims))
@@ -288,14 +299,17 @@ def _flat(name: str, array: Any) -> Any:
 
 
 def _axis_of(array: Any, dim: Any) -> str | None:
-    """Return X or Y, if a dimension is known to be that: by CF's attributes of its coordinate, or by a usual name."""
+    """Return X or Y for a dimension, from its CF attributes or a usual name, or None."""
     attributes = array.coords[dim].attrs if dim in array.coords else {}
     hints = {*(attributes.get(key) for key in ("axis", "standard_name", "units")), str(dim).lower()}
     return next((axis for axis, names in _AXES.items() if hints & names), None)
 
 
 def _by_place(array: Any, named: list[Any]) -> list[Any]:
-    """Return the two dimensions that have more than one element, else the last two; a known one decides which comes first."""
+    """Return the two dimensions with more than one element, or else the last two.
+
+    A dimension whose axis is known determines the order.
+    """
     dims = [dim for dim in array.dims if array.sizes[dim] > 1 or dim in named]
     if len(dims) != 2:
         dims = list(array.dims[-2:])
@@ -306,12 +320,16 @@ def _by_place(array: Any, named: list[Any]) -> list[Any]:
 
 
 def _check_scale(name: str, array: Any) -> None:
-    """Raise BadMap if the values of an array are scaled; decoded arrays have these attributes in their encoding."""
+    """Raise BadMap if the values of an array are scaled.
+
+    Decoded arrays contain the scaling attributes in their encoding.
+    """
     scale, offset = array.attrs.get("scale_factor", 1), array.attrs.get("add_offset", 0)
     if (scale, offset) != (1, 0):
         raise BadMap(
             name,
-            f"its values are scaled: each cell times {scale}, plus {offset}; write them out as whole numbers first",
+            f"its values are scaled: each cell times {scale}, plus {offset}; write them out as "
+            "whole numbers first",
         )
 
 
@@ -329,7 +347,7 @@ def _transform_of(name: str, array: Any) -> Transform | None:
 
 
 def _stated_transform(name: str, array: Any) -> Transform | None:
-    """Return the transform that rioxarray stored, in GDAL's order; it is outdated if the array was cut later."""
+    """Return the transform that rioxarray stored, which is outdated if the array was cut later."""
     reference = array.coords.get("spatial_ref")
     text = None if reference is None else reference.attrs.get("GeoTransform")
     if not text:
@@ -339,7 +357,7 @@ def _stated_transform(name: str, array: Any) -> Transform | None:
 
 
 def _spacing(name: str, coordinate: Any, stated: tuple[float, float] | None) -> tuple[float, float]:
-    """Return the outer edge and the step of the centres along a dimension."""
+    """Return the outer edge and the step between cell centres along a dimension."""
     try:
         centres = np.asarray(coordinate.values, dtype=np.float64)
     except (TypeError, ValueError):
@@ -354,7 +372,8 @@ def _spacing(name: str, coordinate: Any, stated: tuple[float, float] | None) -> 
     if count == 1:
         raise BadMap(
             name,
-            f"one cell along {coordinate.name}: its size is unknown; give rcell.Raster(array.values, region)",
+            f"one cell along {coordinate.name}: its size is unknown; give "
+            "rcell.Raster(array.values, region)",
         )
     step = (centres[-1] - centres[0]) / (count - 1)
     off = np.abs(centres[0] + step * np.arange(count) - centres)
@@ -373,7 +392,10 @@ def _crs_of(array: Any) -> Any:
 
 
 def _nodata_of(name: str, array: Any) -> float | None:
-    """Return the number that marks null. NaN always does, and is the only one if xarray has scaled the cells."""
+    """Return the number that marks null, in addition to NaN.
+
+    If xarray has scaled the cells, only NaN is null.
+    """
     scale = array.encoding.get("scale_factor", 1)
     offset = array.encoding.get("add_offset", 0)
     stored = array.encoding if (scale, offset) == (1, 0) else {}
@@ -388,7 +410,8 @@ def _nodata_of(name: str, array: Any) -> float | None:
     if len(distinct) > 1:
         raise BadMap(
             name,
-            f"several nodata values: {', '.join(map(str, sorted(distinct)))}; keep one of _FillValue, missing_value and nodata",
+            f"several nodata values: {', '.join(map(str, sorted(distinct)))}; keep one of "
+            "_FillValue, missing_value and nodata",
         )
     return next(iter(distinct), None)
 
@@ -404,7 +427,7 @@ def _flags_of(array: Any) -> dict[int, str]:
 def data_array_of(
     array: Any, transform: Transform, crs: Any, labels: Mapping[int, str], name: str
 ) -> Any:
-    """Return a map in memory as a DataArray of int32."""
+    """Convert a map in memory to an int32 DataArray."""
     return data_array(array.astype(np.int32).filled(NULL), transform, crs, labels, name)
 
 
@@ -417,7 +440,7 @@ def data_array(
     null: int = NULL,
     like: Any = None,
 ) -> Any:
-    """Return cells of numpy or Dask as a DataArray, with what xarray, rioxarray and CF know of rasters.
+    """Convert numpy or Dask cells to a DataArray with the conventions of rioxarray and CF.
 
     Parameters
     ----------
@@ -429,7 +452,7 @@ def data_array(
     null : int
         The value of null cells, stored as `_FillValue`.
     like : xarray.DataArray, optional
-        A map of the same rows and columns, whose dimensions and coordinates the result gets.
+        A map with the same rows and columns, from which dimensions and coordinates are copied.
     """
     xarray = need("xarray", "xarray", "to return a DataArray")
     attributes: dict[str, Any] = {"_FillValue": cells.dtype.type(null)}
