@@ -30,7 +30,7 @@ enum Frame<'a> {
     Level(u32),
     /// An expression of this level, whose right operand is being read. The steps already contain the left operand.
     Joined(u32, Operator),
-    /// A condition or a complete expression: `?` may follow it.
+    /// An expression that may be a condition, which is being read. `?` may follow it.
     Choice,
     /// A choice, whose value for a true condition is being read.
     AfterQuestion,

@@ -73,7 +73,7 @@ impl CellMap {
         self.rows.row(row).copy_to(cells);
     }
 
-    /// Iterates over the runs of a row, from left to right.
+    /// Returns an iterator over the runs of a row, from left to right.
     pub fn runs(&self, row: u32) -> Runs<'_>
         requires row_in_range { row < self.now.region.rows }
         ensures written { written_out result ≡ row_at self.now row }
@@ -83,7 +83,7 @@ impl CellMap {
         self.rows.row(row).runs()
     }
 
-    /// Iterates over a row, from left to right, in its stored form: run by run, or cell by cell.
+    /// Returns an iterator over a row, from left to right, in its stored form: run by run, or cell by cell.
     pub fn stretches(&self, row: u32) -> Stretches<'_>
         requires row_in_range { row < self.now.region.rows }
         ensures written { written_out result ≡ row_at self.now row }

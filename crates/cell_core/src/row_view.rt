@@ -95,7 +95,7 @@ impl<'a> RowView<'a> {
         }
     }
 
-    // Iterates over the runs, from left to right.
+    // Returns an iterator over the runs, from left to right.
     pub(crate) fn runs(self) -> Runs<'a>
         ensures written { written_out result ≡ self.entry }
         ensures runs { AreRuns result }
@@ -127,7 +127,7 @@ impl<'a> RowView<'a> {
         }
     }
 
-    // Iterates over the stretches, from left to right.
+    // Returns an iterator over the stretches, from left to right.
     pub(crate) fn stretches(self) -> Stretches<'a>
         ensures written { written_out result ≡ self.entry }
         ensures some { All (λ run. 0 < run.1) result }

@@ -206,8 +206,8 @@ fn count_alike(cell: Cell, cells: &[Cell]) -> usize
     count
 }
 
-/// Iterates over the runs of a row, from left to right: a cell and the number of times it is repeated, at least 1.
-/// Adjacent runs have different cells. In contracts, its value is the list of remaining runs.
+/// An iterator over the runs of a row, from left to right. Each run is a cell and the number of times it is repeated,
+/// at least 1. Adjacent runs have different cells. In contracts, its value is the list of remaining runs.
 #[derive(Drop)]
 pub struct Runs<'a> {
     rest: Rest<'a>,
@@ -234,7 +234,7 @@ impl<'a> Model for Runs<'a> {
 }
 
 impl<'a> Runs<'a> {
-    // Iterates over given runs.
+    // Returns an iterator over given runs.
     pub(crate) fn over(runs: &'a [(Cell, u32)]) -> Runs<'a>
         ensures { result ≡ runs.now }
     {
@@ -254,7 +254,7 @@ impl<'a> Runs<'a> {
         }
     }
 
-    // Iterates over the runs of cells stored as bytes.
+    // Returns an iterator over the runs of cells stored as bytes.
     pub(crate) fn of_bytes(bytes: &'a [u8]) -> Runs<'a>
         requires { length bytes.now < 2 ^ 32 }
         ensures { result ≡ runs_in (cells_of_bytes bytes.now) }
@@ -264,7 +264,7 @@ impl<'a> Runs<'a> {
         }
     }
 
-    // Iterates over the runs of cells.
+    // Returns an iterator over the runs of cells.
     pub(crate) fn of_cells(cells: &'a [Cell]) -> Runs<'a>
         requires { length cells.now < 2 ^ 32 }
         ensures { result ≡ runs_in cells.now }

@@ -9,10 +9,10 @@ use cell_core_values::cell::Cell;
 use cell_core_values::small_cells::cell_of_byte;
 use std::marker::Model;
 
-/// Iterates over the cells of a row, from left to right, as stretches: a cell and the number of times it is repeated.
-/// The stretches of a row stored as runs are its runs. Other rows have one stretch per cell, so adjacent stretches may
-/// have equal cells: if most runs are short, this is faster than finding their ends. In contracts, its value is the
-/// list of remaining stretches.
+/// An iterator over the cells of a row, from left to right, as stretches: a cell and the number of times it is
+/// repeated. The stretches of a row stored as runs are its runs. Other rows have one stretch per cell, so adjacent
+/// stretches may have equal cells: if most runs are short, this is faster than finding their ends. In contracts, its
+/// value is the list of remaining stretches.
 #[derive(Drop)]
 pub struct Stretches<'a> {
     rest: Unread<'a>,
@@ -37,7 +37,7 @@ impl<'a> Model for Stretches<'a> {
 }
 
 impl<'a> Stretches<'a> {
-    // Iterates over given runs.
+    // Returns an iterator over given runs.
     pub(crate) fn of_runs(runs: &'a [(Cell, u32)]) -> Stretches<'a>
         ensures { result ≡ runs.now }
     {
@@ -46,7 +46,7 @@ impl<'a> Stretches<'a> {
         }
     }
 
-    // Iterates over cells stored as bytes.
+    // Returns an iterator over cells stored as bytes, one stretch per cell.
     pub(crate) fn of_bytes(bytes: &'a [u8]) -> Stretches<'a>
         ensures { result ≡ one_by_one (cells_of_bytes bytes.now) }
     {
@@ -55,7 +55,7 @@ impl<'a> Stretches<'a> {
         }
     }
 
-    // Iterates over cells.
+    // Returns an iterator over cells, one stretch per cell.
     pub(crate) fn of_cells(cells: &'a [Cell]) -> Stretches<'a>
         ensures { result ≡ one_by_one cells.now }
     {

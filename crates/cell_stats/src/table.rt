@@ -79,7 +79,7 @@ impl Table {
         self.width
     }
 
-    /// Iterates over all entries in ascending order.
+    /// Returns an iterator over all entries in ascending order.
     pub fn all(&self) -> Listing<'_>
         ensures { result ≡ self.now.pairs }
     {
@@ -88,7 +88,8 @@ impl Table {
         }
     }
 
-    /// Iterates over the entries after a combination. The combination must have one cell per map, but need not occur.
+    /// Returns an iterator over the entries after a combination. The combination must have one cell per map, but need
+    /// not occur.
     pub fn after(&self, combo: &Combo) -> Listing<'_>
         requires { length combo.now ≡ self.now.width }
         ensures { result ≡ rest_after combo.now self.now.pairs }
@@ -122,7 +123,7 @@ pub struct Entry<'a> {
     pub count: u64,
 }
 
-/// Iterates over entries of a table in ascending order. In contracts, its value is the list of remaining entries.
+/// An iterator over entries of a table, in ascending order. In contracts, its value is the list of remaining entries.
 #[derive(Drop)]
 pub struct Listing<'a> {
     rest: &'a [(Combo, u64)],
