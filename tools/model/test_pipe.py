@@ -5,6 +5,7 @@
 
 - N random requests of all types, with nodata, masks, labels and scripts of tools/model/fuzz.py: the printed frames must be the output of
   rcell, and the errors of scripts the errors of rcell; as text, the response must be that output, or the same rejection;
+- the request of the crate rcell_pipe: a right request, and the response that the gate compares with the proved program's;
 - each error of a request by name, each truncation of ten requests, and random damage: the first error must be the plain reader's;
 - a caller that stops reading, a request that announces a large map, and, with CLANG, each growth, read and write that fails.
 
@@ -420,6 +421,17 @@ def named_errors_of_questions(maps: list[Raster], script: bytes) -> Iterator[tup
     yield "bytes after the request", request(maps, script, [first]) + b"\0"
 
 
+def wrong_crate(programs: Programs) -> str:
+    """What is wrong with the request and the response in the folder of the crate, or the empty text."""
+    with open(f"{ROOT}/crates/rcell_pipe/stdin", "rb") as file:
+        data = file.read()
+    with open(f"{ROOT}/crates/rcell_pipe/stdout", "rb") as file:
+        response = file.read()
+    if programs.run(data) != (STATUS_DONE, response):
+        return "the response is another"
+    return wrong_reading(programs, data)
+
+
 def check_errors(programs: Programs, count: cases.Count) -> None:
     for text, data in named_errors():
         said = programs.frames(data)[-1]["text"].decode()
@@ -670,6 +682,7 @@ def main() -> int:
     choice = random.Random(given.seed)
     with tempfile.TemporaryDirectory(prefix="pipe-") as room:
         programs = Programs(os.path.abspath(given.program), os.path.abspath(given.rcell), room)
+        count.add("the request of the crate", wrong_crate(programs))
         check_errors(programs, count)
         check_random(programs, count, choice, given.runs)
         check_damage(programs, count, choice, given.runs)
