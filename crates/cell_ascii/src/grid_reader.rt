@@ -429,8 +429,8 @@ impl<R: Source> Model for GridReader<R> {
 }
 
 impl<R: Source> GridReader<R> {
-    /// Reads the header of a text and the first token of its data. The token is checked later, when its
-    /// cell is read (r.in.ascii manual).
+    /// Reads the header of a text and the first token of its data. The token is checked later, when its cell is read
+    /// (r.in.ascii manual).
     ///
     /// # Errors
     ///

@@ -6,7 +6,7 @@ use Rattle.std.specs.Int.RustNames.{count_ones}
 use Rattle.cell_core_values.specs.Letters.{byte}
 use Rattle.cell_core_values.specs.Digits.{is_digit, value_of_digits}
 
--- the byte is the default null text
+-- the byte is `*`, the default null text
 abbrev pub is_null_star : ℕ → Bool
 is_null_star b = b == byte (codes "*")
 

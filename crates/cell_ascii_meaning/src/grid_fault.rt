@@ -27,7 +27,7 @@ pub enum GridKind {
     /// A word that is neither null nor a whole number.
     #[error("bad cell")]
     BadCell,
-    /// A number that is not a category, or whose product with the multiplier is not.
+    /// A number that is not a category, or whose product with the multiplier is not a category.
     #[error("cell out of range")]
     CellRange,
     /// A text that ends before the last cell.
@@ -42,7 +42,7 @@ pub enum GridKind {
     /// Memory ran out.
     #[error("no memory")]
     Memory,
-    /// A call after an earlier call of the reader failed.
+    /// An earlier call of the reader failed.
     #[error("reader failed")]
     Failed,
     /// More than 1,048,576 blanks and line feeds in a row.

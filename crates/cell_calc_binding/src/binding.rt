@@ -59,8 +59,8 @@ fn steps_over_places(
 ///
 /// # Errors
 ///
-/// `UnknownMap` with the column of the first name that is not in the list; otherwise `Memory`, with
-/// column 0, if memory runs out.
+/// `UnknownMap` with the column of the first name that is not in the list; otherwise `Memory`, with column 0, if memory
+/// runs out.
 pub fn resolve(alloc: Global, expr: &Expr, names: &Names) -> Result<Bound, CalcFault>
     ensures ok { IfOk result (λ bound. bound ≡ with_places names.now expr.now) }
     ensures known { OnOk result (first_unknown names.now expr.now ≡ None) }

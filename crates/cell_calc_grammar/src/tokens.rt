@@ -243,8 +243,8 @@ fn next_token(alloc: Global, count: usize, bytes: &[u8], column: u32) -> Result<
 ///
 /// # Errors
 ///
-/// The first error of the text, read from the left, with its column; or `Memory`, with column 0, if memory
-/// runs out. A text has at most 1000 tokens (profile).
+/// The first error of the text, read from the left, with its column; or `Memory`, with column 0, if memory runs out. A
+/// text has at most 1000 tokens (profile).
 pub fn tokens(alloc: Global, text: &[u8]) -> Result<Vec<Placed>, CalcFault>
     requires { length text.now ≤ 65535 }
     ensures ok { IfOk result (λ found. token_list text.now ≡ Ok found.items) }

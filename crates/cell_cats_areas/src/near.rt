@@ -93,7 +93,7 @@ impl Near {
 }
 
 // Returns the label that a cell shares with a neighbour along an edge, if there is one. If there are two such
-// neighbours, joins their labels, unless another cell has already joined them.
+// neighbours, joins their labels, unless the neighbour on the upper left has already joined them.
 #[inline(always)]
 fn shared_by_edges(table: &mut [u32], cell: Cell, near: &Near) -> Option<u32>
     requires { CanShare cell table.old near.now }
@@ -115,7 +115,7 @@ fn shared_by_edges(table: &mut [u32], cell: Cell, near: &Near) -> Option<u32>
 }
 
 // Returns the label that a cell shares with a neighbour along an edge or at a corner, if there is one. Joins the labels
-// of two such neighbours, unless another cell has already joined them: the neighbour above touches all the others.
+// of two such neighbours, unless the neighbour above, which touches all others, has already joined them.
 #[inline(always)]
 fn shared_by_corners(table: &mut [u32], cell: Cell, near: &Near) -> Option<u32>
     requires { CanShare cell table.old near.now }

@@ -49,8 +49,7 @@ pub trait Source {
     /// How far the source was read: whether it reported its end or failed, and whether it was asked after that.
     ghost asked: { Self → Asked };
 
-    /// Writes the next bytes to the start of a non-empty slice and returns their number, which is 0
-    /// only at the end.
+    /// Writes the next bytes to the start of a non-empty slice and returns their number, which is 0 only at the end.
     ///
     /// # Errors
     ///

@@ -12,9 +12,8 @@ use cell_core::map::CellMap;
 use cell_core::memory::Memory;
 use std::alloc::Global;
 
-/// Returns the measures of all patches, in the order of their numbers, which start at 1. `numbers` is the map of
-/// these numbers, as `clump_with` returns it. The core of a patch is its cells that are at least
-/// `depth` steps inside it.
+/// Returns the measures of all patches, in the order of their numbers, which start at 1. `numbers` is the map of these
+/// numbers, as `clump_with` returns it. The core of a patch is its cells that are at least `depth` steps inside it.
 ///
 /// In addition to the result, it needs memory for a few rows.
 ///
