@@ -1,44 +1,47 @@
 \name{rcell_accuracy}
 \alias{rcell_accuracy}
 \title{The Accuracy of a Map}
-\description{Compare a map with a reference, and estimate the areas of its classes from it.}
+\description{Compare a map with a reference, and estimate class areas from the comparison.}
 \usage{
 rcell_accuracy(x, reference, areas = NULL, area, field = NULL, layer = NULL,
                labels = NULL, crs = NULL)
 }
 \arguments{
 \item{x}{a map; see \code{\link{rcell-package}}. \code{NULL} if the reference is a table.}
-\item{reference}{a map; points, as a \code{SpatVector} or the path of a layer; or a table, as a data frame or the path of a CSV or TSV file, with the
-columns \code{map}, \code{reference} and perhaps \code{cells}.}
-\item{areas}{the areas of the map's classes, from which the sample was drawn class by class: \code{"map"} counts them in the map; or areas by
-class, as a vector with the classes as its names, or as a data frame or CSV file with the columns \code{value} and \code{area}. Without areas the
-sample counts as a simple random one.}
-\item{area}{the unit of areas, as in \code{\link{rcell_composition}}; hectares for areas that are given.}
-\item{field}{the field of points with their class; by default \code{class} or \code{reference}.}
-\item{layer}{the layer of a file of points that has several.}
+\item{reference}{a map; points, as a \code{SpatVector} or the path of a layer; or a table, as a data frame or the path
+of a CSV or TSV file, with the columns \code{map}, \code{reference} and optionally \code{cells}.}
+\item{areas}{the areas of the map's classes, if the sample was drawn class by class: \code{"map"} counts them in the
+map; otherwise a vector with the classes as names, or a data frame or CSV file with the columns \code{value} and
+\code{area}. Without areas, the sample is treated as a simple random sample.}
+\item{area}{the unit of areas, as in \code{\link{rcell_composition}}; given areas are in hectares.}
+\item{field}{the field that contains the class of each point; by default \code{class} or \code{reference}.}
+\item{layer}{the layer to read if a file of points has several.}
 \item{labels}{as in \code{\link{rcell_composition}}.}
 \item{crs}{as in \code{\link{rcell_run}}.}
 }
 \details{
-Accuracies, areas and their standard errors follow Olofsson et al. (2014), equations 1 to 11. All points count, also several in one
-cell; a cell contains its northern and its western edge. A warning counts the points that are outside the map, on null cells or without a
-class. A class with an area and without a cell in the sample is an error. Without \code{areas}, standard errors hold for a random sample;
-of a complete reference they mean nothing. A warning says that points are not a random sample, if the map's
-classes have other shares in the sample than in the map.
+Accuracies, areas and their standard errors follow Olofsson et al. (2014), equations 1 to 11. All points are used, even
+several in one cell; a cell contains its northern and western edges. A warning counts points outside the map, on null
+cells or without a class. A class with an area but no cell in the sample is an error. Without \code{areas}, standard
+errors are valid for a random sample, but meaningless for a complete reference. If the class shares of the points differ
+from the map's, a warning says that the points are not a random sample.
 }
 \value{
 A list:
-\item{matrix}{a data frame of the cells of the sample, with a row for each class of the map and a column for each class of the reference}
-\item{classes}{a data frame with \code{class}, \code{label}, \code{cells_map}, \code{cells_reference}, \code{users}, \code{users_se}, \code{producers},
+\item{matrix}{a data frame of sample cells, with a row for each map class and a column for each reference class}
+\item{classes}{a data frame with \code{class}, \code{label}, \code{cells_map}, \code{cells_reference}, \code{users},
+\code{users_se}, \code{producers},
 \code{producers_se}, and with areas \code{mapped_ha}, \code{area_ha}, \code{area_se_ha}}
-\item{overall, overall_se}{the share of the area that the map has right, and its standard error}
+\item{overall, overall_se}{the share of the area that is mapped correctly, and its standard error}
 \item{kappa}{Cohen's kappa of the estimated shares}
-\item{quantity, allocation}{the disagreement in the quantities of classes and in their places; with \code{overall} they add up to 1}
-\item{cells}{the size of the sample}
+\item{quantity, allocation}{the disagreement in class quantities and in class locations; both add up to 1 with
+\code{overall}}
+\item{cells}{the sample size}
 Accuracies are shares from 0 to 1. Undefined values are \code{NaN}.
 }
 \references{
-Olofsson, P., Foody, G. M., Herold, M., Stehman, S. V., Woodcock, C. E. and Wulder, M. A. (2014) Good practices for estimating area and
+Olofsson, P., Foody, G. M., Herold, M., Stehman, S. V., Woodcock, C. E. and Wulder, M. A. (2014) Good practices for
+estimating area and
 assessing accuracy of land change. \emph{Remote Sensing of Environment} 148, 42--57.
 }
 \examples{

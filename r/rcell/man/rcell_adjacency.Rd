@@ -1,7 +1,7 @@
 \name{rcell_adjacency}
 \alias{rcell_adjacency}
-\title{Which Classes Share Sides of Cells}
-\description{Count the sides that the cells of each pair of classes share, and measure their border.}
+\title{Adjacency of Classes}
+\description{Count the cell sides that each pair of classes shares, and measure their border.}
 \usage{
 rcell_adjacency(x, labels = NULL, crs = NULL)
 }
@@ -11,10 +11,11 @@ rcell_adjacency(x, labels = NULL, crs = NULL)
 \item{crs}{as in \code{\link{rcell_run}}.}
 }
 \value{
-A data frame: \code{class}, \code{label}, \code{neighbour}, \code{neighbour_label} (the labels if there are any), \code{sides} and
-\code{border_m}, the length of these sides in metres. Each pair of classes is listed once, the smaller class first. A class with itself
-counts the sides between its own cells, once. Sides to null and to the edge of the map are left out. \code{border_m} is \code{NA} in
-degrees, with a warning, and without a reference system.
+A data frame with \code{class}, \code{label}, \code{neighbour}, \code{neighbour_label} (if there are labels),
+\code{sides} and \code{border_m}, the length of these sides in metres. Each pair of classes is listed once, with the
+smaller class first. The pair of a class with itself counts each side between its own cells once. Sides to null and
+along the edge of the map are left out. \code{border_m} is \code{NA} in degrees (with a warning) and without a reference
+system.
 }
 \examples{
 rcell_adjacency(matrix(c(5, 7, 5, 5, 5, 7), 2, byrow = TRUE))

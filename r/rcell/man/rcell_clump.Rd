@@ -1,7 +1,7 @@
 \name{rcell_clump}
 \alias{rcell_clump}
-\title{The Map of Patches}
-\description{Number the patches of a map, and keep those that are selected.}
+\title{Map of Patches}
+\description{Number the patches of a map, and keep only selected patches.}
 \usage{
 rcell_clump(x, connectivity = 4, classes = NULL, min_cells = NULL, filename = "",
             overwrite = FALSE, crs = NULL)
@@ -12,7 +12,7 @@ rcell_clump(x, connectivity = 4, classes = NULL, min_cells = NULL, filename = ""
 \item{filename, overwrite}{as in \code{\link{rcell_grid}}.}
 \item{crs}{as in \code{\link{rcell_run}}.}
 }
-\value{A \code{SpatRaster} of the numbers that \code{\link{rcell_patches}} lists.}
+\value{A \code{SpatRaster} of patch numbers, as listed by \code{\link{rcell_patches}}.}
 \examples{
 lc <- matrix(c(5, 7, 5, 5, 5, 7), 2, byrow = TRUE)
 terra::as.matrix(rcell_clump(lc, min_cells = 2), wide = TRUE)

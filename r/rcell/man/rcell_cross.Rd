@@ -1,20 +1,23 @@
 \name{rcell_cross}
 \alias{rcell_cross}
-\title{A Cross Table of Maps}
-\description{Count the cells of each combination of the classes of two or more maps.}
+\title{Cross Table of Maps}
+\description{Count the cells of each combination of classes in two or more maps.}
 \usage{
 rcell_cross(..., area, labels = NULL, include_null = FALSE, crs = NULL, maps = list())
 }
 \arguments{
-\item{...}{maps by name, for example \code{lc = "landcover.tif"}; see \code{\link{rcell-package}}. At most 16, or 15 with areas in degrees.}
+\item{...}{maps by name, for example \code{lc = "landcover.tif"}; see \code{\link{rcell-package}}. At most 16, or 15
+with areas in degrees.}
 \item{area}{as in \code{\link{rcell_composition}}.}
-\item{labels}{a list of legends by the names of the maps, for example \code{list(lc = "legend.csv")}; each as in \code{\link{rcell_composition}}.}
-\item{include_null}{whether combinations with cells without data are listed as well.}
+\item{labels}{a list of legends, named after the maps, for example \code{list(lc = "legend.csv")}; each as in
+\code{\link{rcell_composition}}.}
+\item{include_null}{whether to list combinations with null.}
 \item{crs, maps}{as in \code{\link{rcell_run}}.}
 }
 \value{
-A data frame: for each map a column of its name, and \code{NAME_label} if it has labels; then \code{cells}, \code{area_ha} (or the other unit) and
-\code{percent}, of the area, or else of the cells, that have data in every map. Combinations that do not occur have no row.
+A data frame with a column for each map, followed by \code{NAME_label} if the map has labels; then \code{cells},
+\code{area_ha} (or another unit) and \code{percent}, the percentage of the area (or of the cells, without areas) with
+data in every map. Combinations that do not occur have no row.
 }
 \examples{
 lc <- matrix(c(1, 1, 2, 3, 2, 2), 2, byrow = TRUE)

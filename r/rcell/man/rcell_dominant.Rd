@@ -1,7 +1,7 @@
 \name{rcell_dominant}
 \alias{rcell_dominant}
-\title{The Dominant Class of Each Zone}
-\description{Find the most and the least frequent class of each zone, and the number of its classes.}
+\title{Dominant Class of Each Zone}
+\description{Find the most frequent and the rarest class of each zone, and the number of its classes.}
 \usage{
 rcell_dominant(x, zones, area, labels = NULL, zone_labels = NULL, zone_field = NULL,
                layer = NULL, each = FALSE, crs = NULL)
@@ -12,9 +12,10 @@ rcell_dominant(x, zones, area, labels = NULL, zone_labels = NULL, zone_field = N
 \item{crs}{as in \code{\link{rcell_run}}.}
 }
 \value{
-A data frame with a row for each zone that has data: \code{zone}, \code{zone_label}, \code{cells}, \code{area_ha}, \code{classes} (how many occur),
-\code{majority}, \code{majority_label}, \code{majority_percent}, \code{minority}, \code{minority_label}, \code{minority_percent}. Percentages are of the
-cells of the zone that have data, in degrees as well. Of equally frequent classes the smallest counts.
+A data frame with a row for each zone that has data: \code{zone}, \code{zone_label}, \code{cells}, \code{area_ha},
+\code{classes} (how many occur), \code{majority}, \code{majority_label}, \code{majority_percent}, \code{minority},
+\code{minority_label}, \code{minority_percent}. Percentages refer to the zone's cells with data, even in degrees. If
+several classes are equally frequent, the smallest is returned.
 }
 \examples{
 land <- matrix(c(1, 1, 2, 5), 1)

@@ -1,20 +1,21 @@
 \name{rcell_majority}
 \alias{rcell_majority}
-\title{The Majority of a Neighbourhood}
-\description{Give each cell the most frequent class of the square around it.}
+\title{Majority of a Neighbourhood}
+\description{Give each cell the most frequent class in the square around it.}
 \usage{
 rcell_majority(x, size = 3, fill = FALSE, filename = "", overwrite = FALSE,
                crs = NULL)
 }
 \arguments{
 \item{x}{a map: a \code{SpatRaster}, a path or a matrix; see \code{\link{rcell-package}}.}
-\item{size}{the side of the square in cells, odd, 3 to 15.}
-\item{fill}{whether cells without data get the class of their neighbours; else they stay without data.}
+\item{size}{the side of the square in cells; must be odd, from 3 to 15.}
+\item{fill}{whether cells without data get the class of their neighbours; otherwise they stay without data.}
 \item{filename, overwrite}{as in \code{\link{rcell_grid}}.}
 \item{crs}{as in \code{\link{rcell_run}}.}
 }
 \details{
-Cells without data do not count, nor do cells outside the map. If several classes are equally frequent, the smallest is taken.
+Cells without data and cells outside the map are not counted. If several classes are equally frequent, the smallest is
+used.
 }
 \value{A \code{SpatRaster} with the labels of \code{x}.}
 \examples{

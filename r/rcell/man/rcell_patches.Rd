@@ -1,7 +1,7 @@
 \name{rcell_patches}
 \alias{rcell_patches}
-\title{The Patches of a Map}
-\description{List the patches of every class, with their sizes, perimeters, cores and outlines.}
+\title{Patches of a Map}
+\description{List the patches of every class, with their sizes, perimeters, cores and bounding boxes.}
 \usage{
 rcell_patches(x, connectivity = 4, area, zones = NULL, classes = NULL,
               min_cells = NULL, core_depth = 1, labels = NULL, zone_labels = NULL,
@@ -10,27 +10,28 @@ rcell_patches(x, connectivity = 4, area, zones = NULL, classes = NULL,
 \arguments{
 \item{x}{a map: a \code{SpatRaster}, a path or a matrix; see \code{\link{rcell-package}}.}
 \item{connectivity}{4: cells are connected by edges; 8: by edges and corners.}
-\item{area}{as in \code{\link{rcell_composition}}; with \code{NULL}, there is \code{core_cells}.}
-\item{classes}{only patches of these classes have a row.}
-\item{min_cells}{only patches of at least this many cells have a row.}
-\item{core_depth}{how many steps a core cell is away from all other patches, 1 to 20.}
+\item{area}{as in \code{\link{rcell_composition}}; with \code{NULL}, the core is in \code{core_cells}.}
+\item{classes}{the classes to list; by default all.}
+\item{min_cells}{the smallest number of cells of a listed patch.}
+\item{core_depth}{how many steps from other patches the core begins, from 1 to 20.}
 \item{zones, labels, zone_labels, zone_field, layer, each}{as in \code{\link{rcell_composition}}.}
 \item{crs}{as in \code{\link{rcell_run}}.}
 }
 \details{
-A patch has the number that r.clump gives it in the full map, even if other rows are left out. \code{\link{rcell_clump}} returns the map of
-these numbers.
+A patch has its r.clump number in the full map, even if other patches are not listed. \code{\link{rcell_clump}} returns
+a map of these numbers.
 }
 \value{
-A data frame with a row for each patch, ordered by their numbers:
-\item{patch, class, label}{its number, its class, and the label if the map has any}
-\item{cells, area_ha}{its size, in cells and in the unit asked for}
-\item{perimeter_m}{the length of its sides to other patches, to cells without data and to the edge of the map, holes included, in metres;
-\code{NA} in degrees, with a warning, and without a reference system}
-\item{core_ha}{the area of its core: of the cells whose neighbours within \code{core_depth} steps, each to one of four
-neighbours, are all of the patch}
+A data frame with a row for each patch, in the order of the patch numbers:
+\item{patch, class, label}{the patch number, its class, and the label if the map has labels}
+\item{cells, area_ha}{the size of the patch, in cells and in the requested unit}
+\item{perimeter_m}{the length of its sides to other patches, to cells without data and along the edge of the map,
+including holes, in metres; \code{NA} in degrees (with a warning) and without a reference system}
+\item{core_ha}{the area of its core: the cells from which \code{core_depth} steps to one of four neighbours never leave
+the patch}
 \item{west, south, east, north}{the edges of its bounding box}
-\item{zone, zone_label}{the zone in which most of its cells lie, the smaller of two; \code{NA} if none does}
+\item{zone, zone_label}{the zone that contains most of its cells (ties: the smallest zone); \code{NA} if no zone
+contains any}
 }
 \examples{
 lc <- matrix(c(5, 7, 5, 5, 5, 7), 2, byrow = TRUE)

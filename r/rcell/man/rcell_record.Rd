@@ -2,25 +2,30 @@
 \alias{rcell_record}
 \alias{rcell_verify}
 \title{Tables That Can Be Verified}
-\description{Write the table of a call to a CSV with a record of what it was made of, and verify it later.}
+\description{Write the table of a call to a CSV file, with a record of its inputs, and verify it later.}
 \usage{
 rcell_record(.path, .call, ..., .table = NULL)
 rcell_verify(path)
 }
 \arguments{
-\item{.path, path}{the path of the CSV. The record is next to it: its name ends in \code{.csv.json}.}
+\item{.path, path}{the path of the CSV file. The record is written next to it, with a name that ends in
+\code{.csv.json}.}
 \item{.call}{a function of this package that returns tables, or its name.}
-\item{...}{its arguments: paths, numbers, texts, and lists and vectors of these. Paths are recorded relative to the CSV.}
-\item{.table}{the table to write if the call returns several, for example \code{"summary"} of \code{\link{rcell_change}}; by default the first.}
+\item{...}{the arguments of the call: paths, numbers, texts, and lists and vectors of these. Paths are recorded relative
+to the CSV file.}
+\item{.table}{the table to write if the call returns several, for example \code{"summary"} of
+\code{\link{rcell_change}}; by default the first table.}
 }
 \details{
-The record has the call, each script that was run, the SHA-256 of the cells of each map as they were sent, of the program and of the CSV, and
-the versions. Type, nodata value, compression and folder of a raster do not change the checksum of its cells. A table that was recorded in Python, QGIS or the shell is verified there. \command{rcell-gis report} of the Python package makes a page of
-tables from all packages.
+The record contains the call, each script that was run, the SHA-256 checksums of each map's cells as sent, of the
+program and of the CSV file, and the versions. The type, nodata value, compression and folder of a raster do not affect
+the checksum of its cells. Verify tables recorded in Python, QGIS or the shell with these packages. \command{rcell-gis
+report} in the Python package makes a page of tables from all packages.
 }
 \value{
-\code{rcell_record} returns the result of the call, invisibly. \code{rcell_verify} runs the call again and returns what differs, as texts: the CSV, the cells
-of a map, a legend, a script, the program, or the result. It returns no text if nothing differs.
+\code{rcell_record} returns the result of the call, invisibly. \code{rcell_verify} runs the call again and returns a
+text for each difference: in the CSV file, a map's cells, a legend, a script, the program, or the result. If nothing
+differs, it returns no text.
 }
 \examples{
 folder <- tempfile("records")

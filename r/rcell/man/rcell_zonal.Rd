@@ -1,7 +1,7 @@
 \name{rcell_zonal}
 \alias{rcell_zonal}
 \title{Statistics by Zone}
-\description{Summarise the whole numbers, or scaled decimals, of a map in each zone.}
+\description{Summarise the whole numbers or scaled decimals of a map in each zone.}
 \usage{
 rcell_zonal(values, zones, quantiles = 0.5, scale = NULL, zone_labels = NULL,
             zone_field = NULL, layer = NULL, each = FALSE, crs = NULL)
@@ -9,14 +9,15 @@ rcell_zonal(values, zones, quantiles = 0.5, scale = NULL, zone_labels = NULL,
 \arguments{
 \item{values}{a map of whole numbers; see \code{\link{rcell-package}}.}
 \item{zones, zone_labels, zone_field, layer, each}{as in \code{\link{rcell_composition}}.}
-\item{quantiles}{numbers from 0 to 1; between two values they are interpolated, as \code{quantile(type = 7)} does.}
-\item{scale}{for a map of decimals: its values are rounded to 1 / \code{scale}, with a warning that says so; 100 keeps two decimals. Without it
-decimals are an error.}
+\item{quantiles}{the quantiles to compute, from 0 to 1, interpolated as in \code{quantile(type = 7)}.}
+\item{scale}{for a map of decimals: values are rounded to 1 / \code{scale}, with a warning; 100 keeps two decimals.
+Without \code{scale}, decimals are an error.}
 \item{crs}{as in \code{\link{rcell_run}}.}
 }
 \value{
-A data frame with a row for each zone that has a value: \code{zone}, \code{zone_label}, \code{cells}, \code{sum}, \code{mean}, \code{minimum},
-\code{maximum}, \code{variance} (of the population), and a column for each quantile, for example \code{q50} and \code{q2_5}.
+A data frame with a row for each zone with data: \code{zone}, \code{zone_label}, \code{cells}, \code{sum}, \code{mean},
+\code{minimum}, \code{maximum}, \code{variance} (of the population), and a column for each quantile, for example
+\code{q50} and \code{q2_5}.
 }
 \examples{
 height <- matrix(c(10, 12, 30, 11, 31, 35), 2, byrow = TRUE)
