@@ -1,5 +1,5 @@
 # SPDX-License-Identifier: Apache-2.0 OR GPL-2.0-or-later
-"""rcell for QGIS: algorithms of the toolbox over the proved program."""
+"""rcell for QGIS: toolbox algorithms that use the proved program."""
 
 from __future__ import annotations
 
@@ -7,7 +7,7 @@ from typing import Any
 
 
 def classFactory(iface: Any) -> Any:
-    """Return the plugin; QGIS calls this function."""
+    """Create the plugin; QGIS calls this function."""
     from .plugin import RcellPlugin
 
     return RcellPlugin()

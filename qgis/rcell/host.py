@@ -1,5 +1,5 @@
 # SPDX-License-Identifier: Apache-2.0 OR GPL-2.0-or-later
-"""The plugin as the host of the core: its programs, and what it reports of a run."""
+"""Connect the core to QGIS: find programs, and report the progress of a run."""
 
 from __future__ import annotations
 
@@ -21,7 +21,7 @@ from .engine.core.sources import Source
 _FOLDER = os.path.join(os.path.dirname(os.path.abspath(__file__)), "bin")
 _METADATA = os.path.join(os.path.dirname(os.path.abspath(__file__)), "metadata.txt")
 _SETTINGS = "Settings > Options > Processing > Providers > rcell"
-# The programs, each with its variable, and the function that tries it once.
+# The programs, each with its environment variable and its test function.
 _PROGRAMS = {
     "rcell-pipe": ("RCELL_PIPE", find_pipe),
     "rcell-join": ("RCELL_JOIN", find_joiner),
@@ -30,19 +30,19 @@ _PROGRAMS = {
 
 
 class Cancelled(RcellError):
-    """The user cancelled, and the program was ended."""
+    """Raised if the user cancelled the run; the program has been stopped."""
 
     def __str__(self) -> str:
         return "cancelled"
 
 
 def host_of(setting: str, feedback: Any) -> Host:
-    """Return the host of a run that a feedback of QGIS watches.
+    """Return the host for a run, with QGIS feedback.
 
     Parameters
     ----------
     setting : str
-        The program that the settings name, or an empty text.
+        The program in the settings, or an empty text.
     feedback : QgsProcessingFeedback
     """
     warned: set[str] = set()
@@ -78,7 +78,7 @@ def version() -> str:
 
 
 def watch_of(feedback: Any) -> Callable[[], None]:
-    """Return a function that raises Cancelled if the user has cancelled."""
+    """Return a function that raises Cancelled if the user has cancelled the run."""
 
     def watch() -> None:
         if feedback.isCanceled():
@@ -92,17 +92,20 @@ def _path_of(source: Source) -> str:
 
 
 def find_program(setting: str = "", name: str = "rcell-pipe") -> str:
-    """Return the path of rcell-pipe, of rcell-join, which only patches of large maps need, or of rcell, which only text grids need.
+    """Return the path of rcell-pipe, rcell-join or rcell.
 
-    Looked for in this order: the setting, the variable RCELL_PIPE (RCELL_JOIN, RCELL), next to the program that RCELL names, in the
-    plugin, on the path. The setting may name rcell-pipe or rcell; the others are next to it.
+    Only patches of large maps need rcell-join, and only text grids need rcell.
+
+    The program is looked for in this order: the setting, the variable RCELL_PIPE (RCELL_JOIN,
+    RCELL), next to the program that RCELL names, in the plugin, and on the path. The setting may
+    name rcell-pipe or rcell; the other programs must be next to it.
 
     Raises
     ------
     MissingProgram
-        There is none, or it cannot be executed.
+        The program was not found, or cannot be executed.
     WrongProgram
-        It does not work as this plugin needs it.
+        The program does not work as this plugin requires.
     """
     own = os.path.join(_FOLDER, name)
     variable, known = _PROGRAMS[name]
@@ -114,21 +117,23 @@ def find_program(setting: str = "", name: str = "rcell-pipe") -> str:
     path = path or next(filter(os.path.isfile, [beside, own]), "") or found_on_path(name) or ""
     if not path:
         raise MissingProgram(
-            f"the program {name} was not found: install the plugin from its zip, which contains it; or set the path under "
+            f"the program {name} was not found: install the plugin from its zip, which contains "
+            "it; or set the path under "
             f"{_SETTINGS}, or in the environment variable {variable}"
         )
     if path == own:
         _set_executable(path)
     if not os.path.isfile(path) or not os.access(path, os.X_OK):
         raise MissingProgram(
-            f"the program {path} is not there, or may not be executed: correct the path under {_SETTINGS}, or leave it empty to use "
+            f"the program {path} is not there, or may not be executed: correct the path under "
+            f"{_SETTINGS}, or leave it empty to use "
             "the plugin's own"
         )
     return known(path)
 
 
 def _beside(path: str, name: str) -> str:
-    """Return the program of a name next to another program."""
+    """Return the path of a program next to another program."""
     return os.path.join(os.path.dirname(path), name)
 
 
@@ -140,5 +145,6 @@ def _set_executable(path: str) -> None:
             os.chmod(path, 0o755)
         except OSError as error:
             raise MissingProgram(
-                f"the program {path} may not be executed, and that cannot be changed: {error.strerror}"
+                f"the program {path} may not be executed, and that cannot be changed: "
+                f"{error.strerror}"
             ) from None

@@ -1,5 +1,5 @@
 # SPDX-License-Identifier: Apache-2.0 OR GPL-2.0-or-later
-"""Layers of QGIS as maps and polygons: what the user sees in QGIS takes precedence over the file."""
+"""Convert QGIS layers to maps and polygons; the layer's settings take precedence over the file."""
 
 from __future__ import annotations
 
@@ -34,14 +34,14 @@ from .engine.core.zones import Feature
 from .engine.readers import gdal, ogr
 
 
-# The text that legends of this plugin add to a label.
+# The cell counts that this plugin's legends append to labels.
 _COUNT = re.compile(r" \(\d+ cells(, [\d.e+]+ (ha|km2))?\)$")
 _NAME = re.compile(r"[A-Za-z_][A-Za-z0-9_.]{0,63}")
 _LEAST, _GREATEST = float("-inf"), float("inf")
 
 
 def raster_of(layer: QgsRasterLayer, name: str, band: int | None = None) -> Source:
-    """Return a band of a layer as a map; without a band, the layer must have only one.
+    """Open a band of a layer as a map. Without a band, the layer must have only one.
 
     Raises
     ------
@@ -59,7 +59,8 @@ def raster_of(layer: QgsRasterLayer, name: str, band: int | None = None) -> Sour
         nulls, is_used = null_ranges_of(layer, band or 1), _uses_nodata(layer, band or 1)
         raster = gdal.open_raster(name, layer.source(), band, nulls, is_used, uses_style=False)
     crs = wkt_of(layer.crs())
-    # QGIS may know a system of the file by another name; the user's own choice takes precedence over the file.
+    # QGIS may have another name for the file's reference system, so the layer's system is used only
+    # if the user chose it.
     is_chosen = layer.crs() != layer.dataProvider().crs()
     if crs and (is_chosen or not raster.crs) and not are_same_crs(raster.crs, crs):
         raster = replace(raster, crs=crs)
@@ -68,12 +69,12 @@ def raster_of(layer: QgsRasterLayer, name: str, band: int | None = None) -> Sour
 
 
 def zones_of(layer: Any) -> Source | FeatureLayer:
-    """Return a layer as zones: a raster, or polygons.
+    """Convert a layer to zones, which are a raster or polygons.
 
     Raises
     ------
     BadMap
-        It is neither.
+        The layer is neither a raster nor polygons.
     """
     if isinstance(layer, QgsRasterLayer):
         return raster_of(layer, layer.name())
@@ -83,7 +84,7 @@ def zones_of(layer: Any) -> Source | FeatureLayer:
 
 
 def reference_of(layer: Any) -> Any:
-    """Return a layer as a reference: a raster, points, or a table as a DataFrame has its columns and rows."""
+    """Convert a layer to a reference: a raster, points, or a table like a DataFrame."""
     if isinstance(layer, QgsRasterLayer):
         return raster_of(layer, layer.name())
     features = _features_of(layer)
@@ -97,7 +98,8 @@ def reference_of(layer: Any) -> Any:
 
 def _features_of(layer: QgsVectorLayer) -> FeatureLayer:
     if layer.providerType() == "ogr" and "|" not in layer.source():
-        ogr.open_layer(layer.name(), layer.source())  # QGIS takes the first of several layers
+        # Fail if there are several layers, of which QGIS would use the first.
+        ogr.open_layer(layer.name(), layer.source())
     rows = [
         (feature.id(), list(feature.attributes()), bytes(feature.geometry().asWkb()))
         for feature in layer.getFeatures()
@@ -108,7 +110,9 @@ def _features_of(layer: QgsVectorLayer) -> FeatureLayer:
 
 @dataclass(frozen=True)
 class FeatureLayer:
-    """Polygons or points of a layer, as the core takes them; only the main thread may ask the layer itself.
+    """Copies the polygons or points of a layer for the core.
+
+    Only the main thread may access the layer itself.
 
     Attributes
     ----------
@@ -116,7 +120,7 @@ class FeatureLayer:
     crs : str or None
     fields : list of str
     rows : list
-        The id, the attributes and the geometry of each feature, as well-known bytes.
+        The id, the attributes and the well-known binary geometry of each feature.
     path : str
     """
 
@@ -128,11 +132,11 @@ class FeatureLayer:
 
     @property
     def files(self) -> tuple[str, ...]:
-        """The file that it is read from."""
+        """The file from which the layer is read."""
         return (self.path,)
 
     def features(self, field: Optional[str]) -> Iterator[Feature]:
-        """Yield the features in order, with the values of a field."""
+        """Yield the features in order, with their values of a field."""
         place = -1 if field is None else self.fields.index(field)
         for number, attributes, wkb in self.rows:
             value = None if field is None else plain(attributes[place])
@@ -141,7 +145,7 @@ class FeatureLayer:
     def burn(
         self, shapes: Sequence[tuple[Any, int]], transform: Transform, shape: tuple[int, int]
     ) -> NDArray[np.int32]:
-        """Return a grid with the number of the last geometry that contains each cell's centre, 0 for none."""
+        """Return, for each cell, the number of the last geometry that contains its centre, or 0."""
         return ogr.burn(shapes, transform, shape)
 
     def bounds(self, geometry: Any) -> tuple[float, float, float, float]:
@@ -150,7 +154,7 @@ class FeatureLayer:
 
 
 def plain(value: Any) -> Any:
-    """Return an attribute as a Python object, None if it is missing."""
+    """Convert an attribute to a Python object; None if it is missing."""
     if value is None or value == NO_VALUE or value != value:
         return None
     for method in ("toPyDateTime", "toPyDate", "toPyTime"):
@@ -161,12 +165,12 @@ def plain(value: Any) -> Any:
 
 
 def wkt_of(crs: QgsCoordinateReferenceSystem) -> str:
-    """Return the well-known text of a coordinate reference system of QGIS; empty if it is not valid."""
+    """Return the well-known text of a QGIS reference system; empty if it is invalid."""
     return str(crs.toWkt(QgsCoordinateReferenceSystem.WKT2_2019)) if crs.isValid() else ""
 
 
 def labels_of(layer: QgsRasterLayer, band: int) -> dict[int, str]:
-    """Return the labels of a layer's style, without those that only repeat the number."""
+    """Return the labels in a layer's style, without labels that only repeat the number."""
     labels = {}
     for value, label in _classes_of(layer.renderer(), band):
         text = _COUNT.sub("", label)
@@ -183,7 +187,7 @@ def _is_number(text: str, value: float) -> bool:
 
 
 def _classes_of(renderer: Any, band: int) -> list[tuple[float, str]]:
-    """Return the values and labels of a style with one entry for each class."""
+    """Return the values and labels in a style that has an entry for each class."""
     if isinstance(renderer, QgsPalettedRasterRenderer) and renderer.band() == band:
         return [(entry.value, entry.label) for entry in renderer.classes()]
     if (
@@ -204,29 +208,29 @@ def colours_of(layer: QgsRasterLayer, band: int) -> dict[int, Any]:
     """Return the colours of a layer's classes; empty if its style has no classes."""
     renderer = layer.renderer()
     if isinstance(renderer, QgsPalettedRasterRenderer) and renderer.band() == band:
-        # A copy: the colour belongs to the class and is deleted with it.
+        # Copy the colour, because it is deleted together with its class.
         return {int(entry.value): QColor(entry.color) for entry in renderer.classes()}
     return {}
 
 
 def _uses_nodata(layer: QgsRasterLayer, band: int) -> bool:
-    """Return whether the nodata value of the file is null: unless the user switched it off.
+    """Return whether the file's nodata value is null, unless the user disabled it.
 
-    QGIS ignores a nodata value that its data type cannot hold, such as -128 in signed bytes; it is
-    null here.
+    QGIS ignores nodata values that its data type cannot represent, such as -128 in signed bytes.
+    Here, they are null.
     """
     provider = layer.dataProvider()
     return bool(provider.useSourceNoDataValue(band)) or not provider.sourceHasNoDataValue(band)
 
 
 def null_ranges_of(layer: QgsRasterLayer, band: int) -> list[tuple[float, float]]:
-    """Return the ranges that the layer's properties declare as nodata, in addition to the file's value."""
+    """Return the nodata ranges in the layer's properties, in addition to the file's value."""
     return [_bounds(span) for span in layer.dataProvider().userNoDataValues(band)]
 
 
 def _bounds(span: QgsRasterRange) -> tuple[float, float]:
     least, greatest = span.min(), span.max()
-    # Categories are whole numbers, so an exclusive end moves by 1.
+    # Categories are whole numbers, so an exclusive limit is moved by 1.
     if span.bounds() in (QgsRasterRange.IncludeMax, QgsRasterRange.Exclusive):
         least = float(int(least // 1) + 1)
     if span.bounds() in (QgsRasterRange.IncludeMin, QgsRasterRange.Exclusive):
@@ -235,12 +239,12 @@ def _bounds(span: QgsRasterRange) -> tuple[float, float]:
 
 
 def names_of(layers: Sequence[QgsRasterLayer], text: str) -> list[str]:
-    """Return the names of layers in a script: the given ones, or the layers' own with `_` for characters that are not allowed.
+    """Return the script names of layers: the given names, or names made from the layers' titles.
 
     Raises
     ------
     Refused
-        There are too few or too many names, or one is invalid or given twice.
+        There are too few or too many names, or a name is invalid or given twice.
     """
     if not text.strip():
         return made_names([layer.name() for layer in layers])
@@ -251,7 +255,8 @@ def names_of(layers: Sequence[QgsRasterLayer], text: str) -> list[str]:
         if not _NAME.fullmatch(name):
             better = made_names([name])[0]
             raise Refused(
-                f"'{name}' is not a name for a map: 1 to 64 letters, digits, _ and ., a letter or _ first; write {better}",
+                f"'{name}' is not a name for a map: 1 to 64 letters, digits, _ and ., a letter "
+                f"or _ first; write {better}",
                 status=2,
             )
         if name in names[:number]:
@@ -260,7 +265,7 @@ def names_of(layers: Sequence[QgsRasterLayer], text: str) -> list[str]:
 
 
 def made_names(titles: Sequence[str]) -> list[str]:
-    """Return names for a script that are made of titles, with `_` for characters that are not allowed."""
+    """Make script names from titles, with `_` in place of invalid characters."""
     names: list[str] = []
     for title in titles:
         plain = re.sub(r"[^A-Za-z0-9_.]", "_", title)[:60] or "_"

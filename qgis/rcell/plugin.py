@@ -1,5 +1,5 @@
 # SPDX-License-Identifier: Apache-2.0 OR GPL-2.0-or-later
-"""The plugin: it adds its algorithms to the toolbox, and has no menu or window."""
+"""Define the plugin, which adds algorithms to the toolbox, without menus or windows."""
 
 from __future__ import annotations
 
@@ -14,18 +14,21 @@ class RcellPlugin:
 
     def __init__(self) -> None:
         self._provider: RcellProvider | None = None
-        # Kept in an attribute: translation stops when the translator is deleted.
+        # Keep a reference, because translation stops when the translator is deleted.
         self._translator = translator()
         if self._translator is not None:
             QgsApplication.installTranslator(self._translator)
 
     def initProcessing(self) -> None:
-        """Add the provider; programs without a window, such as qgis_process, call only this method."""
+        """Add the provider.
+
+        Programs without a window, such as qgis_process, call only this method.
+        """
         self._provider = RcellProvider()
         QgsApplication.processingRegistry().addProvider(self._provider)
 
     def initGui(self) -> None:
-        """Add the provider; QGIS calls this method if it has a window."""
+        """Add the provider; called by QGIS with a window."""
         self.initProcessing()
 
     def unload(self) -> None:

@@ -1,5 +1,5 @@
 # SPDX-License-Identifier: Apache-2.0 OR GPL-2.0-or-later
-"""The provider of the algorithms, and its setting."""
+"""Define the provider of the algorithms, and its setting."""
 
 from __future__ import annotations
 
@@ -15,10 +15,10 @@ ICON = os.path.join(os.path.dirname(os.path.abspath(__file__)), "icon.svg")
 
 
 class RcellProvider(QgsProcessingProvider):
-    """All algorithms of the plugin."""
+    """Provides all algorithms of the plugin."""
 
     def id(self) -> str:
-        """Return the first part of the algorithms' names."""
+        """Return the prefix of the algorithms' names."""
         return "rcell"
 
     def name(self) -> str:

@@ -1,5 +1,5 @@
 # SPDX-License-Identifier: Apache-2.0 OR GPL-2.0-or-later
-"""The results of algorithms: rasters with a legend, and tables."""
+"""Write the results of algorithms: rasters with a legend, and tables."""
 
 from __future__ import annotations
 
@@ -35,7 +35,7 @@ from .engine.core.protocol import NULL
 from .engine.core.sources import ArrayMap, Source, null_cells
 from .tables import Check, distinct, partly, write_raster
 
-# A map of more classes gets no legend.
+# A map with more classes gets no legend.
 MOST_CLASSES = 1000
 _VERSION_OF_META_TYPES = 33800
 
@@ -44,13 +44,13 @@ _VERSION_OF_META_TYPES = 33800
 
 
 def cells_of(map: ArrayMap, null: int = NULL) -> NDArray[np.int32]:
-    """Return the cells of a map, with a number for null."""
+    """Return the cells of a map, with this number for null."""
     is_null = null_cells(map.array, map.null, map.nodata_value)
     return np.where(is_null, null, map.array).astype(np.int32)
 
 
 def put_raster(path: str, map: ArrayMap, like: Source, check: Check, null: int = NULL) -> None:
-    """Write a map to a file, in the format of the file name extension.
+    """Write a map to a file in the format of its file name extension.
 
     Raises
     ------
@@ -85,7 +85,10 @@ def put_legend(
     colours: Mapping[int, Any],
     context: QgsProcessingContext,
 ) -> bool:
-    """Give a raster a legend: a .qml file next to it, and the style of its layer. Return False if it has too many classes."""
+    """Write a legend next to a raster as .qml, and style its layer.
+
+    Returns False if the raster has too many classes.
+    """
     style = os.path.splitext(path)[0] + ".qml"
     if not os.path.isfile(path):
         return True
@@ -93,7 +96,7 @@ def put_legend(
         with contextlib.suppress(OSError):
             os.unlink(style)
         return not classes
-    # For the default style, QGIS would compute the statistics of the map and write them to a file.
+    # With the default style, QGIS would compute the map's statistics and write them to a file.
     options = QgsRasterLayer.LayerOptions(loadDefaultStyle=False)
     layer = QgsRasterLayer(path, "legend", "gdal", options)
     entries = [
@@ -113,7 +116,7 @@ def put_legend(
 
 
 class _Style(QgsProcessingLayerPostProcessorInterface):
-    """Gives a result its legend once it is loaded: QGIS does not look for the .qml file of a result."""
+    """Loads the legend of a result, because QGIS does not read the .qml files of results."""
 
     def __init__(self, path: str) -> None:
         super().__init__()
@@ -125,24 +128,25 @@ class _Style(QgsProcessingLayerPostProcessorInterface):
         layer.triggerRepaint()
 
 
-# QGIS keeps no reference to them, and the algorithm that made them no longer exists when they are called.
+# Keeps references to the styles: QGIS does not, and the algorithm no longer exists when QGIS calls
+# them.
 _styles: list[_Style] = []
 
 
 def counts_of(map: ArrayMap) -> dict[int, int]:
-    """Return the number of cells of each category, without null."""
+    """Count the cells of each category, without null."""
     is_null = null_cells(map.array, map.null, map.nodata_value)
     categories, cells = np.unique(map.array[~is_null], return_counts=True)
     return dict(zip(categories.tolist(), cells.tolist()))
 
 
 def named_classes(map: ArrayMap) -> list[tuple[int, str]]:
-    """Return the classes of a map for its legend, each with its label."""
+    """Return the classes and labels of a map for its legend."""
     return [(code, map.labels.get(code, str(code))) for code in counts_of(map)]
 
 
 def counted_classes(map: ArrayMap, like: Source, crs: Any) -> list[tuple[int, str]]:
-    """Return the classes of a map for its legend, each with its label, cells and area."""
+    """Return the classes of a map for its legend, with labels, cells and areas."""
     return [
         (code, counted(map.labels.get(code, str(code)), cells, like, crs))
         for code, cells in counts_of(map).items()
@@ -150,10 +154,13 @@ def counted_classes(map: ArrayMap, like: Source, crs: Any) -> list[tuple[int, st
 
 
 def counted(label: str, cells: int, like: Source, crs: Any) -> str:
-    """Return a legend's label with cells and area, if all cells have one: in square kilometres from one a cell, else in hectares."""
+    """Return a label with cells and, if all cells have the same area, the area.
+
+    The area is in hectares, or in square kilometres if a cell has at least one.
+    """
     try:
         measure = measure_of("auto", like, like.crs or crs)
-    except Refused:  # the map has no areas, and a legend needs none
+    except Refused:  # the map has no areas, which a legend does not need
         measure = None
     if measure is None or measure.unit is None or measure.by_row is not None:
         return f"{label} ({cells} cells)"
@@ -165,7 +172,7 @@ def counted(label: str, cells: int, like: Source, crs: Any) -> str:
 
 
 def types_of_fields(version: int, core: Any = QtCore) -> dict[str, Any]:
-    """Return the types of fields: QMetaType from QGIS 3.38 on, since Qt 6 has no other, and QVariant before."""
+    """Return the field types: QMetaType since QGIS 3.38, because Qt 6 requires it, or QVariant."""
     types = core.QMetaType.Type if version >= _VERSION_OF_META_TYPES else core.QVariant
     text = types.QString if version >= _VERSION_OF_META_TYPES else types.String
     return {

@@ -22,7 +22,8 @@ from .engine.core.sources import BLOCK_CELLS, Source
 from .engine.core.table_texts import table_text
 from .engine.readers.osr import quiet
 
-# Level 1 with differences of neighbours takes an eighth of the time of level 6 without, for files of the same size.
+# Level 1 with a predictor needs an eighth of the time of level 6 without a predictor, for files of
+# the same size.
 _OPTIONS = ["COMPRESS=DEFLATE", "ZLEVEL=1", "PREDICTOR=2", "TILED=YES", "BIGTIFF=IF_SAFER"]
 _COPIED_BYTES = 1 << 22
 _CHECKED_ROWS = 1 << 14
@@ -40,11 +41,11 @@ Check = Callable[[], None]
 
 
 def no_check() -> None:
-    """Do nothing: the function for writing that nothing ends."""
+    """Do nothing; used if nothing can interrupt the writing."""
 
 
 def check_target(path: str, inputs: Sequence[str] = ()) -> None:
-    """Check that a file can be written, before any work is done.
+    """Check that a file can be written, before work begins.
 
     Raises
     ------
@@ -74,12 +75,12 @@ def _failed(path: str, text: str) -> WriteFailed:
 
 
 def is_file_of_table(path: str) -> bool:
-    """Return whether `write_table` knows the format of a path."""
+    """Return whether `write_table` supports the format of a path."""
     return os.path.splitext(path)[1].lower() in (".csv", ".gpkg")
 
 
 def distinct(table: Table) -> list[Column]:
-    """Return the columns of a table with names that differ whatever their case, as databases need them."""
+    """Return the columns of a table with names that differ regardless of case, for databases."""
     taken: set[str] = set()
     columns = []
     for column in table.data:
@@ -92,9 +93,9 @@ def distinct(table: Table) -> list[Column]:
 
 
 def write_table(path: str, table: Table, check: Check = no_check) -> None:
-    """Write a table as comma-separated values or a GeoPackage, depending on the ending of the path.
+    """Write a table as CSV or GeoPackage, depending on the ending of the path.
 
-    `check` is called from time to time; an exception ends the writing.
+    `check` is called at intervals; an exception ends the writing.
 
     Raises
     ------
@@ -112,7 +113,7 @@ def write_table(path: str, table: Table, check: Check = no_check) -> None:
 
 
 def _checked(rows: Iterable[Any], check: Check) -> Iterator[Any]:
-    """Yield the same rows, with a check before every few thousand."""
+    """Yield the rows unchanged, calling `check` every few thousand rows."""
     for number, row in enumerate(rows):
         if number % _CHECKED_ROWS == 0:
             check()
@@ -120,7 +121,7 @@ def _checked(rows: Iterable[Any], check: Check) -> Iterator[Any]:
 
 
 def _write_csv(part: str, types: str, columns: list[Column], check: Check) -> None:
-    """Write a CSV, and a .csvt file with the types of its columns, without which QGIS reads numbers as text."""
+    """Write a CSV and a .csvt file with its column types, without which QGIS reads only text."""
     rows = _checked(zip(*(column.listed() for column in columns)), check)
     text = table_text("csv", [column.name for column in columns], list(rows))
     with open(part, "w", encoding="utf-8", newline="") as file:
@@ -130,7 +131,7 @@ def _write_csv(part: str, types: str, columns: list[Column], check: Check) -> No
 
 
 def _write_geopackage(part: str, name: str, columns: list[Column], check: Check) -> None:
-    """Make a table with GDAL and insert its rows with SQLite, which is ten times as fast as GDAL's Python."""
+    """Create a table with GDAL, and insert rows with SQLite, which is ten times faster."""
     values = [column.listed() for column in columns]
     count = len(values[0])
     with quiet():
@@ -149,7 +150,7 @@ def _write_geopackage(part: str, name: str, columns: list[Column], check: Check)
 
 
 def _insert(part: str, name: str, identifier: str, rows: Iterable[Any], count: int) -> None:
-    """Insert rows; the triggers, which would count row by row, are put back at the end."""
+    """Insert rows without triggers, which would count each row and are restored at the end."""
     with contextlib.closing(sqlite3.connect(part)) as connection, connection:
         triggers = connection.execute(
             "SELECT name, sql FROM sqlite_master WHERE type = 'trigger' AND tbl_name = ?", [name]
@@ -168,7 +169,10 @@ def _insert(part: str, name: str, identifier: str, rows: Iterable[Any], count: i
 
 
 def _make_geopackage(part: str, name: str, columns: list[Column]) -> str:
-    """Make an empty table and return the names of its columns, the row number first; empty if that failed."""
+    """Create an empty table and return its column names, beginning with the row number.
+
+    Returns an empty text if that failed.
+    """
     source = ogr.GetDriverByName("GPKG").CreateDataSource(part)
     options = ["FID=rcell_fid"] if any(column.name.lower() == "fid" for column in columns) else []
     layer = None if source is None else source.CreateLayer(name, None, ogr.wkbNone, options)
@@ -198,7 +202,7 @@ def write_raster(
     check: Check = no_check,
     names: Sequence[str] = ("",),
 ) -> None:
-    """Write a map as a raster of 32-bit integers, or several ones with decimals as its bands.
+    """Write a map as 32-bit integers, or several maps of decimals as bands.
 
     Parameters
     ----------
@@ -207,12 +211,12 @@ def write_raster(
         The name of GDAL's driver.
     cells : array of int32, rows x cols, or of float64, bands x rows x cols
     null : float
-        The value of cells that is null, which becomes nodata.
+        The value of null cells, which becomes nodata.
     like : Source
         The map whose position and reference system are used.
     labels : mapping of int to str
     check : callable
-        Called from time to time; an exception ends the writing.
+        Called at intervals; an exception ends the writing.
     names : sequence of str
         The descriptions of the bands.
 
@@ -237,7 +241,10 @@ def write_raster(
 
 
 def _copied(folder: str, part: str, driver: str, tiff: str) -> str:
-    """Copy a raster in memory and return the copy's path, since GDAL does not report every full disk; empty if that failed."""
+    """Copy a raster in memory and return the copy's path; empty if that failed.
+
+    The copy is in memory because GDAL does not report every full disk.
+    """
     if driver == "GTiff":
         return tiff
     copied = f"{folder}/copy{os.path.splitext(part)[1]}"
@@ -279,7 +286,7 @@ def _write_tiff(
 
 
 def _copy_out(source: str, target: str) -> None:
-    """Copy a file from GDAL's memory to the disk, and GDAL's file next to it."""
+    """Copy a file and GDAL's file next to it from GDAL's memory to the disk."""
     for ending in ("", _BESIDE):
         if gdal.VSIStatL(source + ending) is None:
             continue
@@ -293,18 +300,20 @@ def _copy_out(source: str, target: str) -> None:
 
 
 def _flushed(dataset: Any) -> bool:
-    """Return whether the rest of a dataset was also written."""
+    """Flush a dataset, and return whether that succeeded."""
     gdal.ErrorReset()
     dataset.FlushCache()
     return bool(gdal.GetLastErrorType() < gdal.CE_Failure)
 
 
-# Files that are written completely or not at all
+# Complete files
 
 
 @contextlib.contextmanager
 def partly(path: str) -> Iterator[str]:
-    """Yield a path in a private folder for a file, which gets its name at the end; nothing is left after an error.
+    """Yield a temporary path for a file, which gets its name at the end.
+
+    After an error, no file is left.
 
     Raises
     ------
@@ -323,7 +332,10 @@ def partly(path: str) -> Iterator[str]:
 
 @contextlib.contextmanager
 def _removed_on_signals() -> Iterator[None]:
-    """Remove unfinished files before a signal ends the process; Python handles signals in the main thread only."""
+    """Remove unfinished files before a signal ends the process.
+
+    This works only in the main thread, because Python handles signals only there.
+    """
     caught: list[int] = []
 
     def end(number: int, _: Any) -> None:

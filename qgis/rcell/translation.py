@@ -1,5 +1,8 @@
 # SPDX-License-Identifier: Apache-2.0 OR GPL-2.0-or-later
-"""The texts of dialogs in the language of QGIS, if i18n/rcell_LANGUAGE.qm has them, else in English."""
+"""Translate the texts of dialogs to the language of QGIS.
+
+The translations are in i18n/rcell_LANGUAGE.qm. Without a translation, texts are in English.
+"""
 
 from __future__ import annotations
 
@@ -13,17 +16,17 @@ _FOLDER = os.path.join(os.path.dirname(os.path.abspath(__file__)), "i18n")
 
 
 def tr(text: str) -> str:
-    """Return a text in the language of QGIS."""
+    """Translate a text to the language of QGIS."""
     return str(QCoreApplication.translate(CONTEXT, text))
 
 
 def noop(text: str) -> str:
-    """Return a text, which `tr` translates when it is shown; pylupdate finds it with -tr-function noop."""
+    """Mark a text that `tr` translates later; pylupdate finds it with -tr-function noop."""
     return text
 
 
 def translator() -> QTranslator | None:
-    """Return the translations into the language of QGIS, or None."""
+    """Load the translations to the language of QGIS, or return None."""
     path = os.path.join(_FOLDER, f"rcell_{QgsApplication.locale()[:2]}.qm")
     translation = QTranslator()
     return translation if os.path.isfile(path) and translation.load(path) else None

@@ -1,5 +1,5 @@
 # SPDX-License-Identifier: Apache-2.0 OR GPL-2.0-or-later
-"""The algorithms of the toolbox."""
+"""List the algorithms of the toolbox."""
 
 from __future__ import annotations
 

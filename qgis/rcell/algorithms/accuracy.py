@@ -1,5 +1,5 @@
 # SPDX-License-Identifier: Apache-2.0 OR GPL-2.0-or-later
-"""rcell:accuracy, a map compared with a reference, and rcell:sample, the cells to check."""
+"""Define rcell:accuracy, which compares a map with a reference, and rcell:sample."""
 
 from __future__ import annotations
 
@@ -22,20 +22,27 @@ class AccuracyAlgorithm(RcellAlgorithm):
     NAME = "accuracy"
     TITLE = noop("Accuracy")
     SHORT = noop(
-        "Lists the accuracy of each class with standard errors, and areas corrected with a reference sample; with the matrix."
+        "Lists the accuracy of each class with standard errors, areas corrected with a "
+        "reference sample, and the confusion matrix."
     )
-    TAGS = "accuracy, confusion matrix, error matrix, kappa, validation, area estimation, sample, AcATaMa, r.kappa"
+    TAGS = (
+        "accuracy, confusion matrix, error matrix, kappa, validation, area estimation, sample, "
+        "AcATaMa, r.kappa"
+    )
     HELP = (
         noop(
-            "<p>The reference is a raster on the same grid, points with their class in a field, or a table with the fields "
-            "<code>map</code>, <code>reference</code> and <code>cells</code>. Points on cells without data are left out.</p>"
+            "<p>The reference is a raster on the same grid, a layer of points with their class "
+            "in a field, or a table with the fields <code>map</code>, <code>reference</code> and "
+            "<code>cells</code>. Points on cells without data are left out.</p>"
         ),
         noop(
-            "<p>If the sample was drawn class by class, the accuracies need the areas of the classes: counted in the map, or "
-            "from a CSV with value,area. The equations are in Olofsson et al. 2014.</p>"
+            "<p>If the sample was drawn class by class, the accuracies need the areas of the "
+            "classes, either counted in the map or read from a CSV with value,area. The "
+            "equations are in Olofsson et al. 2014.</p>"
         ),
         noop(
-            "<p>Without areas, standard errors are right for a random sample, and mean nothing for a complete reference.</p>"
+            "<p>Without areas, standard errors are correct for a random sample, but "
+            "meaningless for a complete reference.</p>"
         ),
     )
 
@@ -45,7 +52,7 @@ class AccuracyAlgorithm(RcellAlgorithm):
         kinds = [QgsProcessing.TypeRaster, QgsProcessing.TypeVector]
         title = tr("Reference: a raster, points or a table")
         self.addParameter(QgsProcessingParameterMapLayer("REFERENCE", title, None, False, kinds))
-        self.add_text("FIELD", tr("Field of the points with their class"))
+        self.add_text("FIELD", tr("Field with the class of each point"))
         self.add_choice("AREAS", tr("Areas of the classes"), SIZES)
         self.add_file("AREAS_FILE", tr("Areas of the classes: a CSV with value,area"))
         self.add_area()
@@ -64,7 +71,7 @@ class AccuracyAlgorithm(RcellAlgorithm):
         self.reference = reference_of(layer)
 
     def answer(self) -> dict[str, Any]:
-        """Return the table and, if they are requested, the matrix and the summary."""
+        """Write the table and, if requested, the matrix and the summary."""
         sizes = self.word("AREAS")
         result = self.called(
             accuracy,
@@ -84,7 +91,7 @@ class AccuracyAlgorithm(RcellAlgorithm):
         return results
 
     def inputs(self) -> list[str]:
-        """Return the files that are read."""
+        """Return the input files."""
         return [*super().inputs(), *getattr(self.reference, "files", ())]
 
 
@@ -97,12 +104,14 @@ class SampleAlgorithm(RcellAlgorithm):
     TAGS = "sample, random points, stratified, reference, accuracy, validation, AcATaMa"
     HELP = (
         noop(
-            "<p>Cells are drawn without replacement; each cell of a class has the same chance. The same raster, numbers and "
-            "seed give the same cells in QGIS, Python, R and the shell.</p>"
+            "<p>Cells are drawn without replacement, and all cells of a class have the same "
+            "probability. The same raster, numbers and seed draw the same cells in QGIS, Python, "
+            "R and the shell.</p>"
         ),
         noop(
-            "<p>The number is of all cells, or of each class, for example <code>11:50,31:100</code>. The table has "
-            "coordinates: <i>Create points layer from table</i> makes points of it.</p>"
+            "<p>The number is a total, or a number for each class, for example "
+            "<code>11:50,31:100</code>. The table contains coordinates, which <i>Create points "
+            "layer from table</i> converts to points.</p>"
         ),
     )
 
@@ -117,7 +126,7 @@ class SampleAlgorithm(RcellAlgorithm):
         self.add_table()
 
     def answer(self) -> dict[str, Any]:
-        """Return the table."""
+        """Write the table."""
         table = self.called(
             sample,
             self.rasters[0],

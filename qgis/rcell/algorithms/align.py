@@ -1,5 +1,5 @@
 # SPDX-License-Identifier: Apache-2.0 OR GPL-2.0-or-later
-"""rcell:align, a raster on the grid of another one."""
+"""Define rcell:align, which puts a raster on the grid of another raster."""
 
 from __future__ import annotations
 
@@ -18,8 +18,8 @@ from .base import RcellAlgorithm, raise_unreadable
 
 RESAMPLINGS = ["none", "nearest"]
 FACTS = {
-    "shift_rows": noop("Row at which the other grid begins"),
-    "shift_columns": noop("Column at which the other grid begins"),
+    "shift_rows": noop("Row of the raster at which the new grid begins"),
+    "shift_columns": noop("Column of the raster at which the new grid begins"),
     "cells_used": noop("Cells in the result"),
     "cells_repeated": noop("Cells that are in the result more than once"),
     "cells_lost": noop("Cells that are not in the result"),
@@ -27,30 +27,32 @@ FACTS = {
 
 
 class AlignAlgorithm(RcellAlgorithm):
-    """Puts a raster on the grid of another one."""
+    """Puts a raster on the grid of another raster."""
 
     NAME = "align"
     TITLE = noop("Align")
     SHORT = noop(
-        "Puts a raster of classes on the grid of another one, by whole cells or by the nearest cell, and reports what happened."
+        "Aligns a raster of classes with the grid of another raster, by whole cells or with "
+        "the nearest cells, and counts the cells used."
     )
     TAGS = "align, snap, resample, nearest, warp, clip, extent, grid"
     HELP = (
         noop(
-            "<p>Without resampling, the raster is only cut and extended: a shift by part of a cell, other cells or another "
-            "reference system cause an error. With <i>nearest</i>, each new cell is the cell in which its centre lies; on a "
-            "border, the southern or eastern one.</p>"
+            "<p>Without resampling, the raster is only cut and extended. A shift by part of a "
+            "cell, cells of another size or another reference system cause an error. With "
+            "<i>nearest</i>, each new cell gets the value of the cell that contains its centre; "
+            "on a border, of the southern or eastern cell.</p>"
         ),
         noop(
-            "<p>The log and the outputs say how many cells with data are in the result, in it more than once, and not in "
-            "it.</p>"
+            "<p>The log and the outputs report how many cells with data are in the result, are "
+            "in it more than once, and are not in it.</p>"
         ),
     )
 
     def initAlgorithm(self, configuration: Any = None) -> None:
         """Declare the parameters."""
         self.add_raster()
-        self.addParameter(QgsProcessingParameterRasterLayer("TO", tr("Raster that has the grid")))
+        self.addParameter(QgsProcessingParameterRasterLayer("TO", tr("Raster with the grid")))
         self.add_choice("RESAMPLE", tr("Resampling"), RESAMPLINGS)
         self.add_crs()
         self.add_map(tr("Aligned"))
@@ -58,14 +60,14 @@ class AlignAlgorithm(RcellAlgorithm):
             self.addOutput(QgsProcessingOutputNumber(name.upper(), tr(title)))
 
     def read(self) -> None:
-        """Read the raster, and the raster with the grid."""
+        """Read the raster and the raster with the grid."""
         to = self.parameterAsRasterLayer(self.parameter_values, "TO", self.context)
         if to is None or not to.isValid():
             raise_unreadable(self.parameter_values.get("TO"))
         self.rasters = [self.raster(), raster_of(to, to.name(), 1)]
 
     def answer(self) -> dict[str, Any]:
-        """Return the map and the numbers of cells that were used, repeated and lost."""
+        """Write the map, and return the numbers of cells that were used, repeated and lost."""
         resample = self.word("RESAMPLE")
         way = None if resample == RESAMPLINGS[0] else resample
         raster, aligned = align(self.rasters[0], self.rasters[1], way, crs=self.crs())

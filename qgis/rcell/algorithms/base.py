@@ -1,5 +1,5 @@
 # SPDX-License-Identifier: Apache-2.0 OR GPL-2.0-or-later
-"""The common part of the algorithms: reading rasters, watching a run, and reporting errors."""
+"""Define the base class of the algorithms: read rasters, watch a run, and report errors."""
 
 from __future__ import annotations
 
@@ -50,11 +50,12 @@ from ..results import MOST_CLASSES, fields_of, put_features, put_legend, put_ras
 from ..tables import Check, check_target, is_file_of_table, no_check, write_table
 from ..translation import tr
 
-# The units of areas, as in the other packages; auto is hectares if there is a reference system.
+# The units of areas, as in the other packages. The unit auto means hectares if there is a reference
+# system.
 AREAS = ["auto", "none", "ha", "km2", "m2"]
 MOST_RASTERS = 16
 _NO_BREAK = "\u00a0"
-# The page of the plugin: in the zip, or in the sources.
+# The plugin's help page, in the zip or in the sources.
 _HELP = ("../help/qgis.html", "../../../docs/qgis.md")
 _ICON = os.path.join(os.path.dirname(os.path.dirname(os.path.abspath(__file__))), "icon.svg")
 
@@ -62,7 +63,10 @@ Parameters = Mapping[str, Any]
 
 
 class RcellAlgorithm(QgsProcessingAlgorithm):
-    """An algorithm over the raster `INPUT` and its band `BAND`; algorithms over several rasters override parts of it."""
+    """An algorithm over the band `BAND` of the raster `INPUT`.
+
+    Algorithms over several rasters override some of its methods.
+    """
 
     NAME = ""
     TITLE = ""
@@ -82,14 +86,14 @@ class RcellAlgorithm(QgsProcessingAlgorithm):
         self.check: Check = no_check
         self.recorded: Optional[RecordedCall] = None
 
-    # Methods that QGIS calls
+    # Methods called by QGIS
 
     def createInstance(self) -> QgsProcessingAlgorithm:
-        """Return a copy, which QGIS then runs."""
+        """Return a new instance, which QGIS runs."""
         return type(self)()
 
     def name(self) -> str:
-        """Return the part of the name after `rcell:`."""
+        """Return the algorithm's name, without `rcell:`."""
         return self.NAME
 
     def displayName(self) -> str:
@@ -114,7 +118,7 @@ class RcellAlgorithm(QgsProcessingAlgorithm):
         return str(QUrl.fromLocalFile(path).toString()) if path else ""
 
     def tags(self) -> list[str]:
-        """Return the words for the search in the toolbox."""
+        """Return the search words for the toolbox."""
         return self.TAGS.split(", ")
 
     def icon(self) -> QIcon:
@@ -122,7 +126,10 @@ class RcellAlgorithm(QgsProcessingAlgorithm):
         return QIcon(_ICON)
 
     def canExecute(self) -> tuple[bool, str]:
-        """Return whether the program is found; QGIS calls this before the dialog, and qgis_process does not call it."""
+        """Return whether the program is found.
+
+        QGIS calls this method before the dialog; qgis_process does not call it.
+        """
         try:
             find_program(program_setting())
         except RcellError as error:
@@ -132,7 +139,7 @@ class RcellAlgorithm(QgsProcessingAlgorithm):
     def checkParameterValues(
         self, parameters: Parameters, context: QgsProcessingContext
     ) -> tuple[bool, str]:
-        """Check parameters and rasters before the run, so that the dialog stays open after an error."""
+        """Check parameters and rasters before the run, so that errors keep the dialog open."""
         self.parameter_values, self.context = parameters, context
         try:
             words = self.chosen_words()
@@ -150,7 +157,7 @@ class RcellAlgorithm(QgsProcessingAlgorithm):
     def prepareAlgorithm(
         self, parameters: Parameters, context: QgsProcessingContext, feedback: QgsProcessingFeedback
     ) -> bool:
-        """Read the layers in the main thread, the only one that may use them."""
+        """Read the layers in the main thread, because other threads must not use them."""
         self.parameter_values, self.context, self.feedback = parameters, context, feedback
         try:
             with serving(host_of(program_setting(), feedback)):
@@ -165,7 +172,7 @@ class RcellAlgorithm(QgsProcessingAlgorithm):
     def processAlgorithm(
         self, parameters: Parameters, context: QgsProcessingContext, feedback: QgsProcessingFeedback
     ) -> dict[str, Any]:
-        """Run the program, in a thread of its own; errors have the program's message."""
+        """Run the program in a separate thread; errors contain the program's message."""
         self.parameter_values, self.context, self.feedback = parameters, context, feedback
         self.check = watch_of(feedback)
         try:
@@ -177,12 +184,12 @@ class RcellAlgorithm(QgsProcessingAlgorithm):
             raise QgsProcessingException(message_of(error, feedback)) from None
 
     def chosen_words(self) -> dict[str, str]:
-        """Return the choices that are given, as texts: QGIS itself rejects the number 8 where `8` can be chosen.
+        """Return the given choices as texts, because QGIS rejects the number 8 for the choice `8`.
 
         Raises
         ------
         Refused
-            There is no such choice.
+            The choice is unknown.
         """
         words = {}
         for parameter in self.parameterDefinitions():
@@ -197,24 +204,24 @@ class RcellAlgorithm(QgsProcessingAlgorithm):
                 words[parameter.name()] = str(word)
         return words
 
-    # Methods that algorithms override
+    # Methods overridden by algorithms
 
     def answer(self) -> dict[str, Any]:
-        """Return the results by the names of the outputs."""
+        """Run the calls, and return the results by output name."""
         raise NotImplementedError
 
     def check_words(self) -> None:
-        """Check the parameters that are texts."""
+        """Check the text parameters."""
 
     def read(self) -> None:
-        """Read the layers, and check that they fit each other."""
+        """Read the layers, and check that they have the same grid."""
         self.rasters = [self.raster()]
 
     def glanced(self) -> list[Any]:
         """Return the rasters whose first rows are read before the run."""
         return [*self.rasters, self.zones]
 
-    # Methods that algorithms call
+    # Methods called by algorithms
 
     def add_raster(self) -> None:
         """Add the parameters of an algorithm over one raster."""
@@ -240,7 +247,7 @@ class RcellAlgorithm(QgsProcessingAlgorithm):
         )
 
     def add_count(self, name: str, title: str, most: int = 2**31 - 1, default: int = 1) -> None:
-        """Add a parameter for a number from 1."""
+        """Add a parameter for a positive number."""
         kind = QgsProcessingParameterNumber.Integer
         parameter = QgsProcessingParameterNumber(name, title, kind, default, False, 1, most)
         self.addParameter(parameter)
@@ -271,7 +278,7 @@ class RcellAlgorithm(QgsProcessingAlgorithm):
         self.add_labels("ZONE_LABELS", title)
 
     def add_text(self, name: str, title: str, default: Optional[str] = None) -> None:
-        """Add a parameter for a text that may be left out."""
+        """Add a parameter for an optional text."""
         self.addParameter(QgsProcessingParameterString(name, title, default, False, True))
 
     def add_lines(self, name: str, title: str, default: Optional[str] = None) -> None:
@@ -279,13 +286,13 @@ class RcellAlgorithm(QgsProcessingAlgorithm):
         self.addParameter(QgsProcessingParameterString(name, title, default, True))
 
     def add_choice(self, name: str, title: str, words: Sequence[str]) -> None:
-        """Add a parameter for one of some words, by default the first."""
+        """Add a parameter for a choice of words; the default is the first word."""
         self.addParameter(
             QgsProcessingParameterEnum(name, title, words, False, words[0], False, True)
         )
 
     def add_flag(self, name: str, title: str) -> None:
-        """Add a parameter that is yes or no, by default no."""
+        """Add a yes-or-no parameter; the default is no."""
         self.addParameter(QgsProcessingParameterBoolean(name, title, False))
 
     def add_map(self, title: str, name: str = "OUTPUT", is_optional: bool = False) -> None:
@@ -301,7 +308,7 @@ class RcellAlgorithm(QgsProcessingAlgorithm):
             )
         )
         if name == "OUTPUT":
-            self.add_flag("RECORD", tr("Write a record that Verify can check (CSV tables only)"))
+            self.add_flag("RECORD", tr("Write a record, which Verify can check (CSV tables only)"))
 
     def add_null(self) -> None:
         """Add the parameter for rows of cells without data."""
@@ -316,33 +323,33 @@ class RcellAlgorithm(QgsProcessingAlgorithm):
         return str(self.parameterAsEnumString(self.parameter_values, name, self.context))
 
     def flag(self, name: str) -> bool:
-        """Return whether a parameter says yes."""
+        """Return whether a yes-or-no parameter is set."""
         return bool(self.parameterAsBoolean(self.parameter_values, name, self.context))
 
     def number(self, name: str) -> int:
-        """Return the number of a parameter."""
+        """Return the numeric value of a parameter."""
         return int(self.parameterAsInt(self.parameter_values, name, self.context))
 
     def area(self) -> Optional[str]:
-        """Return the unit of areas, None for none."""
+        """Return the unit of areas; None for no areas."""
         unit = self.word("AREA")
         return None if unit == "none" else unit
 
     def path(self, name: str) -> Optional[str]:
-        """Return the file that a parameter names, if it names one."""
+        """Return the file that a parameter names, or None."""
         return self.parameterAsFile(self.parameter_values, name, self.context) or None
 
     def labels(self) -> Optional[str]:
-        """Return the file of labels, if one is named."""
+        """Return the file of labels, or None."""
         return self.path("LABELS")
 
     def record_path(self) -> str:
-        """Return the file of the table that is recorded, or an empty text.
+        """Return the file of the table to record, or an empty text.
 
         Raises
         ------
         Refused
-            The table is to be recorded, and is not a CSV.
+            The table should be recorded, but is not a CSV.
         """
         path = plain_path(self.parameter_values.get("OUTPUT")) if self.flag("RECORD") else ""
         if self.flag("RECORD") and not path.lower().endswith(".csv"):
@@ -352,12 +359,12 @@ class RcellAlgorithm(QgsProcessingAlgorithm):
     def called(
         self, call: Callable[..., Any], *words: Any, part: Optional[str] = None, **named: Any
     ) -> Any:
-        """Return the result of a call that returns a table, and record the call if that is asked for.
+        """Run a call that returns a table, and record the call on request.
 
         Raises
         ------
         Refused
-            Only a call over files can be recorded, and the files have another table than the layers.
+            The call cannot be recorded, because the layers differ from their files.
         """
         result, path = call(*words, **named), self.record_path()
         if path:
@@ -366,14 +373,15 @@ class RcellAlgorithm(QgsProcessingAlgorithm):
             self.recorded = make(path, call, files, options, part)
             if csv_of(self.recorded.table) != csv_of(table_of(result, part)):
                 raise Refused(
-                    "RECORD is for files, and these layers show other values, labels or features than their files: "
+                    "RECORD is for files, and these layers show other values, labels or features "
+                    "than their files: "
                     "save them to new files first",
                     status=2,
                 )
         return result
 
     def file_of(self, argument: Any) -> Any:
-        """Return an argument with the file of each layer in its place."""
+        """Replace each layer in an argument with its file."""
         if isinstance(argument, Mapping):
             return {name: self.file_of(value) for name, value in argument.items()}
         if isinstance(argument, list):
@@ -388,14 +396,14 @@ class RcellAlgorithm(QgsProcessingAlgorithm):
         return self.parameter_values.get("BAND") not in (None, "", -1, 0)
 
     def raster(self) -> Source:
-        """Return the band `BAND` of the raster `INPUT` as a map."""
+        """Open the band `BAND` of the raster `INPUT` as a map."""
         layer = self.parameterAsRasterLayer(self.parameter_values, "INPUT", self.context)
         if layer is None or not layer.isValid():
             raise_unreadable(self.parameter_values["INPUT"])
         return raster_of(layer, layer.name(), self.number("BAND") if self.has_band() else None)
 
     def read_zoned(self) -> None:
-        """Read the raster of `INPUT` and its zones, if there are zones."""
+        """Read the raster `INPUT` and, if given, its zones."""
         self.rasters = [self.raster()]
         self.zones = None
         if self.parameter_values.get("ZONES"):
@@ -407,7 +415,7 @@ class RcellAlgorithm(QgsProcessingAlgorithm):
         self.fit([*self.rasters, self.zones] if is_raster else self.rasters)
 
     def zoning(self) -> dict[str, Any]:
-        """Return the arguments for zones."""
+        """Return the arguments of calls for zones."""
         return {
             "zone_field": self.text("ZONE_FIELD") or None,
             "zone_labels": self.path("ZONE_LABELS"),
@@ -415,16 +423,16 @@ class RcellAlgorithm(QgsProcessingAlgorithm):
         }
 
     def fit(self, rasters: Sequence[Any]) -> None:
-        """Check that rasters have one reference system and one region."""
+        """Check that rasters have the same reference system and region."""
         sources_of({f"map_{place}": raster for place, raster in enumerate(rasters)}, self.crs())
 
     def raster_layers(self, names: Sequence[str] = (), most: int = MOST_RASTERS) -> list[Any]:
-        """Return the layers of a list of rasters.
+        """Return the layers of the parameter for several rasters.
 
         Raises
         ------
         RcellError
-            A layer cannot be read, or there are too many.
+            A layer cannot be read, or there are too many layers.
         """
         input = self.parameter_values["INPUT"]
         values = input if isinstance(input, (list, tuple)) else [input]
@@ -454,7 +462,7 @@ class RcellAlgorithm(QgsProcessingAlgorithm):
         return wkt or None
 
     def targets(self) -> list[str]:
-        """Return the files that are written, after checking that they can be, before any work is done."""
+        """Return the output files, after checking that they can be written."""
         destinations = self.destinationParameterDefinitions()
         files = [each.name() for each in destinations if each.type() != "folderDestination"]
         paths = list(filter(None, (plain_path(self.parameter_values.get(name)) for name in files)))
@@ -464,7 +472,7 @@ class RcellAlgorithm(QgsProcessingAlgorithm):
         return paths
 
     def inputs(self) -> list[str]:
-        """Return the files that are read."""
+        """Return the input files."""
         maps = [*self.rasters, *([self.zones] if self.zones else [])]
         files = ("LABELS", "ZONE_LABELS", "RULES_FILE", "AREAS_FILE")
         named = [self.path(name) for name in files if self.parameter_values.get(name)]
@@ -483,12 +491,13 @@ class RcellAlgorithm(QgsProcessingAlgorithm):
         put_raster(path, map, like or self.rasters[0], self.check, null)
         if not put_legend(path, classes, self.colours, self.context):
             self.feedback.pushInfo(
-                f"The map has {len(classes):,} classes. With more than {MOST_CLASSES:,} it has no legend and stays grey."
+                f"The map has {len(classes):,} classes. With more than {MOST_CLASSES:,} it has "
+                "no legend and stays grey."
             )
         return path
 
     def put_table(self, name: str, table: Table) -> str:
-        """Write a table to an output: a file, or another sink of QGIS such as a layer in memory."""
+        """Write a table to a file, or to another QGIS sink such as a memory layer."""
         if not len(table):
             warn(tr("The table is empty: all cells are without data or left out."))
         path = plain_path(self.parameter_values.get(name))
@@ -517,14 +526,14 @@ class RcellAlgorithm(QgsProcessingAlgorithm):
 
 
 def _glance(maps: Sequence[Any]) -> None:
-    """Read the first rows of rasters, and so find most invalid cells while the dialog can still show an error."""
+    """Read the first rows of rasters, to find most invalid cells before the dialog closes."""
     for map in maps:
         if isinstance(map, RasterMap):
             next(map.blocks())
 
 
 def renamed(table: Table, titles: Mapping[str, str]) -> Table:
-    """Return a table with other names of its maps, also in the columns of their labels."""
+    """Rename the maps in the columns of a table, including label columns."""
     names = {**titles, **{f"{name}_label": f"{title}_label" for name, title in titles.items()}}
     return Table(
         Column(names.get(column.name, column.name), column.kind, column.values)
@@ -533,7 +542,7 @@ def renamed(table: Table, titles: Mapping[str, str]) -> Table:
 
 
 def as_log(text: str) -> str:
-    """Return a text for the log: the log of a window drops blanks at the start of a line."""
+    """Format a text for the log, which drops spaces at the beginning of lines."""
     if qgis.utils.iface is None:
         return text
     lines = (line.replace("\t", "    ") for line in text.split("\n"))
@@ -543,7 +552,10 @@ def as_log(text: str) -> str:
 
 
 def message_of(error: RcellError, feedback: QgsProcessingFeedback) -> str:
-    """Return the message of an error; in a window, which has no fixed-width font for it, the mark goes to the log."""
+    """Return the message of an error.
+
+    In a window, the line with a mark is written to the log, which has a fixed-width font.
+    """
     text = str(error)
     if (
         qgis.utils.iface is None
@@ -558,12 +570,15 @@ def message_of(error: RcellError, feedback: QgsProcessingFeedback) -> str:
 
 
 def program_setting() -> str:
-    """Return the program that the settings name, or an empty text."""
+    """Return the program in the settings, or an empty text."""
     return str(ProcessingConfig.getSetting("RCELL_PROGRAM") or "").strip()
 
 
 def plain_path(value: Any) -> str:
-    """Return the path of a destination that is a file; empty for layers in memory, databases and temporary outputs."""
+    """Return the path of a destination file.
+
+    The result is empty for memory layers, databases and temporary outputs.
+    """
     if isinstance(value, QgsProcessingOutputLayerDefinition):
         value = value.sink.staticValue()
     text = str(value or "")
@@ -574,7 +589,7 @@ def plain_path(value: Any) -> str:
 
 
 def raise_unreadable(value: Any, name: str = "") -> None:
-    """Raise the reason why a raster cannot be read: GDAL's own if it is a path.
+    """Raise the reason why a raster cannot be read; for a path, GDAL's message.
 
     Raises
     ------

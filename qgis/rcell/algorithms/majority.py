@@ -1,5 +1,5 @@
 # SPDX-License-Identifier: Apache-2.0 OR GPL-2.0-or-later
-"""rcell:majority, rcell:within and rcell:aggregate: maps of the neighbourhood of cells, and of blocks."""
+"""Define rcell:majority, rcell:within and rcell:aggregate: maps of neighbourhoods and blocks."""
 
 from __future__ import annotations
 
@@ -20,19 +20,20 @@ SIZES = [str(size) for size in SIDES]
 
 
 class MajorityAlgorithm(RcellAlgorithm):
-    """The most frequent class of the square around each cell."""
+    """Gives each cell the most frequent class of the square around it."""
 
     NAME = "majority"
     TITLE = noop("Majority of a neighbourhood")
     SHORT = noop(
-        "Gives each cell the most frequent class of the square around it, which removes single cells and ragged edges."
+        "Gives each cell the most frequent class of the square around it, which removes single "
+        "cells and ragged edges."
     )
     TAGS = "majority filter, mode, smooth, focal, r.neighbors, modal, neighbourhood, sieve"
     HELP = (
         noop(
-            "<p>Cells without data, and cells outside the map, do not count. Of several most frequent classes the smallest is "
-            "taken. A cell without data stays without data, so the outline of the map is kept; fill such cells if their "
-            "neighbours should decide.</p>"
+            "<p>Cells without data and cells outside the map are ignored. In a tie, the smallest "
+            "class is used. Cells without data stay without data, which keeps the outline of the "
+            "map. Fill them if their neighbours should decide.</p>"
         ),
         noop("<p>The result has the labels and the colours of the raster.</p>"),
     )
@@ -53,17 +54,18 @@ class MajorityAlgorithm(RcellAlgorithm):
 
 
 class WithinAlgorithm(RcellAlgorithm):
-    """Finds the cells within distances of some classes."""
+    """Finds the cells within distances of classes."""
 
     NAME = "within"
     TITLE = noop("Within a distance of classes")
-    SHORT = noop("Finds the cells within distances of some classes: buffers, exact to the cell.")
+    SHORT = noop("Finds the cells within distances of classes (buffers), exact to the cell.")
     TAGS = "buffer, r.buffer, distance, proximity, rings, near, grow"
     HELP = (
         noop(
-            "<p>Distances are in metres, ascending, between the centres of cells, up to 255 cells. The result is 0 in the "
-            "classes, 1 up to the first distance, 2 beyond it and up to the second. As zones of <i>Composition</i> it gives "
-            "the classes of each ring. A map in degrees is an error: reproject it.</p>"
+            "<p>Distances are in metres, ascending, between cell centres, up to 255 cells. The "
+            "result is 0 in the classes, 1 up to the first distance, and 2 from there up to the "
+            "second distance. As zones of <i>Composition</i>, it yields the classes in each "
+            "ring. A map in degrees is an error: reproject it.</p>"
         ),
     )
 
@@ -92,18 +94,20 @@ class WithinAlgorithm(RcellAlgorithm):
 
 
 class AggregateAlgorithm(RcellAlgorithm):
-    """A coarser map: the most frequent class of blocks, and the shares of all classes."""
+    """Makes a coarser map of the most frequent classes, and maps the shares of all classes."""
 
     NAME = "aggregate"
     TITLE = noop("Aggregate to larger cells")
     SHORT = noop(
-        "Makes a coarser map with the most frequent class of blocks of cells, and the percentage of each class in each block."
+        "Makes a coarser map with the most frequent class of each block of cells, and maps "
+        "the percentage of each class in each block."
     )
     TAGS = "aggregate, resample, coarsen, mode, majority, r.resamp.stats, fraction, share, upscale"
     HELP = (
         noop(
-            "<p>Blocks begin at the top left; at the right and at the bottom they may reach beyond the map. Of several most "
-            "frequent classes the smallest is taken. The shares have a band for each class, described by its label.</p>"
+            "<p>Blocks begin at the top left. At the right and at the bottom, they may extend "
+            "beyond the map. In a tie, the smallest class is used. The shares have a band for "
+            "each class, with the label of the class as its description.</p>"
         ),
     )
 
@@ -121,7 +125,7 @@ class AggregateAlgorithm(RcellAlgorithm):
         self.add_map(tr("Shares of classes"), "SHARES", True)
 
     def answer(self) -> dict[str, Any]:
-        """Return the map, and the shares if they are requested."""
+        """Write the map and, if requested, the shares."""
         least = self.parameterAsDouble(self.parameter_values, "MIN_PERCENT", self.context)
         result = aggregate(self.rasters[0], self.number("FACTOR"), least, crs=self.crs())
         raster = result.majority

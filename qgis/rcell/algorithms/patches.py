@@ -1,5 +1,5 @@
 # SPDX-License-Identifier: Apache-2.0 OR GPL-2.0-or-later
-"""rcell:patches, rcell:clump and rcell:sieve: the patches of a map."""
+"""Define rcell:patches, rcell:clump, rcell:sieve and rcell:metrics."""
 
 from __future__ import annotations
 
@@ -25,10 +25,10 @@ LEVELS = ["class", "landscape", "patch"]
 
 
 class _OfPatches(RcellAlgorithm):
-    """What the algorithms over patches have in common."""
+    """The parameters that the algorithms over patches have in common."""
 
     def add_patches(self) -> None:
-        """Add the parameters that say which patches there are."""
+        """Add the parameters that define and select patches."""
         self.add_choice("CONNECTIVITY", tr("Connectivity"), CONNECTIVITIES)
         self.add_text("CLASSES", tr("Classes, separated by commas (empty: all)"))
         self.add_count("MIN_CELLS", tr("Smallest number of cells"))
@@ -38,7 +38,7 @@ class _OfPatches(RcellAlgorithm):
         self.classes()
 
     def classes(self) -> Optional[list[int]]:
-        """Return the classes that are listed, None for all."""
+        """Return the listed classes; None for all classes."""
         return [int(code) for code in numbers_of(self.text("CLASSES"), "classes")] or None
 
 
@@ -47,7 +47,7 @@ class ClumpAlgorithm(_OfPatches):
 
     NAME = "clump"
     TITLE = noop("Map of patches")
-    SHORT = noop("Gives each cell the number of its patch, as the table of Patches has it.")
+    SHORT = noop("Gives each cell the number of its patch, as in the table of Patches.")
     TAGS = "patches, clumps, r.clump, segments, regions, connected components"
     HELP = (noop("<p>Cells of patches that are left out have no data.</p>"),)
 
@@ -72,22 +72,28 @@ class PatchesAlgorithm(_OfPatches):
     NAME = "patches"
     TITLE = noop("Patches")
     SHORT = noop(
-        "Lists the patches of each class with class, cells, area, perimeter, core, outline and zone; and makes a map of them."
+        "Lists the patches of each class with cells, area, perimeter, core, outline and "
+        "zone, and makes a map of them."
     )
-    TAGS = "patches, clumps, r.clump, islands, sieve, segments, regions, landscape, connected areas, perimeter, core"
+    TAGS = (
+        "patches, clumps, r.clump, islands, sieve, segments, regions, landscape, connected "
+        "areas, perimeter, core"
+    )
     HELP = (
         noop(
-            "<p>Cells belong to one patch if they have the same class and a path of such cells connects them: by edges "
-            "(connectivity 4), or by edges and corners (8). Patches are numbered by their first cells, from the top left.</p>"
+            "<p>Cells belong to one patch if they have the same class and are connected through "
+            "cells of this class: by edges (connectivity 4), or by edges and corners (8). "
+            "Patches are numbered by their first cells, from the top left.</p>"
         ),
         noop(
-            "<p>Patches below the smallest number of cells, and classes that are not listed, are left out of the table and "
-            "the map; the others keep their numbers. Join the table to the map by <code>patch</code>.</p>"
+            "<p>Patches below the smallest number of cells, and classes that are not listed, are "
+            "left out of the table and the map. The remaining patches keep their numbers. Join "
+            "the table to the map by <code>patch</code>.</p>"
         ),
         noop(
-            "<p>The perimeter is the length of all sides to other patches, to cells without data and to the edge of the map. "
-            "The core consists of the cells whose neighbours, up to the depth of the core, are all in the patch. In degrees "
-            "there is no perimeter.</p>"
+            "<p>The perimeter is the length of all sides to other patches, to cells without data "
+            "and along the edge of the map. The core consists of the cells whose neighbours, up "
+            "to the core depth, are all in the patch. In degrees, there is no perimeter.</p>"
         ),
     )
 
@@ -110,7 +116,7 @@ class PatchesAlgorithm(_OfPatches):
         self.read_zoned()
 
     def answer(self) -> dict[str, Any]:
-        """Return the table, the number of patches, and the map if it is requested."""
+        """Write the table and, if requested, the map, and return the number of patches."""
         raster = self.rasters[0]
         zoning = self.zoning()
         connectivity = int(self.word("CONNECTIVITY"))
@@ -147,19 +153,21 @@ class SieveAlgorithm(RcellAlgorithm):
     NAME = "sieve"
     TITLE = noop("Sieve")
     SHORT = noop(
-        "Merges patches below a size into the neighbour with the longest common border, until none is left that has a neighbour."
+        "Merges patches below a size into the neighbour with the longest common border, "
+        "until no small patch has a neighbour."
     )
     TAGS = (
         "sieve, minimum mapping unit, eliminate, generalise, r.reclass.area, remove small patches"
     )
     HELP = (
         noop(
-            "<p>The smallest patch is merged first. Of several neighbours with the same border, the first one is taken. "
-            "Give the smallest size in cells or in hectares; in degrees, in cells.</p>"
+            "<p>The smallest patch is merged first. If several neighbours share the same border "
+            "length, the first neighbour is used. Give the smallest size in cells or in "
+            "hectares; in degrees, in cells.</p>"
         ),
         noop(
-            "<p>The outputs count patches and changed cells in the result. Patches that border only cells without data stay: "
-            "<code>PATCHES_BELOW</code> counts them.</p>"
+            "<p>The outputs count patches and changed cells in the result. Patches that border "
+            "only cells without data remain. <code>PATCHES_BELOW</code> counts them.</p>"
         ),
     )
 
@@ -167,9 +175,9 @@ class SieveAlgorithm(RcellAlgorithm):
         """Declare the parameters."""
         self.add_raster()
         number = QgsProcessingParameterNumber
-        title = tr("Smallest number of cells of a patch")
+        title = tr("Smallest number of cells in a patch")
         self.addParameter(number("MIN_CELLS", title, number.Integer, None, True, 1))
-        title = tr("Smallest area of a patch in hectares, in place of cells")
+        title = tr("Smallest area of a patch in hectares, instead of cells")
         self.addParameter(number("MIN_HA", title, number.Double, None, True, 0))
         self.add_choice("CONNECTIVITY", tr("Connectivity"), CONNECTIVITIES)
         self.add_flag("DROP", tr("Leave small patches out instead of merging them"))
@@ -179,7 +187,7 @@ class SieveAlgorithm(RcellAlgorithm):
             self.addOutput(QgsProcessingOutputNumber(name.upper(), tr(name.replace("_", " "))))
 
     def answer(self) -> dict[str, Any]:
-        """Return the map, and the numbers of patches and changed cells."""
+        """Write the map, and return the numbers of patches and changed cells."""
         has_limit = {
             name: self.parameter_values.get(name) not in (None, "")
             for name in ("MIN_CELLS", "MIN_HA")
@@ -203,16 +211,20 @@ class MetricsAlgorithm(RcellAlgorithm):
 
     NAME = "metrics"
     TITLE = noop("Landscape metrics")
-    SHORT = noop("Lists landscape metrics of each class, of each patch or of the full raster.")
-    TAGS = "landscape ecology, FRAGSTATS, landscapemetrics, fragmentation, edge density, diversity, Shannon, mesh, r.li"
+    SHORT = noop("Lists landscape metrics of each class, each patch or the full raster.")
+    TAGS = (
+        "landscape ecology, FRAGSTATS, landscapemetrics, fragmentation, edge density, diversity, "
+        "Shannon, mesh, r.li"
+    )
     HELP = (
         noop(
-            "<p>Definitions are as in FRAGSTATS 4, without background. The landscape consists of all cells that have data. "
-            "Edges are between two classes: borders of zones and of cells without data do not count.</p>"
+            "<p>Definitions follow FRAGSTATS 4, without background. The landscape consists of "
+            "all cells with data. Edges are sides between two classes: borders of zones and "
+            "sides next to cells without data do not count.</p>"
         ),
         noop(
-            "<p>Each zone is a landscape of its own: patches end at its border. Without a reference system, and in degrees, "
-            "there are no lengths.</p>"
+            "<p>Each zone is a separate landscape: patches end at its border. Without a "
+            "reference system, and in degrees, there are no lengths.</p>"
         ),
     )
 
@@ -233,7 +245,7 @@ class MetricsAlgorithm(RcellAlgorithm):
         self.read_zoned()
 
     def answer(self) -> dict[str, Any]:
-        """Return the table."""
+        """Write the table."""
         table = self.called(
             metrics,
             self.rasters[0],
@@ -249,7 +261,10 @@ class MetricsAlgorithm(RcellAlgorithm):
 
 
 def _legend(table: Table, raster: Source, crs: Any) -> list[tuple[int, str]]:
-    """Return the legend: number, class and size of each patch; too many patches get entries that only count them."""
+    """Return a legend with the number, class and size of each patch.
+
+    If there are too many patches, the entries only count patches.
+    """
     if len(table) > MOST_CLASSES:
         return [(0, "")] * len(table)
     values: dict[str, list[Any]] = {column.name: column.listed() for column in table.data}

@@ -1,5 +1,5 @@
 # SPDX-License-Identifier: Apache-2.0 OR GPL-2.0-or-later
-"""rcell:reclass, a map by rules."""
+"""Define rcell:reclass, which applies rules to a map."""
 
 from __future__ import annotations
 
@@ -20,28 +20,33 @@ OTHERS = ["error", "keep", "null"]
 
 
 class ReclassAlgorithm(RcellAlgorithm):
-    """Gives classes new numbers and labels by rules."""
+    """Gives classes new numbers and labels using rules."""
 
     NAME = "reclass"
     TITLE = noop("Reclassify by rules")
     SHORT = noop(
-        "Gives the classes of a raster new numbers and labels by the rules of r.reclass, and a legend with cells and areas."
+        "Gives the classes of a raster new numbers and labels using the rules of r.reclass, "
+        "with a legend of cells and areas."
     )
     TAGS = "reclassify, r.reclass, rules, recode, group, labels, legend"
     HELP = (
         noop(
-            "<p>A rule is a line: classes, <code>=</code>, the new class, and its label if it has one.</p>"
+            "<p>A rule is a line with classes, <code>=</code>, the new class and, "
+            "optionally, its label.</p>"
         ),
         noop(
-            "<p><code>1 thru 3 = 1 forest<br>4 7 9 = 2 open land<br>12 = NULL<br>* = 3 all else</code></p>"
+            "<p><code>1 thru 3 = 1 forest<br>4 7 9 = 2 open land<br>12 = NULL<br>* = 3 all "
+            "else</code></p>"
         ),
         noop(
-            "<p>Ranges include both ends. Classes without a rule have no data in the result; <code>*</code> means all other "
-            "classes, and <code>* = *</code> keeps them. Lines that begin with <code>#</code> are comments.</p>"
+            "<p>Ranges include both ends. Classes without a rule have no data in the result. "
+            "<code>*</code> means all other classes, and <code>* = *</code> keeps them. Lines "
+            "that begin with <code>#</code> are comments.</p>"
         ),
         noop(
-            "<p>The result has its labels as category names in the file, and a legend with the cells and hectares of each "
-            "class. The legend is also written next to the file, as .qml.</p>"
+            "<p>The labels are stored as category names in the file, and the legend shows the "
+            "cells and hectares of each class. The legend is also written next to the file, as "
+            ".qml.</p>"
         ),
     )
 
@@ -49,12 +54,12 @@ class ReclassAlgorithm(RcellAlgorithm):
         """Declare the parameters."""
         self.add_raster()
         self.add_lines("RULES", tr("Rules, one per line"), "1 thru 3 = 1 low\n* = 2 high")
-        self.add_file("RULES_FILE", tr("A crosswalk in place of rules: a CSV with value,new,label"))
-        self.add_choice("OTHER", tr("Classes that the crosswalk does not have"), OTHERS)
+        self.add_file("RULES_FILE", tr("A crosswalk instead of rules: a CSV with value,new,label"))
+        self.add_choice("OTHER", tr("Classes without a rule in the crosswalk"), OTHERS)
         self.add_map(tr("Reclassified map"))
 
     def answer(self) -> dict[str, Any]:
-        """Return the reclassified map."""
+        """Write the reclassified map."""
         raster = self.rasters[0]
         crosswalk, other = self.path("RULES_FILE"), self.word("OTHER")
         if crosswalk is None:
@@ -67,18 +72,18 @@ class ReclassAlgorithm(RcellAlgorithm):
 
 
 def _reclassed(raster: Source, rules: str) -> ArrayMap:
-    """Return a map made with the rules of r.reclass.
+    """Apply the rules of r.reclass to a map.
 
     Raises
     ------
     Refused
-        As the program reports it; lines count in the rules.
+        The program rejects a rule; the error names the line of the rules.
     """
     lines = rules.rstrip("\n").split("\n")
     script = "\n".join(["r.reclass input=map output=classes", *lines])
     try:
         planned(script, ["map"])
-    except Refused:  # the rules have no line `end`, or an error that the run reports
+    except Refused:  # the rules lack a line `end`, or contain an error, which the run reports
         script += "\nend"
     try:
         return Run(script, {"map": raster}, {}).maps(["classes"])[0]

@@ -1,5 +1,5 @@
 # SPDX-License-Identifier: Apache-2.0 OR GPL-2.0-or-later
-"""rcell:verify and rcell:report, for tables with records."""
+"""Define rcell:verify and rcell:report for recorded tables."""
 
 from __future__ import annotations
 
@@ -25,17 +25,18 @@ _PAGES = "Pages (*.html)"
 
 
 class VerifyAlgorithm(RcellAlgorithm):
-    """Runs the call of a recorded table again, and compares."""
+    """Runs the call of a recorded table again, and compares the results."""
 
     NAME = "verify"
     TITLE = noop("Verify a recorded table")
-    SHORT = noop("Runs the call of a recorded table again, and lists what differs.")
+    SHORT = noop("Runs the call of a recorded table again, and lists the differences.")
     TAGS = "record, provenance, reproducible, check, audit, SHA-256"
     IS_OF_ONE_RASTER = False
     HELP = (
         noop(
-            "<p>A table has a record if it was made with <i>Record</i>, here, in Python or in the shell. Nothing differs if "
-            "the cells of its rasters, the program and the table are the same.</p>"
+            "<p>A table has a record if it was written with <i>Record</i> in QGIS, Python or the "
+            "shell. There are no differences if the cells of its rasters, the program and the "
+            "table are the same.</p>"
         ),
     )
 
@@ -50,7 +51,7 @@ class VerifyAlgorithm(RcellAlgorithm):
         """Read nothing: the record names the files."""
 
     def answer(self) -> dict[str, Any]:
-        """Return what differs."""
+        """Return the differences."""
         path = str(self.path("INPUT"))
         lines = list(differences(path, version()))
         for line in lines:
@@ -61,17 +62,18 @@ class VerifyAlgorithm(RcellAlgorithm):
 
 
 class ReportAlgorithm(RcellAlgorithm):
-    """Makes one page of recorded tables."""
+    """Writes a page about recorded tables."""
 
     NAME = "report"
     TITLE = noop("Report of recorded tables")
-    SHORT = noop("Makes one page of recorded tables, with definitions, a map and checksums.")
+    SHORT = noop("Writes a page about recorded tables, with definitions, a map and checksums.")
     TAGS = "report, HTML, page, record, provenance"
     IS_OF_ONE_RASTER = False
     HELP = (
         noop(
-            "<p>The page explains each table, shows its raster, and says how to verify it. It loads nothing from elsewhere, "
-            "and the same records give the same page.</p>"
+            "<p>The page explains each table, shows its raster, and contains the command that "
+            "verifies it. It loads nothing from other sites, and the same records result in the "
+            "same page.</p>"
         ),
     )
 
@@ -86,7 +88,7 @@ class ReportAlgorithm(RcellAlgorithm):
         """Read nothing: the records name the files."""
 
     def answer(self) -> dict[str, Any]:
-        """Return the page."""
+        """Write the page."""
         paths = self.parameterAsFileList(self.parameter_values, "INPUT", self.context)
         page = self.parameterAsFileOutput(self.parameter_values, "OUTPUT", self.context)
         return {"OUTPUT": report(paths, page, self.text("TITLE"))}

@@ -1,5 +1,5 @@
 # SPDX-License-Identifier: Apache-2.0 OR GPL-2.0-or-later
-"""rcell:script, a script of the program over rasters."""
+"""Define rcell:script, which runs a script over rasters."""
 
 from __future__ import annotations
 
@@ -30,37 +30,41 @@ from ..translation import noop, tr
 from .base import RcellAlgorithm, program_setting
 
 AREAS = ["none", "ha", "km2", "m2"]
-# The most rows of a table that the log shows.
+# The largest number of table rows that the log shows.
 _SHOWN_ROWS = 20
 
 
 class ScriptAlgorithm(RcellAlgorithm):
-    """Runs a script of map algebra over some rasters."""
+    """Runs a map algebra script over rasters."""
 
     NAME = "script"
     TITLE = noop("Script of map algebra")
     SHORT = noop(
-        "Runs a script of r.mapcalc, r.reclass, r.clump, r.stats and r.out.ascii over rasters: a map, a table, or all outputs."
+        "Runs a script of r.mapcalc, r.reclass, r.clump, r.stats and r.out.ascii over "
+        "rasters, and writes a map, a table, or all outputs."
     )
     TAGS = "map algebra, raster calculator, r.mapcalc, r.reclass, r.clump, r.stats, expression"
     IS_OF_ONE_RASTER = False
     HELP = (
         noop(
-            "<p>The script refers to the rasters by the given names, in their order, or by the names of their layers with "
-            "<code>_</code> for each character that a name cannot have.</p>"
+            "<p>The script refers to the rasters by the given names, in their order, or by their "
+            "layer names, with <code>_</code> for each character that is not allowed in "
+            "names.</p>"
         ),
         noop(
-            "<p><code>r.mapcalc wet = if(cover == 4 &amp;&amp; slope &lt; 2, 1, null())<br>r.clump -d input=wet "
+            "<p><code>r.mapcalc wet = if(cover == 4 &amp;&amp; slope &lt; 2, 1, "
+            "null())<br>r.clump -d input=wet "
             "output=ponds<br>r.stats -c -n input=ponds,zone</code></p>"
         ),
         noop(
-            "<p>The map output is the map that you name, or the only map that the script makes. The table output is the table "
-            "of the only <code>r.stats</code>. The folder gets all outputs of the script: a table for each "
-            "<code>r.stats</code>, named after its line, and a GeoTIFF for each <code>r.out.ascii</code>.</p>"
+            "<p>The map output is the map that you name, or the only map of the script. The "
+            "table output is the table of the only <code>r.stats</code>. The folder gets all "
+            "outputs of the script: a table for each <code>r.stats</code>, named after its line, "
+            "and a GeoTIFF for each <code>r.out.ascii</code>.</p>"
         ),
         noop(
-            "<p>If a line has an error, the log shows it with a mark under the place. Numbers are whole, and never wrap around "
-            "or are rounded.</p>"
+            "<p>If a line contains an error, the log shows the line with a mark under the place. "
+            "Numbers are whole; they never overflow and are never rounded.</p>"
         ),
     )
 
@@ -82,7 +86,10 @@ class ScriptAlgorithm(RcellAlgorithm):
         self.add_crs()
 
     def check_words(self) -> None:
-        """Check that the script makes the outputs that are asked for; its errors are left to the run, which marks them in the log."""
+        """Check that the script creates the requested outputs.
+
+        Errors in the script are left to the run, which marks them in the log.
+        """
         try:
             plan = self._plan()
         except Refused as error:
@@ -97,13 +104,13 @@ class ScriptAlgorithm(RcellAlgorithm):
             raise Refused(problem, "script")
 
     def read(self) -> None:
-        """Read the rasters with their names in the script, and check that they fit each other."""
+        """Read the rasters with their script names, and check that they have the same grid."""
         layers = self._named_layers()
         self.rasters = [raster_of(layer, name) for name, layer in layers]
         self.fit(self.rasters)
 
     def answer(self) -> dict[str, Any]:
-        """Return the requested outputs of the script."""
+        """Write the requested outputs of the script."""
         wanted = self._wanted(self._plan())
         maps = {raster.name: raster for raster in self.rasters}
         run = Run(self._script(), maps, {}, self.crs())
@@ -125,7 +132,11 @@ class ScriptAlgorithm(RcellAlgorithm):
         return results
 
     def _measured(self, run: Run, wanted: list[str]) -> list[Any]:
-        """Return the outputs of a script: tables with their lines, areas and percentages, maps with 0, and last the map that is wanted."""
+        """Run the script and return its outputs with their lines.
+
+        Tables contain areas and percentages if they are requested. Maps have line 0, and the
+        requested map is the last output.
+        """
         unit = self.word("AREA")
         measure = None if unit == AREAS[0] else flat_measure(unit, run.first.transform, run.crs)
         percent = self.flag("PERCENT")
@@ -190,7 +201,7 @@ class ScriptAlgorithm(RcellAlgorithm):
 
 
 def _shown(line: int, table: Table) -> str:
-    """Return the first rows of a table, for the log."""
+    """Format the first rows of a table for the log."""
     rows = [list(table.columns)]
     for row in table.rows[:_SHOWN_ROWS]:
         rows.append([_cell_text(value) for value in row])

@@ -1,5 +1,5 @@
 # SPDX-License-Identifier: Apache-2.0 OR GPL-2.0-or-later
-"""rcell:composition, rcell:cross, rcell:change, rcell:trajectories, rcell:zonal and rcell:adjacency: tables of rasters."""
+"""Define the algorithms that write tables: composition, cross, change, zonal and others."""
 
 from __future__ import annotations
 
@@ -20,14 +20,16 @@ from ..translation import noop, tr
 from .base import RcellAlgorithm, renamed
 
 _DEGREES = noop(
-    "<p>In a raster in degrees, the cells of each row have their area on the ellipsoid of the reference system.</p>"
+    "<p>In a raster in degrees, each row of cells has its area on the ellipsoid of the "
+    "reference system.</p>"
 )
 _ZONES = noop(
-    "<p>Zones are a raster on the same grid, or polygons: a cell belongs to a polygon if its centre lies in it. Whole numbers in "
-    "the field are the zones; other values become labels of zones numbered 1, 2, ..</p>"
+    "<p>Zones are a raster on the same grid, or polygons: a cell belongs to the polygon that "
+    "contains its centre. Whole numbers in the field are the zones. Other values become the "
+    "labels of zones 1, 2, ..</p>"
 )
 
-# The most rasters of trajectories, whose classes must be few.
+# The largest number of rasters for trajectories, if they have few classes.
 MOST_DATES = 500
 
 
@@ -39,11 +41,14 @@ class CompositionAlgorithm(RcellAlgorithm):
     SHORT = noop(
         "Lists the classes of a raster with cells, areas and percentages, in total or by zone."
     )
-    TAGS = "area, land cover, unique values, count, percent, zonal histogram, tabulate area, r.report, r.stats"
+    TAGS = (
+        "area, land cover, unique values, count, percent, zonal histogram, tabulate area, "
+        "r.report, r.stats"
+    )
     HELP = (
         noop(
-            "<p>The table has a row for each class that occurs, or for each class of each zone. Percentages are of the cells "
-            "that have data.</p>"
+            "<p>The table has a row for each class that occurs, or for each class in each zone. "
+            "Percentages refer to the cells with data.</p>"
         ),
         _ZONES,
         _DEGREES,
@@ -80,22 +85,25 @@ class CompositionAlgorithm(RcellAlgorithm):
 
 
 class CrossAlgorithm(RcellAlgorithm):
-    """Counts the cells of each combination of the classes of some rasters."""
+    """Counts the cells of each combination of classes of several rasters."""
 
     NAME = "cross"
     TITLE = noop("Cross table")
     SHORT = noop(
-        "Counts the cells of each combination of the classes of up to 16 rasters, with areas, percentages and labels."
+        "Counts the cells of each combination of classes of up to 16 rasters, with areas, "
+        "percentages and labels."
     )
     TAGS = "cross table, crosstab, tabulate area, zonal, zonal histogram, r.stats, overlay, combine"
     IS_OF_ONE_RASTER = False
     HELP = (
         noop(
-            "<p>The table has a column for each raster, named after its layer, one for its labels if it has any, then cells, "
-            "areas and percentages of all cells that have data in every raster.</p>"
+            "<p>The table has a column for each raster, named after its layer, and a column for "
+            "its labels if there are any, followed by cells, areas and percentages of all cells "
+            "with data in every raster.</p>"
         ),
         noop(
-            "<p>The rasters must have the same coordinate reference system and the same grid: nothing is reprojected or "
+            "<p>The rasters must have the same coordinate reference system and the same grid: "
+            "nothing is reprojected or "
             "resampled. <i>Align</i> puts one raster on the grid of another.</p>"
         ),
         _DEGREES,
@@ -142,13 +150,14 @@ class ChangeAlgorithm(RcellAlgorithm):
     IS_OF_ONE_RASTER = False
     HELP = (
         noop(
-            "<p>The rasters are in chronological order; more than two need their years. Only cells that have data in both "
-            "years count.</p>"
+            "<p>The rasters are in chronological order; more than two rasters need their years. "
+            "Only cells with data in both years count.</p>"
         ),
         noop(
-            "<p>The summary has for each class its area before and after, gain, loss, net change (gain less loss), swap "
-            "(twice the smaller of gain and loss) and persistence. The matrix has a row for each class of the earlier and a "
-            "column for each class of the later raster.</p>"
+            "<p>For each class, the summary contains its area before and after, gain, loss, net "
+            "change (gain minus loss), swap (twice the smaller of gain and loss) and "
+            "persistence. The matrix has a row for each class of the earlier raster and a column "
+            "for each class of the later raster.</p>"
         ),
         _DEGREES,
     )
@@ -172,7 +181,7 @@ class ChangeAlgorithm(RcellAlgorithm):
         self.fit(self.rasters)
 
     def answer(self) -> dict[str, Any]:
-        """Return the table and, if they are requested, the matrix and the summary."""
+        """Write the table and, if requested, the matrix and the summary."""
         years = [int(year) for year in numbers_of(self.text("YEARS"), "years")]
         result = self.called(
             change,
@@ -190,23 +199,25 @@ class ChangeAlgorithm(RcellAlgorithm):
 
 
 class TrajectoriesAlgorithm(RcellAlgorithm):
-    """Lists the sequences of classes over the years."""
+    """Counts the sequences of classes over years."""
 
     NAME = "trajectories"
     TITLE = noop("Trajectories over years")
     SHORT = noop(
-        "Lists each sequence of classes over the years, and makes maps of the number of changes and of the first and last change."
+        "Lists each sequence of classes over the years, and maps the number of changes and "
+        "the years of the first and last change."
     )
     TAGS = "trajectory, time series, sequence, change, first change, last change, intensity"
     IS_OF_ONE_RASTER = False
     HELP = (
         noop(
-            "<p>The rasters are in the order of their years. Only cells that have data in all years count. The year of a change "
-            "is the one in which the new class is first seen.</p>"
+            "<p>The rasters are in the order of their years. Only cells with data in all years "
+            "count. A change is dated to the year in which the new class is first seen.</p>"
         ),
         noop(
-            "<p>The changes have a row for each number of changes. The intervals have a row for each pair of consecutive years with what changed "
-            "between them, in percent of the area and by year.</p>"
+            "<p>The table of changes has a row for each number of changes. The table of "
+            "intervals has a row for each pair of consecutive years, with the change between "
+            "them as a percentage of the area, in total and per year.</p>"
         ),
         _DEGREES,
     )
@@ -233,7 +244,7 @@ class TrajectoriesAlgorithm(RcellAlgorithm):
         self.fit(self.rasters)
 
     def answer(self) -> dict[str, Any]:
-        """Return the table and, if they are requested, the other tables and the maps."""
+        """Write the table and, if requested, the other tables and the maps."""
         wanted = {
             name: title for name, title in self._MAPS.items() if self.parameter_values.get(title)
         }
@@ -264,11 +275,15 @@ class ZonalAlgorithm(RcellAlgorithm):
     SHORT = noop(
         "Lists sum, mean, minimum, maximum, variance and quantiles of a raster for each zone."
     )
-    TAGS = "zonal statistics, mean, median, quantile, sum, r.stats.zonal, raster layer zonal statistics"
+    TAGS = (
+        "zonal statistics, mean, median, quantile, sum, r.stats.zonal, raster layer zonal "
+        "statistics"
+    )
     HELP = (
         noop(
-            "<p>Zones without a value have no row. The variance is the population variance; quantiles between two values "
-            "are interpolated. The columns of quantiles are named after their percentages, for example q50 and q2_5.</p>"
+            "<p>Zones without data have no row. The variance is the population variance. "
+            "Quantiles between two values are interpolated. The columns of quantiles are named "
+            "after their percentages, for example q50 and q2_5.</p>"
         ),
         _ZONES,
     )
@@ -305,27 +320,28 @@ class ZonalAlgorithm(RcellAlgorithm):
         return {"OUTPUT": self.put_table("OUTPUT", table)}
 
     def has_scale(self) -> bool:
-        """Return whether decimals are rounded."""
+        """Return whether decimals are to be rounded."""
         return self.parameter_values.get("SCALE") not in (None, "")
 
     def glanced(self) -> list[Any]:
-        """Return the rasters whose first rows are read before the run: not the values, if they may be decimals."""
+        """Return the rasters to check before the run, except values that may be decimals."""
         return [self.zones] if self.has_scale() else super().glanced()
 
 
 class DominantAlgorithm(RcellAlgorithm):
-    """Finds the most frequent class of each zone, and the rarest."""
+    """Finds the most frequent class and the rarest class of each zone."""
 
     NAME = "dominant"
     TITLE = noop("Dominant class of zones")
     SHORT = noop(
-        "Lists the most frequent class of each zone, the rarest one, and the number of classes."
+        "Lists the most frequent class and the rarest class of each zone, and the number of "
+        "classes."
     )
     TAGS = "majority, minority, variety, mode, zonal statistics, dominant, r.mode"
     HELP = (
         noop(
-            "<p>Frequencies and percentages are of the zone's cells that have data. Of equally frequent classes the smallest "
-            "counts.</p>"
+            "<p>Frequencies and percentages refer to the zone's cells with data. In a tie, the "
+            "smallest class is used. Zones without data have no row.</p>"
         ),
         _ZONES,
     )
@@ -363,9 +379,9 @@ class AdjacencyAlgorithm(RcellAlgorithm):
 
     NAME = "adjacency"
     TITLE = noop("Adjacency of classes")
-    SHORT = noop("Counts the sides of cells between each pair of classes, with their length.")
+    SHORT = noop("Counts the cell sides between each pair of classes, and their length.")
     TAGS = "adjacency, contact, edges, neighbours, perimeter, fragmentation"
-    HELP = (noop("<p>A side counts once. In degrees there are no lengths.</p>"),)
+    HELP = (noop("<p>Each side counts once. In degrees, there are no lengths.</p>"),)
 
     def initAlgorithm(self, configuration: Any = None) -> None:
         """Declare the parameters."""
@@ -381,7 +397,7 @@ class AdjacencyAlgorithm(RcellAlgorithm):
         return {"OUTPUT": self.put_table("OUTPUT", table)}
 
 
-# The lists of numbers that are not whole, and an example of each list.
+# The parameters with decimals, and an example of each list.
 _DECIMALS = ("quantiles", "distances")
 _EXAMPLES = {
     "quantiles": "0.25,0.5",
@@ -392,12 +408,12 @@ _EXAMPLES = {
 
 
 def numbers_of(text: str, name: str) -> list[float]:
-    """Return the numbers of a comma-separated list.
+    """Parse a comma-separated list of numbers.
 
     Raises
     ------
     Refused
-        A part is not a number, or is a year or class and not an integer.
+        A part is not a number, or a year or class is not an integer.
     """
     is_whole = name not in _DECIMALS
     try:

@@ -1,5 +1,8 @@
 # SPDX-License-Identifier: Apache-2.0 OR GPL-2.0-or-later
-"""The core and GDAL's readers of the Python package: copies in the zip, and python/src/rcell in the repository."""
+"""Load the core and the GDAL readers of the Python package.
+
+The zip contains copies; in the repository, they are in python/src/rcell.
+"""
 
 import os
 
