@@ -1,7 +1,8 @@
-"""Times rcell and the modules of GRASS, whose results must be the same: part of run.py.
+"""Time rcell and the corresponding GRASS modules, whose results must agree: part of run.py.
 
-Each task is done in four ways, which take turns: with GRASS, if the map is in GRASS already; with rcell, after r.out.ascii; by
-rcell, from the text; and with GRASS, after r.in.ascii. A module's start counts, the start of a session of GRASS does not.
+Each task is done in four ways, which take turns: with GRASS on a map that is already in GRASS; with
+rcell after r.out.ascii; with rcell from text; and with GRASS after r.in.ascii. The start of a
+module is counted, but not the start of a GRASS session.
 """
 import os
 import subprocess
@@ -22,7 +23,8 @@ WOOD = "41 thru 43 = 1 wood\n"
 
 @dataclass(frozen=True)
 class Task:
-    """A script of rcell over the map g, and commands of GRASS over the map $map; `is_map`: both end in a map, not in a table."""
+    """A task: an rcell script over the map `g`, and GRASS commands over the map `$map`. `is_map`
+    states that the result is a map, not a table."""
 
     title: str
     script: str
@@ -57,7 +59,7 @@ TASKS = (
 
 
 def session(room, program):
-    """The environment of a session in a new location without a projection."""
+    """Return the environment of a session in a new location without a projection."""
     subprocess.run(["grass", "-e", "-c", "XY", f"{room}/here"], check=True, capture_output=True)
     base = subprocess.run(
         ["grass", "--config", "path"], check=True, capture_output=True, text=True
@@ -80,7 +82,8 @@ def session(room, program):
 
 
 def ways(task):
-    """The four ways of a task as commands of sh; those by GRASS over an imported map come last."""
+    """Return the four ways of a task as shell commands. Commands that use an imported map come
+    last."""
     rcell = '"$rcell" "$room/script" g='
     if not task.is_map:
         return (
@@ -99,7 +102,8 @@ def ways(task):
 
 
 def check(task, environment):
-    """The table of rcell is the table of GRASS; of patches, whose numbers differ, the counts are."""
+    """Check that rcell and GRASS print the same table. Patch numbers differ, so only the counts of
+    patches are compared."""
     texts = []
     for command in (ways(task)[0], ways(task)[2]):
         texts.append(
@@ -116,7 +120,8 @@ def check(task, environment):
 
 
 def table(text, cells, program, rounds, measure):
-    """The rows of a table: CPU milliseconds per million cells of each task in each way. `measure` takes words and an environment."""
+    """Return the rows of a table: CPU milliseconds per million cells, for each task in each way.
+    `measure` accepts words and an environment."""
     with tempfile.TemporaryDirectory(prefix="rcell-grass-") as room:
         environment = {**session(room, program), "text": text}
         subprocess.run(

@@ -1,12 +1,17 @@
 #!/usr/bin/env python3
-"""Prints a table of what rcell takes as one dimension after another is doubled twice: a row for each that could bend.
+"""Print how the cost of rcell grows when one dimension of a run is doubled twice.
 
-dimensions.py [--program PATH] [--only WORD] [--write]. Instructions are counted by callgrind, so that sizes can be small and what
-else runs on the machine disturbs nothing; where valgrind is not installed, the table is left out. A row has the instructions for each
-unit of its dimension at three sizes, and the last divided by the one before: 1 where all is linear, less where more units share a
-fixed cost, a little above 1 if something is sorted or found in a sorted table. The cost of an empty run is taken off first, and
-if it is said, the cost of reading the same grids. A row that grows by more than n log n would is marked. --write puts the table
-into bench/RESULTS.md.
+    dimensions.py [--program PATH] [--only WORD] [--write]
+
+The table has one row for each dimension that could grow faster than linearly. Instructions are
+counted with callgrind, so sizes can be small and other work on the machine does not matter. If
+valgrind is not installed, the table is left out.
+
+A row shows the instructions per unit of its dimension at three sizes, and the last of these divided
+by the one before: 1 for linear growth, less if more units share a fixed cost, and slightly more if
+something is sorted or found in a sorted table. The cost of an empty run is subtracted and, for some
+rows, the cost of reading the grids. Rows that grow faster than n log n are marked. --write puts the
+table into bench/RESULTS.md.
 """
 import argparse
 import concurrent.futures
@@ -20,7 +25,8 @@ from typing import Callable
 from run import COLLECTED, ROOT, print_table, say
 
 MARKS = ("<!-- The table of bench/dimensions.py -->\n", "<!-- End of the dimensions -->\n")
-# n log n grows by less than this from the second size to the third, since none of the second sizes that are sorted is below 32.
+# n log n grows by less than this from the second size to the third, because all second sizes of
+# sorted data are at least 32.
 MOST = 1.2
 TIMES = (1, 2, 4)
 BEYOND = "beyond reading"
@@ -36,7 +42,8 @@ class Run:
 
 @dataclass(frozen=True)
 class Dimension:
-    """What grows, the smallest of its three sizes, and the run of a size. `off` is what is taken off it, an empty run or BEYOND."""
+    """A dimension: its smallest size, and the run for a size. `off` is subtracted: an empty run or
+    BEYOND."""
 
     title: str
     least: int
@@ -49,21 +56,21 @@ def header(rows, cols, more=""):
 
 
 def grid(rows, cols, cell, between=" ", end="\n", more=""):
-    """The text of a grid, each cell by its row and column."""
+    """Return the text of a grid, whose cells are a function of row and column."""
     return header(rows, cols, more) + "".join(
         between.join(cell(row, col) for col in range(cols)) + end for row in range(rows)
     )
 
 
 def noise(row, col):
-    """A category from 1 to 12 that nothing foretells, the same in each run."""
+    """Return a category from 1 to 12 that looks random but is the same in each run."""
     bits = (row * 0x9E3779B1 + col * 0x85EBCA77 + 12345) & 0xFFFFFFFF
     bits = (bits ^ bits >> 15) * 0x2C1B3C6D & 0xFFFFFFFF
     return str((bits ^ bits >> 13) % 12 + 1)
 
 
 def every(count, text, between=""):
-    """A text for each number below a count."""
+    """Return the texts for all numbers below `count`, joined."""
     return between.join(text(i) for i in range(count))
 
 
@@ -77,17 +84,18 @@ def reading(text):
 
 
 def apart(between, width=0):
-    """Reads so many rows whose cells are apart by these blanks, and set right in so many places."""
+    """Return a run that reads n rows, whose cells are padded to `width` and separated by
+    `between`."""
     return lambda n: reading(grid(n, COLS, lambda row, col: noise(row, col).rjust(width), between))
 
 
 def distinct(rows):
-    """Cells of which no two are alike, out of order."""
+    """Return a grid whose cells are all different and not sorted."""
     return grid(rows, COLS, lambda row, col: str((row * COLS + col) * 7919 % 1_000_003))
 
 
 def over(text, script):
-    """A script by its size, over a grid."""
+    """Return a function from a size to a run, for a script that depends on the size."""
     return lambda n: Run(script(n), {"g": text})
 
 
@@ -100,14 +108,14 @@ def of_noise(script):
 
 
 def assigned(title, least, expression):
-    """An expression by its size, over 1,000 cells."""
+    """Return the dimension of an expression that depends on the size, over 1,000 cells."""
     return Dimension(
         title, least, over(SMALL, lambda n: f"r.mapcalc m = {expression(n)}\n"), BEYOND
     )
 
 
 def comb(rows):
-    """Teeth that meet in the last row alone."""
+    """Return a comb whose teeth meet only in the last row."""
     return grid(rows, COLS, lambda row, col: "2" if col % 2 and row + 1 < rows else "1")
 
 
@@ -340,7 +348,7 @@ DIMENSIONS = (*GRIDS, *SCRIPTS, *RULES, *(assigned(*it) for it in EXPRESSIONS), 
 
 
 def counted(program, run):
-    """How many instructions a run takes."""
+    """Return the number of instructions of a run."""
     with tempfile.TemporaryDirectory() as folder:
         for name, text in {"script": run.script, **run.grids}.items():
             with open(f"{folder}/{name}.txt", "w", encoding="ascii", newline="") as file:
@@ -363,7 +371,7 @@ def counted(program, run):
 
 
 def costs(program, dimension, empty):
-    """The instructions a unit at each size."""
+    """Return the instructions per unit at each size."""
     for times in TIMES:
         size = dimension.least * times
         run = dimension.run(size)
@@ -380,7 +388,7 @@ def row(dimension, found):
 
 
 def rows(program, word):
-    """The lines of the table. As many dimensions are measured at once as there are processors."""
+    """Yield the lines of the table. One dimension is measured per processor at a time."""
     yield "| What grows | Sizes | Instructions a unit | Growth by the last doubling |"
     yield "| --- | --- | --- | --- |"
     wanted, empty = [it for it in DIMENSIONS if word in it.title], counted(program, EMPTY)

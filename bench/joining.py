@@ -1,17 +1,24 @@
 #!/usr/bin/python3
-"""Times rcell-join, sort and scipy, and writes what it measured into bench/RESULTS.md.
+"""Time rcell-join, sort and scipy, and write the results to bench/RESULTS.md.
 
     joining.py [--rounds N] [--short] [--only WORD] [--program PATH] [--write]
 
-Three parts: `tables` of the tables of 2, 64 and 1,000 tiles, each entry in one of them, in some or in all, next to `sort -m` alone and
-next to `sort -m` and awk, which adds up equal lines; `clumps` of the borders of many tiles, next to scipy's connected_components on
-the pairs of clumps that meet over seams; and `sizes`. All are made here, at random and always the same, and the results of the
-contenders are compared before they are timed. They take turns, and the smallest processor time (user and system, of all processes of a
-pipe) of all rounds counts. Memory is the peak of the process. Each part is doubled some times, so that the cost of an entry, of a
-clump and of a cell can be read down its column. The last rows of `clumps` are 488 tiles of 1,025 x 8,200 cells in 61 rows, and 1,500
-and 5,000 tiles of 256 x 256.
+There are three parts:
 
-It needs Debian's python3-scipy and time, and is run by Debian's own Python. --short takes inputs of a tenth and one round.
+- `tables` merges the tables of 2, 64 and 1,000 tiles, with each entry in one, some or all of them.
+  It is compared with `sort -m`, and with `sort -m` followed by awk, which adds up equal lines.
+- `clumps` joins the borders of many tiles. It is compared with scipy's connected_components on the
+  pairs of clumps that meet at seams. The last rows are 488 tiles of 1,025 x 8,200 cells in 61 rows,
+  and 1,500 and 5,000 tiles of 256 x 256 cells.
+- `sizes` adds up clump sizes.
+
+All inputs are made here, at random from fixed seeds, and the contenders' results are compared
+before they are timed. Contenders take turns, and the smallest processor time of all rounds counts
+(user and system, of all processes in a pipe). Memory is the peak of the process. Each part is
+doubled several times, so that its column shows the cost per entry, clump or cell.
+
+The program needs Debian's Python and python3-scipy, and takes long. --short uses inputs of a tenth
+of the size, and one round.
 """
 from __future__ import annotations
 
@@ -44,14 +51,15 @@ BYTES_OF_A_LINE = 32
 
 @dataclass
 class Cost:
-    """Processor seconds, and the most bytes of memory that one process took."""
+    """Processor seconds, and the largest memory of a process in bytes."""
 
     seconds: float
     memory: int
 
 
 def cost_of(commands: list[list[str]], output: str = "/dev/null") -> Cost:
-    """Return the cost of a pipe of commands, which must all succeed. `time` measures memory: a child of Python begins with Python's."""
+    """Return the cost of a pipe of commands, which must all succeed. Memory is measured with
+    `time`, because a child of Python starts with Python's memory."""
     running: list[subprocess.Popen[bytes]] = []
     with open(output, "wb") as file, tempfile.TemporaryDirectory() as told:
         for place, words in enumerate(commands):
@@ -79,7 +87,8 @@ def cost_of(commands: list[list[str]], output: str = "/dev/null") -> Cost:
 
 
 def least(contenders: dict[str, Callable[[], Cost]], rounds: int) -> dict[str, Cost]:
-    """The contenders by turns: of each the fewest seconds of all rounds, and the smallest memory."""
+    """Run the contenders in turn, and return each contender's fewest seconds and smallest
+    memory."""
     found: dict[str, Cost] = {}
     for _ in range(rounds):
         for name, run in contenders.items():
@@ -100,7 +109,8 @@ def megabytes(count: float) -> str:
 
 
 def make_tables(folder: str, tiles: int, entries: int, shared: int) -> list[str]:
-    """Tables of so many entries together, each entry in one of them, in all, or at random in so many on average."""
+    """Write tables with `entries` entries in total, and return their paths. Each entry is in one
+    table, in all tables, or at random in `shared` tables on average."""
     random = np.random.default_rng(entries)
     whole = np.arange(entries // shared)
     apart = np.array_split(random.permutation(whole), tiles)
@@ -152,8 +162,9 @@ TABLES = (
 
 @dataclass
 class Made:
-    """Tiles whose borders were written: their paths, the pairs of clumps that meet over seams, how many clumps there are, how many of them
-    have cells on a side of their tile, and how many cells the sides have."""
+    """Tiles whose borders were written: their paths, the pairs of clumps that meet at seams, the
+    number of clumps, the number of clumps with cells on a side of their tile, and the number of
+    cells on the sides."""
 
     paths: list[str]
     pairs: str
@@ -163,7 +174,7 @@ class Made:
 
 
 class Side(NamedTuple):
-    """Cells of a side, and the numbers of their clumps."""
+    """The cells of a side, and their clump numbers."""
 
     cells: Any
     numbers: Any
@@ -174,7 +185,8 @@ class Side(NamedTuple):
 
 
 def random_side(random: np.random.Generator, length: int, begun: Any) -> Side:
-    """Cells in runs, each of another clump; a clump of the first row or of a side begins in a row that the side has reached."""
+    """Return a side of runs that belong to different clumps. A clump of the first row or of a side
+    begins in a row that the side has reached."""
     runs = -(-length // LENGTH_OF_A_RUN)
     numbers = np.sort(random.choice(int(begun[0]), runs, replace=False)) + 1
     categories = random.integers(1, ROW_OF_CATEGORIES + 1, runs)
@@ -200,7 +212,7 @@ def write_border(
 
 
 def meeting(one: Side, first: int, other: Side, second: int) -> Any:
-    """The pairs of clumps, counted through all tiles, that meet over a seam."""
+    """Return the pairs of clumps that meet at a seam, numbered across all tiles."""
     alike = one.cells == other.cells
     return np.unique(
         np.stack([one.numbers[alike] - 1 + first, other.numbers[alike] - 1 + second]), axis=1
@@ -208,7 +220,8 @@ def meeting(one: Side, first: int, other: Side, second: int) -> Any:
 
 
 def make_borders(folder: str, grid: tuple[int, int], shape: tuple[int, int], clumps: int) -> Made:
-    """Borders of a grid of tiles of one shape, of so many clumps each, of which half begin in the first row."""
+    """Write the borders of a grid of equal tiles with `clumps` clumps each, half of which begin in
+    the first row."""
     random, (rows, cols) = np.random.default_rng(grid[0] + shape[1]), shape
     begun = (
         [clumps]
@@ -256,7 +269,8 @@ print(count, time.process_time() - begin, resource.getrusage(resource.RUSAGE_SEL
 
 
 def union(made: Made) -> tuple[int, Cost]:
-    """How many clumps scipy finds, and what its union alone costs, without the start of Python and the reading of pairs."""
+    """Return the number of clumps that scipy finds, and the cost of its union, without the start of
+    Python or the reading of pairs."""
     words = [sys.executable, "-c", UNION, made.pairs, str(made.clumps)]
     count, seconds, memory = subprocess.run(
         words, check=True, capture_output=True, text=True, env=ENVIRONMENT
@@ -265,7 +279,7 @@ def union(made: Made) -> tuple[int, Cost]:
 
 
 def greatest_number(path: str) -> int:
-    """The largest number of a numbering."""
+    """Return the largest number in a numbering."""
     ran = subprocess.run(
         ["awk", '{ n = $4 + $3 - $2; if (n > most) most = n } END { printf "%d\\n", most }', path],
         check=True,
@@ -275,7 +289,7 @@ def greatest_number(path: str) -> int:
 
 
 def lines_of(path: str) -> int:
-    """How many lines a text has."""
+    """Return the number of lines in a text."""
     with open(path, "rb") as file:
         return sum(1 for _ in file)
 

@@ -1,7 +1,8 @@
 #!/usr/bin/env python3
-"""Times `parse` of r.mapcalc's language on a text of 65535 bytes and 999 tokens: best of 5, per text.
+"""Time `parse` of the r.mapcalc language on a text of 65,535 bytes and 999 tokens: the best of 5.
 
-It runs the proved test that reads this text a hundred times, so `rt test` in crates/cell_calc_tests comes first.
+The program runs the proved test that reads this text a hundred times, so run `rt test` in
+crates/cell_calc_tests first.
 """
 import os
 import subprocess

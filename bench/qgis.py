@@ -1,10 +1,14 @@
-"""Times the plugin for QGIS, QGIS's own algorithms and GRASS's: nanoseconds of the processor a cell (user and system, children
-included), by turns in one process, the smallest of the rounds, with everything from GeoTIFF to file.
+"""Time the QGIS plugin, and the algorithms of QGIS and GRASS.
 
     RCELL=bin/rcell QT_QPA_PLATFORM=offscreen /usr/bin/python3 bench/qgis.py [--short] [--write]
 
-Two maps are made at random: patches of 15 classes, 4000 x 5000 cells, and noise of 12 classes, 2000 x 2000 cells; with --short 400 x 500
-and 300 x 300. The start of QGIS is not counted. With --write the table is put into bench/RESULTS.md, under the heading QGIS.
+The results are nanoseconds of processor time per cell (user and system, children included). The
+algorithms take turns in one process, from GeoTIFF to file, and the smallest value of all rounds
+counts. The start of QGIS is not counted.
+
+Two random maps are made: patches of 15 classes, 4000 x 5000 cells, and noise of 12 classes, 2000 x
+2000 cells; with --short, 400 x 500 and 300 x 300 cells. With --write, the table is put into
+bench/RESULTS.md, under the heading QGIS.
 """
 
 from __future__ import annotations
@@ -19,7 +23,7 @@ from dataclasses import dataclass
 from typing import Any, Callable
 
 HERE = pathlib.Path(__file__).resolve().parent
-# The first folder is this file's own, where it has the name of QGIS's package.
+# The first entry is this file's folder, where a file has the name of the QGIS package.
 sys.path[:1] = [str(HERE.parent / "qgis" / "tests")]
 
 import made  # noqa: E402  (the path above has to be set first)
@@ -34,7 +38,7 @@ SPEED = HERE / "RESULTS.md"
 
 @dataclass(frozen=True)
 class Map:
-    """A map of the timings."""
+    """A map for the timings."""
 
     name: str
     path: str
@@ -44,7 +48,7 @@ class Map:
 
 @dataclass(frozen=True)
 class Way:
-    """A way to a result: an algorithm and its parameters over a map."""
+    """One way to a result: an algorithm and its parameters for a map."""
 
     question: str
     name: str
@@ -54,14 +58,16 @@ class Way:
 
 
 def patches(seed: int, rows: int, cols: int, classes: int) -> NDArray[np.uint8]:
-    """Ragged patches of some dozen cells across, as of land cover; 2.4 % are null."""
+    """Return ragged patches about a dozen cells wide, like land cover. 2.4 % of the cells are
+    null."""
     generator = np.random.default_rng(seed)
     codes = generator.choice(
         np.array([0, *range(11, 11 + 6 * classes, 6)], np.uint8),
         (rows // 16 + 3, cols // 16 + 3),
         p=[0.024, *[0.976 / classes] * classes],
     )
-    # Patches get ragged edges: each cell takes the code of a block next to its own, as far as two waves say.
+    # To make edges ragged, each cell takes the code of a nearby block, at an offset given by two
+    # waves.
     down, across = np.arange(rows)[:, None], np.arange(cols)[None, :]
     shift_down = 6 * np.sin(across / 9.0) + 3 * np.sin(down / 5.0)
     shift_across = 6 * np.sin(down / 11.0) + 3 * np.sin(across / 4.0)
@@ -72,7 +78,7 @@ def patches(seed: int, rows: int, cols: int, classes: int) -> NDArray[np.uint8]:
 
 
 def maps(room: str, short: bool) -> list[Map]:
-    """The maps, written."""
+    """Write the maps, and return them."""
     found = []
     sizes = {
         "patches": (400, 500) if short else (4000, 5000),
@@ -212,12 +218,12 @@ WAYS = [
 
 
 def spent() -> float:
-    """Seconds of the processor so far, children that have ended included."""
+    """Return the processor seconds used so far, including children that have ended."""
     return sum(os.times()[:4])
 
 
 def measured(found: list[Map], rounds: int) -> dict[tuple[str, str, str], float]:
-    """The fewest nanoseconds a cell of each way over each map, by question, way and map."""
+    """Return the fewest nanoseconds per cell, by question, way and map."""
     least: dict[tuple[str, str, str], float] = {}
     for turn in range(rounds):
         for way in WAYS:
@@ -242,7 +248,7 @@ def measured(found: list[Map], rounds: int) -> dict[tuple[str, str, str], float]
 
 
 def table(least: dict[tuple[str, str, str], float], found: list[Map]) -> str:
-    """The lines of the table."""
+    """Return the text of the table."""
     titles = [f"{it.name}, {it.cells / 1e6:g} million" for it in found]
     lines = [f"| Question | Algorithm | {' | '.join(titles)} |", "|---|---|" + "---|" * len(found)]
     for way in WAYS:
@@ -255,7 +261,7 @@ def table(least: dict[tuple[str, str, str], float], found: list[Map]) -> str:
 
 
 def put_into_speed(text: str) -> None:
-    """Replaces the table below the heading QGIS."""
+    """Replace the table under the heading QGIS."""
     whole = SPEED.read_text(encoding="utf-8")
     section = re.search(r"(?ms)^## QGIS$.*?(?=^## |\Z)", whole)
     if section is None:

@@ -46,7 +46,7 @@ def run(*words, cwd=None):
 
 
 def write_grid(name, cells, edges, null=None):
-    """Writes the cells as the text of a grid, row by row through a table of words."""
+    """Write the cells as the text of a grid, row by row, using a table of words."""
     least = int(cells.min())
     words = [str(number) for number in range(least, int(cells.max()) + 1)]
     if null is not None:
@@ -63,12 +63,13 @@ def write_grid(name, cells, edges, null=None):
 
 
 def in_cells(cells):
-    """Edges of a map whose place is of no matter: a cell is one unit."""
+    """Return edges with one unit per cell, for a map whose location does not matter."""
     return Edges(str(cells.shape[0]), "0", str(cells.shape[1]), "0")
 
 
 def unpacked(package, pattern, room):
-    """The path of a file of a package, which is fetched and unpacked but not installed."""
+    """Download and unpack a package without installing it, and return the path of one of its
+    files."""
     run("apt-get", "download", "-q", package, cwd=room)
     run("dpkg-deb", "-x", glob.glob(f"{room}/{package}_*.deb")[0], f"{room}/{package}")
     return glob.glob(f"{room}/{package}/{pattern}", recursive=True)[0]

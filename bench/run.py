@@ -1,21 +1,25 @@
 #!/usr/bin/env python3
-"""Times rcell and a yardstick by hand in C++ (bench/yardstick.cpp), task by task, and prints tables of the figures.
+"""Time rcell and a hand-written yardstick in C++ (bench/yardstick.cpp), task by task, and print
+tables of the results.
 
-run.py [--short] [--rounds N] [--only WORD] [--program PATH] [--limit PATH] [--write]
+    run.py [--short] [--rounds N] [--only WORD] [--program PATH] [--limit PATH] [--write]
 
-First each task is done once by both, and their outputs are compared byte for byte. Then they take turns, and the smallest
-processor time (user and system) of all rounds counts, so that other work on the machine disturbs little; grids of up to 4
-million cells have three times N rounds. All times are milliseconds for a million cells of one map, from the start of a program
-to its end, output to /dev/null. Memory is the peak of the process, in bytes a cell of one map.
+First, both programs do each task once, and their outputs are compared byte for byte. Then they take
+turns, and the smallest processor time (user and system) of all rounds counts, so that other work on
+the machine matters little. Grids of up to 4 million cells are timed in three times as many rounds.
+All times are milliseconds per million cells of one map, from start to end of the program, with
+output to /dev/null. Memory is the peak of the process, in bytes per cell of one map.
 
-"Ten tasks" has one run of N rounds, the ratios of the smallest and of the median times, memory, and the instructions for a cell, which
-callgrind counts if valgrind is installed. --limit names a program that does some of the tasks as fast as one can for digits
-and blanks alone (LIMIT_WORDS); it is not in this repository.
+"Ten tasks" is one run of N rounds. It shows the ratios of the smallest and of the median times,
+memory and, if valgrind is installed, the instructions per cell as counted by callgrind. --limit
+names a program that does some of the tasks as fast as possible for only digits and blanks
+(LIMIT_WORDS). It is not in this repository.
 
---short takes grids of a million cells; otherwise they are those that the tables name, written once under bench/out. The real
-maps are made by bench/real_maps.py, and GRASS is timed by bench/beside_grass.py, where what these need is installed; with --short
-both are left out. --only takes the parts whose title has the word. --write puts what was measured into bench/RESULTS.md; `make
-figures` does so, and all else that follows from it.
+--short uses grids of a million cells. Otherwise the grids are those in the tables, written once to
+bench/out. If their requirements are installed, the real maps are made with bench/real_maps.py, and
+GRASS is timed with bench/beside_grass.py; --short leaves out both. --only selects the parts whose
+title contains the word. --write puts the results into bench/RESULTS.md. `make figures` does this
+and updates everything that depends on it.
 """
 import argparse
 import filecmp
@@ -37,16 +41,17 @@ HERE = os.path.dirname(os.path.abspath(__file__))
 ROOT = os.path.dirname(HERE)
 OUT = f"{HERE}/out"
 DOCUMENT = f"{ROOT}/bench/RESULTS.md"
-# What is before and after the tables there.
+# The marks before and after the tables in the document.
 MARKS = ("<!-- The tables of bench/run.py -->\n", "<!-- End of the tables -->\n")
 NAMES = "ghijklmnopqrstuv"
 SHORT_SIDE = 1000
-# Grids of few cells are timed in more rounds, since what disturbs a short run is a larger part of it.
+# Grids with few cells are timed in more rounds, because disturbances are a larger part of a short
+# run.
 FEW_SIDE = 2000
 ROUNDS_FOR_FEW = 3
 ROUNDS_OF_GRASS = 3
 REAL = "real-"
-# The yardstick, and the same without AVX-512, which valgrind does not know.
+# The yardstick, and its build without AVX-512, which valgrind does not support.
 YARDSTICK, COUNTED_YARDSTICK = "yardstick", "yardstick-for-valgrind"
 COLLECTED = re.compile(r"Collected : (\d+)")
 HEADER_LINES = 6
@@ -55,7 +60,7 @@ MILLION = 1e6
 
 @dataclass(frozen=True)
 class Task:
-    """What is done: the lines of the script, and the words of the yardstick."""
+    """A task: the lines of the script, and the arguments of the yardstick."""
 
     title: str
     script: str
@@ -65,8 +70,8 @@ class Task:
 
 @dataclass(frozen=True)
 class Bench:
-    """Tasks, each over grids of some kinds of make_grid.cpp with the seeds 1, 2, .. `side` is their rows and columns, or a pair of
-    both."""
+    """Tasks, each over grids of some kinds of make_grid.cpp with the seeds 1, 2, .. `side` is the
+    number of rows and columns, or a pair of both."""
 
     title: str
     side: int | tuple[int, int]
@@ -86,7 +91,7 @@ class Taken:
 
     @property
     def seconds(self):
-        """The smallest, which other work disturbed the fewest times."""
+        """Return the smallest time, which was disturbed least by other work."""
         return min(self.rounds)
 
     @property
@@ -96,7 +101,7 @@ class Taken:
 
 @dataclass(frozen=True)
 class Race:
-    """Tasks, each over grids of a kind, of seeds 1, 2, .."""
+    """Tasks, each over grids of one kind with the seeds 1, 2, .."""
 
     title: str
     tasks: tuple[tuple[Task, str], ...]
@@ -151,7 +156,7 @@ RACED = (
     RECLASS_STATS,
     WRITE,
 )
-# What the program of --limit calls a task.
+# The names of tasks in the program of --limit.
 LIMIT_WORDS = {
     READ: "read",
     STATS: "count",
@@ -164,17 +169,17 @@ LIMIT_WORDS = {
 
 
 def raced(title, kind, tasks=RACED):
-    """Tasks over a kind of grid."""
+    """Return the race of tasks over one kind of grid."""
     return Race(f"{title}, 4 million cells", tuple((task, kind) for task in tasks))
 
 
 def over(kind, tasks):
-    """Tasks over one kind of grid."""
+    """Return tasks with their kind of grid."""
     return tuple((task, (kind,)) for task in tasks)
 
 
 def counted(title, *kinds):
-    """A table of as many maps as there are kinds."""
+    """Return the task of counting combinations, with one map for each kind."""
     return Task(title, f"r.stats -c input={','.join(NAMES[:len(kinds)])}\n", STATS.words), kinds
 
 
@@ -235,7 +240,7 @@ PARTS[REAL_MAPS] = tuple(
         ("real heights of the globe, 9 million cells", f"{REAL}heights"),
     )
 )
-# The title of a table of GRASS is the title of the grid.
+# The title of a GRASS table is the title of its grid.
 GRASS_GRIDS = (("patchy land cover, 25 million cells", "patchy", 1, 5000),)
 TITLES = (*PARTS, "GRASS")
 
@@ -245,7 +250,8 @@ def say(text):
 
 
 def build():
-    """The programs in C++, for this machine: with clang, which makes the faster yardstick, if it is installed."""
+    """Compile the C++ programs for this machine, with clang if it is installed, because it makes
+    the faster yardstick."""
     os.makedirs(OUT, exist_ok=True)
     for name in ("make_grid", "measure", YARDSTICK):
         compile_to(name, name)
@@ -266,7 +272,7 @@ def compile_to(program, name, machine="native"):
 
 
 def grid_file(kind, seed, side):
-    """The path of a grid, which is written if it is not there yet."""
+    """Return the path of a grid. Write the grid if it does not exist."""
     if kind.startswith(REAL):
         return f"{OUT}/{kind}.txt"
     rows, cols = side if isinstance(side, tuple) else (side, side)
@@ -284,14 +290,14 @@ def grid_file(kind, seed, side):
 
 
 def cells_of(path):
-    """The number of cells of a grid, by its header."""
+    """Return the number of cells in a grid, from its header."""
     with open(path, encoding="ascii") as file:
         header = dict(line.split(": ") for line, _ in zip(file, range(HEADER_LINES)))
     return int(header["rows"]) * int(header["cols"])
 
 
 def measure(words, output="/dev/null", environment=None):
-    """Seconds of the processor and the peak of memory in bytes."""
+    """Return the processor seconds, and the peak of memory in bytes."""
     how = {"check": True, "stdout": subprocess.PIPE, "text": True, "env": environment}
     answer = subprocess.run([f"{OUT}/measure", output, *words], **how).stdout.split()
     micros, peak, status = (int(word) for word in answer)
@@ -301,7 +307,7 @@ def measure(words, output="/dev/null", environment=None):
 
 
 def instructions(words, given=subprocess.DEVNULL):
-    """How many instructions a run takes, or None if valgrind is not installed."""
+    """Return the number of instructions of a run, or None if valgrind is not installed."""
     if not shutil.which("valgrind"):
         return None
     ran = subprocess.run(
@@ -317,7 +323,8 @@ def instructions(words, given=subprocess.DEVNULL):
 
 @dataclass
 class Contest:
-    """One task with rcell, the yardstick and, if it is given, the program of --limit, over given grids."""
+    """One task with rcell, the yardstick and, if given, the program of --limit, over the same
+    grids."""
 
     task: Task
     paths: list[str]
@@ -329,7 +336,7 @@ class Contest:
     fastest: Taken = field(default_factory=Taken)
 
     def words(self):
-        """The words of rcell and of the yardstick."""
+        """Return the commands of rcell and of the yardstick."""
         script = f"{OUT}/script-{self.number}"
         with open(script, "w", encoding="ascii") as file:
             file.write(self.task.script)
@@ -337,7 +344,7 @@ class Contest:
         return [self.program, script, *named], [f"{OUT}/{YARDSTICK}", *self.task.words, *self.paths]
 
     def check(self):
-        """Both write the same bytes."""
+        """Check that both programs write the same bytes."""
         outputs = [f"{OUT}/output-of-{by}" for by in ("rcell", "yardstick")]
         for words, output in zip(self.words(), outputs):
             measure(words, output)
@@ -354,13 +361,13 @@ class Contest:
             self.fastest.add(*measure([self.limit, LIMIT_WORDS[self.task], *self.paths]))
 
     def instructions(self):
-        """Of rcell and of the yardstick."""
+        """Return the instructions of rcell and of the yardstick."""
         ours, (_, *words) = self.words()
         return instructions(ours), instructions([f"{OUT}/{COUNTED_YARDSTICK}", *words])
 
 
 def row(contest):
-    """A line of the table of a part."""
+    """Return a line of a part's table."""
     cells = cells_of(contest.paths[0])
     times = [it.seconds * 1000 * MILLION / cells for it in (contest.rcell, contest.yardstick)]
     peaks = [it.peak / cells for it in (contest.rcell, contest.yardstick)]
@@ -376,7 +383,7 @@ HEAD = ("Task", "rcell ms", "yardstick ms", "ratio", "bytes a cell: rcell", "yar
 
 
 def run(bench, wanted, side):
-    """The lines of a table."""
+    """Yield the lines of a table."""
     contests = [
         Contest(
             task,
@@ -417,7 +424,7 @@ RACE_HEAD = (
 
 
 def race(bench, wanted, side):
-    """The lines of a table: one run by turns."""
+    """Yield the lines of a table for a race, in which programs take turns."""
     contests = [
         Contest(
             task,
@@ -449,19 +456,19 @@ def race(bench, wanted, side):
 
 
 def ratios_cell(ours, theirs):
-    """The ratios of the smallest and of the median times."""
+    """Return the ratios of the smallest and of the median times."""
     if not theirs.rounds:
         return ""
     return f"{ours.seconds / theirs.seconds:.2f}, {ours.median / theirs.median:.2f}"
 
 
 def line_of(words):
-    """A line of a table of the document."""
+    """Return a line of a table in the document."""
     return "| " + " | ".join(words) + " |"
 
 
 def has_real_maps(wanted):
-    """Whether the real maps are there, once what can be made is made."""
+    """Return whether the real maps exist. Make them first if possible."""
     if wanted.short:
         return False
     made = (
@@ -476,7 +483,7 @@ def has_real_maps(wanted):
 
 
 def tables(benches, wanted):
-    """The lines of a part of the figures: one table, with the map of each task."""
+    """Yield the lines of a part: one table, which names the map of each task."""
     head = RACE_HEAD if isinstance(benches[0], Race) else HEAD
     yield from map(line_of, (("Map", *head), ["---"] * (len(head) + 1)))
     for bench in benches:
@@ -490,7 +497,7 @@ def tables(benches, wanted):
 
 
 def grass_tables(wanted):
-    """What GRASS takes for some tasks, if it is installed."""
+    """Return the tables of GRASS for some tasks, if GRASS is installed."""
     if wanted.short or not shutil.which("grass"):
         say("  GRASS is not installed, or the run is a short one: it is left out")
         return
@@ -511,14 +518,15 @@ def grass_tables(wanted):
 
 
 def part(title, wanted):
-    """The lines of a part of the figures."""
+    """Return the lines of a part."""
     if title == REAL_MAPS and not has_real_maps(wanted):
         return []
     return tables(PARTS[title], wanted) if title in PARTS else grass_tables(wanted)
 
 
 def print_table(rows, marks, program, is_written):
-    """Prints the lines of a table as they come, and puts them into the document if that is asked for."""
+    """Print the lines of a table as they are produced, and put them into the document if
+    requested."""
     lines = [mark(program)]
     for line in rows:
         print(line, flush=True)
@@ -528,12 +536,13 @@ def print_table(rows, marks, program, is_written):
 
 
 def mark(program):
-    """Names, in the document, the program with which the table below was measured (tools/documents/figures.py)."""
+    """Return the mark that names, in the document, the program measured in the table below
+    (tools/documents/figures.py)."""
     return f"{figures.mark_of(program)}\n\n"
 
 
 def machine(program, rounds):
-    """A mark, and a sentence on what was measured, where."""
+    """Return a mark, and a sentence about what was measured and where."""
     with open("/proc/cpuinfo", encoding="utf-8") as file:
         model = next(
             (line.split(":")[1].strip() for line in file if line.startswith("model name")),
@@ -551,7 +560,7 @@ def compiler():
 
 
 def put_between(marks, text):
-    """Puts a text into the document between two marks, in place of what is there."""
+    """Replace the text between two marks in the document."""
     with open(DOCUMENT, encoding="utf-8") as file:
         before, _, rest = file.read().partition(marks[0])
     old, _, after = rest.partition(marks[1])
@@ -561,14 +570,14 @@ def put_between(marks, text):
 
 
 def parts_of(text):
-    """The parts of the figures in the document, by their titles."""
+    """Return the parts of the document, by title."""
     return {
         title: rest for title, _, rest in (part.partition("\n") for part in text.split("\n## ")[1:])
     }
 
 
 def write(found):
-    """Puts the parts that were measured into the document, in place of the same parts there."""
+    """Replace the measured parts in the document."""
 
     def with_parts(old):
         parts = parts_of(old) | found

@@ -1,4 +1,4 @@
-"""The table of cases: what is asked, and what must come out, for each file cases/NAME.case."""
+"""Read the table of cases: for each file cases/NAME.case, a question and the expected result."""
 
 from __future__ import annotations
 
@@ -9,21 +9,22 @@ import shutil
 import tempfile
 from dataclasses import dataclass, field, replace
 
-# The folder with `cases` and `rasters`, which may be another one than this.
+# The folder that contains `cases` and `rasters`. It may differ from this folder.
 HERE = pathlib.Path(os.environ.get("RCELL_CASES") or pathlib.Path(__file__).resolve().parent)
 TABLES = (
     *("composition", "cross", "change", "trajectories", "patches", "zonal", "adjacency"),
     *("dominant", "accuracy", "metrics", "sample"),
 )
 MAPS = ("majority", "align", "reclass", "clump", "sieve", "within", "aggregate")
-# Maps with an account of how they were made, and its columns.
+# Maps whose metadata states how they were made, and the columns of that metadata.
 FACTS = {
     "align": ("shift_rows", "shift_columns", "cells_used", "cells_repeated", "cells_lost"),
     "sieve": ("patches_before", "patches_after", "cells_changed", "patches_below"),
 }
 ANSWERS = (*TABLES, *MAPS)
 POLYGONS = re.compile(r"\.(geojson|gpkg|shp|fgb)(\|layername=.*)?$")
-# Options of a call that are files; errors of QGIS and of the shell have no kind but in their text.
+# Options of a call whose values are files. Errors of QGIS and of the shell have no kind except in
+# their text.
 FILES = ("labels", "zone_labels", "rules", "areas")
 KINDS = [
     ("other crs", r"its coordinate reference system is |it has no coordinate reference system"),
@@ -93,16 +94,17 @@ class Case:
     left_out: dict[str, str] = field(default_factory=dict)
 
     def expected_of(self, front: str) -> tuple[list[str], bool]:
-        """What must come out of a package, and whether it is an error."""
+        """Return the expected result for a package, and whether it is an error."""
         return self.expected.get(front, self.expected.get("", ([], False)))
 
     @property
     def makes_map(self) -> bool:
-        """Whether the result is a map."""
+        """Return whether the result is a map."""
         return self.call in MAPS or "map" in self.options
 
     def is_for(self, front: str) -> bool:
-        """Whether a package runs the case: r.rcell has scripts alone, and `rcell-gis` only the ready calls."""
+        """Return whether a package runs the case: r.rcell has only scripts, and `rcell-gis` has
+        only the ready-made calls."""
         is_answer = self.call in ANSWERS
         is_outside = {
             "grass": is_answer,
@@ -112,7 +114,7 @@ class Case:
 
 
 def _blocks(text: str) -> dict[str, list[str]]:
-    """The lines of each key: that after its colon, or those that are indented below it."""
+    """Return the lines of each key: the text after its colon, or the lines indented below it."""
     found: dict[str, list[str]] = {}
     key = ""
     for line in text.splitlines():
@@ -125,12 +127,12 @@ def _blocks(text: str) -> dict[str, list[str]]:
 
 
 def _path(file: str) -> str:
-    """The path of a raster of `rasters`, or of an example of the repository."""
+    """Return the path of a raster in `rasters`, or of an example in the repository."""
     return str((HERE.parent if file.startswith("examples/") else HERE / "rasters") / file)
 
 
 def read(path: pathlib.Path) -> Case:
-    """The case of a file."""
+    """Read the case in a file."""
     blocks = _blocks(path.read_text(encoding="utf-8"))
     maps = dict(word.split("=", 1) for word in blocks["maps"][0].split())
     expected = {}
@@ -171,7 +173,7 @@ def read(path: pathlib.Path) -> Case:
 
 
 class Scratch:
-    """Copies of all inputs, which a case reads and over which it may try to write."""
+    """Copies of all inputs, which a case reads and may try to overwrite."""
 
     def __init__(self) -> None:
         self._room = tempfile.TemporaryDirectory(prefix="rcell-cases-")
@@ -183,7 +185,7 @@ class Scratch:
         return {it.name: it.read_bytes() for it in self.folder.iterdir() if it.is_file()}
 
     def moved(self, case: Case) -> Case:
-        """The case over the copies."""
+        """Return the case with the copies as its inputs."""
 
         def here(paths: dict[str, str]) -> dict[str, str]:
             return {
@@ -194,7 +196,7 @@ class Scratch:
         return replace(case, maps=here(case.maps), options=here(case.options), outs=here(case.outs))
 
     def changed(self) -> list[str]:
-        """A line for each input that is not what it was."""
+        """Return a line for each input that has changed."""
         after = self._bytes()
         return [
             f"changed: {name}" for name, told in self._before.items() if after.get(name) != told
@@ -202,12 +204,12 @@ class Scratch:
 
 
 def kind_of(text: str) -> str:
-    """The kind of an error, by its text."""
+    """Return the kind of an error, given its text."""
     return next(name for name, form in KINDS if re.match(form, text))
 
 
 def notes(case: Case, types: str, warnings: list[str]) -> list[str]:
-    """The lines about types and warnings, of a case that looks at them."""
+    """Return the lines about types and warnings, if the case checks them."""
     told = [f"types: {types}"] if case.types else []
     return told + [
         f"warned: {text.splitlines()[0]}" for text in warnings if case.warned is not None
@@ -215,7 +217,7 @@ def notes(case: Case, types: str, warnings: list[str]) -> list[str]:
 
 
 def copied(path: str, folder: str) -> str:
-    """Copies a raster with the files next to it, and returns the path of the copy."""
+    """Copy a raster with its accompanying files, and return the path of the copy."""
     source = pathlib.Path(path)
     for beside in source.parent.glob(f"{source.name}*"):
         shutil.copy(beside, folder)
@@ -223,5 +225,5 @@ def copied(path: str, folder: str) -> str:
 
 
 def cases() -> list[Case]:
-    """All cases, by their names."""
+    """Return all cases, sorted by name."""
     return [read(path) for path in sorted((HERE / "cases").glob("*.case"))]

@@ -1,7 +1,8 @@
-"""Runs the table of cases on r.rcell, in a session of GRASS: prints `case NAME`, and below it what came out, each line after a blank.
+"""Run the table of cases with r.rcell, in a GRASS session.
 
-GRASS has one region for all maps, and maps of whole numbers or of decimals. The rasters are imported as r.in.gdal does it; a case is
-run in the region of its first map.
+Prints `case NAME` for each case and, below it, the result, with a blank before each line. GRASS has
+one region for all maps, and maps of integers or of decimals. The rasters are imported with
+r.in.gdal, and a case is run in the region of its first map.
 """
 
 from __future__ import annotations
@@ -28,12 +29,13 @@ def called(*words: str, text: str | None = None) -> subprocess.CompletedProcess[
 
 
 def raster_of(path: str) -> str:
-    """The name of a raster map in GRASS."""
+    """Return the name of a raster as a map in GRASS."""
     return "m_" + pathlib.Path(path).stem
 
 
 def import_all() -> None:
-    """All rasters of the cases, whatever their reference system; the ones that r.in.gdal rejects are not there."""
+    """Import the rasters of all cases, in any reference system. Rasters that r.in.gdal rejects are
+    left out."""
     for path in sorted(
         {path for case in cases() if case.is_for("grass") for path in case.maps.values()}
     ):
@@ -45,7 +47,8 @@ def import_all() -> None:
 
 
 def plain(row: list[str], titles: list[str]) -> list[str]:
-    """A row whose labels that there are not are `*`, as in the table of cases: GRASS calls null `no data`."""
+    """Return a row in which missing labels are `*`, as in the table of cases. GRASS prints `no
+    data` for null."""
     found = row[:]
     for at, title in enumerate(titles):
         if title.endswith("_label") and (not row[at] or row[at - 1] == "*"):
@@ -54,7 +57,7 @@ def plain(row: list[str], titles: list[str]) -> list[str]:
 
 
 def tables_of(case: Case) -> list[protocol.Statement]:
-    """The statements of a script that print tables; none of a script that is rejected."""
+    """Return the statements of a script that print tables, or none if the script is rejected."""
     program = str(pathlib.Path(os.environ["RCELL"]).with_name("rcell-pipe"))
     try:
         return [
@@ -67,7 +70,7 @@ def tables_of(case: Case) -> list[protocol.Statement]:
 
 
 def titles_of(case: Case) -> list[str]:
-    """The titles of the only table of a script, which prints none."""
+    """Return the titles of the only table of a script, because the script does not print them."""
     titles: list[str] = []
     table = tables_of(case)[0]
     for name in table.inputs:
@@ -94,7 +97,7 @@ def of_grid(name: str) -> list[str]:
 
 
 def asked(case: Case) -> tuple[str, list[str]]:
-    """The script, and the words after r.rcell."""
+    """Return the script, and the arguments of r.rcell."""
     kind, *words = case.call.split()
     lines = case.script.split("\n")
     for it in tables_of(case):
@@ -103,7 +106,8 @@ def asked(case: Case) -> tuple[str, list[str]]:
 
 
 def refusal(case: Case, told: str) -> list[str]:
-    """What r.rcell says, in the keys of the table of cases. (GRASS breaks a long line, and what follows is left.)"""
+    """Return the error of r.rcell, with the keys of the table of cases. Long lines, which GRASS
+    breaks, are joined."""
     text = " ".join(
         line.removeprefix("ERROR: ").strip()
         for line in told.splitlines()
@@ -111,7 +115,7 @@ def refusal(case: Case, told: str) -> list[str]:
     )
     found = REFUSED.search(text)
     if found:
-        # The mark is below its column, four blanks farther to the right.
+        # The mark is printed below its column, four blanks to the right.
         beneath = [line for line in told.splitlines() if line.startswith("    ")]
         marks = [len(line) - 4 for line in beneath[1:] if line.endswith("^")]
         lines = [
@@ -151,7 +155,7 @@ def answer(case: Case) -> list[str]:
 
 
 def inside() -> None:
-    """The cases, within a session."""
+    """Run the cases within a session."""
     import_all()
     for case in cases():
         if case.is_for("grass"):
@@ -159,7 +163,7 @@ def inside() -> None:
 
 
 def main() -> int:
-    """Makes a location without a projection, and runs the cases within it."""
+    """Make a location without a projection, and run the cases in it."""
     with tempfile.TemporaryDirectory(prefix="rcell-grass-") as room:
         os.mkdir(f"{room}/path")
         os.symlink(

@@ -1,4 +1,5 @@
-"""Runs the table of cases on the Python package: prints `case NAME`, and below it what came out, each line after a blank."""
+"""Run the table of cases with the Python package. Print `case NAME` and, below it, the result, with
+a blank before each line."""
 
 from __future__ import annotations
 
@@ -22,7 +23,7 @@ KINDS = [
 ]
 
 
-# The type of each parameter of the ready calls that is not a map.
+# The type of each parameter of the ready-made calls, except for maps.
 OPTIONS: dict[str, Callable[[str], Any]] = {
     "area": lambda text: None if text == "none" else text,
     **dict.fromkeys(("include_null", "fill", "each", "drop"), lambda text: text == "yes"),
@@ -52,7 +53,7 @@ def of_grid(grid: rcell.Raster) -> list[str]:
 
 
 def of_shares(names: list[str], layers: Any) -> list[str]:
-    """The name of each class, and below it its shares."""
+    """Return the name of each class, followed by its shares."""
     return [
         line
         for name, layer in zip(names, layers.tolist())
@@ -69,13 +70,13 @@ def of_frame(case: Case, frame: Any) -> list[str]:
 
 
 def types_of(frame: Any) -> str:
-    """The types of the columns of a table."""
+    """Return the types of a table's columns."""
     kinds = {"i": "integer", "u": "integer", "f": "number"}
     return "|".join(kinds.get(getattr(kind, "kind", "O"), "text") for kind in frame.dtypes)
 
 
 def options_of(case: Case) -> dict[str, Any]:
-    """The parameters of a call."""
+    """Return the parameters of a call."""
     return {
         key: case.maps[text] if key in ("zones", "to") else OPTIONS[key](text)
         for key, text in case.options.items()
@@ -84,7 +85,7 @@ def options_of(case: Case) -> dict[str, Any]:
 
 
 def answered(case: Case) -> list[str]:
-    """One of the ready calls."""
+    """Run one of the ready-made calls."""
     options = options_of(case)
     maps: list[Any] = [case.maps[name] for name in case.words]
     if "band" in case.options:
@@ -132,7 +133,7 @@ def answer(case: Case) -> list[str]:
 
 
 def written(case: Case, name: str) -> list[str]:
-    """A map that was written over another raster, as it is read again."""
+    """Write a map over another raster, and return it as read back."""
     with tempfile.TemporaryDirectory() as room:
         path = copied(case.over, room)
         rcell.grid(case.script, name, case.maps).write(path)
@@ -151,7 +152,7 @@ def refusal(error: Any) -> list[str]:
 
 
 def tried(case: Case) -> list[str]:
-    """What came out of a case, with its warnings."""
+    """Return the result of a case, with its warnings."""
     with warnings.catch_warnings(record=True) as caught:
         warnings.simplefilter("always", UserWarning)
         warnings.simplefilter("ignore", rasterio.errors.NotGeoreferencedWarning)

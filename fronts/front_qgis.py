@@ -1,6 +1,7 @@
-"""Runs the table of cases on the plugin for QGIS: prints `case NAME`, and below it what came out, each line after a blank.
+"""Run the table of cases with the QGIS plugin.
 
-It needs Debian's Python, QGIS with its Processing, and no screen.
+Prints `case NAME` for each case and, below it, the result, with a blank before each line. Needs
+Debian's Python and QGIS with Processing, but no screen.
 """
 
 from __future__ import annotations
@@ -31,11 +32,11 @@ from qgis.core import (
 )
 from qgis.PyQt.QtCore import QVariant
 
-# What the second map of a call is.
+# The parameter for the second map of a call.
 SECOND = {"zonal": "ZONES", "dominant": "ZONES", "accuracy": "REFERENCE"}
-# Tables that are outputs of their own.
+# Tables with their own output parameters.
 PARTS = {name: name.upper() for name in ("matrix", "summary", "changes", "intervals")}
-# Maps that are outputs of their own.
+# Maps with their own output parameters.
 PARTS_THAT_ARE_MAPS = {
     "changes": "CHANGES_MAP",
     **{name: name.upper() for name in ("first_change", "last_change", "shares")},
@@ -70,7 +71,7 @@ def plain(value: Any, digits: int = 12) -> str:
 
 
 def asked(case: Case) -> tuple[str, dict[str, Any]]:
-    """The algorithm and its parameters."""
+    """Return the algorithm and its parameters."""
     kind, *words = case.call.split()
     common = {
         "INPUT": list(case.maps.values()),
@@ -90,7 +91,7 @@ def asked(case: Case) -> tuple[str, dict[str, Any]]:
 
 
 def of_raster(path: str) -> list[str]:
-    """The rows of a map; of shares the rows of each band, below its name."""
+    """Return the rows of a map or, for shares, the rows of each band, below its name."""
     dataset = gdal.Open(path)
     lines: list[str] = []
     for number in range(1, dataset.RasterCount + 1):
@@ -122,7 +123,8 @@ def types_of(layer: Any) -> str:
 
 
 def parameters_of(case: Case) -> dict[str, Any]:
-    """The parameters of an algorithm, named as in Python, in capitals."""
+    """Return the parameters of an algorithm, which have the names of the Python parameters in
+    capitals."""
     layers = [layer_of(case, name) for name in case.words]
     parameters: dict[str, Any] = {
         "INPUT": layers if case.call in ("cross", "change", "trajectories") else layers[0]
@@ -144,7 +146,7 @@ def parameters_of(case: Case) -> dict[str, Any]:
 
 
 def answered(case: Case, room: str) -> list[str]:
-    """One of the ready calls."""
+    """Run one of the ready-made calls."""
     import processing
 
     parameters, feedback = parameters_of(case), Feedback()
@@ -198,9 +200,9 @@ def answer(case: Case, room: str) -> list[str]:
 
 
 def refusal(message: str) -> list[str]:
-    """The parts of an error: `SOURCE, line N: TEXT`, or `SOURCE: TEXT`."""
+    """Return the parts of an error: `SOURCE, line N: TEXT`, or `SOURCE: TEXT`."""
     first, *rest = message.removeprefix("Unable to execute algorithm\n").splitlines()
-    # An exception of Python, or nothing to run.
+    # The message is a Python exception, or there was nothing to run.
     if re.match("There were errors executing the algorithm|.*Algorithm .* not found", first):
         return [f"error: {message}"]
     place, _, text = first.partition(": ")
@@ -210,7 +212,7 @@ def refusal(message: str) -> list[str]:
         place, text = "", place
     source, _, line = place.partition(", line ")
     cell = re.search(r"the cell at row (\d+), column (\d+)", text)
-    # The mark is below its column, two blanks farther to the right.
+    # The mark is printed below its column, two blanks to the right.
     column = next((len(line) - 2 for line in rest if line.endswith("^")), None)
     found = [("kind", kind_of(text)), ("source", source), ("line", line), ("row", cell and cell[1])]
     found += [("column", cell[2] if cell else column), ("text", text)]
@@ -236,7 +238,7 @@ def main() -> None:
     plugin = RcellPlugin()
     plugin.initProcessing()
     with tempfile.TemporaryDirectory(prefix="R\u00e4ume von QGIS ") as room:
-        # QGIS leaves statistics next to a raster that it opens.
+        # QGIS writes statistics next to a raster that it opens.
         shutil.copytree(FOLDER / "rasters", f"{room}/rasters")
         shutil.copytree(HERE.parent / "examples/rasters", f"{room}/rasters", dirs_exist_ok=True)
         for case in (it for it in cases() if it.is_for("qgis")):

@@ -1,6 +1,7 @@
-"""Runs the ready calls of the table of cases on `rcell-gis`: prints `case NAME`, and below it what came out, each line after a blank.
+"""Run the ready-made calls of the table of cases with `rcell-gis`.
 
-The libraries are loaded once: a case runs in a process that is forked from this one.
+Prints `case NAME` for each case and, below it, the result, with a blank before each line. The
+libraries are loaded only once, because each case runs in a process forked from this one.
 """
 
 from __future__ import annotations
@@ -24,7 +25,7 @@ FLAGS = ("include_null", "fill", "each", "drop")
 
 
 def ran(words: list[str]) -> tuple[int, str, str]:
-    """The status, the output and the errors of a call."""
+    """Return the status, the output and the error output of a call."""
     with tempfile.TemporaryFile() as out, tempfile.TemporaryFile() as told:
         child = os.fork()
         if not child:
@@ -47,7 +48,7 @@ def ran(words: list[str]) -> tuple[int, str, str]:
 
 
 def words_of(case: Case, target: str) -> list[str]:
-    """The words of a call, which writes a map to `target`."""
+    """Return the arguments of a call that writes a map to `target`."""
     words = [
         f"{name}={case.maps[name]}" if case.call == "cross" else case.maps[name]
         for name in case.words
@@ -65,7 +66,7 @@ def words_of(case: Case, target: str) -> list[str]:
 
 
 def plain(title: str, text: str, digits: int) -> str:
-    """A field: a measure with so many digits; nothing is null."""
+    """Return a field, with `digits` digits if it is a measure. An empty field is null."""
     if text in ("", "nan"):
         return "*"
     is_measure = re.fullmatch(r"-?[0-9]+(\.[0-9]*)?(e[-+][0-9]+)?", text) and "label" not in title
@@ -80,7 +81,7 @@ def of_table(case: Case, text: str) -> list[str]:
 
 
 def of_raster(path: str) -> list[str]:
-    """The rows of a map; of shares the rows of each band, below its name."""
+    """Return the rows of a map or, for shares, the rows of each band, below its name."""
     with rasterio.open(path) as file:
         layers, names = file.read(masked=True).tolist(), file.descriptions
     lines = []
@@ -93,9 +94,9 @@ def of_raster(path: str) -> list[str]:
 
 
 def refusal(status: int, told: str) -> list[str]:
-    """The parts of an error, which is one line: `rcell-gis: SOURCE: TEXT`."""
+    """Return the parts of an error, which is a single line `rcell-gis: SOURCE: TEXT`."""
     lines = [line for line in told.splitlines() if not line.startswith("rcell-gis: warning: ")]
-    # A traceback, or a word that the program does not have.
+    # The output is a traceback, or names an argument that the program does not have.
     if (
         re.search("argument COMMAND: invalid choice|unrecognized arguments", told)
         or len(lines) != 1

@@ -1,4 +1,4 @@
-"""Makes the rasters of the table of cases anew: fronts/rasters/*.tif, with rasterio.
+"""Make the rasters of the table of cases, fronts/rasters/*.tif, with rasterio.
 
     /usr/bin/python3 fronts/make_rasters.py
 """
@@ -23,7 +23,7 @@ LATER = [[1, 2, 2, 3, 3], [2, 2, 2, NULL, 3], [3, 1, 1, 1, 2], [1, 1, 3, 2, 2]]
 HEIGHTS = [[-5, 10, 12, 1000000, 40], [3, NULL, 8, 8, 9], [7, 7, 2, 0, 15], [100, 6, 5, 4, NULL]]
 ZONES = [[7, 7, 8, 8, 8], [7, 7, 8, 8, 8], [NULL, 7, 8, 8, 8], [NULL, 7, 7, 8, 8]]
 LABELS = ["", "wood, wet", "Wiese \u00fc", "built up"]
-# Labels that a table or a shell could stumble over, by categories that begin far from 0.
+# Labels that could confuse a table or a shell, for categories far from 0.
 ODD_LABELS = {-3: "NA", 7: "**", 12: "no data", 100000: 'a "b", #c', 100001: "null"}
 OWN_FORM = "north: 5400000\nsouth: 5399920\neast: 500100\nwest: 500000\nrows: 4\ncols: 5\n"
 METRES = Affine(20, 0, 500000, 0, -20, 5400000)
@@ -61,7 +61,8 @@ def write(
 
 
 def write_wide(name: str, cells: object) -> None:
-    """Whole numbers of 64 bits, with GDAL itself: rasterio 1.3 takes signed ones for unsigned."""
+    """Write 64-bit integers directly with GDAL, because rasterio 1.3 mistakes signed for unsigned
+    ones."""
     array = np.asarray(cells, "int64")
     file = gdal.GetDriverByName("GTiff").Create(
         str(ROOM / f"{name}.tif"),
@@ -86,7 +87,8 @@ def write_by_gdal(
     options: Sequence[str] = (),
     nodata: int | None = None,
 ) -> None:
-    """What rasterio does not write: complex cells, alpha bands, transforms that are no place, 64 bits without a sign."""
+    """Write what rasterio does not: complex cells, alpha bands, transforms that are not locations,
+    and unsigned 64-bit integers."""
     arrays = [np.asarray(cells) for cells in bands]
     file = gdal.GetDriverByName("GTiff").Create(
         str(ROOM / f"{name}.tif"),
@@ -110,7 +112,7 @@ def write_by_gdal(
 
 
 def write_edges() -> None:
-    """Rasters at the edge of what a file can say."""
+    """Write rasters at the limits of what a file can represent."""
     cover, alpha, nan, inf = np.asarray(COVER), np.full((4, 5), 255), float("nan"), float("inf")
     alpha[0, 3] = alpha[1, 1] = 0
     bytes_of_cover = np.where(cover == NULL, 9, cover).astype("uint8")
@@ -145,14 +147,14 @@ def write_edges() -> None:
 
 
 def write_labels(name: str) -> None:
-    """Category names where GDAL keeps them: next to the raster."""
+    """Write category names next to the raster, where GDAL keeps them."""
     names = "".join(f"<Category>{label}</Category>" for label in LABELS)
     text = f'<PAMDataset><PAMRasterBand band="1"><CategoryNames>{names}</CategoryNames></PAMRasterBand></PAMDataset>\n'
     (ROOM / f"{name}.tif.aux.xml").write_text(text, encoding="utf-8")
 
 
 def write_table(name: str, labels: Mapping[float, str]) -> None:
-    """An attribute table next to the raster."""
+    """Write an attribute table next to the raster."""
     rows = "".join(
         f'<Row index="{at}"><F>{value}</F><F>{escape(label)}</F></Row>'
         for at, (value, label) in enumerate(labels.items())
@@ -168,12 +170,13 @@ def write_table(name: str, labels: Mapping[float, str]) -> None:
 
 
 def write_text(name: str, rows: list[str]) -> None:
-    """A grid of the program's own form."""
+    """Write a grid in the program's own format."""
     (ROOM / f"{name}.txt").write_text(OWN_FORM + "\n".join(rows) + "\n", encoding="utf-8")
 
 
 def write_polygons() -> None:
-    """Districts by name and number, of which two overlap and one has no centre of a cell; and one in another reference system."""
+    """Write districts with names and numbers, of which two overlap and one contains no cell centre,
+    and a district in another reference system."""
     boxes = [
         ("Nord", 20, 0, 0, 60, 40),
         ("S\u00fcd", 10, 0, 40, 60, 80),
@@ -208,7 +211,8 @@ def write_polygons() -> None:
 
 
 def write_legends() -> None:
-    """Write legends of the cover: right but one class short, with a class twice, and with labels that may not be guessed."""
+    """Write legends of the cover: one lacks a class, one lists a class twice, and one has labels
+    that must not be guessed."""
     (ROOM / "legend.csv").write_text(
         'value,label,colour\n1,"wood, wet",#228b22\n2,Wiese \u00fc,#9acd32\n', encoding="utf-8"
     )
@@ -225,7 +229,7 @@ def write_legends() -> None:
 
 
 def write_masked(name: str, cells: object) -> None:
-    """With a mask of its own, in which the null cells are 0."""
+    """Write a raster with its own mask, in which the null cells are 0."""
     with rasterio.Env(GDAL_TIFF_INTERNAL_MASK=True):
         write(name, np.where(np.asarray(cells) == NULL, 1, cells), "uint8", nodata=None)
         with rasterio.open(ROOM / f"{name}.tif", "r+") as file:
@@ -233,7 +237,8 @@ def write_masked(name: str, cells: object) -> None:
 
 
 def write_other_masks() -> None:
-    """Write rasters whose null comes from a mask of the band, not of the file, and from a nodata value for all bands of the file."""
+    """Write rasters with a mask of the band, not of the file, and with a nodata value for all bands
+    of the file."""
     cover = np.asarray(COVER)
     write_by_gdal("band_mask", [np.where(cover == NULL, 1, cover)], gdal.GDT_Byte)
     file = gdal.Open(str(ROOM / "band_mask.tif"), gdal.GA_Update)
@@ -247,7 +252,7 @@ def write_other_masks() -> None:
 
 
 def noise(rows: int, cols: int) -> object:
-    """Three classes and some nulls, without a pattern."""
+    """Return three classes and some nulls, without a pattern."""
     cells = np.random.default_rng(7).choice(
         [1, 2, 3, NULL], (rows, cols), p=[0.32, 0.32, 0.31, 0.05]
     )

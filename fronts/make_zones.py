@@ -1,4 +1,5 @@
-"""Makes polygons, legends and maps for them, for the table of cases anew, with GDAL, in fronts/rasters.
+"""Make polygons, and legends and maps for them, for the table of cases, with GDAL, in
+fronts/rasters.
 
     /usr/bin/python3 fronts/make_zones.py
 """
@@ -35,7 +36,8 @@ DRIVERS = {"gpkg": "GPKG", "shp": "ESRI Shapefile", "fgb": "FlatGeobuf"}
 def box(
     edges: Sequence[float], scale: float = 1.0, place: tuple[float, float] = (5e5, 54e5)
 ) -> str:
-    """A rectangle as text: its edges are in metres to the east and south of the corner of the maps."""
+    """Return a rectangle as text. Its edges are given in metres to the east and south of the maps'
+    corner."""
     west, north, east, south = (edge * scale for edge in edges)
     corners = [(west, north), (east, north), (east, south), (west, south), (west, north)]
     return (
@@ -44,7 +46,7 @@ def box(
 
 
 def system_of(text: str) -> Any:
-    """A reference system, with x before y; None for none."""
+    """Return a reference system with x before y, or None for an empty text."""
     if not text:
         return None
     system = osr.SpatialReference()
@@ -62,11 +64,12 @@ def write_layer(
     kind: int = ogr.wkbPolygon,
     layer: str = "",
 ) -> None:
-    """Write features, each a geometry as text (or None) and its values by field, as a layer of a file."""
+    """Write features as a layer of a file. Each has a geometry as text, or None, and a value for
+    each field."""
     stem, ending = file.rsplit(".", 1)
     path, is_first = str(ROOM / file), not layer or not (ROOM / file).exists()
     driver = ogr.GetDriverByName(DRIVERS[ending])
-    # A GeoPackage of small pages is small.
+    # Small pages keep the GeoPackage small.
     gdal.SetConfigOption("OGR_SQLITE_PRAGMA", "page_size=512")
     gdal.SetConfigOption("OGR_CURRENT_DATE", "2026-01-01T00:00:00Z")
     words = ["VERSION=1.2", "ADD_GPKG_OGR_CONTENTS=NO"] if ending == "gpkg" else []
@@ -93,7 +96,8 @@ def write_layer(
 
 
 def write_missing() -> None:
-    """Polygons with missing values in fields of each type, NaN, and features without geometry."""
+    """Write polygons with missing values in fields of each type, with NaN, and features without
+    geometry."""
     fields = {"number": "int", "long": "long", "name": "text", "share": "real"}
     values = {"number": 5, "long": 5, "name": "left", "share": 0.5}
     nothing = dict.fromkeys(values)
@@ -108,7 +112,8 @@ def write_missing() -> None:
         write_layer(f"not_a_number.{ending}", {"share": "real"}, shapes)
 
 
-# Metres to the east and south of the corner of the maps, and the class: two in a cell, at its edges, on null, outside, of no class.
+# Metres to the east and south of the maps' corner, and the class: two points in a cell, at its
+# edges, on null, outside the map, and without a class.
 POINTS = [
     *((10, 10, 1), (12, 14, 2), (20, 0, 1), (50, 10, 2), (70, 10, 1), (90, 10, 3), (10, 50, 3)),
     *((30, 50, 1), (50, 50, 1), (90, 70, 2), (70, 70, 1), (100, 10, 3), (30, 30, None)),
@@ -116,7 +121,7 @@ POINTS = [
 
 
 def write_reference() -> None:
-    """Points with a class, as a number and as a text."""
+    """Write points with a class, as a number and as a text."""
     names = {1: "wood", 2: "meadow", 3: "town"}
     rows = [
         (f"POINT ({5e5 + east} {54e5 - south})", {"class": code, "name": names.get(code, "")})
@@ -126,7 +131,8 @@ def write_reference() -> None:
 
 
 def write_kinds() -> None:
-    """Fields of all types, in which nothing is missing: the left half and the right half of the map."""
+    """Write fields of all types without missing values, for the left and the right half of the
+    map."""
     values = {
         "whole": ("real", 3.0, 2.0),
         "half": ("real", 1.0, 2.5),
@@ -148,7 +154,8 @@ def write_kinds() -> None:
 
 
 def write_shapes() -> None:
-    """Several layers, polygons under others, apart, of layers of unknown type, curved, and points."""
+    """Write several layers: overlapping and separate polygons, layers of unknown type, curved
+    polygons, and points."""
     number = {"number": "int"}
     (ROOM / "layers.gpkg").unlink(missing_ok=True)
     write_layer("layers.gpkg", number, [(box(LEFT), {"number": 1})], layer="zz")
@@ -175,7 +182,7 @@ def write_shapes() -> None:
 
 
 def write_systems() -> None:
-    """Maps whose reference system is spelled in several ways, or says nothing of areas."""
+    """Write maps whose reference system is spelled in several ways, or does not imply areas."""
     ones = np.ones((4, 4), np.uint8)
     write("ones", ones, "uint8", nodata=None)
     write(
@@ -212,7 +219,7 @@ def write_systems() -> None:
     for name, north in (("poles", 112.5), ("beyond_poles", 120.0)):
         transform = Affine(90, 0, -180, 0, -45, north)
         write(name, globe, "uint8", nodata=None, transform=transform, crs="EPSG:4326")
-    # Two classes: one has more cells, the other the larger area.
+    # Two classes: one has more cells, the other has the larger area.
     write(
         "north",
         [[1, 1, 1, 1]] * 3 + [[2, 2, 2, 2]] * 2,
@@ -224,7 +231,8 @@ def write_systems() -> None:
 
 
 def write_virtual(name: str, source: str, crs: str = "") -> None:
-    """A virtual raster over another one, perhaps with another text of its reference system."""
+    """Write a virtual raster over another raster, optionally with another text for its reference
+    system."""
     path = ROOM / f"{name}.vrt"
     gdal.GetDriverByName("VRT").CreateCopy(str(path), gdal.Open(str(ROOM / f"{source}.tif")))
     text = path.read_text().replace(str(ROOM) + "/", "")
@@ -233,7 +241,7 @@ def write_virtual(name: str, source: str, crs: str = "") -> None:
 
 
 def write_maps() -> None:
-    """Maps for single findings."""
+    """Write maps for individual bugs."""
     write("abc", [[1, 2, 3]])
     write("earlier", [[1, 2, 3, 4, 4, 1]])
     write("after", [[2, 2, 3, 1, 3, 1]])
@@ -276,7 +284,8 @@ def write_maps() -> None:
     write_virtual("virtual", "cover")
 
 
-# The example of Olofsson et al. 2014: a row for each class of the map, a column for each class of the reference.
+# The example of Olofsson et al. 2014, with a row for each class of the map and a column for each
+# class of the reference.
 SAMPLE = [[66, 0, 5, 4], [0, 55, 8, 12], [1, 0, 153, 11], [2, 1, 9, 313]]
 LEGENDS = {
     "capitals.csv": "Value,LABEL\n1,wood\n2,heath\n3,moor\n",

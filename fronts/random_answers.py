@@ -1,4 +1,5 @@
-"""Random calls of dominant, accuracy, sample, metrics, zonal with a scale, and of zones one after another, for random_calls.py."""
+"""Random calls of dominant, accuracy, sample, metrics, zonal with a scale, and of overlapping
+zones, for random_calls.py."""
 
 from __future__ import annotations
 
@@ -18,7 +19,8 @@ SEEDS = ("1", "7", "42", "-3", "Wald-1", "2026")
 
 
 def zones_of(calls: Any, is_word: bool = False) -> Any:
-    """Zones, which may be taken one after another: when the maps are settled, a function that returns them and their labels."""
+    """Draw zones, which may be evaluated one by one. Return a function that returns them and their
+    labels, once the maps are settled."""
     made = calls.zones(is_word)
     is_each = bool(made.features) and calls.chance(0.5)
 
@@ -37,7 +39,7 @@ def zones_of(calls: Any, is_word: bool = False) -> Any:
 
 
 def legend_of(calls: Any, option: str, codes: Any, own: Any, share: float = 0.3) -> Any:
-    """The labels of classes: of a legend, which is given perhaps, or their own."""
+    """Return the labels of classes, from a legend if one is drawn, or else their own."""
     cells = np.array([codes], np.int64)
     held = Raster(cells, np.zeros(cells.shape, bool), calls.frame)
     found = calls.legend(option, held, share)
@@ -76,7 +78,7 @@ def metrics(calls: Any) -> Lines:
 
 
 def of_each(calls: Any) -> Lines:
-    """A composition, or statistics, by zones one after another."""
+    """Draw a composition, or statistics, with zones evaluated one by one."""
     is_zonal = calls.chance(0.4)
     calls.found.words[0] = "zonal" if is_zonal else "composition"
     calls.raster("lc")
@@ -156,7 +158,8 @@ def pairs_of_points(lc: Raster, points: Any) -> Counter[tuple[int, int]]:
 
 
 def points_of(calls: Any, codes: Any) -> Any:
-    """Write points: rows, columns and classes; None if a class is not whole."""
+    """Write points and return their rows, columns and classes, or None if a class is not an
+    integer."""
     random, frame = calls.random, calls.frame
     ending = one_of(random, [it for it in inputs.DRIVERS if it in ("gpkg", "fgb")])
     name = one_of(random, ("class", "reference", "f"))
@@ -187,7 +190,7 @@ def points_of(calls: Any, codes: Any) -> Any:
 
 
 def table_of(calls: Any, codes: Any) -> Counter[tuple[int, int]]:
-    """Write a table of pairs of classes, perhaps with numbers of cells."""
+    """Write a table of pairs of classes, optionally with cell counts."""
     has_cells = calls.chance(0.7)
     found: Counter[tuple[int, int]] = Counter()
     lines = ["map,reference,cells" if has_cells else "map,reference"]
@@ -203,7 +206,7 @@ def table_of(calls: Any, codes: Any) -> Counter[tuple[int, int]]:
 
 
 def sizes_of(calls: Any, lc: Raster) -> Any:
-    """The areas of the classes of the map, None for none, and the unit of areas."""
+    """Return the areas of the map's classes, or None, and the unit of areas."""
     way = one_of(calls.random, ("none", "none", "map", "map", "file"))
     area = calls.area()
     if way == "none":
@@ -226,7 +229,7 @@ def sizes_of(calls: Any, lc: Raster) -> Any:
 
 
 def decimals(calls: Any) -> Lines:
-    """Statistics of a raster of decimals."""
+    """Draw statistics of a raster of decimals."""
     calls.found.words[0] = "zonal"
     random, frame = calls.random, calls.frame
     form = Form(one_of(random, ("Float32", "Float64")), {}, one_of(random, ("nodata", "nan")))

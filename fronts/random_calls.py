@@ -1,10 +1,11 @@
-"""Random calls of the packages next to a reference that shares nothing with them (reference.py).
+"""Compare random calls of the packages with an independent reference (reference.py).
 
     /usr/bin/python3 fronts/random_calls.py [--count N] [--seed N] [--from N] [--plants] [FRONT...]
 
-Each call is a case of the form that cases.py reads, over random files; `--count` is for each package. A call is equal, or rejected as the
-documents say, or different; a different one is printed as a case, and its files are kept. `--plants` brings old mistakes back, one at
-a time, and sees that they are found. The last line is 'N passed, M failed, K skipped'.
+Each call is a case in the format that cases.py reads, over random files. `--count` is the number of
+calls for each package. The result of a call is equal, or rejected as documented, or different. A
+different call is printed as a case, and its files are kept. `--plants` reintroduces old bugs, one
+at a time, and checks that they are detected. The last line is 'N passed, M failed, K skipped'.
 """
 
 from __future__ import annotations
@@ -34,9 +35,10 @@ from run import MISSING, PACKAGES, found_by
 FRONTS = ("python", "shell", "qgis", "r")
 BATCH = 500
 EXACT = 1e-9
-# What sums of rounded numbers leave of 0.
+# The largest sum of rounded numbers that counts as 0.
 ROUNDED = 1e-13
-# The logarithm of an area of almost 1 m2, by which it is divided, has fewer digits than the area.
+# The measure is divided by the logarithm of an area near 1 m2, which has fewer digits than the
+# area.
 FEWER_DIGITS = {"fractal_dimension": 1e-6}
 ID_DIGITS = 11
 IDS_OF = ("zone", "class", "patch", "from", "to", "neighbour", "cells", "sides")
@@ -77,7 +79,7 @@ class Trial:
     answer_in_r: Lines | None = None
 
     def text(self) -> str:
-        """The call as a case."""
+        """Return the call as the text of a case."""
         maps = " ".join(f"{name}={made.file}" for name, made in self.maps.items())
         lines = [
             f"# {self.reason or 'A random call.'}",
@@ -93,7 +95,7 @@ class Trial:
         return "\n".join([*lines, ""])
 
     def judged(self, front: str, found: Lines) -> str:
-        """Whether a result is `equal`, `refused` as documented, or `different`."""
+        """Return whether a result is `equal`, `refused` as documented, or `different`."""
         is_refused = any(line.startswith("text: ") for line in found) and found[0][:5] != "error"
         if self.answer is None or front in self.refused:
             return "refused" if is_refused else "different"
@@ -102,7 +104,7 @@ class Trial:
 
 
 def are_equal(wanted: Lines, found: Lines) -> bool:
-    """Whether lines are the same but for the last digits of measures."""
+    """Return whether lines are the same, except for the last digits of measures."""
     if wanted[:1] != found[:1] or len(wanted) != len(found):
         return False
     rows = [(one.split("|"), other.split("|")) for one, other in zip(wanted, found)]
@@ -115,7 +117,8 @@ def are_equal(wanted: Lines, found: Lines) -> bool:
 
 
 def are_near(title: str, column: Sequence[tuple[str, str]]) -> bool:
-    """Whether the values of a column are the same, measures in all but their last digits."""
+    """Return whether the values of a column are the same, except for the last digits of
+    measures."""
     if title in IDS_OF:
         return all(one == other for one, other in column)
     numbers = [(number_of(one), number_of(other)) for one, other in column]
@@ -134,12 +137,12 @@ def are_near(title: str, column: Sequence[tuple[str, str]]) -> bool:
 
 
 def is_id(text: str) -> bool:
-    """Whether a text is a whole number of so few digits that all of them count."""
+    """Return whether a text is an integer with so few digits that all of them are exact."""
     return text.lstrip("-").isdigit() and len(text) <= ID_DIGITS
 
 
 def number_of(text: str) -> float | None:
-    """A finite number; None for anything else."""
+    """Return a finite number, or None for any other text."""
     try:
         value = float(text)
     except ValueError:
@@ -151,13 +154,13 @@ def number_of(text: str) -> float | None:
 
 
 class Calls:
-    """Makes random calls over files of a folder."""
+    """Draws random calls over files in a folder."""
 
     def __init__(self, folder: pathlib.Path, seed: int, has_newer: bool = True) -> None:
         self.folder, self.seed, self.has_newer = folder, seed, has_newer
 
     def trial(self, number: int) -> Trial:
-        """The call of a number."""
+        """Return call `number`."""
         found = self.made(number, IDS)
         if self.has_large_ids():
             with tempfile.TemporaryDirectory(dir=ROOM) as folder:
@@ -168,14 +171,14 @@ class Calls:
         return found
 
     def has_large_ids(self) -> bool:
-        """Whether zones may have ids that R's whole numbers do not hold."""
+        """Return whether zones may have ids that do not fit in R's integers."""
         return any(made.kind == "long" for made in self.found.maps.values())
 
     def made(self, number: int, most: int) -> Trial:
-        """The call of a number, where whole numbers up to `most` are ids of zones."""
+        """Return call `number`, if zone ids may be integers up to `most`."""
         self.random: Any = np.random.default_rng([self.seed, number])
         self.name, self.most = f"c{self.seed}_{number}", most
-        # In turn a call of this module, of random_maps and of random_answers.
+        # Calls are drawn in turn from this module, random_maps and random_answers.
         kinds = [[*MAKERS, *MORE], [*random_maps.MAKERS], [*random_answers.MAKERS]]
         kind = one_of(self.random, kinds[number % len(kinds) if self.has_newer else 0])
         self.frame = inputs.frame_of(self.random)
@@ -211,7 +214,8 @@ class Calls:
         frame: Frame | None = None,
         like: Raster | None = None,
     ) -> Made:
-        """A raster, which rarely has no reference system; perhaps with the classes of another one."""
+        """Draw a raster, rarely without a reference system, and optionally with the classes of
+        another raster."""
         has_system = not self.chance(0.03)
         codes = [] if like is None or self.chance(0.3) else np.unique(like.cells).tolist()
         made = inputs.raster_of(
@@ -220,7 +224,7 @@ class Calls:
         return self.add(name, made, is_word)
 
     def zones(self, is_word: bool = False) -> Made:
-        """Zones: a raster or polygons."""
+        """Draw zones: a raster or polygons."""
         system = self.frame.system
         is_plane = system.metres is not None or system.angle is not None
         if not is_word:
@@ -231,7 +235,7 @@ class Calls:
         return self.add("zone", made, is_word)
 
     def settled(self) -> None:
-        """State a reference system perhaps, and give all maps the one that they have in common."""
+        """Optionally state a reference system, and give all maps their common system."""
         systems = {made.system for made in self.found.maps.values()}
         known = next((it for it in systems if it.text), inputs.NONE)
         stated = inputs.NONE
@@ -252,7 +256,7 @@ class Calls:
         self.frame = replace(self.frame, system=system)
 
     def held(self, name: str) -> Raster:
-        """The cells of a map; polygons become zones now."""
+        """Return the cells of a map. Polygons are converted to zones here."""
         made = self.found.maps[name]
         if made.held is None:
             if made.zone_field:
@@ -263,7 +267,7 @@ class Calls:
         return made.held
 
     def zoned(self) -> Raster | None:
-        """The zones, if there are any."""
+        """Return the zones, if there are any."""
         return self.held("zone") if "zone" in self.found.maps else None
 
     def area(self) -> str:
@@ -273,7 +277,7 @@ class Calls:
         return area
 
     def legend(self, option: str, held: Raster | None, share: float = 0.35) -> Any:
-        """The labels of a legend, which is given perhaps; None if it is not."""
+        """Return the labels of a legend, or None if no legend is drawn."""
         codes = [] if held is None else np.unique(held.cells[~held.null]).tolist()
         is_large = option == "zone_labels" and self.has_large_ids()
         if is_large or not codes or len(codes) > 30 or not self.chance(share):
@@ -285,7 +289,8 @@ class Calls:
         return labels
 
     def picked(self, name: str, good: Sequence[Any], bad: Sequence[Any]) -> Any:
-        """An option that is rarely out of its range; None if it is left out."""
+        """Return an option's value, which is rarely out of range, or None if the option is left
+        out."""
         if self.chance(0.3):
             return None
         is_bad = self.chance(0.02)
@@ -296,7 +301,7 @@ class Calls:
         return value
 
     def selection(self, held: Raster) -> tuple[int, Any, int]:
-        """Connectivity, classes and the smallest size of patches."""
+        """Return the connectivity, the classes and the smallest patch size."""
         connectivity = self.picked("connectivity", (4, 8), (5, 0)) or 4
         classes = None
         codes = np.unique(held.cells[~held.null]).tolist()
@@ -481,7 +486,8 @@ MAKERS: dict[str, Callable[[Calls], Lines]] = {
     "adjacency": adjacency,
 }
 
-# Calls that are drawn more often: polygons, legends and matrices are where packages differ.
+# Calls that are drawn more often, because packages tend to differ in polygons, legends and
+# matrices.
 MORE = ("composition", "composition", "zonal", "change", "patches")
 
 
@@ -491,7 +497,7 @@ MORE = ("composition", "composition", "zonal", "change", "patches")
 def made(
     folder: pathlib.Path, seed: int, numbers: Sequence[int], has_newer: bool = True
 ) -> list[Trial]:
-    """Make calls and their files."""
+    """Draw calls, and write their files."""
     for name in ("cases", "rasters"):
         (folder / name).mkdir(parents=True)
     calls = Calls(folder / "rasters", seed, has_newer)
@@ -504,7 +510,8 @@ def made(
 def compared(
     front: str, folder: pathlib.Path, trials: Sequence[Trial]
 ) -> tuple[Counter[str], list[str]]:
-    """Count the outcomes of calls in a package, and print the different ones; return their names too."""
+    """Count the outcomes of a package's calls, print the different ones, and return the counts and
+    the names of the different ones."""
     found, told = found_by(front, folder)
     counts: Counter[str] = Counter()
     wrong = []
@@ -529,7 +536,8 @@ def compared(
 
 
 def run(front_names: Sequence[str], count: int, seed: int, start: int) -> tuple[int, int]:
-    """Run calls in batches on all packages; return how many are right, and how many differ."""
+    """Run calls in batches with all packages, and return the numbers of right and of different
+    calls."""
     totals: dict[str, Counter[str]] = {front: Counter() for front in front_names}
     room = tempfile.mkdtemp(prefix="calls-", dir=ROOM)
     for first in range(start, start + count, BATCH):
@@ -555,14 +563,15 @@ def run(front_names: Sequence[str], count: int, seed: int, start: int) -> tuple[
 
 
 def tidy(folder: pathlib.Path, wrong: Sequence[str]) -> None:
-    """Remove the files of calls that did not differ."""
+    """Remove the files of all calls that did not differ."""
     for path in [*folder.glob("cases/*"), *folder.glob("rasters/*")]:
         if not any(path.name.startswith((f"{name}_", f"{name}.")) for name in wrong):
             path.unlink()
 
 
 def try_plants(seed: int) -> int:
-    """Bring each old mistake back in calls that Python has right, and return how many are not found."""
+    """Reintroduce each old bug in calls that pass in Python, and return the number of undetected
+    bugs."""
     missed = 0
     with tempfile.TemporaryDirectory(dir=ROOM) as room:
         trials = made(pathlib.Path(room, "right"), seed, range(PLANT_CALLS), False)

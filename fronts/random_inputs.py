@@ -1,4 +1,4 @@
-"""Random maps, zones and legends in files, with what they hold, for random_calls.py."""
+"""Random maps, zones and legends in files, together with their contents, for random_calls.py."""
 
 from __future__ import annotations
 
@@ -109,7 +109,7 @@ def srs_of(text: str) -> Any:
 
 
 def frame_of(random: Any) -> Frame:
-    """A random grid: in metres, feet or degrees, at a pole, or at the corner of the plane."""
+    """Draw a grid: in metres, feet or degrees, at a pole, or at the corner of the plane."""
     system = one_of(random, SYSTEMS)
     most = one_of(random, (3, 6, 12, 12, 40))
     rows, cols = (int(size) for size in random.integers(1, most + 1, 2))
@@ -139,7 +139,7 @@ def frame_of(random: Any) -> Frame:
 
 
 def classes_of(random: Any, kind: str) -> list[int]:
-    """A few classes that a type holds: with gaps, around 0, or at the ends."""
+    """Draw a few classes that fit in a type: with gaps, around 0, or at the limits."""
     dtype = TYPES[kind][1]
     low, high = (-(2**24), 2**24) if dtype == np.float32 else (-MOST, MOST)
     if np.dtype(dtype).kind != "f":
@@ -158,7 +158,7 @@ def classes_of(random: Any, kind: str) -> list[int]:
 
 
 def holds(kind: str, code: int) -> bool:
-    """Whether a type holds a class."""
+    """Return whether a class fits in a type."""
     dtype = np.dtype(TYPES[kind][1])
     if dtype.kind == "f":
         return dtype == np.float64 or abs(code) <= 2**24
@@ -166,7 +166,7 @@ def holds(kind: str, code: int) -> bool:
 
 
 def cells_of(random: Any, classes: Sequence[int], shape: tuple[int, int]) -> Any:
-    """Noise, or larger spots of it."""
+    """Return noise, or larger spots of noise."""
     step = one_of(random, (1, 1, 2, 4))
     small = random.integers(len(classes), size=(-(-shape[0] // step), -(-shape[1] // step)))
     cells = np.repeat(np.repeat(small, step, 0), step, 1)[: shape[0], : shape[1]]
@@ -181,7 +181,7 @@ def raster_of(
     has_system: bool,
     codes: Sequence[int],
 ) -> Made:
-    """A random raster of a frame, of some classes or of random ones."""
+    """Draw a raster in a frame, with some given classes or random ones."""
     kind = one_of(random, [it for it in TYPES if it != "Int8" or random.random() < 0.3])
     classes = [code for code in codes if holds(kind, code)] or classes_of(random, kind)
     cells = cells_of(random, classes, (frame.rows, frame.cols))
@@ -205,7 +205,7 @@ def raster_of(
 
 @dataclass
 class Form:
-    """How a raster is laid down; `null` is set when it is written."""
+    """How a raster is stored. `null` is set when the raster is written."""
 
     kind: str
     labels: dict[int, str]
@@ -216,7 +216,7 @@ class Form:
 def write_raster(
     random: Any, path: pathlib.Path, frame: Frame, cells: Any, null: Any, form: Form, system: System
 ) -> dict[str, str]:
-    """Write a raster, and return which packages reject it."""
+    """Write a raster, and return the packages that reject it."""
     kind, dtype = TYPES[form.kind]
     is_real = np.dtype(dtype).kind == "f"
     options = ["PIXELTYPE=SIGNEDBYTE"] if form.kind == "Int8" else []
@@ -278,7 +278,7 @@ def write_raster(
 
 
 def _nodata_of(random: Any, cells: Any, null: Any, dtype: Any) -> Any:
-    """A nodata value that no cell has; None if there is none."""
+    """Return a nodata value that no cell has, or None if there is none."""
     if np.dtype(dtype).kind == "f":
         ends = [float(np.finfo(dtype).min), -9999.0, 0.0]
     else:
@@ -301,7 +301,7 @@ KINDS = {
 
 
 def values_of(random: Any, kind: str, count: int) -> list[Any]:
-    """Values of a field, of which some are missing."""
+    """Return values of a field, some of which are missing."""
     pool: list[Any] = {
         "int": [0, 1, 2, 5, -4, 7, 2147483647],
         "long": [5, 3000000000, 1234567890123456, 1234567890123457, 8],
@@ -314,7 +314,7 @@ def values_of(random: Any, kind: str, count: int) -> list[Any]:
 
 
 def ring_of(random: Any, frame: Frame) -> list[tuple[float, float]]:
-    """A box along cells, or a star of three to six corners, closed."""
+    """Return a box along cell edges, or a star with three to six corners, as a closed ring."""
     east, south = frame.west + frame.width * frame.cols, frame.north - frame.height * frame.rows
     if random.random() < 0.4:
         x = sorted(int(it) for it in random.integers(-1, frame.cols + 2, 2))
@@ -342,7 +342,7 @@ def ring_of(random: Any, frame: Frame) -> list[tuple[float, float]]:
 
 
 def zones_of(random: Any, folder: pathlib.Path, name: str, frame: Frame) -> Made:
-    """Random polygons in a file."""
+    """Write random polygons to a file."""
     has_code = frame.system.text.startswith("EPSG")
     endings = [it for it in DRIVERS if it not in ("geojson", "shp") or has_code]
     ending = one_of(random, endings)
@@ -431,7 +431,8 @@ def _text_of(parts: Any) -> str:
 def legend_of(
     random: Any, folder: pathlib.Path, name: str, codes: Sequence[int]
 ) -> tuple[str, dict[int, str] | None]:
-    """A legend of some classes in a file, and its labels; None if it must be rejected."""
+    """Write a legend of some classes, and return it with its labels, or with None if it must be
+    rejected."""
     kept = [code for code in codes if random.random() < 0.9] or list(codes)
     pool = LABELS[: one_of(random, (3, 6, len(LABELS)))]
     labels = {code: one_of(random, pool) for code in kept}
@@ -454,7 +455,7 @@ def legend_of(
 
 
 def _rows(random: Any, labels: dict[int, str], mark: str) -> str:
-    """The lines of a CSV, in one of the ways that people write it."""
+    """Return the lines of a CSV, in one of the common styles."""
     titles = [
         one_of(random, ("value", "Value", "VALUE")),
         one_of(random, ("label", "Label", " label")),
@@ -475,7 +476,7 @@ def _rows(random: Any, labels: dict[int, str], mark: str) -> str:
 
 
 def _style(random: Any, entries: Sequence[Any]) -> str:
-    """A style of QGIS."""
+    """Return a QGIS style."""
     is_ramp = random.random() < 0.4
     tag = "item" if is_ramp else "paletteEntry"
     turned = random.random() < 0.3

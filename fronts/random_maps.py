@@ -1,4 +1,4 @@
-"""Random calls that return maps, and random trajectories; random_calls.py draws and runs them."""
+"""Random calls that return maps, and random trajectories. random_calls.py draws and runs them."""
 
 from __future__ import annotations
 
@@ -15,7 +15,7 @@ MAPS = ("changes", "first_change", "last_change")
 
 
 def lc_of(calls: Any) -> Raster:
-    """The cells of a map `lc`."""
+    """Draw a map `lc`, and return its cells."""
     calls.raster("lc")
     calls.settled()
     held: Raster = calls.held("lc")
@@ -23,7 +23,7 @@ def lc_of(calls: Any) -> Raster:
 
 
 def codes_of(held: Raster) -> list[int]:
-    """The classes of a map."""
+    """Return the classes of a map."""
     codes: list[int] = np.unique(held.cells[~held.null]).tolist()
     return codes
 
@@ -54,7 +54,8 @@ def within(calls: Any) -> Lines:
     calls.option("classes", ",".join(map(str, classes)))
     metres = lc.frame.system.metres or 1.0
     size = min(lc.frame.width, lc.frame.height) * metres
-    # Multiples of a cell are on the limit, which libraries know to different digits in feet.
+    # Multiples of a cell are exactly at the limit. Libraries compute that limit in feet with
+    # different precision.
     steps = (1, 2, 3, 5) if metres == 1.0 else (0.7, 1.3, 2.6)
     found = {size * step * one_of(calls.random, (1, 1, 1.37)) for step in steps}
     distances = sorted(found)[: int(calls.random.integers(1, 4))]
@@ -70,7 +71,7 @@ def aggregate(calls: Any) -> Lines:
     if is_bad:
         raise Refusal("factor is out of its range")
     min_percent = calls.picked("min_percent", (0, 30, 50, 100), (-1, 101)) or 0
-    # A map without a class has no shares: writing them is an error.
+    # A map without classes has no shares, so writing them is an error.
     is_shares = calls.chance(0.4) and bool(codes_of(lc))
     if is_shares:
         calls.option("map", "shares")

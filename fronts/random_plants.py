@@ -1,7 +1,7 @@
-"""Old mistakes, each brought back into what a package reads or prints, for `random_calls.py --plants`.
+"""Old bugs, each reintroduced into what a package reads or prints, for `random_calls.py --plants`.
 
-A plant stands for a mistake of a package, whichever it was: it changes the files of a call as the mistake did when it read them, or the
-lines that come out.
+A plant imitates a bug of any package. It changes the files of a call in the way in which the bug
+misread them, or it changes the lines of the result.
 """
 
 from __future__ import annotations
@@ -38,7 +38,8 @@ class Plant:
 
 
 def _rewritten(folder: pathlib.Path, made: Made, value_of: Callable[[Any], Any]) -> bool:
-    """Write polygons of one layer again with other values of their field; return whether one changed."""
+    """Write polygons of one layer again with different values of their field, and return whether
+    one changed."""
     if not made.features or "|" in made.file or made.refused or not made.kind:
         return False
     features = [replace(it, value=value_of(it.value)) for it in made.features]
@@ -79,7 +80,7 @@ def _first_layer(folder: pathlib.Path, trial: Any) -> bool:
 
 
 def _edited(trial: Any, folder: pathlib.Path, edit: Callable[[Any], bool]) -> bool:
-    """Edit the rasters of a call; return whether one changed."""
+    """Edit the rasters of a call, and return whether one changed."""
     changed = False
     for made in trial.maps.values():
         if made.file.endswith(".tif"):
@@ -119,7 +120,7 @@ def _unread_marks(folder: pathlib.Path, trial: Any) -> bool:
 
 
 def _joined_columns(lines: Lines) -> Lines:
-    """Of the columns of a matrix with one label only the first."""
+    """Return only the first of a matrix's columns that have the same label."""
     titles = lines[0].split("|")
     if "from" not in titles:
         return lines
@@ -130,7 +131,7 @@ def _joined_columns(lines: Lines) -> Lines:
 
 
 def _no_quantiles(lines: Lines) -> Lines:
-    """Quantiles are null if values are too far apart for 32 bits."""
+    """Return lines in which quantiles are null if the values are too far apart for 32 bits."""
     titles = lines[0].split("|")
     if "minimum" not in titles:
         return lines

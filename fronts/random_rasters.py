@@ -1,11 +1,16 @@
-"""Random rasters through the packages, cell by cell against numpy: types, nodata, alpha, masks, blocks, transforms, reference systems, labels.
+"""Compare random rasters, read through the packages, with numpy, cell by cell.
 
     /usr/bin/python3 fronts/random_rasters.py [--count N] [--seconds N] [--seed N] [FRONT...]
 
-Sixteen rasters of one place go through one call of a package, and their cells come back with the labels of one of them. A raster that is no
-map must be rejected, by row and column if a cell is bad, and so must maps of two places. Of r.rcell its own part is tried, from the
-numbers that GRASS hands out to the text of a grid; `shell` is `rcell-gis convert` and rcell; `tiles` is Python by tiles.
-Progress comes every 5,000 rasters; a group is made again by --seed and --from. The last line is 'N passed, M failed, K skipped'.
+The rasters vary in type, nodata, alpha, masks, blocks, transforms, reference systems and labels.
+Sixteen rasters of one location go through one call of a package, which returns their cells and the
+labels of one of them. A raster that is not a map must be rejected, with row and column if a cell is
+bad, and so must maps of two locations. For r.rcell, only its own part is tested, from the numbers
+that GRASS returns to the text of a grid. `shell` is `rcell-gis convert` followed by rcell; `tiles`
+is Python with tiles.
+
+Progress is printed every 5,000 rasters. Repeat a group with --seed and --from. The last line is 'N
+passed, M failed, K skipped'.
 """
 
 from __future__ import annotations
@@ -60,7 +65,7 @@ REFUSED_SYSTEM = "reference system|CRS"
 
 @dataclass
 class Place:
-    """What the rasters of one call have in common."""
+    """The properties that the rasters of one call share."""
 
     rows: int
     cols: int
@@ -72,7 +77,7 @@ class Place:
 
 @dataclass
 class Made:
-    """A raster, its cells, and what an error has to say if it is no map."""
+    """A raster, its cells, and the expected error if it is not a map."""
 
     path: str
     cells: Any
@@ -82,7 +87,8 @@ class Made:
     has_wide_null: bool
 
     def reason_in(self, front: str) -> str:
-        """Why a package rejects it: R rejects masks, and nulls that a float cannot distinguish from their neighbours."""
+        """Return why a package rejects the raster. R rejects masks, and nulls that a float cannot
+        distinguish from nearby numbers."""
         own = ["mask of its own"] * self.has_mask + ["64 bits"] * self.has_wide_null
         return "|".join(filter(None, [self.reason, *(own if front == "r" else [])]))
 
@@ -118,7 +124,8 @@ def place_of(random: Any) -> Place:
 
 
 def cells_of(random: Any, dtype: Any, shape: tuple[int, int]) -> Any:
-    """Whole numbers that the type holds: a few, many, or any; sometimes the largest among them."""
+    """Return integers that fit in the type: a few, many, or any, and sometimes the largest among
+    them."""
     is_real = np.dtype(dtype).kind == "f"
     limits = (
         (-(2**24), 2**24)
@@ -144,7 +151,8 @@ def cells_of(random: Any, dtype: Any, shape: tuple[int, int]) -> Any:
 
 
 def nodata_of(random: Any, cells: Any) -> Any:
-    """A nodata value, or None: one of the cells, one that no cell has or no cell can have, an end of the type, NaN."""
+    """Return a nodata value, or None. The value may be a cell's, a value that no cell has or can
+    have, a limit of the type, or NaN."""
     is_real, is_wide = cells.dtype.kind == "f", cells.dtype.itemsize == 8
     limits: Any = np.finfo(cells.dtype) if is_real else np.iinfo(cells.dtype)
     one, end, before = (
@@ -193,7 +201,8 @@ def null_cells(cells: Any, nodata: Any, opaque: list[Any]) -> Any:
 
 
 def spoil(random: Any, cells: Any, nodata: Any, null: Any) -> str:
-    """Puts a cell that is no category, and returns where; nothing if the type has none."""
+    """Insert a cell that is not a category, and return where, or nothing if the type has no such
+    value."""
     kind = cells.dtype
     if kind.kind == "f":
         bad: Any = random.choice([0.5, 1e12, -2147483648.0, np.inf])
@@ -213,7 +222,7 @@ def spoil(random: Any, cells: Any, nodata: Any, null: Any) -> str:
 
 @dataclass
 class Form:
-    """How a raster is laid down, besides its cells and its nodata."""
+    """How a raster is stored, apart from its cells and nodata value."""
 
     kind: int
     options: list[str]
@@ -243,7 +252,7 @@ def form_of(random: Any, kind: int, shape: tuple[int, int]) -> Form:
 
 
 def make(random: Any, place: Place, path: str, projection: str) -> Made:
-    """Writes a raster, and computes what a package must return."""
+    """Write a raster, and compute what a package must return."""
     shape, kind = (place.rows, place.cols), list(TYPES)[random.integers(len(TYPES))]
     cells, form = cells_of(random, TYPES[kind], shape), form_of(random, kind, shape)
     nodata = nodata_of(random, cells)
@@ -319,7 +328,7 @@ def projection_of(epsg: int) -> str:
 
 
 class Asked(NamedTuple):
-    """Maps that go through one call, and the place of the one that comes as a map with labels."""
+    """Maps that go through one call, and the index of the map that is returned with labels."""
 
     rows: int
     cols: int
@@ -407,7 +416,7 @@ def answer_of_shell(asked: Asked) -> Answer:
 
 
 def answer_of_program(asked: Asked, text_of: Callable[[str], bytes]) -> Answer:
-    """What rcell itself makes of grids."""
+    """Return the output of rcell itself for grids."""
     words = [os.environ["RCELL"], f"{asked.paths[0]}.script"]
     for name, path in zip(["", *asked.names], [words[1], *asked.paths]):
         pathlib.Path(path if not name else f"{path}.grid").write_bytes(
@@ -421,7 +430,7 @@ def answer_of_program(asked: Asked, text_of: Callable[[str], bytes]) -> Answer:
 
 
 def parsed(asked: Asked, text: bytes) -> list[Any]:
-    """The cells that are printed, as a list and as a grid."""
+    """Return the printed cells, as a list and as a grid."""
     lines, size = text.replace(b"*", b"%d" % NULL).split(b"\n"), asked.rows * asked.cols
     return [
         np.fromstring(b" ".join(part), np.int64, sep=" ")
@@ -430,7 +439,8 @@ def parsed(asked: Asked, text: bytes) -> list[Any]:
 
 
 def work(answer: Callable[[Asked], Answer]) -> None:
-    """Read lines, and print for each a line and the cells of each map in turn, if there are any."""
+    """Read lines, and print a line for each, followed by the cells of each map in turn, if there
+    are any."""
     for line in sys.stdin:
         rows, cols, again, *paths = line.rstrip("\n").split("\t")
         asked = Asked(int(rows), int(cols), int(again), paths)
@@ -452,7 +462,7 @@ def work(answer: Callable[[Asked], Answer]) -> None:
 
 @dataclass
 class Front:
-    """A package at work, and its wrong results."""
+    """A package's process, and its wrong results."""
 
     name: str
     passed: int = 0
@@ -465,7 +475,8 @@ class Front:
             if self.name == "r"
             else [sys.executable, "-W", "ignore", __file__, "--work", self.name]
         )
-        # R starts programs with fork, which copies its table of pages: huge ones are few.
+        # R starts programs with fork, which copies its page table. With huge pages, the table is
+        # small.
         known = {
             **environment(),
             "PYTHONPATH": str(REPOSITORY / paths.get(self.name, "python/src")),
@@ -476,7 +487,7 @@ class Front:
         )
 
     def ask(self, place: Place, rasters: list[Made], again: int) -> tuple[str, bytes]:
-        """What the package returns for some rasters of one call."""
+        """Return the package's result for the rasters of one call."""
         assert self._process.stdin is not None and self._process.stdout is not None
         line = "\t".join(
             [str(place.rows), str(place.cols), str(again), *(made.path for made in rasters)]
@@ -490,7 +501,7 @@ class Front:
         )
 
     def judge(self, place: Place, rasters: list[Made], again: int) -> None:
-        """Compares what the package returns with what numpy says."""
+        """Compare the package's result with numpy's."""
         head, told = self.ask(place, rasters, again)
         wanted, labels = [made.cells.tobytes() for made in [*rasters, rasters[again]]], rasters[
             again
@@ -514,7 +525,7 @@ class Front:
                 )
 
     def refuses(self, place: Place, rasters: list[Made], reason: str) -> None:
-        """Sees that rasters are rejected, and why."""
+        """Check that rasters are rejected, and for the right reason."""
         head = self.ask(place, rasters, 0)[0]
         if not head.startswith("cells ") and re.search(reason, head):
             self.passed += 1
@@ -524,7 +535,7 @@ class Front:
             )
 
     def end(self) -> None:
-        """Ends the package's process."""
+        """End the package's process."""
         self._process.communicate()
 
 
@@ -570,7 +581,7 @@ def try_group(
 
 
 def run(asked: argparse.Namespace, fronts: list[Front], room: str) -> None:
-    """Tries groups until there are enough, or the time is over."""
+    """Test groups until there are enough, or time is up."""
     last: list[tuple[Place, Made]] = []
     began, told = time.monotonic(), 0
     for number in range(asked.start, asked.start + -(-asked.count // GROUP)):

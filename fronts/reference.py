@@ -1,4 +1,5 @@
-"""What the ready calls must print, computed with numpy and scipy alone: nothing here is shared with the product."""
+"""Compute the expected results of the ready-made calls, with only numpy and scipy. No code is
+shared with the product."""
 
 from __future__ import annotations
 
@@ -56,14 +57,14 @@ class Frame:
     system: System
 
     def centres(self) -> tuple[Any, Any]:
-        """The coordinates of the centres of columns and of rows."""
+        """Return the coordinates of the centres of columns and rows."""
         x = self.west + self.width * (np.arange(self.cols) + 0.5)
         return x, self.north - self.height * (np.arange(self.rows) + 0.5)
 
 
 @dataclass
 class Raster:
-    """A map: its cells, those that are null, and its labels."""
+    """A map: its cells, its null cells, and its labels."""
 
     cells: Any
     null: Any
@@ -73,7 +74,7 @@ class Raster:
 
 @dataclass
 class Feature:
-    """A feature of a layer: rings by part (None without geometry), and the value of a field."""
+    """A feature of a layer: its rings by part (None without geometry), and the value of a field."""
 
     fid: int
     parts: list[list[list[tuple[float, float]]]] | None
@@ -81,21 +82,21 @@ class Feature:
 
 
 def shown(value: Any) -> str:
-    """A value as the table of cases prints it."""
+    """Return a value as printed in the table of cases."""
     if value is None or value != value:
         return "*"
     return f"{value:.12g}" if isinstance(value, float) else str(value)
 
 
 def table(columns: Iterable[Column]) -> Lines:
-    """The lines of a table."""
+    """Return the lines of a table."""
     kept = list(columns)
     rows = zip(*(values for _, values in kept))
     return ["|".join(title for title, _ in kept)] + ["|".join(map(shown, row)) for row in rows]
 
 
 def grid(cells: Any, null: Any) -> Lines:
-    """The lines of a map."""
+    """Return the lines of a map."""
     return [
         " ".join("*" if is_null else str(cell) for cell, is_null in zip(*row))
         for row in zip(cells.tolist(), null.tolist())
@@ -106,7 +107,7 @@ def grid(cells: Any, null: Any) -> Lines:
 
 
 def row_areas(frame: Frame) -> Any:
-    """The area of a cell of each row in square metres."""
+    """Return the area of a cell in each row, in square metres."""
     system = frame.system
     if system.angle is None:
         if system.metres is None:
@@ -131,7 +132,7 @@ def row_areas(frame: Frame) -> Any:
 
 
 def unit_of(area: str, frame: Frame) -> str | None:
-    """The unit of areas of a call: `area` is one, `none`, or nothing if it is left out."""
+    """Return the unit of areas of a call. `area` is a unit, `none`, or empty if it is left out."""
     if area == "none":
         return None
     if not frame.system.text:
@@ -143,14 +144,14 @@ def unit_of(area: str, frame: Frame) -> str | None:
 
 
 def weights(frame: Frame, unit: str | None) -> Any:
-    """The area of each cell, or ones."""
+    """Return the area of each cell, or ones."""
     if unit is None:
         return np.ones((frame.rows, frame.cols))
     return np.repeat(row_areas(frame)[:, None] / DIVISORS[unit], frame.cols, axis=1)
 
 
 def metres(frame: Frame) -> float:
-    """The length of a unit; NaN if it is none."""
+    """Return the length of a unit in metres, or NaN if it is not a length."""
     return math.nan if frame.system.metres is None else frame.system.metres
 
 
@@ -160,7 +161,7 @@ def metres(frame: Frame) -> float:
 def labelled(
     title: str, classes: Sequence[Any], labels: Mapping[int, str], label: str = ""
 ) -> list[Column]:
-    """A column of classes, and one of labels if there are any."""
+    """Return a column of classes, and a column of labels if there are labels."""
     columns: list[Column] = [(title, classes)]
     if labels:
         columns.append((label or f"{title}_label", [labels.get(code) or None for code in classes]))
@@ -168,7 +169,7 @@ def labelled(
 
 
 def counted(maps: Sequence[Raster], unit: str | None) -> dict[tuple[Any, ...], tuple[int, float]]:
-    """The cells and the area of each combination; null is None and comes last."""
+    """Return the number of cells and the area of each combination. Null is None, and comes last."""
     keys = [
         [
             None if is_null else cell
@@ -189,7 +190,8 @@ def counted(maps: Sequence[Raster], unit: str | None) -> dict[tuple[Any, ...], t
 def sized(
     entries: Mapping[tuple[Any, ...], tuple[int, float]], unit: str | None, grouped: int
 ) -> list[Column]:
-    """Cells, areas and percentages; the first classes of an entry are its group."""
+    """Return the cells, areas and percentages of entries, which are grouped by their first
+    classes."""
     totals: dict[tuple[Any, ...], float] = {}
     for key, (_, area) in entries.items():
         if None not in key:
@@ -238,7 +240,7 @@ def cross(maps: Mapping[str, Raster], *, area: str, nulls: bool) -> Lines:
 def change(
     maps: Sequence[Raster], years: Sequence[int], *, area: str, labels: Any, part: str
 ) -> Lines:
-    """A part of a change: `table`, `matrix` or `summary`."""
+    """Return a part of a change: `table`, `matrix` or `summary`."""
     unit = unit_of(area, maps[0].frame)
     known = labels if labels is not None else next((it.labels for it in maps if it.labels), {})
     pairs = []
@@ -314,7 +316,7 @@ def _summary(
 def names_of(
     codes: Iterable[int], labels: Mapping[int, str], heads: Sequence[str]
 ) -> dict[int, str]:
-    """The names of classes in a matrix."""
+    """Return the names of classes in a matrix."""
     plain = {code: labels.get(code) or str(code) for code in codes}
     often = Counter([*plain.values(), "from", *heads])
     return {
@@ -340,7 +342,7 @@ def _matrix(
 
 
 def clumped(lc: Raster, connectivity: int) -> Any:
-    """The number of the patch of each cell, from 1 in the order of their first cells; 0 for null."""
+    """Return the patch number of each cell, from 1 in the order of first cells, or 0 for null."""
     form = np.ones((3, 3)) if connectivity == 8 else None
     found = np.zeros(lc.cells.shape, np.int64)
     for code in np.unique(lc.cells[~lc.null]):
@@ -354,7 +356,7 @@ def clumped(lc: Raster, connectivity: int) -> Any:
 
 
 def selected(lc: Raster, connectivity: int, classes: Any, min_cells: int) -> dict[int, Any]:
-    """The cells of the patches that are wanted, by number."""
+    """Return the cells of the selected patches, by patch number."""
     numbers = clumped(lc, connectivity)
     found = {}
     for number in range(1, int(numbers.max(initial=0)) + 1):
@@ -537,7 +539,8 @@ def reclass(lc: Raster, *, rules: Mapping[int, int | None], other: str) -> Lines
 
 
 def inside(parts: Any, frame: Frame) -> Any:
-    """The cells whose centre is in a polygon, by the edges to the right of it."""
+    """Return the cells whose centre is in a polygon, using the edges to the right of each
+    centre."""
     x, y = frame.centres()
     found = np.zeros((frame.rows, frame.cols), bool)
     for ring in itertools.chain.from_iterable(parts):
@@ -565,7 +568,8 @@ def text_of(value: Any) -> str:
 def ids_of(
     features: Sequence[Feature], has_field: bool, most: int
 ) -> tuple[list[Feature], list[int], dict[int, str]]:
-    """The features that have a zone, their zones, and the labels of zones; `most` is the largest whole number that is an id."""
+    """Return the features with a zone, their zones, and the labels of zones. `most` is the largest
+    integer that can be an id."""
     kept = [
         it for it in features if it.parts is not None and not (has_field and is_missing(it.value))
     ]
@@ -582,7 +586,7 @@ def ids_of(
 
 
 def zones_of(features: Sequence[Feature], has_field: bool, frame: Frame, most: int) -> Raster:
-    """Zones of polygons: the later one has a cell."""
+    """Return the zones of polygons. If polygons overlap, a cell belongs to the last one."""
     kept, ids, labels = ids_of(features, has_field, most)
     cells, null = np.zeros((frame.rows, frame.cols), np.int64), np.ones(
         (frame.rows, frame.cols), bool

@@ -1,4 +1,5 @@
-"""What dominant, accuracy, sample, metrics and zonal with a scale must print, written out over reference.py."""
+"""Compute the expected results of dominant, accuracy, sample, metrics and zonal with a scale, using
+reference.py."""
 
 from __future__ import annotations
 
@@ -12,19 +13,20 @@ import numpy as np
 import reference
 from reference import DIVISORS, Column, Frame, Lines, Raster, Refusal, labelled, metres, table
 
-# Zones one by one: the id of each, and its cells. They may overlap.
+# Zones one by one: the id of each, and its cells. Zones may overlap.
 Zones = Sequence[tuple[int, Any]]
 Labels = Mapping[int, str]
 
 
 def zones_apart(zones: Raster) -> list[tuple[int, Any]]:
-    """The zones of a map; of a map of nulls one without a cell."""
+    """Return the zones of a map. A map of only nulls has one zone without cells."""
     ids = np.unique(zones.cells[~zones.null]).tolist() or [0]
     return [(zone, (zones.cells == zone) & ~zones.null) for zone in ids]
 
 
 def zones_of_each(features: Any, has_field: bool, frame: Frame, most: int) -> Any:
-    """The zones of polygons one after another, and their labels: a cell is in each polygon that has its centre."""
+    """Return the zones of polygons one by one, and their labels. A cell is in each polygon that
+    contains its centre."""
     kept, ids, labels = reference.ids_of(features, has_field, most)
     masks: dict[int, Any] = {}
     for it, number in zip(kept, ids):
@@ -36,12 +38,12 @@ def zones_of_each(features: Any, has_field: bool, frame: Frame, most: int) -> An
 
 
 def appended(parts: Sequence[Lines]) -> Lines:
-    """The rows of several tables of the same columns."""
+    """Return the rows of several tables with the same columns."""
     return [parts[0][0], *(line for part in parts for line in part[1:])]
 
 
 def of_each(call: Any, values: Raster, zones: Zones, known: Labels, **words: Any) -> Lines:
-    """The tables of a call with one zone at a time."""
+    """Return the tables of a call that is run with one zone at a time."""
     frame = values.frame
     alone = (
         Raster(np.full(mask.shape, zone, np.int64), ~mask, frame, dict(known))
@@ -51,7 +53,7 @@ def of_each(call: Any, values: Raster, zones: Zones, known: Labels, **words: Any
 
 
 def dominant(lc: Raster, zones: Zones, labels: Labels, zone_labels: Labels, *, area: str) -> Lines:
-    """The most frequent class of each zone, and the rarest."""
+    """Return the most frequent and the rarest class of each zone."""
     unit = reference.unit_of(area, lc.frame)
     areas = reference.weights(lc.frame, unit)
     counts = {zone: Counter(lc.cells[mask & ~lc.null].tolist()) for zone, mask in zones}
@@ -81,7 +83,8 @@ def accuracy(
     unit: str | None,
     part: str,
 ) -> Lines:
-    """A part of an accuracy: equations 1 to 11 of Olofsson et al. 2014, class by class."""
+    """Return a part of an accuracy assessment: equations 1 to 11 of Olofsson et al. 2014, class by
+    class."""
     if not sum(pairs.values()):
         raise Refusal("an empty sample")
     codes = {code for pair in pairs for code in pair}
@@ -161,7 +164,8 @@ def _summary(classes: Any, joint: Any, column: Any, square: Any, cells: int) -> 
 
 
 def sample(lc: Raster, labels: Labels, *, n: Any, seed: str, allocation: str) -> Lines:
-    """Cells of each class, by Floyd's algorithm with numbers of SHA-256."""
+    """Return sampled cells of each class, using Floyd's algorithm with random numbers from
+    SHA-256."""
     places = {
         code: np.argwhere((lc.cells == code) & ~lc.null).tolist()
         for code in np.unique(lc.cells[~lc.null]).tolist()
@@ -216,7 +220,7 @@ def _ranks(key: str, size: int, count: int) -> list[int]:
 def metrics(
     lc: Raster, zones: Zones | None, labels: Labels, zone_labels: Labels, **words: Any
 ) -> Lines:
-    """Metrics of a map, or of each zone as if it were alone."""
+    """Return the metrics of a map, or of each zone as a separate map."""
     if zones is None:
         return _metrics(lc, labels, **words)
     parts = []
@@ -269,7 +273,8 @@ class _Landscape:
         return ends, flanks
 
     def _pairs(self) -> Counter[tuple[int, int, bool]]:
-        """How often two classes are next to each other: the smaller, the larger, and whether one is below the other."""
+        """Return how often two classes are adjacent, keyed by the smaller class, the larger class,
+        and whether one is below the other."""
         found: Counter[tuple[int, int, bool]] = Counter()
         cells, null = self.lc.cells, self.lc.null
         for one, other, is_end in (
@@ -325,7 +330,8 @@ class _Landscape:
         return [*names, *(more if is_landscape else [])]
 
     def lengths(self, code: int | None) -> dict[tuple[int, int], float]:
-        """The length of the border between each two classes, of one class or of all."""
+        """Return the length of the border between each pair of classes, for one class or for
+        all."""
         found: dict[tuple[int, int], float] = {}
         for (one, other, is_end), count in self.pairs.items():
             if one != other and code in (None, one, other):
@@ -334,7 +340,7 @@ class _Landscape:
         return found
 
     def measures(self, chosen: list[bool], code: int | None) -> dict[str, Any]:
-        """The measures that classes and landscapes have in common."""
+        """Return the measures that classes and landscapes share."""
         unit, every = self.unit or "cells", [at for at, is_in in enumerate(chosen) if is_in]
         whole, cells = math.fsum(self.sizes), sum(self.cells)
         sizes = [self.sizes[at] for at in every]
@@ -418,7 +424,7 @@ def _mixed(borders: Mapping[Any, float], kinds: int) -> float:
 
 
 def zonal(values: Raster, zones: Raster, *, scale: int, **words: Any) -> Lines:
-    """Statistics of decimals that are rounded to 1 / scale."""
+    """Return statistics of decimals that are rounded to 1 / scale."""
     whole = np.rint(np.where(values.null, 0, values.cells).astype(np.float64) * scale)
     if np.abs(whole).max() > reference.MOST:
         raise Refusal("a value that does not fit")

@@ -1,4 +1,5 @@
-"""What the calls that return maps must print, and trajectories: with numpy and scipy alone, as in reference.py."""
+"""Compute the expected results of trajectories and of calls that return maps, with only numpy and
+scipy, as in reference.py."""
 
 from __future__ import annotations
 
@@ -18,7 +19,7 @@ SQUARE_METRES = 10000.0
 def sieve(
     lc: Raster, *, min_cells: int | None, min_ha: float | None, connectivity: int, drop: bool
 ) -> Lines:
-    """Find all patches again after each step."""
+    """Sieve a map, and find all patches again after each step."""
     fewest = cells_of(lc, min_ha) if min_cells is None else min_cells
     cells, null = lc.cells.copy(), lc.null.copy()
     before = reference.clumped(lc, connectivity)
@@ -37,7 +38,7 @@ def sieve(
 
 
 def cells_of(lc: Raster, min_ha: float | None) -> int:
-    """The cells of an area in hectares."""
+    """Return the number of cells for an area in hectares."""
     metres = lc.frame.system.metres
     if min_ha is None or not lc.frame.system.text or metres is None:
         raise Refusal("hectares of a map without metres, or no size")
@@ -46,7 +47,8 @@ def cells_of(lc: Raster, min_ha: float | None) -> int:
 
 
 def merged_one(cells: Any, numbers: Any, fewest: int) -> bool:
-    """Give the first smallest patch that has a neighbour the class of the neighbour with the longest border."""
+    """Give the first of the smallest patches that have a neighbour the class of the neighbour with
+    the longest common border."""
     shared: Counter[tuple[int, int]] = Counter()
     for one, two in ((numbers[:, :-1], numbers[:, 1:]), (numbers[:-1], numbers[1:])):
         pairs = [it for it in zip(one.ravel().tolist(), two.ravel().tolist()) if it[0] != it[1]]
@@ -62,7 +64,7 @@ def merged_one(cells: Any, numbers: Any, fewest: int) -> bool:
 
 
 def within(lc: Raster, *, classes: Sequence[int], distances: Sequence[float]) -> Lines:
-    """Compare squares of distances as fractions."""
+    """Return the cells within distances of classes. Squared distances are compared as fractions."""
     metres = lc.frame.system.metres
     if not lc.frame.system.text or metres is None:
         raise Refusal("distances of a map without metres")
@@ -79,7 +81,7 @@ def within(lc: Raster, *, classes: Sequence[int], distances: Sequence[float]) ->
 
 
 def aggregate(lc: Raster, *, factor: int, min_percent: float, is_shares: bool) -> Lines:
-    """Cut the map into blocks."""
+    """Aggregate a map in blocks."""
     rows, cols = (-(-size // factor) for size in lc.cells.shape)
     classes = np.unique(lc.cells[~lc.null]).tolist()
     shares = np.full((len(classes), rows, cols), math.nan)
@@ -105,14 +107,14 @@ def aggregate(lc: Raster, *, factor: int, min_percent: float, is_shares: bool) -
 
 
 def steps_of(way: Sequence[Any], years: Sequence[int]) -> list[int]:
-    """The years in which a new class is first seen."""
+    """Return the years in which a new class is first seen."""
     return [year for year, one, two in zip(years[1:], way, way[1:]) if one != two]
 
 
 def trajectories(
     maps: Sequence[Raster], years: Sequence[int], *, area: str, labels: Any, part: str
 ) -> Lines:
-    """A table of trajectories: `table`, `changes` or `intervals`."""
+    """Return a table of trajectories: `table`, `changes` or `intervals`."""
     unit = reference.unit_of(area, maps[0].frame)
     known = labels if labels is not None else next((it.labels for it in maps if it.labels), {})
     entries = reference.counted(maps, unit)
@@ -161,7 +163,8 @@ def _intervals(entries: Any, years: Sequence[int], unit: str | None) -> Lines:
 
 
 def map_of_changes(maps: Sequence[Raster], years: Sequence[int], name: str) -> Lines:
-    """A map of trajectories: `changes`, `first_change` or `last_change`; the tables are made as well."""
+    """Return a map of trajectories: `changes`, `first_change` or `last_change`. The tables are also
+    computed."""
     reference.unit_of("", maps[0].frame)
     null = np.any([it.null for it in maps], axis=0)
     found = np.zeros(null.shape, np.int64)

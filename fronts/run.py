@@ -1,8 +1,9 @@
-"""Runs the table of cases on each package that is installed, and compares; the last line is 'N passed, M failed, K skipped'.
+"""Run the table of cases with each installed package, and compare the results.
 
     /usr/bin/python3 fronts/run.py [FRONT...]
 
-The runner of a package is a program that prints for each case a line `case NAME`, and below it, each after a blank, what came out.
+Each package has a runner, which prints the line `case NAME` for each case and, below it, the
+result, with a blank before each line. The last line is 'N passed, M failed, K skipped'.
 """
 
 from __future__ import annotations
@@ -71,7 +72,7 @@ MISSING = {
     "qgis": missing_of_qgis,
     "grass": missing_of_grass,
 }
-# Packages of Debian.
+# Debian packages.
 PACKAGES = {
     "python": "python3-numpy python3-rasterio python3-pandas",
     "shell": "python3-numpy python3-rasterio python3-pandas",
@@ -89,7 +90,7 @@ COMMANDS = {
 
 
 def found_by(front: str, folder: pathlib.Path = HERE) -> tuple[dict[str, list[str]], str]:
-    """Return the results of a package by case of a folder, and its other output."""
+    """Return the results of a package, by case, for a folder, and its other output."""
     known = {**environment(), "RCELL_CASES": str(folder)}
     ran = subprocess.run(
         COMMANDS[front], env=known, capture_output=True, encoding="utf-8", errors="replace"
@@ -106,7 +107,8 @@ def found_by(front: str, folder: pathlib.Path = HERE) -> tuple[dict[str, list[st
 
 
 def is_right(case: Case, front: str, lines: list[str]) -> bool:
-    """A result must be the same; of an error all that the case names, the text as far as it goes."""
+    """Return whether a result is right. It must be the same; an error must match all parts that the
+    case names, and its text as far as given."""
     expected, is_refused = case.expected_of(front)
     kept: dict[str, list[str]] = {"types: ": [], "warned: ": [], "changed: ": [], "": []}
     for line in lines:
@@ -129,7 +131,7 @@ def is_right(case: Case, front: str, lines: list[str]) -> bool:
 
 
 def are_told(wanted: list[str] | None, warnings: list[str]) -> bool:
-    """Whether each warning has the parts that a case names, in this order."""
+    """Return whether each warning contains the parts that a case names, in this order."""
     forms = [".*".join(map(re.escape, text.split(" .. "))) for text in wanted or []]
     return wanted is None or (
         len(forms) == len(warnings)
@@ -138,7 +140,8 @@ def are_told(wanted: list[str] | None, warnings: list[str]) -> bool:
 
 
 def run(front: str) -> tuple[int, int, int]:
-    """How many cases passed on a package, failed, and were skipped since the package is not installed."""
+    """Return how many cases passed, failed, and were skipped because the package is not
+    installed."""
     tried = [case for case in cases() if case.is_for(front)]
     missing = MISSING[front]()
     if missing:
