@@ -6,7 +6,7 @@
 There are three parts:
 
 - `tables` merges the tables of 2, 64 and 1,000 tiles, with each entry in one, some or all of them.
-  It is compared with `sort -m`, and with `sort -m` followed by awk, which adds up equal lines.
+  It is compared with `sort -m`, and with `sort -m` and then awk, which adds up equal lines.
 - `clumps` joins the borders of many tiles. It is compared with scipy's connected_components on the
   pairs of clumps that meet at seams. The last rows are 488 tiles of 1,025 x 8,200 cells in 61 rows,
   and 1,500 and 5,000 tiles of 256 x 256 cells.

@@ -1,15 +1,20 @@
 #!/usr/bin/env python3
-"""Writes the real maps of the benchmark as grids under bench/out, from packages of Debian, if they are not there yet.
+"""Write the real maps of the benchmark as grids under bench/out, from Debian packages, if they do
+not exist.
 
-    real-land.txt       land, lakes, islands in lakes and their ponds of South-East Asia in steps of 30 arc seconds, 7080 by 3840
-                        cells of five categories (coasts of GSHHG 2.3.7, by way of GMT)
-    real-countries.txt  the countries of the same area by their borders (DCW 2.1.1), null beyond them
-    real-cover.txt      land cover of Puerto Rico in 13 classes (NLCD, 84 by 46 cells of 3 km, of the R package stars), laid side by
-                        side until it has 5040 by 5014 cells: each patch is a real one, and the map is large
-    real-heights.txt    heights and depths of the globe in metres, ETOPO5, 4320 by 2161 cells (of ferret-datasets)
+    real-land.txt       land, lakes, islands in lakes and their ponds in South-East Asia, in steps
+    of
+                        30 arc seconds: 7080 x 3840 cells, five categories (coasts of GSHHG 2.3.7,
+                        through GMT)
+    real-countries.txt  the countries of the same area (borders of DCW 2.1.1), null elsewhere
+    real-cover.txt      land cover of Puerto Rico in 13 classes (NLCD, 84 x 46 cells of 3 km, from
+                        the R package stars), repeated up to 5040 x 5014 cells, so that each patch
+                        is real and the map is large
+    real-heights.txt    heights and depths of the globe in metres, ETOPO5, 4320 x 2161 cells (from
+                        ferret-datasets)
 
-It needs the packages gmt, gmt-gshhg-full, gmt-dcw, gdal-bin, python3-gdal and python3-numpy; the ones for the last two maps are only
-unpacked. Run it by the Python of Debian, /usr/bin/python3.
+Needs the packages gmt, gmt-gshhg-full, gmt-dcw, gdal-bin, python3-gdal and python3-numpy. The
+packages for the last two maps are only unpacked. Run it with Debian's Python, /usr/bin/python3.
 """
 import glob
 import os

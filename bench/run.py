@@ -91,7 +91,7 @@ class Taken:
 
     @property
     def seconds(self):
-        """Return the smallest time, which was disturbed least by other work."""
+        """Return the smallest time, in which other work interfered the fewest times."""
         return min(self.rounds)
 
     @property

@@ -1,14 +1,18 @@
 #!/usr/bin/env python3
-"""The gate: every proof, then the proved programs on the cases, the documents and the release, and each package.
+"""Run the gate: all proofs, then the proved programs on the cases, the documents and the release,
+and each package.
 
     check.py [--complete] [PART..]
-    check.py --unproved [PART..]      only what needs no proof, on programs that are compiled here without proofs (`make test`)
+    check.py --unproved [PART..]      only what needs no proofs, with programs compiled without them
+                                      (`make test`)
 
-Without names all parts are run; `list` prints their names. The programs are in bin/, or where RCELL_BIN says. A part is a program that ends in 'N passed, M failed' or
-'N passed, M failed, K skipped' on standard output; its standard error is shown and never counted. What is not installed is
-skipped, with a line 'skipped  PART: NEEDS; install: apt-get install PACKAGES'. At the end there is a table of the parts with
-their processor seconds, and a closing line of all counts: the status is 0 if nothing failed and, with --complete, nothing was
-skipped. The closing line of a whole run is kept in bin/gate, where PROVED.txt of the release finds it.
+Without names, all parts are run; `list` prints their names. The programs are in bin/, or in
+RCELL_BIN. A part is a program whose output ends in 'N passed, M failed' or 'N passed, M failed, K
+skipped'; its standard error is shown but not counted. If something is not installed, the part is
+skipped, with a line 'skipped  PART: NEEDS; install: apt-get install PACKAGES'. At the end, a table
+of the parts with their processor seconds and a closing line with all counts are printed. The status
+is 0 if nothing failed and, with --complete, nothing was skipped. The closing line of a full run is
+kept in bin/gate, for PROVED.txt of the release.
 """
 import argparse
 import functools
@@ -28,7 +32,7 @@ import build
 ROOT = build.ROOT
 COUNTS = re.compile(r"(\d+) passed, (\d+) failed(?:, (\d+) skipped)?\n?")
 SKIPPED = "skipped  "
-# How a command says what it ran and what was kept from earlier runs.
+# How a command reports what it ran, and what it kept from earlier runs.
 NOTE = re.compile(r"rt: ok; |ran: ")
 PYTHON = [sys.executable]
 CLANG = "CLANG"  # stands for the kit's clang in a command
@@ -36,7 +40,8 @@ CLANG = "CLANG"  # stands for the kit's clang in a command
 
 @dataclass
 class Part:
-    """A part of the gate: its name, what it tries, and its commands; without counts each command is one check."""
+    """A part of the gate: its name, what it tests, and its commands. Without counts, each command
+    is one check."""
 
     name: str
     tries: str
@@ -48,7 +53,7 @@ class Part:
 
 @dataclass
 class Result:
-    """The counts of a part, its processor seconds, and what its proofs said of what ran and what was kept."""
+    """The counts of a part, its processor seconds, and what its proofs reported as run or kept."""
 
     name: str
     passed: int = 0
@@ -69,7 +74,8 @@ def tool(name, *words):
     return [*PYTHON, f"tools/{name}", *words]
 
 
-# The crates whose edits the gate tries; `make edits` tries all edits, some four processor seconds each.
+# The crates whose edits the gate tries. `make edits` tries all edits, at about four processor
+# seconds each.
 EDITED = (
     "cell_calc_grammar",
     "cell_core",
@@ -85,7 +91,7 @@ EDITED = (
     "rcell_plan_response",
     "rcell_worked",
 )
-# Those before the proofs take seconds: if one fails, the gate ends there.
+# The parts before the proofs take seconds. If one fails, the gate ends there.
 EARLY = [
     Part(
         "tools",
@@ -182,7 +188,7 @@ LONGEST = ["documents", "python", "hostile", "fronts", "cases", "models", "lint"
 
 
 def counts_of(lines, status, has_counts):
-    """The counts of a command, by the last line of its standard output that has their form."""
+    """Return a command's counts, from the last line of its standard output in their format."""
     found = [it for it in map(COUNTS.fullmatch, lines) if it] if has_counts else []
     listed = sum(line.startswith(SKIPPED) for line in lines)
     if not found:
@@ -192,7 +198,7 @@ def counts_of(lines, status, has_counts):
 
 
 def run(part, show=print):
-    """Runs a part and shows what it prints, line by line."""
+    """Run a part, and show its output line by line."""
     show(f"== {part.name}: {part.tries}")
     result = Result(part.name)
     for command in part.commands:
@@ -221,7 +227,7 @@ def run(part, show=print):
 
 
 def programs():
-    """The folder of the programs."""
+    """Return the folder of the programs."""
     return os.path.abspath(os.environ.get("RCELL_BIN", f"{ROOT}/bin"))
 
 
@@ -230,7 +236,7 @@ def has_programs():
 
 
 def run_all(parts):
-    """Runs parts in order, to the first that the others cannot do without."""
+    """Run parts in order. If a part fails that the others need, stop there."""
     results = []
     for part in parts:
         if part.needs_programs and not has_programs():
@@ -245,7 +251,8 @@ def run_all(parts):
 
 
 def take_proved():
-    """Puts the programs into bin/, and leaves the libraries of all crates to the edits, which also try laws."""
+    """Put the programs into bin/, and leave the libraries of all crates for the edits, which also
+    try laws."""
     for crate in build.PROGRAMS:
         build.take_built(crate, ROOT)
     for crate in build.crates_of(build.uses()):
@@ -253,7 +260,8 @@ def take_proved():
 
 
 def run_unproved(part):
-    """Runs a part on programs that are not proved, and shows what it prints when it has ended; a part about proofs is skipped."""
+    """Run a part on unproved programs, and show its output when it has ended. A part about proofs
+    is skipped."""
     if part.needs_proofs:
         print(f"{SKIPPED}{part.name}: it is about proofs; run: make check", flush=True)
         return Result(part.name, skipped=1)
@@ -264,7 +272,7 @@ def run_unproved(part):
 
 
 def compiled():
-    """Compiles the programs without proofs, and returns what came of it."""
+    """Compile the programs without proofs, and return the result."""
     unproved = Part(
         "programs",
         "the programs compile without proofs",
@@ -275,7 +283,7 @@ def compiled():
 
 
 def run_all_unproved(parts):
-    """Runs parts side by side on programs that are compiled here, those that take longest first."""
+    """Run parts in parallel on programs compiled here, longest first."""
     results = [compiled()]
     if results[0].failed:
         return results
@@ -295,7 +303,8 @@ def sum_of(name):
 
 
 def keep_closing(results, closing):
-    """Keeps the closing line with its commit, kit and programs, unless the sources are changed."""
+    """Record the closing line with its commit, kit and programs, unless the sources are
+    modified."""
     commit = said_by("git", "rev-parse", "HEAD")
     if not commit or said_by("git", "status", "--porcelain"):
         return
@@ -335,7 +344,8 @@ def table(results, wall):
 
 
 def hear_signals():
-    """Gives ignored signals their default again: a shell ignores them for what it starts in the background, and tests send them."""
+    """Restore the default handling of ignored signals. A shell ignores them for background
+    processes, and tests send them."""
     for number in (signal.SIGHUP, signal.SIGINT, signal.SIGQUIT, signal.SIGTERM):
         if signal.getsignal(number) == signal.SIG_IGN:
             signal.signal(number, signal.SIG_DFL)

@@ -1,8 +1,10 @@
 #!/usr/bin/env python3
-"""Writes the bill of materials of a release, rcell-VERSION.spdx.json (SPDX 2.3): what the programs are made from and linked with,
-with licences and SHA-256, and the files of the release.
+"""Write a release's bill of materials, rcell-VERSION.spdx.json (SPDX 2.3).
 
-    bill.py FOLDER        FOLDER has the other files of the release
+    bill.py FOLDER        FOLDER contains the other files of the release
+
+The bill lists what the programs are made from and linked with, with licences and SHA-256, and the
+files of the release.
 """
 import hashlib
 import json
@@ -37,7 +39,7 @@ def sum_of(path, kind="sha256"):
 
 
 def sum_of_crate(crate):
-    """A sum of the lines 'SHA-256  PATH' of a crate's sources."""
+    """Return a SHA-256 over the lines 'SHA-256  PATH' of a crate's sources."""
     lines = [f"{hashlib.sha256(text).hexdigest()}  {path}\n" for path, text in crate.files.items()]
     return hashlib.sha256("".join(lines).encode()).hexdigest()
 
@@ -62,7 +64,7 @@ def package(name, version, licence, sha256, says="", holder="NOASSERTION", group
 
 
 def packages(version):
-    """The parts of the programs, the first of which is rcell itself."""
+    """Yield the parts of the programs, starting with rcell itself."""
     crates = build.crates_of(build.PROGRAMS)
     yield package(
         "rcell",

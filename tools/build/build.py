@@ -1,12 +1,12 @@
 #!/usr/bin/env python3
-"""Proves the crates that a program needs, and puts the program into bin/.
+"""Prove the crates that a program needs, and put the program into bin/.
 
     build.py [--jobs N] PROGRAM..       PROGRAM is rcell, rcell-join or rcell-pipe
-    build.py --list PROGRAM|all         the crates that it needs, each after those below it
+    build.py --list PROGRAM|all         the crates that it needs, each after those it uses
 
-The proofs are made by `rt ci`, in a folder that has these crates alone, without tests and edits. If the kit keeps proofs, as 13f
-does, what passes here is not proved again in the gate, nor the other way round. A line names each crate that is done; the whole
-log is bin/proofs.log.
+`rt ci` runs in a folder with only these crates, without tests and edits. If the kit keeps proofs,
+as 13f does, the gate does not repeat what passes here, nor the other way round. One line is printed
+for each finished crate; the full log is bin/proofs.log.
 """
 import argparse
 import contextlib
@@ -29,7 +29,7 @@ PROVED = ("src", "specs", "proofs")
 RUN_ON = ("stdin", "args", "data", "status", "stdout")
 LINES_OF_A_LOG = 40
 SECONDS_BETWEEN_NEWS = 60
-# What a check costs before it proves anything, and a line of proofs, in lines of source.
+# The fixed cost of a check and the cost of a line of proofs, in lines of source.
 LINES_OF_A_START, LINES_OF_A_PROOF = 150, 0.2
 LEAST_SHARE = 0.1  # of the work, before what is left is estimated
 DONE = re.compile(r"rt: (\w+) (proved|NOT PROVED|is kept)")
@@ -37,7 +37,8 @@ HERE = "proved on this machine"
 
 
 class Crate:
-    """A crate of a repository: its line of crates.txt, the crates right below it, and the kit's libraries that it uses."""
+    """A crate of a repository: its line in crates.txt, the crates that it uses directly, and its
+    libraries of the kit."""
 
     def __init__(self, name, uses, crates, root=ROOT):
         self.name, self.root, self.folder = name, root, f"{root}/crates/{name}"
@@ -64,7 +65,7 @@ class Crate:
 
     @functools.cached_property
     def work(self):
-        """How much there is to prove, in lines of source."""
+        """Return the amount of work to prove the crate, in lines of source."""
         lines = {path: text.count(b"\n") for path, text in self.files.items()}
         return LINES_OF_A_START + sum(
             it if path.endswith(".rt") else LINES_OF_A_PROOF * it for path, it in lines.items()
@@ -72,13 +73,14 @@ class Crate:
 
     @functools.cached_property
     def stamp(self):
-        """A sum of all that the crate's proof depends on."""
+        """Return a hash of everything that the crate's proof depends on."""
         parts = [kit_version(), self.of_kit, self.name, self.files, [it.stamp for it in self.below]]
         return hashlib.sha256(repr(parts).encode()).hexdigest()
 
     @property
     def proved(self):
-        """The file that holds the stamp of the library that the gate left. `rt check` leaves a library with a stamp of its own."""
+        """The file with the stamp of the library that the gate left. `rt check` leaves a library
+        with its own stamp."""
         return pathlib.Path(os.path.dirname(self.rlib), "proved")
 
     def note_proved(self):
@@ -86,11 +88,12 @@ class Crate:
             self.proved.write_text(self.stamp, encoding="ascii")
 
     def has_proved(self):
-        """Whether the gate left the library of exactly these sources."""
+        """Return whether the gate left the library of exactly these sources."""
         return self.proved.exists() and self.proved.read_text(encoding="ascii") == self.stamp
 
     def command(self, verb, jobs=1):
-        """The command that proves the crate (`check`), or also compiles it (`build`), over the libraries below it that `rt` left."""
+        """Return the command that proves the crate (`check`), or also compiles it (`build`), over
+        the libraries that `rt` left."""
         words = [
             f"{kit()}/bin/rattle",
             verb,
@@ -119,7 +122,7 @@ class Crate:
 
 @functools.cache
 def kit():
-    """The kit's folder."""
+    """Return the kit's folder."""
     return os.path.dirname(subprocess.check_output(["rt", "doc"], text=True).strip())
 
 
@@ -130,14 +133,14 @@ def kit_version():
 
 @functools.cache
 def uses():
-    """The libraries that crates.txt lists for each crate."""
+    """Return the libraries that crates.txt lists for each crate."""
     with open(f"{ROOT}/crates.txt", encoding="utf-8") as file:
         lines = [line.split("#")[0].split(":") for line in file if ":" in line]
     return {name.strip(): used.split() for name, used in lines}
 
 
 def crates_of(programs, root=ROOT):
-    """The crates that programs need and themselves, each after those below it."""
+    """Return programs' crates and the crates that they need, each after those it uses."""
     crates = {}
 
     def visit(name):
@@ -153,7 +156,7 @@ def crates_of(programs, root=ROOT):
 
 @contextlib.contextmanager
 def cut(crates):
-    """A folder that has these crates alone: what is proved of them, and what their programs are run on."""
+    """Make a folder with only these crates: what is proved, and what their programs are run on."""
     with tempfile.TemporaryDirectory(prefix="rcell-build-") as folder:
         shutil.copy(f"{ROOT}/HANDLES", folder)
         pathlib.Path(folder, "crates.txt").write_text(
@@ -169,7 +172,8 @@ def cut(crates):
 
 
 class News:
-    """Says which crates are done, the time so far, and an estimate of what is left; each minute also where nothing is new."""
+    """Reports finished crates, the elapsed time and an estimate of the remaining time, at least
+    once a minute."""
 
     def __init__(self, crates):
         self.left, self.begun, self.done = {it.name: it.work for it in crates}, time.monotonic(), 0
@@ -198,7 +202,7 @@ class News:
         print(f"{self.done:2} of {self.all}  {text}, {minutes(spent)} so far{rest}", flush=True)
 
     def take(self, line):
-        """Notes what a line of rt's log says of a crate."""
+        """Process a line of rt's log about a crate."""
         found = DONE.match(line)
         if found and found[1] in self.left:
             work, self.done = self.left.pop(found[1]), self.done + 1
@@ -211,7 +215,7 @@ def minutes(seconds):
 
 
 def failure(lines):
-    """What rt says of the first crate that is not proved."""
+    """Return rt's message about the first crate that is not proved."""
     at = next(
         (number for number, line in enumerate(lines) if " NOT PROVED" in line), len(lines) - 1
     )
@@ -220,7 +224,7 @@ def failure(lines):
 
 
 def prove(folder, crates, jobs, log):
-    """Runs `rt ci` over the crates of a folder with news of it, and returns its status."""
+    """Run `rt ci` over the crates in a folder with progress reports, and return its status."""
     environment = {**os.environ, **({"RT_JOBS": str(jobs)} if jobs else {})}
     with News(crates) as news, open(log, "w", encoding="utf-8") as file:
         with subprocess.Popen(
@@ -250,14 +254,14 @@ def prove(folder, crates, jobs, log):
 
 
 def put(path, name):
-    """Puts a file into bin/ in one step."""
+    """Put a file into bin/ atomically."""
     shutil.copyfile(path, f"{ROOT}/bin/{name}.new")
     os.chmod(f"{ROOT}/bin/{name}.new", 0o644 if "." in name else 0o755)
     os.replace(f"{ROOT}/bin/{name}.new", f"{ROOT}/bin/{name}")
 
 
 def take_built(crate, root, where=HERE):
-    """Puts a program that `rt ci` built below a root into bin/, with its object if this run made one."""
+    """Put a program that `rt ci` built into bin/, with its object if this run made one."""
     name, out = PROGRAMS[crate], f"{root}/crates/{crate}/out/{crate}"
     os.makedirs(f"{ROOT}/bin", exist_ok=True)
     if os.path.exists(f"{out}.o"):
@@ -267,7 +271,7 @@ def take_built(crate, root, where=HERE):
 
 
 def build(programs, jobs):
-    """Prove the crates of programs in one run, put the programs into bin/, and return the status of the process."""
+    """Prove programs' crates in one run, put the programs into bin/, and return the exit status."""
     crates, names = crates_of(programs), " and ".join(f"bin/{PROGRAMS[it]}" for it in programs)
     print(f"Proving {len(crates)} crates, then building {names}.", flush=True)
     os.makedirs(f"{ROOT}/bin", exist_ok=True)

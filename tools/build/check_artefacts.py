@@ -1,4 +1,5 @@
-"""What tools/build/check_release.py tries on the files of a release: the same bytes wherever it is made, licences, paths, the bill."""
+"""Check the files of a release, for tools/build/check_release.py: reproducible bytes, licences,
+paths, the bill."""
 import gzip
 import json
 import os
@@ -14,7 +15,7 @@ import licences as licences_of_files
 import linked
 
 ROOT = pathlib.Path(build.ROOT)
-# The folder of licences in each kind of artefact, and which texts of our own are there.
+# The folder of licences in each kind of artefact, and our own texts in it.
 LICENCES = {
     "-linux-x86_64.tar.gz": ("share/doc/rcell/licenses", True),
     "-objects.tar.gz": ("licenses", True),
@@ -43,7 +44,7 @@ def version():
 
 
 def run(*words, **how):
-    """What is wrong with a command, or ''."""
+    """Run a command, and return its error, or ''."""
     ran = subprocess.run(
         words,
         stdout=subprocess.PIPE,
@@ -57,7 +58,8 @@ def run(*words, **how):
 
 
 def clone_elsewhere(room):
-    """A clone with the changes that are not committed, the same bin/, stray files, other dates, and for root another owner."""
+    """Clone the repository with uncommitted changes and the same bin/, but with stray files, other
+    dates and, for root, another owner."""
     clone = pathlib.Path(room, "elsewhere", "clone of another name")
     clone.parent.mkdir(mode=0o755)
     subprocess.run(["git", "clone", "-q", ROOT, clone], check=True)
@@ -78,7 +80,8 @@ def clone_elsewhere(room):
 
 
 def made_elsewhere(room):
-    """Makes the release in such a clone, as another user with another umask, and returns its folder and what went wrong."""
+    """Make the release in another clone, as another user with another umask, and return its folder
+    and the error."""
     os.chmod(room, 0o755)
     clone = clone_elsewhere(room)
     words = ["sh", "-c", "umask 077; exec sh tools/build/dist.sh out"]
@@ -89,7 +92,7 @@ def made_elsewhere(room):
 
 
 def members(path):
-    """The files of an artefact, by their names in it."""
+    """Return the files of an artefact, by their names in it."""
     if path.suffix in (".whl", ".zip"):
         with zipfile.ZipFile(path) as archive:
             return {it: archive.read(it) for it in archive.namelist() if not it.endswith("/")}
@@ -108,7 +111,8 @@ def members(path):
 
 
 def check_licences(count, path, found):
-    """The licences of rcell and the notices of all that is linked in are in an artefact, byte for byte."""
+    """Check that an artefact contains the licences of rcell and the notices of all linked
+    libraries, byte for byte."""
     kind = next((it for it in LICENCES if path.name.endswith(it.format(version=version()))), None)
     if kind is None:
         return
@@ -129,7 +133,8 @@ def check_licences(count, path, found):
 
 
 def check_paths(count, path, found, places):
-    """No file of an artefact has a path of the folders that it was made in, or of the kit."""
+    """Check that no file of an artefact contains a path of the folders in which it was made, or of
+    the kit."""
     held = [
         f"{name}: {place}"
         for name, text in found.items()
@@ -140,7 +145,7 @@ def check_paths(count, path, found, places):
 
 
 def check_page(count, path, found):
-    """PROVED.txt is one page, in the artefacts that have it."""
+    """Check that PROVED.txt, in the artefacts that contain it, is one page."""
     for lines in (
         text.count(b"\n") for name, text in found.items() if name.endswith("/PROVED.txt")
     ):
@@ -151,7 +156,7 @@ def check_page(count, path, found):
 
 
 def faults_of_bill(bill, folder):
-    """What is wrong with a bill of materials of SPDX 2.3."""
+    """Return the errors in a bill of materials in SPDX 2.3."""
     needed = {
         "spdxVersion",
         "dataLicense",
@@ -216,7 +221,8 @@ def faults_of_bill(bill, folder):
 
 
 def check_wheel(count, folder, room):
-    """The wheel says what processor it needs, and comes out again when it is built from the source archive."""
+    """Check that the wheel states its processor, and that building it from the source archive gives
+    the same wheel."""
     wheel, archive = next(folder.glob("*.whl")), folder / f"rcell-{version()}.tar.gz"
     text = next(
         text for name, text in members(wheel).items() if name.endswith("/METADATA")
@@ -247,7 +253,8 @@ def check_wheel(count, folder, room):
 
 
 def check_objects(count, clone, archive):
-    """In a clone of the same sources the proved objects give the programs, with a word of warning; one changed line, and they do not."""
+    """Check that in a clone of the same sources, the proved objects give the programs, with a
+    warning, and that one changed line prevents this."""
     shutil.rmtree(clone / "bin", ignore_errors=True)
     subprocess.run(
         ["git", "config", "--global", "--add", "safe.directory", clone],
@@ -298,7 +305,7 @@ def check_lintian(count, folder):
 
 
 def check_all(count, folder, room):
-    """All of these on the release in a folder."""
+    """Run all of these checks on the release in a folder."""
     again, fault = made_elsewhere(room)
     count.add("the release, made elsewhere", fault)
     names = sorted(os.listdir(folder))

@@ -1,11 +1,13 @@
 #!/usr/bin/env python3
-"""Makes the release of what is built, and tries it: the static programs against the documents and the models, its files
-(tools/build/check_artefacts.py), the quick start, rcell-gis and the joiner from the unpacked files, `make install`.
+"""Make the release from what is built, and check it.
 
     check_release.py [--keep FOLDER]
 
-It wants the programs in bin/ and the objects that they were linked from, bin/NAME.o. --keep leaves
-the files of the release in the folder. The last line is 'N passed, M failed'.
+Checks the static programs against the documents and the models, the files of the release
+(tools/build/check_artefacts.py), the quick start, rcell-gis and the joiner from the unpacked files,
+and `make install`. Needs the programs in bin/ and the objects that they were linked from,
+bin/NAME.o. --keep leaves the files of the release in the folder. The last line is 'N passed, M
+failed'.
 """
 import argparse
 import glob
@@ -32,14 +34,14 @@ KIND_OF_INTERPRETER = 3  # PT_INTERP of an ELF file
 PROGRAMS = ("rcell", "rcell-join", "rcell-pipe")
 PAGES = "share/man/man1"
 DOCUMENTS = "share/doc/rcell"
-# The packages of Debian that a release is made with, each by a file of it.
+# The Debian packages needed for a release, each identified by one of its files.
 PACKAGES = {
     "libc6-dev": "/usr/lib/x86_64-linux-gnu/libc.a",
     "libgcc-12-dev": "/usr/lib/gcc/x86_64-linux-gnu/12/libgcc.a",
     "python3-hatchling": "/usr/lib/python3/dist-packages/hatchling",
     "r-base-core": "/usr/bin/R",
 }
-# Two bands of a map, and the table of the full map.
+# Two tiles of a map, and the table of the full map.
 HEADER = "north: {}\nsouth: {}\neast: 3\nwest: 0\nrows: {}\ncols: 3\n"
 BANDS = {
     "upper": HEADER.format(3, 1, 2) + "5 5 *\n-1 5 7\n",
@@ -49,7 +51,8 @@ TABLE_OF_THE_WHOLE = "-1 1\n5 3\n7 2\n9 1\n* 2\n"
 
 
 class Count:
-    """How many checks passed, failed and were skipped so far; each is printed on a line as soon as it is known."""
+    """Counts the checks that passed, failed and were skipped. Each is printed as soon as its result
+    is known."""
 
     def __init__(self):
         self.passed = self.failed = self.skipped = 0
@@ -63,7 +66,7 @@ class Count:
         print(f"{check.SKIPPED}release: {needs}; install: apt-get install {packages}", flush=True)
 
     def add_run(self, what, words):
-        """Runs a check that ends in its counts."""
+        """Run a check that prints its own counts at the end."""
         ran = subprocess.run(
             words,
             cwd=ROOT,
@@ -93,7 +96,8 @@ class Count:
 
 
 def check_static(count):
-    """The static programs give what the documents show, and print what the plain models do on runs made at random."""
+    """Check that the static programs print what the documents show, and what the plain models
+    compute for random runs."""
     static, joiner, pipe = (f"{ROOT}/bin/{name}-static" for name in PROGRAMS)
     for what, words in (
         (
@@ -133,7 +137,8 @@ def check_static(count):
 
 
 def interpreters(path):
-    """How many loaders of dynamic libraries a program of 64 bits asks for: none, if it is static."""
+    """Return the number of dynamic loaders that a 64-bit program requests, which is 0 for a static
+    program."""
     with open(path, "rb") as file:
         program = file.read()
     begin, size, count = struct.unpack_from("<Q", program, 32)[0], *struct.unpack_from(
@@ -144,7 +149,7 @@ def interpreters(path):
 
 
 def check_needs(count, folder, names):
-    """The programs need no library, and the package no other."""
+    """Check that the programs need no libraries, and the package needs no other package."""
     for name in PROGRAMS:
         found = interpreters(f"{ROOT}/bin/{name}-static")
         count.add(
@@ -161,7 +166,7 @@ def check_needs(count, folder, names):
 
 
 def said_of(*words):
-    """What is wrong with a command, or ''."""
+    """Run a command, and return its error, or ''."""
     ran = subprocess.run(
         words, cwd=ROOT, stdout=subprocess.PIPE, stderr=subprocess.STDOUT, text=True
     )
@@ -169,7 +174,8 @@ def said_of(*words):
 
 
 def fault_of_joining(programs, room):
-    """What is wrong where rcell of this folder counts two bands of a map and its rcell-join joins the tables, or ''."""
+    """Count two tiles of a map with rcell from this folder and merge the tables with its
+    rcell-join. Return the error, or ''."""
 
     def run(name, *words):
         return subprocess.run(
@@ -189,7 +195,7 @@ def fault_of_joining(programs, room):
 
 
 def fault_of_pipe(programs):
-    """What is wrong with rcell-pipe of this folder on the request of its crate, or ''."""
+    """Run rcell-pipe from this folder on the request of its crate. Return the error, or ''."""
     crate = pathlib.Path(ROOT, "crates/rcell_pipe")
     ran = subprocess.run(
         [f"{programs}/rcell-pipe"], input=(crate / "stdin").read_bytes(), capture_output=True
@@ -199,7 +205,8 @@ def fault_of_pipe(programs):
 
 
 def fault_of_gis(programs, room):
-    """What is wrong with rcell-gis of this folder on a grid, to an ESRI ASCII grid and back, or ''."""
+    """Convert a grid to an ESRI ASCII grid and back with rcell-gis from this folder. Return the
+    error, or ''."""
     with tempfile.TemporaryDirectory(prefix="gis-", dir=room) as here:
         with open(f"{here}/upper.txt", "w", encoding="ascii") as file:
             file.write(BANDS["upper"])
@@ -218,7 +225,7 @@ def fault_of_gis(programs, room):
 
 
 def fault_of_page(prefix, name):
-    """What is wrong with the manual page of a program below a prefix, or ''."""
+    """Return the error of a program's manual page below a prefix, or ''."""
     found = next(iter(glob.glob(f"{prefix}/{PAGES}/{name}.1*")), None)
     if found is None:
         return f"{name}.1 is missing"
@@ -254,7 +261,8 @@ def check_links(count, what, prefix):
 
 
 def check_unpacked(count, room, folder, names):
-    """From the tarball and from the package: the quick start, then the pages, rcell-join, rcell-pipe and rcell-gis."""
+    """Check the quick start, the pages, rcell-join, rcell-pipe and rcell-gis, from the tarball and
+    from the package."""
     for kind, ending, programs in (
         ("tarball", "linux-x86_64.tar.gz", "rcell-*/bin"),
         ("package", ".deb", "unpacked/usr/bin"),
@@ -277,7 +285,8 @@ def check_unpacked(count, room, folder, names):
 
 
 def check_install(count, room):
-    """`make install` takes what is built, without the kit, also where a source is newer; `make uninstall` removes all of it."""
+    """Check that `make install` installs what is built, without the kit and even if a source is
+    newer, and that `make uninstall` removes all of it."""
     copy, prefix = f"{room}/copy", f"{room}/prefix"
     shutil.copytree(
         ROOT,
@@ -335,7 +344,8 @@ def check_install(count, room):
 
 
 def check_version(count):
-    """VERSION is what the newest part of CHANGELOG.md is about, and what the README's quick start names."""
+    """Check that VERSION is the newest version in CHANGELOG.md, and the version in the README's
+    quick start."""
     texts = {}
     for name in ("VERSION", "CHANGELOG.md", "README.md"):
         with open(f"{ROOT}/{name}", encoding="utf-8") as file:
@@ -351,7 +361,7 @@ def check_version(count):
 
 
 def check_made(count, room, keep):
-    """The static programs and the release are made and tried."""
+    """Make and check the static programs and the release."""
     fault = said_of("sh", "tools/build/static.sh")
     count.add("the static programs", fault)
     if fault:

@@ -1,8 +1,10 @@
-"""Edits: wrong bodies and turned definitions, as the files of crates/NAME/edits and crates/NAME/must-fail have them.
+"""Edits: wrong bodies and altered definitions, read from crates/NAME/edits and
+crates/NAME/must-fail.
 
-An edit is a file of lines `file: PATH` (below the crate, `../OTHER/specs/..` for the definition of another crate), then pairs of
-lines `old: TEXT`, which is in that file once, and `new: TEXT`; a further pair applies to what the earlier ones made. An edit with a
-line `falls: LAW..` turns a definition: the proofs of these functions of the crate have to fail.
+An edit file has lines `file: PATH` (below the crate, or `../OTHER/specs/..` for a definition of
+another crate), followed by pairs of lines `old: TEXT`, which occurs once in that file, and `new:
+TEXT`. Each pair applies to the result of the previous pairs. An edit with a line `falls: LAW..`
+alters a definition: the proofs of these functions of the crate must fail.
 """
 import pathlib
 import re
@@ -20,7 +22,8 @@ CITED = re.compile(r"(\w+/(?:must-fail|edits))/([\w-]+(?:, [\w-]+-[\w-]+)*)")
 
 @dataclass
 class Edit:
-    """An edit: its file, its pairs as (file, old, new), the functions that it changes as (file, name), and the laws that must fall."""
+    """An edit: its file, its pairs as (file, old, new), the functions that it changes as (file,
+    name), and the laws that must fail."""
 
     path: pathlib.Path
     pairs: list = field(default_factory=list)
@@ -33,12 +36,12 @@ class Edit:
 
     @property
     def is_outside(self):
-        """Whether it changes something that is in no function."""
+        """Return whether the edit changes something outside functions."""
         return any(name == "" for _, name in self.functions)
 
 
 def text_of(path):
-    """A file of a crate; if it has definitions or lemmas, with each of its imports on one line."""
+    """Return a file of a crate. In definitions and lemmas, each import is put on one line."""
     text = path.read_text(encoding="utf-8")
     if path.suffix != ".antt":
         return text
@@ -48,7 +51,8 @@ def text_of(path):
 
 
 def function_at(text, at, length=0):
-    """The function that has this place of a file, or whose head is in it: TYPE::NAME or TYPETRAIT::NAME for a method, '' for none."""
+    """Return the function that contains a position of a file, or whose head is in it: TYPE::NAME or
+    TYPETRAIT::NAME for methods, '' for none."""
     heads = list(HEAD.finditer(text, 0, at + length))
     end = (
         re.compile(rf"^{heads[-1][1]}}}", re.MULTILINE).search(text, heads[-1].end())
@@ -62,12 +66,13 @@ def function_at(text, at, length=0):
 
 
 def is_import(old):
-    """Whether a text is a `use` item: a pair that brings a name into scope changes no function."""
+    """Return whether a text is a `use` item, which does not change any function."""
     return re.match(r"(ghost )?use ", old) is not None
 
 
 def edit_of(path):
-    """An edit as its file has it. A pair that applies to what an earlier one made changes the function of that one."""
+    """Read an edit file. A pair that applies to the result of an earlier pair changes that pair's
+    function."""
     edit, name, old = Edit(path), "", ""
     for line in path.read_text(encoding="utf-8").splitlines():
         key, _, value = line.partition(":")
@@ -86,7 +91,8 @@ def edit_of(path):
 
 
 def changed_function(path, name, old):
-    """The function of a crate's file that has a text, or '' if it is outside all."""
+    """Return the function of a crate's file that contains a text, or '' if it is outside all
+    functions."""
     if not name.endswith(".rt"):
         return ""
     text = (path.parents[1] / name).read_text(encoding="utf-8")
@@ -94,7 +100,8 @@ def changed_function(path, name, old):
 
 
 def paths_in(crate="*"):
-    """The files of the edits of a crate, or of all: those that `rt ci` tries one by one too."""
+    """Return the edit files of a crate, or of all crates, including those that `rt ci` also tries
+    one by one."""
     folder = pathlib.Path(build.ROOT, "crates")
     return sorted([*folder.glob(f"{crate}/edits/*"), *folder.glob(f"{crate}/must-fail/*")])
 
@@ -104,7 +111,8 @@ def edits_in(crate):
 
 
 def faults_of(path):
-    """What is wrong with an edit: a list of lines. Its old texts are each once in their files."""
+    """Return the errors of an edit file, as a list of lines. Each old text must occur once in its
+    file."""
     name = f"{path.parents[1].name}/{path.parent.name}/{path.name}"
     if path.suffix != ".edit":
         return [f"{name}: only files that end in .edit are tried"]
@@ -119,7 +127,7 @@ def faults_of(path):
 
 
 def cited():
-    """The edits that pages name as evidence, as CRATE/FOLDER/NAME, each with its page."""
+    """Return the edits that pages cite as evidence, as CRATE/FOLDER/NAME, each with its page."""
     found = {}
     for page in sorted(pathlib.Path(build.ROOT, "docs").glob("*.md")):
         for folder, names in CITED.findall(page.read_text(encoding="utf-8")):

@@ -1,18 +1,24 @@
 #!/usr/bin/env python3
-"""Tries the edits of crates/NAME/edits and crates/NAME/must-fail, many in one check: the proof has to reject each.
+"""Try the edits in crates/NAME/edits and crates/NAME/must-fail, many per check: the proof must
+reject each.
 
-    edits.py [--one-by-one] [--list] [--evidence] [CRATE..]    without names, all crates that have edits
-    edits.py --stale                                           only that each edit still fits its files, in a second
+    edits.py [--one-by-one] [--list] [--evidence] [CRATE..]    without names, all crates with edits
+    edits.py --stale                     only check, in a second, that each edit still fits its
+    files
 
-A check judges each function by itself, over the contracts of what it calls. So edits of different functions are made in one copy of
-the crate and do not touch each other, and only these functions are checked: the written proofs of all others are holes. An edit is rejected if a function that it changes is not
-proved for a reason of its own, and not because it calls another that is not proved. What is not rejected in company is tried again,
-in the end alone. A turned definition (edit_files.py) is tried alone: the proof of each law that it names has to fail.
+A check judges each function separately, given the contracts of the functions that it calls.
+Therefore edits of different functions are made in one copy of the crate, and only these functions
+are checked; all other written proofs are replaced with holes. An edit is rejected if a function
+that it changes is not proved for a reason of its own, not only because it calls an unproved
+function. Edits that are not rejected together are tried again, in the end one by one. An altered
+definition (edit_files.py) is tried by itself: the proof of each law that it names must fail.
 
-The tool says of each edit why it is rejected: `values`, a goal is false at values that the prover found; `goal`, a goal stayed open;
-`written`, only a written step of the proof no longer fits, which says little of the contract; `elsewhere`, only another function of
-the crate is rejected. An edit that a page cites as evidence should be of the first two kinds; with --evidence it has to be. What is
-rejected is kept next to the kit, by a sum of all that it uses, and not tried again. The last line is 'N passed, M failed'.
+The tool reports why each edit is rejected: `values`: a goal is false at values that the prover
+found; `goal`: a goal remained open; `written`: only a written proof step no longer fits, which says
+little about the contract; `elsewhere`: only another function of the crate is rejected. An edit that
+a page cites as evidence should be of the first two kinds, and must be with --evidence. Rejected
+edits are recorded next to the kit, with a hash of all that they use, and are not tried again. The
+last line is 'N passed, M failed'.
 """
 import argparse
 import collections
@@ -50,7 +56,8 @@ MOST_IN_COMPANY = 24  # a larger check waits for more callees that are not prove
 
 @dataclass
 class Reason:
-    """Why a function is rejected: the kind, or '' if for no reason of its own, and whether a search has not tried all of its goals."""
+    """Why a function is rejected: the kind, or '' if it has no reason of its own, and whether a
+    search has not tried all of its goals."""
 
     kind: str
     is_untried: bool = False
@@ -58,7 +65,7 @@ class Reason:
 
 @dataclass
 class Tally:
-    """What came of a crate's edits."""
+    """The results of a crate's edits."""
 
     crate: str
     kinds: dict
@@ -69,7 +76,8 @@ class Tally:
 
 
 def reasons_of(output):
-    """The reason of each function that the output of a check names, in its order: a list of (path, Reason)."""
+    """Return the reasons of the functions in a check's output, in order: a list of (path,
+    Reason)."""
     found, notes, broken, untried = [], [], set(), set()
     for line in output.splitlines():
         if at := OF_PROOF.match(line):
@@ -88,7 +96,8 @@ def reasons_of(output):
 
 
 def kind_of(said, notes, is_broken):
-    """The kind of a function's verdict, with the notes before it; is_broken says that something written of its proof has an error."""
+    """Return the kind of a function's verdict, given the notes before it. `is_broken` states that a
+    written part of its proof has an error."""
     if PROVED.match(said):
         return ""
     is_open = OPEN.search(said) or any(map(OPEN.match, notes))
@@ -98,7 +107,8 @@ def kind_of(said, notes, is_broken):
 
 
 def is_of(path, name, function):
-    """Whether a path of a verdict names the function of a file, or a closure in it. A method is in the module of its type."""
+    """Return whether a verdict's path names the function of a file, or a closure in it. A method is
+    in the module of its type."""
     parts = [it.split("+")[0] for it in path.split("::")]
     owner, _, function = function.rpartition("::")
     if owner:
@@ -113,13 +123,14 @@ def is_of(path, name, function):
 
 
 def modules_of(name):
-    """The modules that lead to a file of src/."""
+    """Return the modules that lead to a file of src/."""
     parts = list(pathlib.PurePath(name).with_suffix("").parts[1:])
     return [] if parts in (["lib"], ["main"]) else [it for it in parts if it != "mod"]
 
 
 def reason_of(edit, found):
-    """Why an edit is rejected: the strongest reason of a function that it changes, or of a closure in it."""
+    """Return why an edit is rejected: the strongest reason of a function that it changes, or of a
+    closure in it."""
     reasons = [
         reason
         for name, function in edit.functions
@@ -130,7 +141,8 @@ def reason_of(edit, found):
 
 
 def groups_of(edits, one_by_one):
-    """The edits in groups: no two of a group change one function, and what changes something outside functions is alone."""
+    """Group edits so that no two edits in a group change the same function. An edit that changes
+    something outside functions is in a group of its own."""
     groups = []
     for edit in edits:
         is_alone = one_by_one or edit.is_outside
@@ -150,9 +162,10 @@ def groups_of(edits, one_by_one):
 
 
 def changed_copy(crate, edits, room):
-    """Lays out what is proved of the crate with some edits in a folder of its own.
+    """Copy what is proved of the crate to a folder, and apply some edits.
 
-    Pairs of several edits are put where their old texts are in the file itself, so that none applies to what another made.
+    Pairs of several edits are located in the original file, so that no pair applies to the result
+    of another edit.
     """
     for part in build.PROVED:
         if os.path.isdir(f"{crate.folder}/{part}"):
@@ -182,14 +195,15 @@ WRITTEN = ("Answers.antt", "Invariants.antt")
 
 
 def leave_holes(crate, changed, room):
-    """Puts a hole in place of each written proof except of some functions, which are (file, name), and of their closures.
+    """Replace each written proof with a hole, except for some functions (file, name) and their
+    closures.
 
-    So a check takes the other functions by their contracts.
+    A check then uses only the contracts of all other functions.
     """
     proofs = pathlib.Path(room, "proofs")
     for folder in {it.parent for name in WRITTEN for it in proofs.rglob(name)}:
         parts = folder.relative_to(proofs).parts
-        # The functions of a cycle of calls have one proof.
+        # The functions in a cycle of calls share one proof.
         if folder.name.startswith("+") or any(is_of("::".join(parts), *it) for it in changed):
             continue
         for name in WRITTEN:
@@ -199,13 +213,14 @@ def leave_holes(crate, changed, room):
 
 
 class Checks:
-    """Runs checks of a crate over what the checks before them kept, and counts them and their processor seconds."""
+    """Runs checks of a crate on top of what previous checks kept, and counts them and their
+    processor seconds."""
 
     def __init__(self, crate, kept):
         self.crate, self.kept, self.count, self.seconds = crate, kept, 0, 0.0
 
     def run(self, room, functions, crate=None, words=()):
-        """Check the crate in a folder, or only some functions of it; return the output."""
+        """Check the crate in a folder, or only some of its functions, and return the output."""
         words = [*(crate or self.crate).command("check"), "--incremental", self.kept, *words]
         words += [word for it in sorted(functions) for word in ("--only", it)]
         with tempfile.TemporaryFile("w+", encoding="utf-8", errors="replace") as output:
@@ -218,7 +233,8 @@ class Checks:
             return output.read()
 
     def of_edits(self, edits, is_full=False):
-        """Check what these edits change, or the full crate with them; return the reasons of functions, and the output."""
+        """Check what these edits change, or the full crate with them. Return the reasons of
+        functions, and the output."""
         changed = {it for edit in edits for it in edit.functions}
         is_full = is_full or any(edit.is_outside for edit in edits)
         functions = {"::".join([*modules_of(name), function]) for name, function in changed}
@@ -230,12 +246,13 @@ class Checks:
                 leave_holes(self.crate.name, changed, room)
                 said = self.run(room, functions, words=["--allow-holes"])
         if not is_full and NO_FUNCTION.search(said):
-            # Nothing but the full check judges what cannot be named.
+            # Only the full check judges what has no name.
             return self.of_edits(edits, is_full=True)
         return reasons_of(said), said
 
     def of_laws(self, edit, home):
-        """Check the laws that must fall over a turned definition; return whether each falls, and the output."""
+        """Check the laws that must fail with an altered definition. Return whether each fails, and
+        the output."""
         crate = turned_definitions.crate_with(self.crate.name, home, self.crate.root)
         with tempfile.TemporaryDirectory(prefix="rcell-turned-") as room:
             turned_definitions.lay_out(self.crate.name, home, edit.pairs, pathlib.Path(room))
@@ -248,7 +265,8 @@ def is_proved(law, said):
 
 
 class Kept:
-    """The edits that were rejected before, with their kinds, by a sum of the kit, the crate with all below it, and the edit."""
+    """Edits that were rejected before, with their kinds, keyed by a hash of the kit, the crate with
+    all that it uses, and the edit."""
 
     def __init__(self, crate):
         self.folder = pathlib.Path(os.path.dirname(build.kit()), "rcell-kept-edits")
@@ -276,7 +294,7 @@ class Kept:
 
 
 def try_bodies(checks, edits, one_by_one):
-    """Yield each wrong body with its kind, '' if it is not rejected, and what to say of it then."""
+    """Yield each wrong body with its kind, or '' and a message if it is not rejected."""
     groups = [(it, 1) for it in groups_of(edits, one_by_one)]
     again, unsure = collections.defaultdict(list), set()
     while groups:
@@ -307,14 +325,16 @@ def try_bodies(checks, edits, one_by_one):
 
 
 def last_try(checks, edit):
-    """The kind of an edit that its own function does not reject alone, by a check of the full crate, and what to say of it."""
+    """Check the full crate with an edit that its own function does not reject. Return the kind, and
+    a message."""
     found, said = checks.of_edits([edit], is_full=True)
     kind = reason_of(edit, found).kind or ("elsewhere" if any(it.kind for _, it in found) else "")
     return kind, "NOT REFUSED" if found else "BAD EDIT: " + said[-600:]
 
 
 def try_definitions(checks, edits):
-    """Yield each turned definition with its kind, as try_bodies does. The laws have to prove if nothing is turned."""
+    """Yield each altered definition with its kind, like try_bodies. The laws must be provable
+    without alterations."""
     homes = collections.defaultdict(list)
     for edit in edits:
         homes[turned_definitions.home_of(checks.crate.name, edit)].append(edit)
@@ -331,7 +351,7 @@ def try_definitions(checks, edits):
 
 
 def try_crate(crate, one_by_one, is_listed):
-    """Tries the edits of a crate, and returns what came of them."""
+    """Try the edits of a crate, and return the results."""
     edits, kept = edit_files.edits_in(crate.name), Kept(crate)
     tally = Tally(crate.name, {it.name: kept.kind(it) for it in edits}, [])
     left = [it for it in edits if not tally.kinds[it.name]]
@@ -368,7 +388,7 @@ def line_of(tally):
 
 
 def checks_at_a_time():
-    """One a processor, as memory allows."""
+    """Return one check per processor, or fewer if memory is short."""
     available = re.search(
         r"^MemAvailable: *(\d+) kB",
         pathlib.Path("/proc/meminfo").read_text(encoding="ascii"),
@@ -378,7 +398,8 @@ def checks_at_a_time():
 
 
 def try_over(root, names, one_by_one, is_listed):
-    """Try the edits of crates over the libraries below a root, the largest crates first, and return what came of each."""
+    """Try the edits of crates over the libraries below a root, largest crates first. Return the
+    results of each."""
     tried = [it for it in build.crates_of(names, root) if it.name in names]
     for crate in tried:
         crate.folder = f"{build.ROOT}/crates/{crate.name}"
@@ -392,7 +413,8 @@ def try_over(root, names, one_by_one, is_listed):
 
 
 def try_all(names, one_by_one, is_listed):
-    """Try the edits of crates over the libraries that the gate left, or over a copy that is proved here."""
+    """Try the edits of crates over the libraries that the gate left, or over a copy that is proved
+    here."""
     crates = build.crates_of(names)
     below = [it for it in crates if any(it.name in other.all_below for other in crates)]
     if all(it.has_proved() for it in below):
@@ -404,7 +426,8 @@ def try_all(names, one_by_one, is_listed):
 
 
 def faults_of_evidence(kinds):
-    """The edits that a page cites as evidence, and that say little of the contract."""
+    """Return the edits that a page cites as evidence although they say little about the
+    contract."""
     return [
         f"{name}: evidence on {page}, and rejected only by `{kinds[name]}`"
         for name, page in edit_files.cited().items()
@@ -413,7 +436,8 @@ def faults_of_evidence(kinds):
 
 
 def closing(tallies, wall, is_strict):
-    """Prints all counts, and returns the status; is_strict says that evidence which says little counts as a failure."""
+    """Print all counts, and return the status. `is_strict` states that weak evidence counts as a
+    failure."""
     kinds = {name: kind for it in tallies for name, kind in it.kinds.items()}
     counts = collections.Counter(kinds.values())
     for fault in (faults := faults_of_evidence(kinds)):

@@ -1,12 +1,13 @@
 #!/usr/bin/env python3
-"""What is linked into the programs, and the licences of it all.
+"""Copy the licences of everything that is linked into the programs.
 
     linked.py FOLDER [--without-own] [--with-islands]
 
-Copies into FOLDER the texts of rcell's own two licences (--without-own leaves them out: Debian has them), with --with-islands the licence of
-the data of examples/islands, and below linked/ the notices of the libraries that are linked into the programs, with the texts of
-the licences that they name. The libraries are the kit's that crates.txt names for the programs, with all below them, and
-of Debian the GNU C Library and the startup code of GCC.
+Copies into FOLDER rcell's own two licences (left out with --without-own, because Debian has them),
+with --with-islands the licence of the data in examples/islands, and, below linked/, the notices of
+the linked libraries and the licences that they name. The libraries are the kit's libraries that
+crates.txt lists for the programs, with all that they use, and Debian's GNU C Library and GCC
+startup code.
 """
 import argparse
 import functools
@@ -23,7 +24,8 @@ OWN = "Apache-2.0 OR GPL-2.0-or-later"
 OWN_TEXTS = {"Apache-2.0.txt": "Apache-2.0", "GPL-2.txt": "GPL-2"}
 LINKED_TEXTS = {"LGPL-2.1.txt": "LGPL-2.1", "GPL-3.txt": "GPL-3"}
 ISLANDS_TEXTS = {"LGPL-3.txt": "LGPL-3", "GPL-3.txt": "GPL-3"}
-# Libraries of the kit that have a licence text there. Of several licences at choice the first is taken: MIT, not Apache-2.0.
+# The kit's libraries with licence texts. If there is a choice, the first is used: MIT, not
+# Apache-2.0.
 OF_KIT = {
     "bstr": "MIT AND Unicode-3.0",
     "circular_buffer": "BSD-3-Clause",
@@ -35,7 +37,7 @@ OF_KIT = {
     "ucd_table": "Unicode-3.0",
     "unicode_segmentation": "MIT AND Unicode-3.0",
 }
-# Packages of Debian: the licence, the file of notices, and what they are.
+# Debian packages: the licence, the file of notices, and a description.
 OF_DEBIAN = {
     "libc6-dev": ("LGPL-2.1-or-later", "the GNU C Library"),
     "libgcc-12-dev": (
@@ -48,7 +50,7 @@ NO_LICENCE = "NOASSERTION"
 
 @functools.cache
 def libraries():
-    """The kit's libraries in the programs by name, each with its licence."""
+    """Return the kit's libraries in the programs, by name, each with its licence."""
     left, found = {name for crate in build.crates_of(build.PROGRAMS) for name in crate.of_kit}, {}
     while left:
         name = left.pop()
@@ -64,7 +66,8 @@ def libraries():
 
 
 def notices(name):
-    """The licence texts of a library of the kit, but for Apache-2.0, which none needs."""
+    """Return the licence texts of a library of the kit, without Apache-2.0, which no library
+    needs."""
     found = sorted(pathlib.Path(build.kit(), "rattle", name).glob("LICENSE*"))
     return [it for it in found if not it.name.endswith("-APACHE")]
 
@@ -79,7 +82,8 @@ def version_of(package):
 
 
 def port_of(name):
-    """The version of the Rust crate that a library of the kit was ported from, if its README names it."""
+    """Return the version of the Rust crate from which a library of the kit was ported, if its
+    README names it."""
     readme = pathlib.Path(build.kit(), "rattle", name, "README.md")
     found = (
         re.search(r"crate `[\w-]+` (\d+(?:\.\d+)+)", readme.read_text(encoding="utf-8"))
@@ -95,7 +99,7 @@ def copy(texts, folder):
 
 
 def copy_all(folder, own=True, islands=False):
-    """Copies all texts and notices into a folder."""
+    """Copy all licences and notices into a folder."""
     folder.mkdir(parents=True)
     linked = folder / "linked"
     linked.mkdir()
@@ -112,7 +116,7 @@ def copy_all(folder, own=True, islands=False):
 
 
 def summary():
-    """The libraries with their licences, as lines of debian/copyright."""
+    """Return the libraries with their licences, as lines of debian/copyright."""
     lines = [
         f" {name} (of the Rattle kit): {licence}"
         if licence != NO_LICENCE

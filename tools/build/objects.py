@@ -1,13 +1,15 @@
 #!/usr/bin/env python3
-"""The objects that the programs of bin/ were linked from, bin/NAME.o: the static programs of the release are linked from them.
+"""Provide the objects from which the programs in bin/ were linked, bin/NAME.o.
 
-    objects.py                          puts into bin/ those that are missing or that are of other programs
-    objects.py --from FILE PROGRAM..    puts programs into bin/ that are linked from the objects of a release
-    objects.py --stamps FOLDER          writes PROGRAM.stamp for each program
+    objects.py                          put missing or outdated objects into bin/
+    objects.py --from FILE PROGRAM..    put programs into bin/, linked from a release's objects
+    objects.py --stamps FOLDER          write PROGRAM.stamp for each program
 
-An object is right if the kit links it to the bytes of its program. Proving a program leaves one. If the kit took the proofs from
-an earlier run, the program's own crate is proved and compiled once more over the libraries below it.
-With --from, the stamp of an object must fit these sources: a sum of the kit's version and all that the proof reads.
+The static programs of a release are linked from these objects. An object is right if the kit links
+it to the exact bytes of its program. Proving a program leaves an object. If the kit took the proofs
+from an earlier run, the program's own crate is proved and compiled again over the libraries that it
+uses. With --from, an object's stamp must fit these sources: it is a hash of the kit's version and
+all that the proof reads.
 """
 import argparse
 import filecmp
@@ -25,7 +27,7 @@ ELSEWHERE = "NOT proved on this machine"
 
 
 def linked(made, output):
-    """Links an object of a program as the kit does, and returns how that ended."""
+    """Link a program's object as the kit does, and return the result of the command."""
     words = [
         f"{build.kit()}/bin/rattle-link",
         "--target",
@@ -53,7 +55,7 @@ def is_right(made, program, room):
 
 
 def compiled(crate, room):
-    """Compile the object of a program from the sources of its crate over the libraries below it."""
+    """Compile a program's object from the sources of its crate, over the libraries that it uses."""
     crates, made = build.crates_of([crate]), f"{room}/{crate}.o"
     print(
         f"bin/{build.PROGRAMS[crate]}.o is missing: compiling {crate} over the libraries below it",
@@ -75,7 +77,7 @@ def compiled(crate, room):
 
 
 def put(crate, name, room):
-    """Puts the object of a program into bin/, and returns whether one was right."""
+    """Put a program's object into bin/, and return whether there was a right one."""
     program = f"{build.ROOT}/bin/{name}"
     left = f"{build.ROOT}/crates/{crate}/out/{crate}.o"
     for candidate in (lambda: f"{program}.o", lambda: left, lambda: compiled(crate, room)):
@@ -89,7 +91,8 @@ def put(crate, name, room):
 
 
 def take(crate, archive, room):
-    """Puts a program into bin/ that is linked from an archive of objects, and returns whether that is of exactly these sources."""
+    """Put a program into bin/ that is linked from an archive of objects. Return whether the archive
+    is of exactly these sources."""
     name, at = build.PROGRAMS[crate.name], pathlib.Path(room, "crates", crate.name, "out")
     with tarfile.open(archive) as files:
         members = {os.path.basename(it.name): it for it in files if it.isfile()}

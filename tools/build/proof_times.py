@@ -1,13 +1,14 @@
 #!/usr/bin/env python3
-"""Says where the time of a crate's proof goes, function by function.
+"""Report where the time of a crate's proof goes, function by function.
 
     proof_times.py CRATE [--most N]
 
-It proves the crate by one process from nothing, over the libraries below it that `rt check` or `rt lib` left, and prints
-the seconds of each function and each file of lemmas, the slowest first: how long its states take (what the prover knows of
-each local at each place where the paths of a function meet, so they grow with both), the goals that are left to a search, the
-proofs that are written, and all else. It prints the time from one kept module to the next, so it wants an idle
-machine. The first function that needs a set of lemmas also takes the time of reading the set.
+Proves the crate from scratch in one process, over the libraries that `rt check` or `rt lib` left.
+Prints the seconds of each function and each file of lemmas, slowest first: the time for its states
+(what the prover knows of each local where the paths of a function meet, so it grows with both), for
+goals left to a search, for written proofs, and for everything else. The times are measured from one
+kept module to the next, so the machine must be idle. The first function that needs a set of lemmas
+also includes the time of reading the set.
 """
 import argparse
 import collections
@@ -19,7 +20,8 @@ import tempfile
 import build
 
 MOST_ROWS = 30
-# The columns, and a function's modules that count in each; all others count as the rest.
+# The columns, and the modules of a function that count in each. All other modules count as the
+# rest.
 COLUMNS = {
     "states": {"Lts", "View"},
     "search": {"Proof", "Goals"},
@@ -29,7 +31,8 @@ COLUMNS = {
 
 
 def modules(kept):
-    """The kept modules in the order in which they were written, each with the seconds since the one before."""
+    """Return the kept modules in the order in which they were written, each with the seconds since
+    the previous one."""
     found = []
     for folder, _, names in os.walk(kept):
         if os.path.basename(folder) != "records":
@@ -43,12 +46,12 @@ def modules(kept):
 
 
 def column(part):
-    """The column of a part of a module's name, if it has one."""
+    """Return the column for a part of a module's name, if there is one."""
     return next((name for name, parts in COLUMNS.items() if part in parts), None)
 
 
 def times(crate, kept):
-    """The seconds of each function or file of lemmas, by column."""
+    """Return the seconds of each function or file of lemmas, by column."""
     rows = collections.defaultdict(lambda: dict.fromkeys(COLUMNS, 0.0))
     for seconds, name in modules(kept):
         library, _, path = name.partition(".")

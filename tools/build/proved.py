@@ -1,11 +1,13 @@
 #!/usr/bin/env python3
-"""Writes PROVED.txt of a release to standard output: what the programs were made from, and what is known of them, on one page.
+"""Write a release's PROVED.txt to standard output: what the programs were made from, and what is
+known of them, on one page.
 
     proved.py
 
-The programs, dynamic and static, and their objects are in bin/. The commit, the kit and the libraries of Debian are from
-this machine now. The closing line of the gate is in bin/gate, which `make check` leaves; if there is none for this commit
-and these programs, the page says so. What is proved, only tested and trusted is the section of the README.
+The programs, dynamic and static, and their objects must be in bin/. The commit, the kit and
+Debian's libraries are those on this machine now. The gate's closing line is read from bin/gate,
+which `make check` leaves; if there is none for this commit and these programs, the page states
+this. The section of the README states what is proved, only tested, and trusted.
 """
 import hashlib
 import re
@@ -16,7 +18,7 @@ import build
 import edit_files
 
 ROOT = build.ROOT
-# The key of each program in what the gate leaves.
+# The key of each program in the gate's record.
 KEYS = {"rcell": "program", "rcell-join": "joiner", "rcell-pipe": "pipe"}
 PACKAGES = ("libc6-dev", "libgcc-12-dev")
 SECTION = "What is proved, tested and trusted"
@@ -37,7 +39,7 @@ def said_by(*words):
 
 
 def sum_of(name):
-    """The sum of a file of bin/."""
+    """Return the hash of a file in bin/."""
     with open(f"{ROOT}/bin/{name}", "rb") as file:
         return hashlib.file_digest(file, "sha256").hexdigest()
 
@@ -51,7 +53,8 @@ def sources():
 
 
 def gate_record(commit):
-    """What the gate left for this commit and these programs, by its keys; None where it left nothing."""
+    """Return the gate's record for this commit and these programs, by key, or None if there is
+    none."""
     record = dict(
         line.split(": ", 1) for line in read(f"{ROOT}/bin/gate").splitlines() if ": " in line
     )
@@ -79,7 +82,7 @@ def gate_text(record):
 
 
 def origins():
-    """Where the programs were proved, as the build left it."""
+    """Return where the programs were proved, as recorded by the build."""
     said = {
         read(f"{ROOT}/bin/{name}.origin", "it is not known where they were proved").strip()
         for name in KEYS
@@ -88,7 +91,7 @@ def origins():
 
 
 def sums(ending=""):
-    """The sums of the programs, or of what is called after them, a line each."""
+    """Return the hashes of the programs, or of the files with this ending, one per line."""
     return "\n            ".join(f"sha256 {sum_of(name + ending)} ({name})" for name in KEYS)
 
 

@@ -1,6 +1,7 @@
 #!/usr/bin/env python3
-"""Tries how the gate counts (tools/check.py, tools/counting.sh), which libraries it leaves for edits.py, how that reads edits, groups
-them and reads a check, how unproved programs are made, and parts of the lint. The last line is 'N passed, M failed'."""
+"""Test the gate's tools: how results are counted (tools/check.py, tools/counting.sh), which
+libraries are left for edits.py, how it reads and groups edits and reads a check, how unproved
+programs are made, and parts of the lint. The last line is 'N passed, M failed'."""
 import os
 import pathlib
 import subprocess
@@ -20,7 +21,7 @@ import passed
 import turned_definitions
 import unproved
 
-# What a command prints, its status, whether it has counts: and what it counts for.
+# The output of a command, its status, whether it has counts, and the expected counts.
 COUNTED = [
     ("its own counts", "3 passed, 1 failed\n", 1, True, (3, 1, 0)),
     ("skipped ones", "3 passed, 0 failed, 2 skipped\n", 0, True, (3, 0, 2)),
@@ -96,7 +97,8 @@ BY_ANOTHER = "no proof: it calls `first`, which is not proved"
 OPEN = "no proof: at `found as u64`, `search` did not prove `result = 3`"
 WAITS = "not proved; it calls `all::second`, which is not proved"
 NOTE = "note: src/lib.rt:3:1: it is not proved that what the function ensures holds when it returns (`returns`)"
-# The output of a check, and the kind of each function that it rejects; `?` if a search has not tried all of its goals.
+# The output of a check, and the kind of each function that it rejects; `?` if a search has not
+# tried all of its goals.
 OUTPUTS = [
     (f"fn all::first: {OPEN}", {"first": "goal"}),
     (
@@ -123,7 +125,8 @@ OUTPUTS = [
     ("impl all::ThreeEq: not proved; it waits for the proof of `eq`", {}),
     ("fn all::first: not proved", {"first": "written"}),
 ]
-# The function that an edit changes, the function that is rejected, and whether that rejects the edit.
+# The function that an edit changes, the function that is rejected, and whether this rejects the
+# edit.
 CHANGED = [
     (("src/lib.rt", "first"), "first", True),
     (("src/lib.rt", "first"), "second", False),
@@ -183,7 +186,8 @@ def faults_of_groups():
 
 
 class OneAtATime(edits.Checks):
-    """Stands for the prover: rejects `bad` edits only in a check of their own, and can't read a group that has an `unread` one."""
+    """Imitates the prover: rejects `bad` edits only in a check of their own, and cannot read a
+    group with an `unread` edit."""
 
     def __init__(self):
         super().__init__(None, "")
@@ -282,7 +286,8 @@ def faults_of_counts():
 
 
 def faults_of_holes():
-    """All written proofs are holes except of a changed function, its closure, and a cycle."""
+    """Check that all written proofs are replaced with holes, except for a changed function, its
+    closure, and a cycle."""
     kept = ("words/first", "words/fn/first/map", "words/+all", "words/Reader/next")
     with tempfile.TemporaryDirectory() as room:
         for name in (*kept, "words/second", "first", "words/fn/second/map"):
@@ -301,7 +306,8 @@ def faults_of_holes():
 
 
 def faults_of_unproved():
-    """The substitute for clang hands on what is not the program's code, and takes that code; a part about proofs is skipped."""
+    """Check that the substitute for clang passes on everything but the program's code, which it
+    keeps, and that a part about proofs is skipped."""
     with tempfile.TemporaryDirectory() as folder:
         room = pathlib.Path(folder)
         script, code = room / "clang", room / "program.bc"

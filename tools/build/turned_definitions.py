@@ -1,7 +1,8 @@
-"""Lays out a crate of laws with a definition that an edit turns, so that the proofs of its laws can be tried.
+"""Lay out a crate of laws with an altered definition, so that the proofs of its laws can be tried.
 
-If the definition is of another crate, its module is put into the crate of laws, with each module of its own crate that is between it
-and the lemmas of the laws. The crates below stay as they are, so only the laws are proved again.
+If the definition belongs to another crate, its module is copied into the crate of laws, with all
+modules of its crate between it and the lemmas of the laws. The other crates do not change, so only
+the laws are proved again.
 """
 import functools
 import pathlib
@@ -21,7 +22,7 @@ def module_path(crate, module):
 
 @functools.cache
 def imports_of(path, crate):
-    """The modules of a crate that a file imports from."""
+    """Return the modules of a crate from which a file imports."""
     return {
         module
         for name, module in IMPORTED.findall(text_of(path))
@@ -31,26 +32,26 @@ def imports_of(path, crate):
 
 @functools.cache
 def stands_on(crate, module, other):
-    """Whether a module is another one, or imports from one that is."""
+    """Return whether a module is another module, or imports from it, directly or through others."""
     return module == other or any(
         stands_on(crate, it, other) for it in imports_of(module_path(crate, module), crate)
     )
 
 
 def antt_files(folder):
-    """The files of definitions and of proofs of a crate."""
+    """Return a crate's files of definitions and proofs."""
     return [path for part in ("specs", "proofs") for path in (folder / part).rglob("*.antt")]
 
 
 def home_of(law, edit):
-    """The crate and the module of the definition that an edit turns."""
+    """Return the crate and the module of the definition that an edit alters."""
     parts = pathlib.PurePath(edit.pairs[0][0]).with_suffix("").parts
     crate, parts = (parts[1], parts[2:]) if parts[0] == ".." else (law, parts)
     return crate, ".".join(parts)
 
 
 def between(law, crate, module):
-    """The modules of a crate that the laws come to and that use a definition's module."""
+    """Return the modules of a crate that the laws reach and that use the definition's module."""
     found, waiting = set(), set()
     for path in antt_files(ROOT / "crates" / law):
         waiting |= imports_of(path, crate)
@@ -63,12 +64,13 @@ def between(law, crate, module):
 
 
 def copied(module):
-    """Where a module lies in the crate of laws: no folder has a name that the crate has, in capitals or not."""
+    """Return the name of a copied module in the crate of laws. No folder has a name that the crate
+    already has, in any case."""
     return re.sub(r"^(specs|proofs)\.(?=\w+\.)", r"\1.turned_", module)
 
 
 def declare(folder, path):
-    """Names a new module in the file that lists the modules of its folder."""
+    """Add a new module to the file that lists the modules of its folder."""
     listing = path.parent / "Lib.antt"
     if path.parent.parent != folder:
         listing = path.parent.with_suffix(".antt")
@@ -80,7 +82,8 @@ def declare(folder, path):
 
 
 def lay_out(law, home, pairs, room):
-    """Makes room a copy of the crate of laws that has the definition's module, with those pairs replaced in it."""
+    """Copy the crate of laws to `room`, with the definition's module, in which the pairs are
+    replaced."""
     crate, module = home
     for part in build.PROVED:
         if (ROOT / "crates" / law / part).is_dir():
@@ -107,7 +110,8 @@ def lay_out(law, home, pairs, room):
 
 
 def crate_with(law, home, root):
-    """The crate of laws over the libraries of its own and of the definition's crate, which the modules that it gets name."""
+    """Return the crate of laws with its own libraries and those of the definition's crate, which
+    the copied modules name."""
     crates = {it.name: it for it in build.crates_of([law, home[0]], root)}
     used = dict.fromkeys(it for name in (law, home[0]) for it in build.uses()[name] if it != law)
     return build.Crate(law, list(used), crates, root)

@@ -1,12 +1,14 @@
 #!/usr/bin/env python3
-"""Compiles programs without proving them, and puts them into test-bin/, for the tests that need no proof (`make test`).
+"""Compile programs without proving them, and put them into test-bin/, for tests that need no proofs
+(`make test`).
 
     unproved.py [--example] [PROGRAM..]      without names, all programs
 
-`rt try` has clang compile a program for a run that looks for mistakes. Here a substitute for clang takes the same code before that,
-and the kit's clang compiles it. It is several times slower than the proved program and takes more of the stack, so it is not for
-benchmarks. What is up to date is not compiled again. bin/ is for proved programs, and is
-left as it is. With --example the land cover of examples/land-cover is counted with test-bin/rcell.
+`rt try` compiles a program with clang for a run that looks for bugs. Here, a substitute for clang
+takes the code at that point, and the kit's clang compiles it. The result is several times slower
+than the proved program and uses more stack, so it is not for benchmarks. Programs that are up to
+date are not compiled again. bin/, which is for proved programs, is not changed. With --example,
+test-bin/rcell counts the land cover of examples/land-cover.
 """
 import argparse
 import os
@@ -25,10 +27,10 @@ FOLDER = pathlib.Path(build.ROOT, "test-bin")
 ORIGIN = "NOT proved: compiled for tests from the sources"
 BYTES_OF_A_PROGRAM = 3 << 30
 TARGET = "x86_64-unknown-linux-gnu"
-# As `rattle build` has clang compile the code of a proved program.
+# The options with which `rattle build` compiles the code of a proved program.
 OPTIONS = """-march=x86-64 -ffunction-sections -fdata-sections --no-default-config -no-canonical-prefixes -fintegrated-cc1
 -fno-crash-diagnostics -fPIE -O3 -c -x ir""".split()
-# Takes the code that is to be compiled with a sanitizer, and ends.
+# Takes the code that would be compiled with a sanitizer, and exits.
 SUBSTITUTE = """#!/bin/sh
 case $* in *sanitize*) ;; *) exec {clang} "$@" ;; esac
 for word in "$@"; do case $word in *.bc) cp "$word" {code} ;; esac; done
@@ -37,20 +39,21 @@ exit 1
 
 
 def link_all(source, target, *left_out):
-    """Makes a folder that has links to all that another has, but for some names."""
+    """Make a folder with links to everything in another folder, except for some names."""
     target.mkdir()
     for name in set(os.listdir(source)) - set(left_out):
         (target / name).symlink_to(f"{source}/{name}")
 
 
 def kit_with_substitute(room, code):
-    """A kit of links to the real one, whose clang only copies a program's code; return its rt."""
+    """Make a kit of links to the real kit, whose clang only copies a program's code. Return its
+    rt."""
     kit = pathlib.Path(build.kit())
     link_all(kit, room / "kit", "bin", "toolchain")
     link_all(kit / "bin", room / "kit/bin", "rt", "rtlib.py")
     link_all(kit / "toolchain", room / "kit/toolchain", "bin")
     link_all(kit / "toolchain/bin", room / "kit/toolchain/bin", "clang")
-    # rt takes the kit that its own file is in, through links.
+    # rt resolves links to find the kit that contains it, so its own files are copied.
     for name in ("rt", "rtlib.py"):
         shutil.copy(kit / "bin" / name, room / "kit/bin")
     clang = room / "kit/toolchain/bin/clang"
@@ -61,7 +64,7 @@ def kit_with_substitute(room, code):
 
 
 def run(words, **how):
-    """Run a command and return its output; if it fails, print that and end."""
+    """Run a command and return its output. If it fails, print the output and exit."""
     ran = subprocess.run(
         [str(it) for it in words],
         stdin=subprocess.DEVNULL,
@@ -76,7 +79,7 @@ def run(words, **how):
 
 
 def code_of(crate, room):
-    """The code of a program's crate, as the kit hands it to clang."""
+    """Return the code of a program's crate, as the kit passes it to clang."""
     code = room / "program.bc"
     rt = kit_with_substitute(room, code)
     with build.cut(build.crates_of([crate])) as folder:
@@ -87,7 +90,7 @@ def code_of(crate, room):
 
 
 def compile_program(crate):
-    """Compiles a program into test-bin/, unless the one there is of these sources."""
+    """Compile a program into test-bin/, unless it is up to date."""
     name = build.PROGRAMS[crate]
     origin = f"{ORIGIN} {build.crates_of([crate])[-1].stamp}\n"
     record, begun = FOLDER / f"{name}.origin", time.monotonic()
@@ -116,7 +119,7 @@ def compile_program(crate):
 
 
 def programs_at_a_time():
-    """All if memory allows, otherwise one."""
+    """Return the number of programs to compile at a time: all if memory allows, otherwise one."""
     memory = pathlib.Path("/proc/meminfo").read_text(encoding="ascii")
     available = int(re.search(r"^MemAvailable: *(\d+) kB", memory, re.MULTILINE)[1]) * 1024
     return max(1, min(len(build.PROGRAMS), available // BYTES_OF_A_PROGRAM))
