@@ -26,12 +26,12 @@
 # %flag
 # % key: l
 # % label: Add category labels to all tables
-# % description: Every r.stats of the script prints labels, as with its own flag -l
+# % description: Every r.stats of the script prints labels, as with its flag -l
 # %end
 # %option G_OPT_F_INPUT
 # % key: script
 # % label: Name of the rcell script
-# % description: "-" reads the script from standard input
+# % description: Use "-" to read the script from standard input
 # %end
 # %option
 # % key: maps
@@ -40,7 +40,7 @@
 # % multiple: yes
 # % required: yes
 # % label: Raster maps that the script reads
-# % description: NAME=MAP where the script uses another name than the map has, as in ws=basins@PERMANENT
+# % description: Use NAME=MAP if the script uses another name, for example ws=basins@PERMANENT
 # %end
 # %option
 # % key: output
@@ -48,14 +48,14 @@
 # % key_desc: name[=map]
 # % multiple: yes
 # % required: no
-# % label: Maps of the script to import as raster maps
-# % description: NAME=MAP gives the raster map another name than the script uses
+# % label: Maps that the script creates, to import as raster maps
+# % description: Use NAME=MAP to give the raster map another name
 # %end
 # %option G_OPT_F_OUTPUT
 # % key: table
 # % required: no
 # % label: Name of the file for the tables of the script
-# % description: Standard output if not given or "-"
+# % description: Use "-", or leave it out, for standard output
 # %end
 
 import atexit
@@ -73,21 +73,24 @@ from contextlib import contextmanager
 import grass.script as gs
 from grass.exceptions import CalledModuleError
 
-NULL = -2147483648  # of r.out.bin and r.in.bin; no category has this value
-MOST_SIDE = 65535  # rows or columns that rcell takes
+NULL = -2147483648  # null for r.out.bin and r.in.bin; not a category
+MOST_SIDE = 65535  # the most rows or columns that rcell accepts
 MOST_CELLS = 2147483647
-BLOCK_CELLS = 1 << 20  # cells that are sent at a time
-SECONDS_OF_A_STEP = 0.5  # of the line of progress
+BLOCK_CELLS = 1 << 20  # the number of cells to send at a time
+SECONDS_OF_A_STEP = 0.5  # between updates of the progress line
 BLANKS = b" \t\r"
 NAME = re.compile(r"[A-Za-z_][A-Za-z0-9_.]{0,63}")
-BYTES = {"u8": 1, "i32": 4}  # of a cell, by the types of maps that come back
+BYTES = {"u8": 1, "i32": 4}  # bytes per cell of returned maps, by type
 
 Input = namedtuple("Input", "name map")  # the name in the script, the raster map
 Output = namedtuple("Output", "name map")
 
 
 class Stopped(Exception):
-    """The run cannot continue; the text says why. Lines of a script follow unchanged."""
+    """Raised if the run cannot continue.
+
+    `beneath` contains lines of a script, which are printed unchanged after the message.
+    """
 
     def __init__(self, text, beneath=""):
         super().__init__(text)
@@ -98,7 +101,7 @@ class Stopped(Exception):
 
 
 def with_labels(script, statements):
-    """Return the script with the flag -l added to each r.stats that lacks it."""
+    """Add the flag -l to each r.stats in a script that lacks it."""
     lines = script.split("\n")
     for statement in statements:
         if statement.command == "r.stats" and "l" not in statement.options:
@@ -107,7 +110,7 @@ def with_labels(script, statements):
 
 
 def without_tables(script, statements):
-    """Return the script without the statements that write, each of which is one line."""
+    """Remove the statements that write outputs from a script; each is one line."""
     lines = script.split("\n")
     for statement in statements:
         if not statement.made:
@@ -125,12 +128,12 @@ def labelled_maps(statements):
 
 
 def made_by(statements):
-    """Return the command that makes each map of a script."""
+    """Return the command that creates each map of a script, by map name."""
     return {statement.made: statement.command for statement in statements if statement.made}
 
 
 def stopped(end, script, names):
-    """Return rcell's message about a script or a map, followed by the line of the user's script."""
+    """Return an exception with rcell's message and the line of the user's script."""
     from rcell.core.protocol import Fault
 
     fault = Fault(**end.parts(program(), script, names))
@@ -150,11 +153,11 @@ def stopped(end, script, names):
 
 
 def printable(line):
-    """The text of a line in UTF-8, without bytes that a terminal would interpret."""
+    """Return a line as UTF-8 text, with control characters escaped."""
     return line.decode(errors="replace").replace("\t", " ")
 
 
-# Maps that go in
+# Input maps
 
 
 def edge_texts(region):
@@ -164,7 +167,7 @@ def edge_texts(region):
 
 
 def source_of(raster, labels, region, progress):
-    """A raster map as rcell-pipe gets it; its rows come from r.out.bin while they are read."""
+    """Return a raster map for rcell-pipe, whose rows r.out.bin writes while they are read."""
     from rcell.core.protocol import Map
 
     rows, cols = region["rows"], region["cols"]
@@ -199,17 +202,17 @@ def blocks_of(raster, rows, cols, progress):
 
 
 def end_of(module, raster):
-    """Check that a module has succeeded."""
+    """Raise Stopped unless a module succeeded."""
     module.stdout.close()
     if module.wait():
         raise Stopped(_("Raster map <{}> could not be read").format(raster))
 
 
-# What rcell writes
+# Outputs of rcell
 
 
 def label_lines(frame):
-    """Return the lines of r.category for a table of categories with labels."""
+    """Return r.category's input lines for a table of categories with labels."""
     labelled = [
         (category, label) for category, label in zip(frame.cells.tolist(), frame.labels) if label
     ]
@@ -224,7 +227,7 @@ def label_lines(frame):
 
 
 class Imports:
-    """Raster maps with temporary names until all of them are complete."""
+    """Imports raster maps under temporary names until all maps are complete."""
 
     def __init__(self, region):
         self.region, self.names, self.room = (
@@ -245,7 +248,7 @@ class Imports:
         return {key: "%.15g" % self.region[key[0]] for key in ("north", "south", "east", "west")}
 
     def add(self, output, frame, progress):
-        """Import a map with r.in.bin, which cannot read from a pipe because it asks for the size of its file."""
+        """Import a map with r.in.bin, from a file because r.in.bin needs its size."""
         name = "rcell_%d_%d" % (os.getpid(), len(self.names))
         self.names[name] = output
         path = os.path.join(self.room, "cells")
@@ -269,7 +272,7 @@ class Imports:
         return name
 
     def label(self, name, lines):
-        """Gives a map its labels."""
+        """Add labels to a map."""
         module = gs.feed_command("r.category", map=name, rules="-", separator="tab", quiet=True)
         module.stdin.write(b"".join(lines))
         module.stdin.close()
@@ -277,7 +280,7 @@ class Imports:
             raise Stopped(_("The labels of <{}> could not be written").format(self.names[name].map))
 
     def finish(self, areas):
-        """Give all maps their names at once; patches get random colours, as from r.clump."""
+        """Rename all maps at once; patches get random colours, as with r.clump."""
         for name, output in self.names.items():
             if output.name in areas:
                 gs.run_command("r.colors", map=name, color="random", quiet=True)
@@ -292,7 +295,7 @@ class Imports:
 
 
 class Progress:
-    """A progress line over all rows that are read and written; each step costs a run of g.message."""
+    """Shows progress over all rows read and written, in few steps because each runs g.message."""
 
     def __init__(self, rows):
         self.done, self.rows, self.shown, self.is_shown = 0, rows, time.monotonic(), False
@@ -308,11 +311,11 @@ class Progress:
             gs.percent(1, 1, 1)
 
 
-# The run
+# Running rcell
 
 
 def program():
-    """Return the program on the path; relative folders on the path are ignored."""
+    """Return the path of rcell-pipe, ignoring relative folders on the path."""
     folders = [folder for folder in os.get_exec_path() if os.path.isabs(folder)]
     return shutil.which("rcell-pipe", path=os.pathsep.join(folders)) if folders else None
 
@@ -333,7 +336,7 @@ def find_front(path):
 
 
 def judged(script, names):
-    """Return the statements of a script, if rcell accepts it."""
+    """Return the plan of a script, or raise Stopped if rcell rejects it."""
     from rcell.core import protocol
 
     with stopping_on_faults(script, names):
@@ -342,7 +345,7 @@ def judged(script, names):
 
 @contextmanager
 def stopping_on_faults(script, names):
-    """Return the error of a run of rcell-pipe, as a sentence."""
+    """Convert the errors of rcell-pipe to Stopped."""
     from rcell.core.protocol import Killed, NoAnswer, Rejected
 
     try:
@@ -354,7 +357,7 @@ def stopping_on_faults(script, names):
 
 
 def tables_of(script, statements, sources):
-    """Run a script and yield what it writes, piece by piece; `sources()` returns its maps."""
+    """Run a script and yield its text output piece by piece; `sources()` returns its maps."""
     from rcell.core import protocol
 
     if all(statement.made for statement in statements):
@@ -365,7 +368,7 @@ def tables_of(script, statements, sources):
 
 
 def maps_of(script, statements, sources, outputs, labels):
-    """Run a script and return the cells of the outputs, and the labels of some by name."""
+    """Run a script, and return the cells of its outputs and the labels of maps by name."""
     from rcell.core import protocol
 
     if not outputs:
@@ -396,11 +399,11 @@ def labels_of(raster):
     return {category: label for category, label in labels.items() if label}
 
 
-# What is looked up before anything runs
+# Checks before the run
 
 
 def pairs_of(text, kind):
-    """Return the items of an option, each NAME or NAME=MAP."""
+    """Parse the items of an option, each of which is NAME or NAME=MAP."""
     pairs = []
     for item in text.split(",") if text else []:
         name, sign, raster = item.partition("=")
@@ -409,32 +412,35 @@ def pairs_of(text, kind):
         if not NAME.fullmatch(name):
             raise Stopped(
                 _(
-                    "<{}>: rcell takes no map of this name; write NAME={}, with letters, digits, _ and . "
-                    "and no digit or . first"
+                    "<{}>: rcell does not accept this name; write NAME={}, with letters, digits, "
+                    "_ and . and a letter or _ first"
                 ).format(item, raster or "MAP")
             )
         if name in [pair.name for pair in pairs] and kind is Input:
-            raise Stopped(_("The name <{}> stands for two maps").format(name))
+            raise Stopped(_("The name <{}> is used for two maps").format(name))
         pairs.append(kind(name, raster))
     return pairs
 
 
 def look_up_inputs(inputs):
-    """Each is a raster map of whole numbers."""
+    """Raise Stopped unless all inputs are raster maps of whole numbers."""
     for raster in inputs:
         if not raster.map or not gs.find_file(raster.map, element="cell")["file"]:
             raise Stopped(_("Raster map <{}> not found").format(raster.map))
         if gs.raster_info(raster.map)["datatype"] != "CELL":
             raise Stopped(
                 _(
-                    "Raster map <{0}> has decimals, and rcell takes whole numbers: round it, as by "
-                    'r.mapcalc "cells = round({0})"'
+                    "Raster map <{0}> has decimals, but rcell needs whole numbers: round it, for "
+                    'example with r.mapcalc "cells = round({0})"'
                 ).format(raster.map)
             )
 
 
 def look_up_outputs(outputs, commands, inputs):
-    """Checks that the script makes each, and that its name is free. Returns them with their names in this mapset."""
+    """Check that the script creates each output and that its name is free.
+
+    Returns the outputs with their names in this mapset.
+    """
     known = [*commands, *(source.name for source in inputs)]
     current, checked = gs.gisenv()["MAPSET"], []
     for output in outputs:
@@ -451,7 +457,7 @@ def look_up_outputs(outputs, commands, inputs):
         if raster in [other.map for other in checked]:
             raise Stopped(_("Raster map <{}> would be written twice").format(raster))
         if gs.find_file(raster, element="cell", mapset=current)["file"] and not gs.overwrite():
-            raise Stopped(_("Raster map <{}> exists; --overwrite replaces it").format(raster))
+            raise Stopped(_("Raster map <{}> exists; use --overwrite to replace it").format(raster))
         checked.append(Output(output.name, raster))
     return checked
 
@@ -462,8 +468,8 @@ def look_up_region():
     if max(rows, cols) > MOST_SIDE or rows * cols > MOST_CELLS:
         raise Stopped(
             _(
-                "The current region has {} rows and {} columns; rcell takes {} of each and {} cells in all. "
-                "Work in tiles (r.tile, or g.region for each)"
+                "The current region has {} rows and {} columns; rcell accepts at most {} of each "
+                "and {} cells in total. Work in tiles (r.tile, or g.region for each)"
             ).format(rows, cols, MOST_SIDE, MOST_CELLS)
         )
     return region
@@ -485,7 +491,10 @@ def read_script(path):
 
 @contextmanager
 def table_file(path, script):
-    """Yield the file for the tables, which gets its name once the block succeeds; only then do standard output or a device get its bytes."""
+    """Yield the file for the tables, which gets its name if the block succeeds.
+
+    Standard output and devices also get the tables only then.
+    """
     from rcell.core.errors import Refused
     from rcell.core.files import Output, check_output
 
@@ -498,7 +507,7 @@ def table_file(path, script):
         raise Stopped(
             _("The table <{}> is the script; give it another name").format(path)
         ) from None
-    except BrokenPipeError:  # whoever reads has enough
+    except BrokenPipeError:  # the reader has closed the pipe
         if path not in ("", "-"):
             raise
         os.dup2(os.open(os.devnull, os.O_WRONLY), sys.stdout.fileno())
@@ -509,7 +518,10 @@ def table_file(path, script):
 
 
 def open_standard_streams():
-    """Open /dev/null on each closed descriptor from 0 to 2, so that no pipe gets its number; writing to a closed output still fails."""
+    """Open /dev/null on each closed descriptor from 0 to 2, so that no pipe gets its number.
+
+    Writing to a closed output still fails.
+    """
     descriptor = os.open(os.devnull, os.O_RDWR)
     while descriptor <= 2:
         if descriptor == 1:
@@ -523,7 +535,7 @@ def open_standard_streams():
 
 
 def imported(script, statements, sources, outputs, labels, region, progress):
-    """Run a script for its maps, and import them with their labels under temporary names."""
+    """Run a script, and import its maps and labels under temporary names."""
     cells, texts = maps_of(script, statements, sources, outputs, labels)
     imports = Imports(region)
     for output, frame in zip(outputs, cells):
@@ -535,11 +547,12 @@ def imported(script, statements, sources, outputs, labels, region, progress):
 
 
 def done(options, flags):
-    """Run the module: find errors before rcell begins, and give results their names at the end."""
+    """Run the module: check everything before rcell starts, and name the results at the end."""
     if not program():
         raise Stopped(
             _(
-                "The program rcell-pipe is not on the path: install rcell, or add its folder bin to PATH"
+                "The program rcell-pipe is not on the path: install rcell, or add its bin folder "
+                "to PATH"
             )
         )
     find_front(program())
@@ -554,7 +567,7 @@ def done(options, flags):
     outputs = look_up_outputs(requested, commands, inputs)
     region = look_up_region()
     if not outputs and all(statement.made for statement in statements):
-        gs.warning(_("The script writes no table, and no map is asked for by output="))
+        gs.warning(_("The script writes no table, and output= requests no map"))
     wanted = labelled_maps(statements) | {output.name for output in outputs}
     labels = {raster.name: labels_of(raster.map) for raster in inputs if raster.name in wanted}
     runs = bool(outputs) + any(not statement.made for statement in statements)
@@ -570,7 +583,7 @@ def done(options, flags):
             file.writelines(tables_of(script, statements, sources))
         imports = imported(script, statements, sources, outputs, labels, region, progress)
         progress.end()
-        if table.is_special:  # which may fail, and then no map gets its name
+        if table.is_special:  # may fail, and then no map is renamed
             table.keep()
         imports.finish({name for name, command in commands.items() if command == "r.clump"})
 

@@ -1,6 +1,7 @@
-"""What r.rcell does without GRASS: how it reads scripts, hands maps to rcell-pipe, and prints what comes back.
+"""Test r.rcell without GRASS: scripts, the exchange of maps with rcell-pipe, and output.
 
-The module of GRASS is imported over stubs of its Python packages. rcell-pipe itself is run, next to the program that RCELL names.
+r.rcell is imported with stubs of GRASS's Python packages. The tests run the real rcell-pipe, which
+is next to the program that RCELL names.
 """
 import array
 import builtins
@@ -25,7 +26,7 @@ HEAD = "north: 2\nsouth: 0\neast: 3\nwest: 0\nrows: 2\ncols: 3\n"
 
 
 def add_on():
-    """r.rcell as a module, over stubs."""
+    """Import r.rcell as a module, with stubs for GRASS."""
     script, exceptions = types.ModuleType("grass.script"), types.ModuleType("grass.exceptions")
     exceptions.CalledModuleError = type("CalledModuleError", (Exception,), {})
     grass = types.ModuleType("grass")
@@ -44,7 +45,7 @@ rcell.find_front(PROGRAM)
 
 
 class Opened:
-    """A module of GRASS that hands out a file."""
+    """A stub of a GRASS module whose output is a file."""
 
     def __init__(self, path):
         self.stdout = open(path, "rb")
@@ -55,7 +56,7 @@ class Opened:
 
 @contextlib.contextmanager
 def handing_out():
-    """A session in which maps are files of cells, and rcell-pipe is on the path."""
+    """Simulate a session in which maps are files of cells and rcell-pipe is on the path."""
     with mock.patch.object(
         rcell, "program", lambda: os.path.join(os.path.dirname(PROGRAM), "rcell-pipe")
     ), mock.patch.object(
@@ -101,9 +102,13 @@ class Session(unittest.TestCase):
 
 class Scripts(Session):
     def test_flag_of_labels(self):
-        script = "r.stats -c input=a\n  r.stats -nl input=a\nr.stats input=a separator=-\r\n#r.stats\nr.mapcalc x = 1\nr.stats -1 input=a\nr.stats -l1 input=a"
+        script = (
+            "r.stats -c input=a\n  r.stats -nl input=a\nr.stats input=a "
+            "separator=-\r\n#r.stats\nr.mapcalc x = 1\nr.stats -1 input=a\nr.stats -l1 input=a"
+        )
         wanted = (
-            "r.stats -c input=a -l\n  r.stats -nl input=a\nr.stats input=a separator=-\r -l\n#r.stats\nr.mapcalc x = 1\nr.stats -1 input=a -l\n"
+            "r.stats -c input=a -l\n  r.stats -nl input=a\nr.stats input=a separator=-\r "
+            "-l\n#r.stats\nr.mapcalc x = 1\nr.stats -1 input=a -l\n"
             "r.stats -l1 input=a"
         )
         labelled = rcell.with_labels(script, self.statements(script))
@@ -115,7 +120,8 @@ class Scripts(Session):
 
     def test_maps_of_tables_with_labels(self):
         statements = self.statements(
-            "r.stats -cl input=a,c\nr.stats -c input=b\nr.out.ascii input=e\nr.stats -1l input=d\nr.stats -1 input=b",
+            "r.stats -cl input=a,c\nr.stats -c input=b\nr.out.ascii input=e\nr.stats -1l "
+            "input=d\nr.stats -1 input=b",
             "abcde",
         )
         self.assertEqual(rcell.labelled_maps(statements), {"a", "c", "d"})
@@ -125,7 +131,8 @@ class Scripts(Session):
             self.refused("r.stats -c input=a\n\tr.mapcalc x = a + ab"),
             (
                 "rcell: script:2: unknown map at column 20",
-                "     r.mapcalc x = a + ab\n                       ^\n    try: r.mapcalc x = a + a\n",
+                "     r.mapcalc x = a + ab\n                       ^\n    try: r.mapcalc x = a + "
+                "a\n",
             ),
         )
         self.assertEqual(
@@ -155,7 +162,8 @@ class Scripts(Session):
             self.refused("\tr.stats -c -1 input=a"),
             (
                 "rcell: script:1: bad option",
-                "     r.stats -c -1 input=a\n    try: one of the two: `-1` goes neither with `-c` nor with `after=`\n",
+                "     r.stats -c -1 input=a\n    try: one of the two: `-1` goes neither with "
+                "`-c` nor with `after=`\n",
             ),
         )
         self.assertEqual(
@@ -184,7 +192,7 @@ class Scripts(Session):
 
 
 class Late(unittest.TestCase):
-    """Standard input and output are pipes that do not wait."""
+    """Standard input and output are non-blocking pipes."""
 
     def setUp(self):
         for number in (0, 1):
@@ -240,12 +248,14 @@ class Names(unittest.TestCase):
 
 
 class Runs(Session):
-    """Maps go through rcell-pipe."""
+    """Maps are sent through rcell-pipe."""
 
     def test_what_is_printed(self):
         text, cells, texts = self.run_(
-            'r.stats -c input=a\nr.reclass input=a output=b\n1 = 5 five, "5"\n* = *\nend\nr.stats -n input=a\nr.mapcalc c = null()\n'
-            "r.stats -cn input=c\nr.out.ascii input=b\nr.stats -1l input=b separator=:\nr.out.ascii input=b null_value=-9",
+            'r.stats -c input=a\nr.reclass input=a output=b\n1 = 5 five, "5"\n* = '
+            "*\nend\nr.stats -n input=a\nr.mapcalc c = null()\n"
+            "r.stats -cn input=c\nr.out.ascii input=b\nr.stats -1l input=b "
+            "separator=:\nr.out.ascii input=b null_value=-9",
             ["b", "c"],
         )
         listed = '5:five, "5"\n2:\n*:no data\n' + '5:five, "5"\n' * 2 + "2:\n"
@@ -292,7 +302,7 @@ class Runs(Session):
 
 
 class Tables(unittest.TestCase):
-    """The file of the tables: whole or not at all, and never in the place of what is no file."""
+    """The file of the tables is complete or missing, and never replaces a device or FIFO."""
 
     def setUp(self):
         folder = tempfile.TemporaryDirectory()
@@ -341,7 +351,7 @@ class Tables(unittest.TestCase):
 
 
 class Form(unittest.TestCase):
-    """The folder has the form of GRASS's repository of add-ons."""
+    """The folder has the layout of GRASS's add-on repository."""
 
     def test_files(self):
         folder = f"{ROOT}/grass/r.rcell"

@@ -4,7 +4,7 @@
 #
 # MODULE:    Tests of r.rcell
 # AUTHOR(S): Nibzoqel maintainers
-# PURPOSE:   Holds r.rcell against the modules of GRASS, in whatever location the session is
+# PURPOSE: Compares r.rcell with the modules of GRASS, in the location of the session
 #
 ############################################################################
 
@@ -20,19 +20,19 @@ from grass.gunittest.case import TestCase
 from grass.gunittest.gmodules import SimpleModule
 from grass.gunittest.main import test
 
-SIDE = 1000  # rows and columns: a million cells
+SIDE = 1000  # rows and columns, for a million cells
 NINE = ",".join("cover[%d,%d]" % (row, col) for row in (-1, 0, 1) for col in (-1, 0, 1))
 MAPS = ["cover", "zones", "own", "taken", "heights", "wide", "part", "void", "many"]
 LABELS = '1\ttown, old\n2\tbroad: leaved\n3\t"quoted" | piped\n4\tgroß\n'
 
 
 class TestRcell(TestCase):
-    """A million cells of the current projection, in a region whose cells are not finite decimals."""
+    """A million cells in the current projection, with edges that are not finite decimals."""
 
     @classmethod
     def setUpClass(cls):
         cls.use_temp_region()
-        # A third of a degree or metre: the edges of the cells have no end as decimals.
+        # A third of a degree or metre, so that the edges of cells are not finite decimals.
         cls.runModule("g.region", n=41, s=41 - 1.0 / 3, w=11, e=11 + 1.0 / 3, rows=SIDE, cols=SIDE)
         patchy = "int(3 * sin(row() / 7.) + 3 * cos(col() / 9.) + rand(0, 2))"
         cls.runModule(
@@ -73,13 +73,13 @@ class TestRcell(TestCase):
         return path
 
     def rcell(self, text, **options):
-        """A run that must succeed; what it prints."""
+        """Run r.rcell, which must succeed, and return its output."""
         module = SimpleModule("r.rcell", script=self.script(text), **options)
         self.assertModule(module)
         return module.outputs.stdout
 
     def refused(self, text, **options):
-        """A run that must be rejected and leave no file; its message."""
+        """Run r.rcell, which must fail and leave no file, and return its message."""
         before = gs.list_strings("raster")
         module = SimpleModule("r.rcell", script=self.script(text), **options)
         self.assertModuleFail(module)
@@ -88,7 +88,7 @@ class TestRcell(TestCase):
         return module.outputs.stderr
 
     def assert_same(self, ours, theirs):
-        """Two maps are the same in every cell and at every edge."""
+        """Assert that two maps have the same cells and edges."""
         self.runModule(
             "r.mapcalc",
             overwrite=True,
@@ -197,7 +197,10 @@ class TestRcell(TestCase):
 
     def test_grids_and_tables_of_the_script_stay_in_its_table(self):
         path = os.path.join(self.room.name, "table")
-        script = "r.stats -c input=cover\nr.mapcalc t_a = 1\nr.out.ascii input=t_a\nr.stats -cn input=void\nr.stats -c input=t_a"
+        script = (
+            "r.stats -c input=cover\nr.mapcalc t_a = 1\nr.out.ascii input=t_a\nr.stats -cn "
+            "input=void\nr.stats -c input=t_a"
+        )
         self.assertEqual(self.rcell(script, maps="cover,void", output="t_a", table=path), "")
         with open(path, encoding="ascii") as file:
             lines = file.read().splitlines()
@@ -261,8 +264,8 @@ class TestRcell(TestCase):
             (dict(maps="nowhere", output="x"), "Raster map <nowhere> not found"),
             (dict(maps="cover=nowhere@PERMANENT"), "Raster map <nowhere@PERMANENT> not found"),
             (dict(maps="cover,heights"), "Raster map <heights> has decimals"),
-            (dict(maps="cover,cover=zones"), "The name <cover> stands for two maps"),
-            (dict(maps="cover,3d=zones"), "rcell takes no map of this name"),
+            (dict(maps="cover,cover=zones"), "The name <cover> is used for two maps"),
+            (dict(maps="cover,3d=zones"), "rcell does not accept this name"),
             (dict(maps="cover", output="y"), "The script makes no map <y>; it makes x"),
             (dict(maps="cover", output="x=taken"), "Raster map <taken> exists"),
             (dict(maps="cover", output="x=t_1,x=t_1"), "Raster map <t_1> would be written twice"),
