@@ -1,9 +1,13 @@
-"""Checks that the edits, functions, clauses, laws, definitions and tests that the documents cite exist.
+"""Check that the edits, functions, clauses, laws, definitions and tests that the documents cite
+exist.
 
-- An edit is cited as CRATE/must-fail/NAME or CRATE/edits/NAME; further names after a comma are of the same folder.
-- In a table with a column of clauses, each name there is a label of a function that its row names.
-- On the pages about proofs each name in backticks that looks like one of the crates' is a name of the sources.
-- docs/architecture.md has one row for each crate of the product, and for no other.
+- An edit is cited as CRATE/must-fail/NAME or CRATE/edits/NAME. Further names after a comma are in
+  the same folder.
+- In a table with a column of clauses, each name in that column must be a label of a function named
+  in its row.
+- On the pages about proofs, each name in backticks that looks like a name of the crates must be
+  one.
+- docs/architecture.md must have one row for each crate of the product, and no other rows.
 """
 import functools
 import pathlib
@@ -24,7 +28,8 @@ IN_PARENTHESES = re.compile(r"\(`([a-z_]+)`\)")
 NAME = re.compile(r"[A-Za-z]\w*(?:::\w+)*")
 ROW = re.compile(r"^\|(.*)\|$")
 ROW_OF_CRATE = re.compile(r"^\| `(r?cell\w*)` \|", re.MULTILINE)
-# Names of Rust, of the kit and of the C functions that it calls, of commands and options, and words of the language of expressions.
+# Names of Rust, of the kit and of the C functions that it calls, of commands and options, and words
+# of the expression language.
 OTHERS = set(
     """if and or run new row col nrows ncols isnull null eval abs min max mode nmin nmax nmode x g a b f
 Err Ok None Some Drop Copy Clone bstr itoa clap thiserror circular_buffer std lines_of without_terminator rcell
@@ -39,13 +44,14 @@ NO_LABELS = {
 
 
 def names_in(text):
-    """The names in a text, a path such as crate::function by its parts."""
+    """Return the names in a text. A path such as crate::function is split into its parts."""
     return {part for found in NAME.findall(text) for part in found.split("::")}
 
 
 @functools.cache
 def labels_of():
-    """The labels of the clauses of each function, by the function's name, and of all functions of a type, by the type's."""
+    """Return the labels of each function's clauses, by function name, and of all functions of a
+    type, by type name."""
     found = {}
     for it in sources.read_functions(True):
         for name in {it.name, *names_in(it.container)}:
@@ -57,7 +63,7 @@ def labels_of():
 
 @functools.cache
 def known_names():
-    """Every name that a page about proofs may cite."""
+    """Return all names that a page about proofs may cite."""
     found = {
         *OTHERS,
         *labels_of(),
@@ -74,7 +80,7 @@ def known_names():
 
 
 def lost_edits(text):
-    """The edits that a text cites and that are no files."""
+    """Return the edits that a text cites and that do not exist."""
     found = []
     for folder, names in EDITS.findall(text):
         found += [
@@ -86,7 +92,8 @@ def lost_edits(text):
 
 
 def rows_with_clauses(text):
-    """The rows of tables with a column of clauses, each as a line number, the row with what its head names, and its cell there."""
+    """Yield the rows of tables with a column of clauses: the line number, the row with the names in
+    its heading, and the cell in that column."""
     column, at_head, head = None, True, ""
     for number, line in enumerate(text.split("\n"), 1):
         row = ROW.match(line)
@@ -104,13 +111,15 @@ def rows_with_clauses(text):
 
 
 def labels_cited(cell):
-    """The labels that a cell of a column of clauses names: words in backticks, and those alone between commas."""
+    """Return the labels that a cell in a column of clauses names: words in backticks, and single
+    words between commas."""
     alone = [part.strip() for part in re.split(r"[,;:]", CODE.sub("", cell))]
     return [*CODE.findall(cell), *(part for part in alone if re.fullmatch(r"[a-z_]+", part))]
 
 
 def lost_labels(text):
-    """The labels that a table cites and that no function of the row has; a row whose first cell is empty goes with the one above."""
+    """Return the labels that a table cites and that no function of the row has. A row with an empty
+    first cell continues the row above."""
     found, above = [], ""
     for number, row, cell in rows_with_clauses(text):
         above = f"{above} {row}" if row.startswith("| |") else row
@@ -127,7 +136,7 @@ def lost_labels(text):
 
 
 def lost_names(text):
-    """The names in backticks of a page about proofs that the sources do not have."""
+    """Return the names in backticks on a page about proofs that the sources do not contain."""
     prose = re.sub(r"```.*?^```", "", text, flags=re.MULTILINE | re.DOTALL)
     codes = [code for code in CODE.findall(prose) if re.fullmatch(r"[A-Za-z]\w*(?:::\w+)*", code)]
     return sorted(
@@ -140,7 +149,8 @@ def lost_names(text):
 
 
 def lost_crates(text):
-    """The crates of the product without one row in the tables of crates, and rows of what is no crate."""
+    """Return the product's crates without exactly one row in the tables of crates, and rows that
+    are not crates."""
     rows, crates = Counter(ROW_OF_CRATE.findall(text)), set(crate_graph.crates())
     found = [
         f"the crate {name} has {rows[name]} rows, not 1"
@@ -151,7 +161,8 @@ def lost_crates(text):
 
 
 def check():
-    """How many documents cite only what exists, and what the others cite besides."""
+    """Return the number of documents that cite only what exists, and the wrong citations in the
+    others."""
     passed, faults = 0, []
     for name in [
         "README.md",

@@ -1,12 +1,14 @@
 #!/usr/bin/env python3
-"""Compares the flags, keys and functions that the documents name with those that the program takes.
+"""Compare the flags, keys and functions in the documents with those that the program accepts.
 
     command_options.py [--program PATH] [--joiner PATH]
 
-Of each command docs/commands.md has a synopsis and a table of its flags and options, which must name the same. Then the program is run with each letter and digit as a flag, and with each key that any command or GRASS has: it
-must take those that are named and no other, and must miss a key exactly where the table says that it is required. Of r.mapcalc
-the functions are tried in this way. Of each command of rcell-join the synopsis of docs/rcell-join.md must be its usage, and it is
-tried with the same flags and keys, where an unknown key is a file. The last line is 'N passed, M failed'.
+For each command, docs/commands.md contains a synopsis and a table of flags and options, which must
+agree. The program is run with each letter and digit as a flag, and with each key of any command or
+of GRASS. It must accept exactly those in the document, and require exactly the keys that the table
+marks as required. The functions of r.mapcalc are tested in the same way. For each command of
+rcell-join, the synopsis in docs/rcell-join.md must be its usage. It is tested with the same flags
+and keys, and an unknown key is a file. The last line is 'N passed, M failed'.
 """
 import argparse
 import os
@@ -23,7 +25,7 @@ COMMANDS = ("r.reclass", "r.clump", "r.stats", "r.out.ascii")
 JOINER = "rcell-join"
 GRID = "north: 1\nsouth: 0\neast: 2\nwest: 0\nrows: 1\ncols: 2\n1 2\n"
 EMPTY = "empty.table"
-# A value of each key that any command has, and keys of GRASS that none has here.
+# A value for each key of any command, and keys of GRASS that no command accepts.
 VALUES = {"input": "land", "output": "made", "separator": "comma", "null_value": "NA", "after": "1"}
 KEYS_OF_GRASS = (
     "rules",
@@ -39,7 +41,7 @@ KEYS_OF_GRASS = (
     "map",
 )
 FLAGS = string.ascii_letters + string.digits
-# Functions that GRASS has and we do not, each with the number of arguments that it takes there.
+# Functions of GRASS that rcell does not have, each with its number of arguments.
 FUNCTIONS_OF_GRASS = {
     "round": 1,
     "int": 1,
@@ -65,7 +67,7 @@ FUNCTIONS_OF_GRASS = {
 
 
 class Named:
-    """The letters of the flags, and the keys, that a text names of a command."""
+    """The letters of the flags, and the keys, that a text names for a command."""
 
     def __init__(self, flags, keys):
         self.flags, self.keys = set(flags), set(keys)
@@ -87,7 +89,8 @@ def read(name):
 
 
 def section(command):
-    """The part of the document about a command; a document of its own has headings one level higher."""
+    """Return the section about a command. In a document of its own, headings are one level
+    higher."""
     if command == JOINER:
         return re.sub(r"^## ", "### ", read(DOCUMENT_OF_JOINER), flags=re.MULTILINE) + "### \n"
     return re.search(
@@ -102,7 +105,7 @@ def synopsis(command):
 
 
 def rows(command):
-    """The rows of a command's table of flags and options: a name, and what is said of it."""
+    """Return the rows of a command's table of flags and options: a name and its description."""
     table = re.search(
         r"^### (?:Flags and options|Options)\n(.*?)^### ",
         section(command),
@@ -124,12 +127,13 @@ def required(command):
 
 
 def synopses_of_joiner():
-    """The synopsis of each command of rcell-join in docs/rcell-join.md."""
+    """Return the synopsis of each command of rcell-join in docs/rcell-join.md."""
     return synopsis(JOINER).strip().splitlines()
 
 
 def functions_of_document():
-    """The functions of r.mapcalc, each with the number of arguments of an example; two where more may follow."""
+    """Return the functions of r.mapcalc, each with the number of arguments in an example, or two
+    numbers if more may follow."""
     table = re.search(r"^\| Function \|.*?\n\n", section("r.mapcalc"), re.MULTILINE | re.DOTALL)[0]
     examples = [
         example
@@ -143,7 +147,7 @@ def functions_of_document():
 
 
 class Tried:
-    """The program over scripts of one command, in a folder of its own."""
+    """Runs the program on scripts of one command, in a separate folder."""
 
     def __init__(self, program, folder):
         self.program, self.folder = program, folder
@@ -151,7 +155,8 @@ class Tried:
             file.write(GRID)
 
     def refusal(self, line):
-        """Return the error of a script of one line (and a rule, if it is r.reclass), without `rcell: script:`."""
+        """Return the error of a script of one line (and a rule, for r.reclass), without `rcell:
+        script:`."""
         script = f"{line}\n1 = 1\nend\n" if line.startswith("r.reclass ") else f"{line}\n"
         with open(f"{self.folder}/script", "w", encoding="ascii") as file:
             file.write(script)
@@ -169,7 +174,7 @@ class Tried:
 
 
 def faults_of_flags(tried, command, named, needs):
-    """Each flag by itself: what is wrong, or ''."""
+    """Yield the error for each flag by itself, or ''."""
     for flag in FLAGS:
         wanted = "" if flag in named.flags else "1: bad option"
         said = tried.options(command, flag, needs)
@@ -177,7 +182,8 @@ def faults_of_flags(tried, command, named, needs):
 
 
 def faults_of_keys(tried, command, named, needs):
-    """Each key added to the required ones, and each of these left out: what is wrong, or ''."""
+    """Yield the error, or '', for each key added to the required ones, and for each required key
+    left out."""
     for key in (*VALUES, *KEYS_OF_GRASS):
         wanted = "" if key in named.keys else "1: bad option"
         said = tried.options(command, "", [*needs, *({key} - set(needs))])
@@ -196,7 +202,7 @@ def faults_of_functions(tried):
 
 
 class TriedJoiner:
-    """The joiner over empty files, in a folder of its own."""
+    """Runs the joiner on empty files, in a separate folder."""
 
     def __init__(self, joiner, folder):
         self.joiner, self.folder = joiner, folder
@@ -213,7 +219,8 @@ class TriedJoiner:
 
 
 def faults_of_joiner_command(tried, line):
-    """What is wrong with the synopsis, each flag and each key of a command of rcell-join, or ''."""
+    """Yield the errors, or '', in the synopsis, the flags and the keys of a command of
+    rcell-join."""
     command, named, usage = line.split()[1], Named.of_synopsis(line), f"arguments:0: usage: {line}"
     said = tried.refusal(command, "-")
     yield "" if said == usage else f"{DOCUMENT_OF_JOINER}, synopsis: {usage!r}, and the program says {said!r}"
@@ -231,7 +238,7 @@ def faults_of_joiner_command(tried, line):
 
 
 def faults_of_joiner(tried):
-    """What is wrong with what the documents say of rcell-join, or ''."""
+    """Yield the errors, or '', in the documentation of rcell-join."""
     named = in_table(JOINER)
     other = Named.of_synopsis(synopsis(JOINER))
     yield "" if other == named else f"{DOCUMENT_OF_JOINER}, synopsis: {JOINER} has {other}, but {named} in its table"
@@ -240,7 +247,7 @@ def faults_of_joiner(tried):
 
 
 def faults(program, joiner):
-    """What is wrong with each thing that is compared, or ''."""
+    """Yield the error of each comparison, or ''."""
     with tempfile.TemporaryDirectory(prefix="rcell-options-") as folder:
         tried = Tried(os.path.abspath(program), folder)
         for command in COMMANDS:
@@ -254,7 +261,7 @@ def faults(program, joiner):
 
 
 def check(program, joiner):
-    """How many comparisons agree, and what is wrong with the others."""
+    """Return the number of comparisons that agree, and the errors of the others."""
     found = list(faults(program, joiner))
     return found.count(""), [fault for fault in found if fault]
 

@@ -1,9 +1,10 @@
 #!/usr/bin/env python3
-"""Draws which crate uses which, from crates.txt: `make pictures`, or by itself.
+"""Draw which crate uses which, from crates.txt: `make pictures`, or by itself.
 
-    crate_graph.py OUT.svg          the picture, by dot (of Debian: graphviz)
+    crate_graph.py OUT.svg          the picture, drawn with dot (Debian: graphviz)
 
-An arrow goes from a crate to one that it uses; what others imply is left out, and so are tests and the libraries of the kit.
+An arrow leads from a crate to a crate that it uses. Implied arrows, tests and the kit's libraries
+are left out.
 """
 import html
 import os
@@ -33,7 +34,7 @@ HEAD = """digraph crates {
 
 
 def crates():
-    """What each crate of the product uses, of the product alone."""
+    """Return the crates of the product that each crate of the product uses."""
     with open(f"{ROOT}/crates.txt", encoding="ascii") as file:
         found = {
             name: words.split()
@@ -46,7 +47,7 @@ def crates():
 
 
 def all_below(name, uses):
-    """Every crate that one uses, also through others."""
+    """Return all crates that a crate uses, directly or through others."""
     return (
         set(uses[name]).union(*(all_below(below, uses) for below in uses[name]))
         if uses[name]
@@ -55,7 +56,7 @@ def all_below(name, uses):
 
 
 def edges(uses):
-    """Each crate with the crates it uses, but for those that another of them also uses."""
+    """Yield each crate with the crates that it uses, except for those that another of them uses."""
     for name, direct in uses.items():
         implied = set().union(*(all_below(below, uses) for below in direct)) if direct else set()
         for below in direct:
@@ -69,7 +70,8 @@ def room(name):
 
 
 def dot():
-    """The graph in the language of dot, with a frame around each room; what the program does not use has a dashed line."""
+    """Return the graph in the dot language, with a frame around each room. Crates that the program
+    does not use have a dashed line."""
     uses, lines = crates(), []
     of_the_program = {it for program in PROGRAMS for it in (program, *all_below(program, uses))}
     for place, colour in ROOMS.items():
@@ -86,13 +88,14 @@ def draw(path):
     made = subprocess.run(
         ["dot", "-Tsvg"], input=dot(), check=True, capture_output=True, text=True
     ).stdout
-    # Comments name the version of dot; without them the picture changes only where the crates do.
+    # Comments name the version of dot. Without them, the picture changes only if the crates do.
     with open(path, "w", encoding="utf-8") as file:
         file.write(re.sub(r"<!--.*?-->\n?", "", made, flags=re.DOTALL))
 
 
 def check():
-    """How many crates and edges the picture has as crates.txt says, and what is wrong with the others."""
+    """Return the number of crates and edges on which the picture and crates.txt agree, and the
+    differences."""
     uses = crates()
     wanted = {*uses, *(f"{name}->{below}" for name, below in edges(uses))}
     with open(PICTURE, encoding="utf-8") as file:

@@ -1,7 +1,7 @@
-"""Checks that each definition that a document shows is one of the sources.
+"""Check that each definition in a document is one of the sources.
 
-A block ```antt or ```rust has lines of one file in crates/*/specs or crates/*/src, in which only blanks and the breaks of
-lines may differ.
+A block ```antt or ```rust must contain lines of one file in crates/*/specs or crates/*/src, which
+may differ only in blanks and line breaks.
 """
 import re
 
@@ -16,7 +16,7 @@ def collapsed(text):
 
 
 def check():
-    """How many definitions the documents show as the sources have them, and the others."""
+    """Return the number of definitions that agree with the sources, and the others."""
     passed, faults = 0, []
     for name in links.documents():
         text = (links.ROOT / name).read_text(encoding="utf-8")

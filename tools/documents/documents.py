@@ -1,25 +1,37 @@
 #!/usr/bin/env python3
-"""Runs the examples of the documents on the built programs, and compares what they show byte for byte.
+"""Run the examples in the documents on the built programs, and compare the results byte for byte.
 
-    documents.py [--program PATH] [--joiner PATH] [--pipe PATH] [--write] [--texts [WORD..] | DOCUMENT..]
+    documents.py [--program PATH] [--joiner PATH] [--pipe PATH] [--write] [--texts [WORD..] |
+    DOCUMENT..]
 
-A document is run in a folder of its own that has the programs in bin/, the helpers next to them, and examples/.
-Its fenced blocks are taken from the top:
-    console          lines that begin with `$ ` are given to sh, those with `> ` continue the command above; the lines
-                     after a command are what it must print, standard output and standard error together
-    pycon            a session of Python, which must print what it shows
-    console needs=A,B  the same where A and B are installed, programs, files by their paths or packages such as python3-rasterio;
-                     else it is skipped
-    text file=PATH   a file (also python file=PATH); the commands of later blocks find it
-    text, sh, antt, rust  shown and not run: such a block has no command with its output
-The folder that a block goes to with `cd` is also the next one's. With --write what is printed takes the place of what is shown.
-Of docs/grass.md the program's side of each table is also run (differences.py), and the flags and keys that docs/commands.md,
-docs/rcell-join.md name are tried (command_options.py). What needs no program is tried first, and with --texts
-alone, or what ends in a WORD, as in `--texts links`: docs/errors.md has each message of the program (messages.py), docs/crates.svg the crates of crates.txt
-(crate_graph.py), docs/proofs.md and README.md the numbers of lines that have to be believed (reading.py), README.md and docs/speed.md
-the figures of bench/RESULTS.md (figures.py), each link and anchor leads somewhere (links.py), the edits, clauses and laws that the
-documents cite exist (citations.py), the text before a block to be saved names its file (saved_blocks.py), the code of the site
-equals its source (site/spans.py), the definitions shown are in the crates (definitions.py), and the manual pages pass the warnings of man if it is installed.
+A document is run in its own folder, which contains the programs in bin/ with the helpers, and
+examples/. Its fenced blocks are processed from the top:
+    console          lines that begin with `$ ` are given to sh, and lines with `> ` continue the
+                     command above; the lines after a command are its expected standard output and
+                     standard error together
+    pycon            a Python session, which must print what is shown
+    console needs=A,B  a console block that is skipped unless A and B are installed: programs, files
+                     by their paths, or packages such as python3-rasterio
+    text file=PATH   a file (also python file=PATH), which later commands can use
+    text, sh, antt, rust  not run, so the block must not show a command with its output
+A block that changes the folder with `cd` also changes it for later blocks. With --write, the output
+replaces the text shown. For docs/grass.md, the program's side of each table is also run
+(differences.py), and the flags and keys in docs/commands.md and docs/rcell-join.md are tested
+(command_options.py).
+
+Checks that need no program are run first. With --texts, only these are run, or only those that end
+in a WORD, as in `--texts links`:
+- docs/errors.md lists all messages of the program (messages.py)
+- docs/crates.svg shows the crates of crates.txt (crate_graph.py)
+- docs/proofs.md and README.md state the numbers of lines to be believed (reading.py)
+- README.md and docs/speed.md show the figures of bench/RESULTS.md (figures.py)
+- each link and anchor exists (links.py)
+- the cited edits, clauses and laws exist (citations.py)
+- the text before a block to be saved names its file (saved_blocks.py)
+- the code of the site equals its source (site/spans.py)
+- the definitions shown are in the crates (definitions.py)
+- the manual pages pass the warnings of man, if it is installed
+
 The last line is 'N passed, M failed'.
 """
 import argparse
@@ -70,14 +82,14 @@ DOCUMENTS = [
 FENCE = re.compile(
     r"```(\S*)(?: file=(\S+))?(?: needs=(\S+))?\n(.*?)^```$", re.MULTILINE | re.DOTALL
 )
-# What is said of the lines that have to be believed: numbers, and what is around them.
+# The text about the lines to be believed: the numbers, and the words around them.
 READING_ROW = re.compile(
     r"(`make reading(?: COMMAND=(?P<command>\S+))?` \| )(\d+)( \| )(\d+)( \| )(\d+)( \|)"
 )
 READING_SENTENCE = re.compile(
     r"(for a table of (?P<command>r\.\w+) )(\d+)( lines, )(\d+)( with comments)"
 )
-# What README.md says of the sizes of code and proofs, in thousands of lines.
+# The sentence in README.md about the sizes of code and proofs, in thousands of lines.
 SIZES_SENTENCE = re.compile(r"(?<=cover )(\d+)(,000 lines of code, and take )(\d+)(?=,000 lines)")
 SIZES_DIFFER_BY = 0.05  # more needs new numbers
 LANGUAGES = {"console", "pycon", "text", "python", "sh", "antt", "rust"}
@@ -96,7 +108,7 @@ END_OF_COMMAND = "==== a command of a document has ended ===="
 
 @dataclass
 class Block:
-    """A fenced block: the line of its document that it begins at, and from where to where its text goes."""
+    """A fenced block: the line of the document at which it begins, and the span of its text."""
 
     line: int
     span: tuple[int, int]
@@ -108,7 +120,7 @@ class Block:
 
 @dataclass
 class Command:
-    """A command with the lines that it must print."""
+    """A command, and its expected output."""
 
     text: str
     output: list[str] = field(default_factory=list)
@@ -128,7 +140,8 @@ def blocks_of(document):
 
 
 def commands_of(block):
-    """The commands of a console block; a ValueError where it does not begin with one."""
+    """Return the commands of a console block. Raises ValueError if it does not begin with a
+    command."""
     commands = []
     for line in block.text.splitlines():
         if line.startswith("$ "):
@@ -143,7 +156,8 @@ def commands_of(block):
 
 
 def script_of(commands):
-    """The commands as one script of sh that prints a line after each, and keeps its status for the next."""
+    """Return the commands as one sh script, which prints a line after each command and keeps its
+    status for the next."""
     return "".join(
         f"{command.text}\nended=$?; echo '{END_OF_COMMAND}'; (exit $ended)\n"
         for command in commands
@@ -151,7 +165,7 @@ def script_of(commands):
 
 
 class Room:
-    """The folder that the blocks of a document are run in, and where in it they are."""
+    """The folder in which the blocks of a document are run, and the current folder in it."""
 
     def __init__(self, path, programs):
         self.top = self.here = os.path.realpath(path)
@@ -182,7 +196,8 @@ class Room:
             file.write(block.text)
 
     def environment(self):
-        """Of the commands: the programs and helpers are on the path, and the Python package can be imported."""
+        """Return the environment of the commands, in which the programs and helpers are on the path
+        and the Python package can be imported."""
         return {
             "PATH": f"{self.top}/bin:/usr/bin:/bin",
             "HOME": self.top,
@@ -192,7 +207,7 @@ class Room:
         }
 
     def session(self, text):
-        """A session of Python with what it prints."""
+        """Return the output of a Python session, together with its input."""
         words = ["/usr/bin/python3", "-c", SESSION, f"{ROOT}/python/tools"]
         ran = subprocess.run(
             words,
@@ -206,7 +221,7 @@ class Room:
         return ran.stdout + ran.stderr
 
     def printed(self, commands):
-        """What the commands print, one text a command; a ValueError where they do not all end."""
+        """Return the output of each command. Raises ValueError if they do not all end."""
         script = f"exec 2>&1\n{script_of(commands)}pwd\n"
         ran = subprocess.run(
             ["sh", "-c", script],
@@ -224,13 +239,14 @@ class Room:
 
 
 def shown_text(commands, texts):
-    """A console block of the commands, each with its text."""
+    """Return a console block of the commands with their outputs."""
     spelled = ["$ " + command.text.replace("\n", "\n> ") + "\n" for command in commands]
     return "".join(command + text for command, text in zip(spelled, texts))
 
 
 def is_installed(name):
-    """Whether a program, a file by its path, or a Python package by its Debian name, such as python3-rasterio, is there."""
+    """Return whether a program, a file at a path, or a Debian package of Python, such as
+    python3-rasterio, is installed."""
     module = {"python3-gdal": "osgeo"}.get(name, name.removeprefix("python3-"))
     return bool(
         shutil.which(name) or os.path.isfile(name) or os.path.exists(f"{PYTHON_PACKAGES}/{module}")
@@ -238,7 +254,8 @@ def is_installed(name):
 
 
 def judge(block, room):
-    """What is wrong with a block, or '', and its text as it must be; None in place of an error if nothing is run."""
+    """Return the error of a block, or '', and its correct text. The error is None if nothing is
+    run."""
     if block.language not in LANGUAGES:
         return f"a block of an unknown kind: {block.language!r}", block.text
     if block.file:
@@ -269,7 +286,7 @@ def judge(block, room):
 
 
 def unlike(shown, printed):
-    """How what a block shows differs from what is printed, or ''."""
+    """Return the difference between the text shown and the output, or ''."""
     if shown == printed:
         return ""
     differs = difflib.unified_diff(
@@ -279,7 +296,7 @@ def unlike(shown, printed):
 
 
 def run_document(name, programs, write):
-    """How many blocks of a document are as they say, and what is wrong with the others."""
+    """Return the number of correct blocks of a document, and the errors of the others."""
     with open(f"{ROOT}/{name}", encoding="utf-8") as file:
         document = file.read()
     passed, faults, right, at = 0, [], "", 0
@@ -298,7 +315,7 @@ def run_document(name, programs, write):
 
 
 def check_differences(program):
-    """The program's side of the tables of docs/grass.md."""
+    """Check the program's side of the tables in docs/grass.md."""
     passed, faults = 0, []
     with tempfile.TemporaryDirectory(prefix="rcell-differences-") as room:
         for row in differences.rows():
@@ -312,7 +329,8 @@ def check_differences(program):
 
 
 def counts_of_reading(command):
-    """The numbers of lines that have to be believed: of definitions, with comments, and of Rust types."""
+    """Return the numbers of lines to be believed: of definitions, with comments, and of Rust
+    types."""
     words = [
         sys.executable,
         f"{ROOT}/tools/lint/reading.py",
@@ -323,14 +341,15 @@ def counts_of_reading(command):
 
 
 def lines_below(pattern):
-    """The number of lines of the crates' files of a pattern."""
+    """Return the number of lines in the crates' files that match a pattern."""
     return sum(
         path.read_bytes().count(b"\n") for path in pathlib.Path(ROOT, "crates").glob(pattern)
     )
 
 
 def check_sizes(write):
-    """Whether README.md has the sizes of code and of definitions with proofs, nearly; `write` mends them."""
+    """Check the sizes of code and of definitions with proofs in README.md, approximately. `write`
+    corrects them."""
     code = lines_below("*/src/**/*.rt")
     proofs = lines_below("*/specs/**/*.antt") + lines_below("*/proofs/**/*.antt")
     path = pathlib.Path(ROOT, "README.md")
@@ -345,7 +364,8 @@ def check_sizes(write):
 
 
 def check_reading(write):
-    """Whether docs/proofs.md and README.md have the numbers of lines that have to be believed; `write` mends them."""
+    """Check the numbers of lines to be believed in docs/proofs.md and README.md. `write` corrects
+    them."""
     counted, faults = 0, []
     for name, pattern in (("docs/proofs.md", READING_ROW), ("README.md", READING_SENTENCE)):
         with open(f"{ROOT}/{name}", encoding="utf-8") as file:
@@ -371,13 +391,14 @@ def check_reading(write):
 
 
 def names_not_read():
-    """The names that tools/lint/reading.py leaves out although a definition that it prints uses them."""
+    """Return the names that tools/lint/reading.py leaves out although a printed definition uses
+    them."""
     words = [sys.executable, f"{ROOT}/tools/lint/reading.py", "--check"]
     return subprocess.run(words, stdout=subprocess.PIPE, text=True).stdout.splitlines()[:-1]
 
 
 def warnings_of_man(page):
-    """What man warns of on a manual page of the sources, or at a path."""
+    """Return the warnings of man about a manual page of the sources, or at a path."""
     environment = {**os.environ, "LC_ALL": "C.UTF-8", "MANROFFSEQ": "", "MANWIDTH": "80"}
     ran = subprocess.run(
         ["man", "--warnings", "-E", "UTF-8", "-l", "-Tutf8", "-Z", os.path.join(ROOT, page)],
@@ -397,7 +418,8 @@ def has_man():
 
 
 def check_pages():
-    """Whether man has nothing to warn of on the manual pages, the helpers' included, if it is installed."""
+    """Check that man has no warnings about the manual pages, including those of the helpers, if man
+    is installed."""
     if not has_man():
         print(
             "skipped  documents: man or groff is not installed, for the manual pages; install: apt-get install man-db groff"
@@ -413,7 +435,8 @@ def check_pages():
 
 
 def check_site_code():
-    """Whether the site would show the code of each page as it is, if python3-markdown is installed."""
+    """Check that the site shows the code of each page unchanged, if python3-markdown is
+    installed."""
     if not is_installed("python3-markdown"):
         print(
             "skipped  documents: python3-markdown is not installed, for the code of the site; install: apt-get install python3-markdown"

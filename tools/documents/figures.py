@@ -1,15 +1,19 @@
-"""The figures of the documents: README.md and docs/speed.md have the figures of bench/RESULTS.md, each marked with its program.
+"""Check the figures in the documents: README.md and docs/speed.md show the figures of
+bench/RESULTS.md, marked with their program.
 
-    python3 tools/documents/figures.py PROGRAM SECTION..     marks sections of bench/RESULTS.md as measured with a program
+    python3 tools/documents/figures.py PROGRAM SECTION..     mark sections of bench/RESULTS.md as
+                                                             measured with a program
 
-- A mark `<!-- figures: VERSION sha256:SUM -->` is before a table: the version of rcell, and the first 12 digits of the SHA-256 of the
-  program that was measured. The tools of bench/ write it.
-- Each mark of README.md, docs/speed.md and bench/RESULTS.md has a table below it, and is of this version. Each section of
-  bench/RESULTS.md with a table has one, and so has each table of docs/speed.md.
-- A mark of README.md and docs/speed.md is also in bench/RESULTS.md. A mark of an older form, a commit, goes when its section is
-  measured again.
+- A mark `<!-- figures: VERSION sha256:SUM -->` precedes a table. It contains the version of rcell
+  and the first 12 digits of the SHA-256 of the program that was measured. The tools in bench/ write
+  it.
+- Each mark in README.md, docs/speed.md and bench/RESULTS.md has a table below it, and is of this
+  version. Each section of bench/RESULTS.md with a table has a mark, and so has each table of
+  docs/speed.md.
+- A mark in README.md or docs/speed.md is also in bench/RESULTS.md. A mark in the older form, a
+  commit, is replaced when its section is measured again.
 
-With `write` README.md gets the figures of bench/RESULTS.md.
+With `write`, the figures of bench/RESULTS.md are copied to README.md.
 """
 import hashlib
 import pathlib
@@ -19,7 +23,8 @@ import sys
 ROOT = pathlib.Path(__file__).resolve().parents[2]
 README, PAGE, RESULTS = "README.md", "docs/speed.md", "bench/RESULTS.md"
 DIGITS = 12
-# A mark that still names a commit is of figures that were measured before marks named programs; none is added.
+# A mark with a commit is from figures measured before marks named programs. No such marks are
+# added.
 MARK = re.compile(rf"<!-- figures: (?:(\S+) sha256:[0-9a-f]{{{DIGITS}}}|[0-9a-f]{{8}}) -->")
 TABLE = re.compile(r"^\|[ -]*-[-| ]*\|$", re.MULTILINE)
 HEADING = re.compile(r"^(?=##+ )", re.MULTILINE)
@@ -33,13 +38,14 @@ def text_of(name):
 
 
 def mark_of(program):
-    """The mark of what is measured with a program now."""
+    """Return the mark for what is measured with a program now."""
     found = hashlib.sha256(pathlib.Path(program).read_bytes()).hexdigest()
     return f"<!-- figures: {text_of('VERSION').strip()} sha256:{found[:DIGITS]} -->"
 
 
 def mark_sections(program, sections):
-    """Marks sections as measured with a program; on the other pages it takes the place of marks that no section has then."""
+    """Mark sections as measured with a program. On the other pages, replace marks that no section
+    has any more."""
     parts, mark = HEADING.split(text_of(RESULTS)), mark_of(program)
     titles = [part.partition("\n")[0].strip("# ") for part in parts]
     if unknown := set(sections) - set(titles):
@@ -54,7 +60,8 @@ def mark_sections(program, sections):
 
 
 def tables_of_results():
-    """The rows of bench/RESULTS.md by their task and map, each as its cells without the map; the first of a name counts."""
+    """Return the rows of bench/RESULTS.md by task and map, each as its cells without the map. The
+    first row with a name counts."""
     found = {}
     for line in text_of(RESULTS).splitlines():
         first, *cells = [cell.strip() for cell in line.strip("|").split("|")]
@@ -64,7 +71,8 @@ def tables_of_results():
 
 
 def check_readme(write):
-    """How many rows of README.md have the figures of bench/RESULTS.md; `write` mends the others."""
+    """Return the number of rows in README.md with the figures of bench/RESULTS.md. `write` corrects
+    the others."""
     document, tables, faults = text_of(README), tables_of_results(), []
 
     def with_figures(found):
@@ -83,7 +91,8 @@ def check_readme(write):
 
 
 def check_page():
-    """How many rows of docs/speed.md have their figures together on a line of bench/RESULTS.md."""
+    """Return the number of rows in docs/speed.md whose figures are together on a line of
+    bench/RESULTS.md."""
     lines = [
         set(FIGURE.findall(line)) for line in text_of(RESULTS).splitlines() if line.startswith("|")
     ]
@@ -104,13 +113,13 @@ def check_page():
 
 
 def marks_of(name):
-    """The marks of a page, each with the text up to the next mark or heading."""
+    """Return the marks of a page, each with the text up to the next mark or heading."""
     parts = re.split(r"(?=<!-- figures: )|^(?=##+ )", text_of(name), flags=re.MULTILINE)
     return [(found, part) for part in parts if (found := MARK.match(part))]
 
 
 def unmarked(name):
-    """The tables of a page that have no mark above them, by their sections."""
+    """Return the tables of a page without a mark above them, by section."""
     sections = [part for part in HEADING.split(text_of(name)) if TABLE.search(part)]
     return [
         section.partition("\n")[0]
@@ -120,7 +129,7 @@ def unmarked(name):
 
 
 def check_marks():
-    """How many marks have a table, and are of this version."""
+    """Return the number of marks that have a table and are of this version."""
     passed, faults, recorded = 0, [], {mark[0] for mark, _ in marks_of(RESULTS)}
     version = text_of("VERSION").strip()
     for name in (README, PAGE, RESULTS):
@@ -144,7 +153,8 @@ def check_marks():
 
 
 def check(write=False):
-    """How many figures and marks are right, and what is wrong with the others; a release has no bench/RESULTS.md."""
+    """Return the number of right figures and marks, and the errors of the others. A release
+    contains no bench/RESULTS.md."""
     if not (ROOT / RESULTS).exists():
         return 0, []
     counted = [check_readme(write), check_page(), check_marks()]

@@ -1,6 +1,6 @@
-"""Checks the links of the documents: each file that is linked to is there, and each anchor is a heading of it.
+"""Check the links in the documents: each linked file exists, and each anchor is a heading of it.
 
-Anchors are made of headings as GitHub does. Links to other hosts are not looked at.
+Anchors are derived from headings as on GitHub. Links to other hosts are not checked.
 """
 import functools
 import pathlib
@@ -14,7 +14,7 @@ HEADING = re.compile(r"^#+ (.+)$", re.MULTILINE)
 
 
 def documents():
-    """The Markdown files of the repository, by their paths below its top."""
+    """Return the Markdown files of the repository, as relative paths."""
     listed = subprocess.run(
         ["git", "ls-files", "--cached", "--others", "--exclude-standard", "*.md"],
         cwd=ROOT,
@@ -28,7 +28,7 @@ def documents():
 
 @functools.cache
 def anchors_of(path):
-    """The anchors of the headings of a document; the second of one text ends in -1."""
+    """Return the anchors of a document's headings. A repeated anchor ends in -1."""
     found, seen = set(), {}
     for heading in HEADING.findall(FENCED.sub("", path.read_text(encoding="utf-8"))):
         text = re.sub(r"\[([^\]]*)\]\([^)]*\)", r"\1", heading).replace("`", "").strip().lower()
@@ -40,7 +40,7 @@ def anchors_of(path):
 
 
 def fault_of(document, link):
-    """What is wrong with a link of a document, or ''."""
+    """Return the error of a link in a document, or ''."""
     if re.match(r"\w+:", link):
         return ""
     name, _, anchor = link.partition("#")
@@ -55,13 +55,13 @@ def fault_of(document, link):
 
 
 def faults_of(path):
-    """What is wrong with each link of a document, or ''."""
+    """Return the error of each link in a document, or ''."""
     prose = re.sub(r"`[^`\n]*`", "", FENCED.sub("", path.read_text(encoding="utf-8")))
     return [fault_of(path, link) for link in LINK.findall(prose)]
 
 
 def faults_below(folder):
-    """What is wrong with the links of the documents below a folder, as of a release."""
+    """Return the errors of the links in the documents below a folder, for example of a release."""
     return [
         f"{path.relative_to(folder)}: {fault}"
         for path in sorted(pathlib.Path(folder).rglob("*.md"))
@@ -71,7 +71,7 @@ def faults_below(folder):
 
 
 def check():
-    """How many links of the documents lead somewhere, and what is wrong with the others."""
+    """Return the number of valid links in the documents, and the errors of the others."""
     found = [(name, fault) for name in documents() for fault in faults_of(ROOT / name)]
     faults = [f"{name}: {fault}" for name, fault in found if fault]
     return len(found) - len(faults), faults

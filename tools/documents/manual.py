@@ -1,17 +1,19 @@
 #!/usr/bin/env python3
-"""Makes the manual page of a program from its page in docs/, which is the only source of both.
+"""Make the manual page of a program from its page in docs/, which is the source of both.
 
     manual.py NAME > NAME.1
 
-Headings become sections, rows of tables terms with their meaning, and blocks examples. A section with the name of the
-program gives its subsections. The page ends with the names of the other programs.
+Headings become sections, table rows become terms with their meaning, and blocks become examples. A
+section with the name of the program is replaced with its subsections. The page ends with the names
+of the other programs.
 """
 import pathlib
 import re
 import sys
 
 ROOT = pathlib.Path(__file__).resolve().parents[2]
-# The document of a program, what the program does, and the heading of the lines before the first section.
+# The document of a program, what the program does, and the heading for the lines before the first
+# section.
 PAGES = {
     "rcell": (
         "docs/commands.md",
@@ -27,18 +29,20 @@ PAGES = {
 FIRST = ["Synopsis", "Description"]
 CODE = re.compile(r"(`[^`]+`)")
 FENCE = re.compile(r"^```[^\n]*\n.*?^```$", re.MULTILINE | re.DOTALL)
-# Before a line of a block that begins as a heading does.
+# Precedes a line in a block that begins like a heading.
 HIDING = "\0"
 
 
 def escaped(text):
-    """Return text for roff: no backslash, dash or first point means anything there."""
+    """Return text for roff, in which backslashes, dashes and leading points have no special
+    meaning."""
     text = text.replace("\\", "\\e").replace("-", "\\-")
     return re.sub(r"^([.'])", r"\\&\1", text, flags=re.MULTILINE)
 
 
 def inline(text):
-    """Return a paragraph, a heading or a cell of a table for roff, with code in bold and no links."""
+    """Return a paragraph, a heading or a table cell for roff, with code in bold and without
+    links."""
     text = re.sub(r"!?\[([^\]]*)\]\([^)]*\)", r"\1", " ".join(text.split()).replace("\\|", "|"))
     parts = []
     for part in CODE.split(text):
@@ -54,7 +58,7 @@ def row(line):
 
 
 def table(lines):
-    """Return a table as terms with their meaning; a third column is named by its heading."""
+    """Return a table as terms with their meaning. A third column is named by its heading."""
     heads, *rows = [row(line) for line in lines if not re.fullmatch(r"[|\s:-]+", line)]
     parts = []
     for first, second, *more in rows:

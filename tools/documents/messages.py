@@ -1,4 +1,5 @@
-"""The messages of the program: docs/errors.md has a row for each, and python/src/rcell/core/messages.json a sentence, and neither has more."""
+"""Check the program's messages: each has a row in docs/errors.md and a sentence in
+python/src/rcell/core/messages.json, which contain no others."""
 import glob
 import json
 import os
@@ -12,12 +13,13 @@ import build
 
 FILE, DOCUMENT = "python/src/rcell/core/messages.json", "docs/errors.md"
 ROW = re.compile(r"^\| `([^`]+)` \|", re.MULTILINE)
-# Kinds of an error that no run of the program reports.
+# Kinds of errors that no run of the program reports.
 UNREPORTED = {"reader failed"}
 
 
 def sentences():
-    """The messages that have a sentence; an entry that is not a message is about a word of a line, and has its key."""
+    """Return the messages with a sentence. An entry that is not a message is about a word of a
+    line, and has its key."""
     with open(f"{ROOT}/{FILE}", encoding="utf-8") as file:
         parts = json.load(file)
     return {text for part in parts.values() for text in part} - {
@@ -29,13 +31,14 @@ def sentences():
 
 
 def rows():
-    """The messages that the tables of the document begin with."""
+    """Return the messages at the start of the rows in the document's tables."""
     with open(f"{ROOT}/{DOCUMENT}", encoding="utf-8") as file:
         return set(ROW.findall(file.read().partition("## Of the command line")[2]))
 
 
 def messages_of_the_code():
-    """The texts of errors in the sources of the program, with N for a number; those that only hand on another text are left out."""
+    """Return the texts of errors in the program's sources, with N for a number. Errors that only
+    pass on another text are left out."""
     found = set()
     for path in [
         it
@@ -53,7 +56,8 @@ def messages_of_the_code():
 
 
 def check():
-    """How many messages the document and the file have, and which are missing or no messages."""
+    """Return the number of messages in the document and the file, and the messages that are missing
+    or do not exist."""
     code = messages_of_the_code()
     faults = [
         f"{name}: {told} '{text}'"

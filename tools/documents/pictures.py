@@ -1,12 +1,15 @@
 #!/usr/bin/env python3
-"""Draws the pictures of the documents: `make pictures`, or one by itself.
+"""Draw the pictures in the documents: `make pictures`, or one by itself.
 
-    pictures.py study OUT.png [--program PATH]      examples/study: land cover, hectares by class, patches of woodland
-    pictures.py islands OUT.png [--program PATH]    examples/islands: the countries, and the islands as r.clump numbers them
-    pictures.py examples FOLDER [--program PATH]    FOLDER/NAME/picture.png of the examples over the maps of examples/study
+    pictures.py study OUT.png [--program PATH]      examples/study: land cover, hectares by class,
+                                                    patches of woodland
+    pictures.py islands OUT.png [--program PATH]    examples/islands: the countries, and the islands
+                                                    as r.clump numbers them
+    pictures.py examples FOLDER [--program PATH]    FOLDER/NAME/picture.png of the examples over
+                                                    the maps of examples/study
     pictures.py speed OUT.png                       the figures of bench/RESULTS.md as bars
 
-It needs matplotlib and numpy (of Debian: python3-matplotlib).
+Needs matplotlib and numpy (Debian: python3-matplotlib).
 """
 import argparse
 import os
@@ -39,14 +42,14 @@ CLASSES = {
 PATCHES = "r.reclass input=landcover output=wood\n31 thru 39 = 1\nend\nr.clump -d input=wood output=patches\n"
 SEA = (0.87, 0.93, 0.97)
 LABELLED = 100  # cells of a country that gets its name
-# Where names would overlap, in rows and columns from the median of the cells.
+# Moves names that would overlap, in rows and columns from the median of the cells.
 MOVED = {"Viet Nam": (-8, 18), "Cambodia": (3, -3), "Malaysia": (10, -22), "Thailand": (-2, -4)}
 SHORT = {"Lao People's Democratic Republic": "Laos"}
 PLATE = {"fc": "white", "alpha": 0.65, "lw": 0, "pad": 1}
 
 
 def grid(text):
-    """The cells of a grid text, null as 0."""
+    """Return the cells of a grid text, with 0 for null."""
     lines = text.splitlines()
     header = dict(line.split(":") for line in lines if ":" in line)
     cells = " ".join(line for line in lines if ":" not in line).replace("*", "0").split()
@@ -54,7 +57,8 @@ def grid(text):
 
 
 def rcell(program, script, folder=ISLANDS, grid_word="country=archipelago.txt"):
-    """Run a script and return its output; a script of several lines goes through standard input."""
+    """Run a script and return its output. A script of several lines is passed through standard
+    input."""
     words = [program, "/dev/stdin" if "\n" in script else script, grid_word]
     return subprocess.run(
         words, cwd=folder, check=True, capture_output=True, text=True, input=script
@@ -62,7 +66,8 @@ def rcell(program, script, folder=ISLANDS, grid_word="country=archipelago.txt"):
 
 
 def label(axes, cells, text, size=7):
-    """Write a text on the median of some cells, moved if it is a name that would overlap another."""
+    """Write a text at the median of some cells, or moved if it is a name that would overlap
+    another."""
     row, column = (np.median(places) for places in np.nonzero(cells))
     down, right = MOVED.get(text, (0, 0))
     axes.text(column + right, row + down, text, ha="center", va="center", fontsize=size, bbox=PLATE)
@@ -119,7 +124,7 @@ def without_ticks(axes, title):
 
 
 def draw_hectares(axes, table):
-    """Bars of the hectares of each class, the first class at the top."""
+    """Draw the hectares of each class as bars, with the first class at the top."""
     hectares = [int(cells) * HECTARES_OF_A_CELL for _, cells in table]
     bars = axes.barh(
         [CLASSES[int(code)][0] for code, _ in table],
@@ -150,7 +155,8 @@ def draw_patches(axes, patches, sizes):
 
 
 def study(output, program):
-    """The land cover of the study, the hectares of its classes and its patches of woodland."""
+    """Draw the land cover of the study, the hectares of its classes, and its patches of
+    woodland."""
 
     def answer(script):
         return rcell(program, script, STUDY, "landcover=landcover.txt")
@@ -173,7 +179,8 @@ def study(output, program):
     figure.savefig(output)
 
 
-# What the picture of each example shows of the land cover: its title, and the script whose map x it is.
+# What the picture of each example shows of the land cover: its title, and a script that makes the
+# map x.
 SMOOTH = (
     "r.mapcalc m = nmode(g[-1,-1],g[-1,0],g[-1,1],g[0,-1],g,g[0,1],g[1,-1],g[1,0],g[1,1])\n"
     "r.mapcalc x = if(isnull(g), null(), m)\n"
@@ -210,7 +217,7 @@ def draw_cover(axes, cover, title):
 
 
 def examples(folder, program):
-    """The land cover of the study next to what each example shows of it."""
+    """Draw the land cover of the study next to the result of each example."""
     for name, (title, script) in EXAMPLES.items():
         words = [program, "/dev/stdin", "g=landcover.txt", "zones=zones.txt"]
         shown, whole = (
@@ -236,7 +243,7 @@ def examples(folder, program):
         plt.close(figure)
 
 
-# The tasks of the chart: what it says of each, and where the row is in bench/RESULTS.md.
+# The tasks in the chart: their titles, and their rows in bench/RESULTS.md.
 CHARTED = (
     ("reading\npatchy land cover", "reading", "patchy land cover, 4 million cells"),
     ("r.stats -c\npatchy land cover", "r.stats -c", "patchy land cover, 4 million cells"),

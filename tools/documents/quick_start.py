@@ -1,15 +1,17 @@
 #!/usr/bin/env python3
-"""Runs the quick start of README.md as somebody does who has one file of the release, and compares what it prints.
+"""Run the quick start in README.md as a user with one file of the release would, and compare the
+output.
 
     quick_start.py FILE [--room FOLDER] [--root FOLDER]
 
-FILE is the tarball (.tar.gz) or the package (.deb). It is put alone into an empty folder, and the commands of the README's
-section "Install" are given there to sh, in one session: of its two ways to unpack the release the one for this file, and
-then each block that shows what is printed. Neither the kit nor Python is on the path. The package is unpacked by dpkg-deb in
-place of being installed, so that nothing here changes.
+FILE is the tarball (.tar.gz) or the package (.deb). It is put into an empty folder, where the
+commands in the README's section "Install" are given to sh, in one session: the way to unpack this
+kind of file, and then each block that shows output. Neither the kit nor Python is on the path. The
+package is unpacked with dpkg-deb instead of being installed, so that the system does not change.
 
---room keeps what was unpacked in that folder, which must not be there. With --root all happens in that root of another system,
-by chroot, where the package is really installed. The last line is 'N passed, M failed'.
+--room keeps what was unpacked in that folder, which must not exist. With --root, everything happens
+in that root of another system, with chroot, and the package is really installed. The last line is
+'N passed, M failed'.
 """
 import argparse
 import os
@@ -35,7 +37,7 @@ def section():
 
 
 def unpacking(blocks, name):
-    """The commands by which the README unpacks or installs a file of this kind."""
+    """Return the README's commands to unpack or install a file of this kind."""
     found = [block.text for block in blocks if block.language == "sh" and name in block.text]
     if len(found) != 1:
         sys.exit(
@@ -45,7 +47,8 @@ def unpacking(blocks, name):
 
 
 def of_package(commands, root):
-    """The same without being root: the package is unpacked, and its programs are put on the path."""
+    """Return the commands for a user without root: the package is unpacked, and its programs are
+    put on the path."""
     if root:
         return commands.replace("sudo ", "")
     unpacked = rf"dpkg-deb -x \1 {UNPACKED} && PATH=$PWD/{UNPACKED}/usr/bin:$PATH"
@@ -56,7 +59,8 @@ def of_package(commands, root):
 
 
 def path_without_python(room):
-    """A folder of all programs of this system but Python, the kit and what is installed of ourselves."""
+    """Return a folder with all programs of this system, except for Python, the kit and installed
+    programs of rcell."""
     at = f"{room}/programs"
     os.mkdir(at)
     for folder in FOLDERS:
@@ -67,7 +71,7 @@ def path_without_python(room):
 
 
 def session(script, here, path, root):
-    """Run a session of sh in the folder and return its output."""
+    """Run an sh session in the folder and return its output."""
     words = ["sh", "-c", script]
     if root:
         words = [
@@ -91,7 +95,7 @@ def session(script, here, path, root):
 
 
 def run(file, here, path, root):
-    """Runs all, and returns how many blocks are as shown and what is wrong with the others."""
+    """Run all commands, and return the number of correct blocks and the errors of the others."""
     name, blocks = os.path.basename(file), section()
     shutil.copy(file, here)
     commands = unpacking(blocks, name)

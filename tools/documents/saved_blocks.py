@@ -1,4 +1,5 @@
-"""Checks that the text before a block to be saved names its file, because pages do not show the words after the fence."""
+"""Check that the text before a block to be saved names its file, because pages do not show the
+words after the fence."""
 import re
 
 import links
@@ -7,7 +8,7 @@ BLOCK = re.compile(r"^```\w+ file=(\S+)[^\n]*\n.*?^```$", re.MULTILINE | re.DOTA
 
 
 def check():
-    """How many blocks to be saved have a name that a reader sees, and the others."""
+    """Return the number of blocks to be saved whose name is visible to readers, and the others."""
     passed, faults = 0, []
     for name in links.documents():
         text = (links.ROOT / name).read_text(encoding="utf-8")

@@ -1,8 +1,8 @@
 #!/usr/bin/env python3
-"""Reads the tables of docs/grass.md, and runs the program and GRASS on their inputs.
+"""Read the tables in docs/grass.md, and run the program and GRASS on their inputs.
 
-A row whose first three cells are code has an input and the results of GRASS and of rcell; the other rows are prose. The
-form of the cells is said at the head of the document.
+A row whose first three cells are code contains an input and the results of GRASS and rcell. All
+other rows are prose. The head of the document describes the format of the cells.
 """
 import itertools
 import os
@@ -23,7 +23,8 @@ GRID_TITLE = "## Grids"
 
 @dataclass
 class Row:
-    """A row of a table: a script, the lines of the grid `m` if the row is about a grid, and both results."""
+    """A row of a table: a script, the lines of the grid `m` if the row is about a grid, and both
+    results."""
 
     line: int
     script: list[str]
@@ -33,14 +34,14 @@ class Row:
 
 
 def cells_of(line):
-    """The cells of a row of a table that are code, up to the first that is not."""
+    """Return the cells in a table row that are code, up to the first that is not."""
     cells = re.split(r"(?<!\\)\|", line)[1:-1]
     found = itertools.takewhile(bool, map(CODE.fullmatch, cells))
     return [cell[1].replace("\\|", "|") for cell in found]
 
 
 def rows():
-    """The rows that have an input and two results."""
+    """Yield the rows with an input and two results."""
     with open(f"{ROOT}/{DOCUMENT}", encoding="utf-8") as file:
         lines = file.read().splitlines()
     title = ""
@@ -57,7 +58,8 @@ def rows():
 
 
 def grid_text(lines):
-    """A grid's text: the header lines that are shown, then those that fit the cells, then the rows."""
+    """Return the text of a grid: the header lines that are shown, then those that the cells imply,
+    then the rows."""
     shown = [line for line in lines if HEADER_LINE.match(line) or not line.strip()]
     data = [line for line in lines if line not in shown]
     rows, cols = len(data), len(data[0].split())
@@ -76,7 +78,7 @@ def grid_text(lines):
 
 
 def grids_of_head():
-    """The grids that the head of the differences names, each as the lines that it shows."""
+    """Return the grids in the head of the differences, each as the lines shown."""
     with open(f"{ROOT}/{DOCUMENT}", encoding="utf-8") as file:
         head = file.read().partition("\n## Differences\n")[2].partition("\n## ")[0]
     return {
@@ -89,7 +91,7 @@ GRIDS = grids_of_head()
 
 
 def inputs_of(line):
-    """The words of a line that may name a map which it reads."""
+    """Return the words in a line that may name an input map."""
     name, _, rest = line.partition(" ")
     if name == "r.mapcalc":
         return re.findall(r"[A-Za-z_]\w*", rest.partition("=")[2])
@@ -100,7 +102,7 @@ def inputs_of(line):
 
 
 def grids_of(row):
-    """The grids that a row reads, by their names."""
+    """Return the grids that a row reads, by name."""
     if row.grid:
         return {"m": grid_text(row.grid)}
     named = {name for line in row.script if line.startswith("r.") for name in inputs_of(line)}
@@ -110,7 +112,7 @@ def grids_of(row):
 
 
 def made_map(script):
-    """The map that the last statement of a script makes, or None."""
+    """Return the map that the last statement of a script makes, or None."""
     statements = [line for line in script if line.startswith("r.")]
     name, _, rest = statements[-1].partition(" ")
     if name not in MAKERS:
@@ -121,13 +123,14 @@ def made_map(script):
 
 
 def asked(script):
-    """The script with a last line that writes the map which it makes."""
+    """Return the script with a last line that writes the map that it makes."""
     target = made_map(script)
     return script + [f"r.out.ascii input={target}"] if target else script
 
 
 def joined(text, row):
-    """Lines of output as the document writes them: of a map only its rows; a space at the end of a line is shown as _."""
+    """Return lines of output as the document writes them: only the rows of a map, with _ for a
+    space at the end of a line."""
     lines, is_map = text.splitlines(), row.grid or made_map(row.script)
     if is_map:
         return " / ".join(line.rstrip(" ") for line in lines if not HEADER_LINE.match(line))
@@ -137,7 +140,7 @@ def joined(text, row):
 
 
 def by_rcell(row, program, room):
-    """The program's result: its output, or its message without the program's name."""
+    """Return the program's result: its output, or its message without the program's name."""
     for name, text in {"script": "\n".join(asked(row.script)) + "\n", **grids_of(row)}.items():
         with open(f"{room}/{name}", "w", encoding="ascii") as file:
             file.write(text)
@@ -147,7 +150,7 @@ def by_rcell(row, program, room):
 
 
 def commands_of_grass(script, room):
-    """A script as commands of a shell in GRASS; rules go to files."""
+    """Yield a script as shell commands in GRASS. Rules are written to files."""
     at = 0
     while at < len(script):
         line, at = script[at], at + 1
@@ -167,14 +170,14 @@ def commands_of_grass(script, room):
 
 
 def by_grass(row, room):
-    """The result of GRASS in a location of its own: its output, `refused` or `no end`."""
+    """Return the result of GRASS in its own location: its output, `refused` or `no end`."""
     subprocess.run(["rm", "-rf", f"{room}/here"], check=True)
     subprocess.run(["grass", "-e", "-c", "XY", f"{room}/here"], check=True, capture_output=True)
     grids, commands = grids_of(row), ["set -e"]
     for name, text in grids.items():
         with open(f"{room}/{name}.txt", "w", encoding="ascii") as file:
             file.write(text)
-        # The type is found out only where the row is about it: the module's guess is not steady.
+        # The type is determined only if the row is about it, because the module's guess varies.
         kind = "" if "2.5 1" in row.grid else " type=CELL"
         commands.append(
             f"r.in.ascii input={name}.txt output={name}{kind} --quiet && g.region raster={name}"

@@ -1,23 +1,28 @@
 #!/usr/bin/env python3
-"""Compares the program and the documents with GRASS and GDAL, each if it is installed (Debian: grass-core, gdal-bin).
+"""Compare the program and the documents with GRASS and GDAL, if they are installed (Debian:
+grass-core, gdal-bin).
 
     exchange.py [CHECK..]
 
-Without words all checks are made, and these are they:
-    grids        GRASS reads what bin/rcell writes, and bin/rcell what its r.out.ascii writes; GRASS writes no line for
-                 another null text than `*`, so that line is put into what it wrote
-    exports      the commands by which README.md and docs/howto.md export a map from GRASS and take labels there and back,
-                 run as they are there, in locations in metres, in degrees and without a projection
+Without arguments, all checks are run:
+    grids        GRASS reads the output of bin/rcell, and bin/rcell reads the output of GRASS's
+                 r.out.ascii; GRASS writes no line for a null text other than `*`, so that line is
+                 added to its output
+    exports      the commands in README.md and docs/howto.md that export a map from GRASS and carry
+                 labels in both directions, in locations in metres, in degrees and without a
+                 projection
     areas        square kilometres by row (docs/howto.md) compared with r.stats -a
     differences  each result of GRASS in docs/grass.md
-    pairs        each pair of docs/grass.md, in both
-    random       100 runs of tools/grass/runs.py: grids and scripts made at random, in both
+    pairs        each pair in docs/grass.md, with both programs
+    random       100 runs of tools/grass/runs.py: random grids and scripts, with both programs
     addon        the tests of grass/r.rcell in the three locations, on a million cells
     tasks        tools/grass/tasks.py: five tasks on 20 million cells, with GRASS, rcell and r.rcell
-    gdal         GDAL reads what bin/rcell writes, and what it writes as AAIGrid comes back through `rcell-gis convert`; the commands of
-                 the documents export a GeoTIFF
-    pictures     the pictures of docs/howto.md are those that its commands make
-What is not installed is skipped with a message. The last line is 'N passed, M failed'.
+    gdal         GDAL reads the output of bin/rcell, and its AAIGrid comes back through
+                 `rcell-gis convert`; the commands in the documents export a GeoTIFF
+    pictures     the pictures in docs/howto.md are those that its commands make
+
+If something is not installed, its checks are skipped with a message. The last line is 'N passed, M
+failed'.
 """
 import os
 import re
@@ -47,7 +52,7 @@ GRIDS = {
     "multiplier": HEADER.format(n=2, s=1, e=3, w=0, r=1, c=3) + "multiplier: 3\n1 -2 *\n",
 }
 LOCATIONS = {"metres": "EPSG:32632", "degrees": "EPSG:4326", "no projection": "XY"}
-# Edges of the map that is exported; in degrees without an end as decimals, and across the date line.
+# Edges of the exported map; in degrees, infinite decimals, and across the date line.
 REGIONS = [
     ("metres", {}),
     ("no projection", {}),
@@ -65,7 +70,8 @@ WRITES, WRITES_NUMBER = b"r.out.ascii input=g\n", b"r.out.ascii input=g null_val
 
 
 def environment():
-    """The environment of a user after `make install`: the program, the helpers and r.rcell are on the path."""
+    """Return the environment of a user after `make install`, in which the program, the helpers and
+    r.rcell are on the path."""
     return {**os.environ, "PATH": f"{ROOT}/bin:{ROOT}/helpers:/usr/bin:/bin", "LC_ALL": "C.UTF-8"}
 
 
@@ -87,7 +93,7 @@ def content(path):
 
 
 def by_rcell(room, text, script):
-    """What rcell writes of a grid text."""
+    """Return the output of rcell for a grid text."""
     put(room, g_txt=text, script=script)
     return ran([PROGRAM, "script", "g=g.txt"], room)
 
@@ -99,12 +105,13 @@ def made_location(room, kind="no projection"):
 
 
 def by_grass(room, command):
-    """What commands in a location of GRASS print."""
+    """Return the output of commands in a GRASS location."""
     return ran(["grass", f"{room}/here/PERMANENT", "--exec", "sh", "-c", command], room)
 
 
 def exchange(room, text, null_value):
-    """What differs between rcell and GRASS: the tables, or the grid text after GRASS has read and written it."""
+    """Return the differences between rcell and GRASS: in the tables, or in the grid text after
+    GRASS has read and written it."""
     counts = b"r.stats -c input=g\n"
     writes = b"r.out.ascii input=g null_value=" + null_value + b"\n"
     table, written = by_rcell(room, text, counts), by_rcell(room, text, writes)
@@ -131,7 +138,8 @@ def exchange(room, text, null_value):
 
 
 def grids_by_grass():
-    """What differs where grids go to GRASS and back, one list a grid and null text."""
+    """Yield the differences when grids are passed to GRASS and back, one list per grid and null
+    text."""
     with tempfile.TemporaryDirectory() as room:
         made_location(room)
         for name, text in GRIDS.items():
@@ -143,7 +151,7 @@ def grids_by_grass():
 
 
 def differences_by_grass():
-    """Which results of GRASS are not as docs/grass.md says, one list a row."""
+    """Yield the results of GRASS that differ from docs/grass.md, one list per row."""
     for row in differences.rows():
         with tempfile.TemporaryDirectory() as room:
             answer = differences.by_grass(row, room)
@@ -153,7 +161,7 @@ def differences_by_grass():
 
 
 def blocks_with(name, word):
-    """The blocks of a document for the shell that have this word, each with its place."""
+    """Yield the shell blocks of a document that contain this word, each with its position."""
     with open(f"{ROOT}/{name}", encoding="utf-8") as file:
         for block in documents.blocks_of(file.read()):
             if block.language == "sh" and word in block.text:
@@ -161,20 +169,21 @@ def blocks_with(name, word):
 
 
 def file_of(name, path):
-    """The file of this name that a document shows."""
+    """Return the file with this name in a document."""
     with open(f"{ROOT}/{name}", encoding="utf-8") as file:
         return next(block.text for block in documents.blocks_of(file.read()) if block.file == path)
 
 
 def with_edges(text, edges):
-    """A grid with other edges, as rcell writes it."""
+    """Return a grid with different edges, as rcell writes it."""
     for key, value in edges.items():
         text = re.sub(rf"(?m)^{key}(\w+): .*", rf"{key}\1: {float(value):.8f}", text)
     return text
 
 
 def export(place, commands, kind, edges):
-    """What is wrong with the grid landuse.txt that commands of a document export of the map landuse, and with the way back."""
+    """Return the errors in the grid landuse.txt that a document's commands export from the map
+    landuse, and in the way back."""
     with tempfile.TemporaryDirectory() as room:
         made_location(room, kind)
         wanted = with_edges(content(OWN_MAP).decode(), edges).encode()
@@ -197,7 +206,7 @@ def export(place, commands, kind, edges):
 
 
 def way_back(room):
-    """What is wrong with the map that comes back as docs/howto.md says."""
+    """Return the errors in the map that comes back as described in docs/howto.md."""
     ((_, commands),) = blocks_with("docs/howto.md", "r.region map=result")
     put(room, script=b"r.out.ascii input=landuse\n")
     by_grass(room, commands)
@@ -210,7 +219,8 @@ def way_back(room):
 
 
 def labels_by_grass():
-    """What is wrong where labels go to rcell and back by the commands of docs/howto.md."""
+    """Return the errors when labels are passed to rcell and back with the commands in
+    docs/howto.md."""
     ((_, there),) = blocks_with("docs/howto.md", "> labelled")
     ((_, back),) = blocks_with("docs/howto.md", "labels.rcell")
     rules = b"r.reclass input=landuse output=classes\n1 2 = 1 green, all\n3 = 3 a: b | c\nend\n"
@@ -231,7 +241,8 @@ def labels_by_grass():
 
 
 def exports_by_grass():
-    """What differs where a map is exported from GRASS as the documents say, one list a block and location."""
+    """Yield the differences when a map is exported from GRASS as in the documents, one list per
+    block and location."""
     for place, commands in blocks_with("README.md", "r.out.ascii"):
         yield export(place, commands, "metres", {})
     ((place, commands),) = blocks_with("docs/howto.md", "r.out.ascii -h")
@@ -241,7 +252,8 @@ def exports_by_grass():
 
 
 def areas_by_grass():
-    """What differs between square kilometres by row and the output of r.stats -a, in degrees."""
+    """Yield the differences between square kilometres by row and the output of r.stats -a, in
+    degrees."""
     files = {name: file_of("docs/howto.md", name) for name in ("world.txt", "rows", "cells.awk")}
     with tempfile.TemporaryDirectory() as room:
         made_location(room, "degrees")
@@ -266,7 +278,7 @@ def areas_by_grass():
 
 
 def runs_by_grass():
-    """What differs on grids and scripts made at random, one list a run."""
+    """Return the differences on random grids and scripts, one list per run."""
     return runs.compared(PROGRAM, seed=1, first=0, count=RANDOM_RUNS)
 
 
@@ -275,7 +287,7 @@ def pairs_by_grass():
 
 
 def addon_by_grass():
-    """The tests of r.rcell, one list a location."""
+    """Yield the results of r.rcell's tests, one list per location."""
     for kind in LOCATIONS:
         with tempfile.TemporaryDirectory() as room:
             made_location(room, kind)
@@ -297,7 +309,7 @@ def addon_by_grass():
 
 
 def tasks_by_grass():
-    """The five tasks, one list each."""
+    """Yield the results of the five tasks, one list each."""
     lines = tasks.compared(PROGRAM, TASK_ROWS, TASK_COLS)
     print("\n".join(lines[:-1]), flush=True)
     passed, failed = (int(word) for word in re.findall(r"\d+", lines[-1]))
@@ -305,20 +317,21 @@ def tasks_by_grass():
 
 
 def to_gdal(room, text, script, path, form):
-    """Has GDAL translate what rcell writes of a grid text."""
+    """Translate the output of rcell for a grid text with GDAL."""
     put(room, written=by_rcell(room, text, script))
     ran(["gdal_translate", "-q", "-of", form, "-ot", "Int32", "written", path], room)
 
 
 def from_gdal(room):
-    """What rcell writes of what GDAL wrote as AAIGrid."""
+    """Return the output of rcell for an AAIGrid that GDAL wrote."""
     return by_rcell(
         room, ran([f"{ROOT}/helpers/rcell-gis", "convert", "back.asc", "-"], room), WRITES
     )
 
 
 def grids_by_gdal():
-    """What differs where grids go to GDAL and back, one list a grid: with a number for null, and with `*`, which it takes for 0."""
+    """Yield the differences when grids are passed to GDAL and back, one list per grid: with a
+    number for null, and with `*`, which GDAL reads as 0."""
     for name, text in GRIDS.items():
         with tempfile.TemporaryDirectory() as room:
             written = by_rcell(room, text.encode(), WRITES)
@@ -333,7 +346,8 @@ def grids_by_gdal():
 
 
 def exports_by_gdal():
-    """What differs where a GeoTIFF that GDAL made of our text is exported as the documents say, one list a block."""
+    """Yield the differences when a GeoTIFF that GDAL made from our text is exported as in the
+    documents, one list per block."""
     blocks = [
         block
         for name in ("README.md", "docs/howto.md")
@@ -354,7 +368,8 @@ def exports_by_gdal():
 
 
 def pictures_by_gdal():
-    """Which pictures of docs/howto.md are not those that its commands make, one list a picture."""
+    """Yield the pictures in docs/howto.md that differ from those that its commands make, one list
+    per picture."""
     ((place, commands),) = blocks_with("docs/howto.md", "gdaldem")
     with tempfile.TemporaryDirectory() as room:
         for name in ("landcover.colours", "show"):

@@ -1,9 +1,10 @@
 #!/usr/bin/env python3
-"""Reads the pairs of docs/grass.md, and runs GRASS and the program on them.
+"""Read the pairs in docs/grass.md, and run GRASS and the program on them.
 
-A row of its tables whose first two cells begin with code is a pair; the form of the cells is said in the document. An
-result is the rows of the map that the last line of the script makes, or else what is printed. Run by itself, it asks the
-program alone: each script must be taken. The last line is then 'N passed, M failed'.
+A table row whose first two cells begin with code is a pair. The document describes the format of
+the cells. A result is the rows of the map that the last line of the script makes, or else the
+output. Run by itself, this program runs only rcell, which must accept each script. The last line is
+then 'N passed, M failed'.
 """
 import os
 import re
@@ -27,7 +28,8 @@ GRIDS = ("lc=lc.txt", "zones=zones.txt")
 
 @dataclass
 class Pair:
-    """A pair: the lines for GRASS, those for rcell, what is said of them, and the codes in that."""
+    """A pair: the lines for GRASS, the lines for rcell, the verdict on them, and the code in the
+    verdict."""
 
     line: int
     grass: list[str]
@@ -40,12 +42,12 @@ class Pair:
 
     @property
     def shown(self):
-        """The lines that are shown where the results differ: one of GRASS and one of rcell."""
+        """Return the lines that are shown if the results differ: one of GRASS and one of rcell."""
         return CODE.findall(self.verdict)[:2]
 
     @property
     def script(self):
-        """The lines of the script, as far as the pair has them."""
+        """Return the lines of the script, if the pair has any."""
         lines = [] if self.is_shell else [line for line in self.rcell if not self.is_behind(line)]
         return [WOOD] * any("wood" in line for line in lines) + lines
 
@@ -71,7 +73,7 @@ def pairs():
 
 
 def made_map(script):
-    """The map that the last statement of a script makes, or None."""
+    """Return the map that the last statement of a script makes, or None."""
     statements = [line for line in script if line.startswith("r.")]
     name, _, rest = statements[-1].partition(" ")
     if name not in MAKERS:
@@ -82,13 +84,13 @@ def made_map(script):
 
 
 def rows_of(text):
-    """The rows of a grid, without its header and without blanks at the end of a line."""
+    """Return the rows of a grid, without its header and without blanks at line ends."""
     lines = [line.rstrip() for line in text.splitlines()]
     return "\n".join(line for line in lines if ": " not in line and line) + "\n"
 
 
 def put(room):
-    """The grids and files that the pairs read."""
+    """Write the grids and files that the pairs read."""
     for name, source in (("lc.txt", "landcover.txt"), ("zones.txt", "zones.txt")):
         with open(f"{ROOT}/examples/study/{source}", "rb") as grid, open(
             f"{room}/{name}", "wb"
@@ -100,7 +102,7 @@ def put(room):
 
 
 def by_rcell(pair, program, room):
-    """The result of rcell; a RuntimeError if the script is rejected."""
+    """Return the result of rcell. Raises RuntimeError if the script is rejected."""
     put(room)
     environment = {"PATH": f"{os.path.dirname(program)}:/usr/bin:/bin", "LC_ALL": "C"}
     if pair.is_shell:
@@ -125,7 +127,7 @@ def by_rcell(pair, program, room):
 
 
 def commands_of(number, pair, target):
-    """The lines for the shell that ask GRASS for a pair, in a mapset of its own."""
+    """Yield the shell lines that run a pair in GRASS, in its own mapset."""
     yield f"echo '{SIGN.format(number)}'"
     yield f"g.mapset -c mapset=pair{number} --quiet 2> /dev/null; g.region raster=lc --quiet"
     yield WOOD.replace("r.mapcalc ", "r.mapcalc --quiet expression='") + "'"
@@ -138,7 +140,8 @@ def commands_of(number, pair, target):
 
 
 def by_grass(asked, room):
-    """The results of GRASS to pairs, in one session; each pair comes with the map that rcell makes, or None."""
+    """Return the results of GRASS for pairs, in one session. Each pair is given with the map that
+    rcell makes, or None."""
     put(room)
     subprocess.run(
         ["grass", "-e", "-c", "EPSG:32632", f"{room}/here"], check=True, capture_output=True
@@ -162,7 +165,7 @@ def by_grass(asked, room):
 
 
 def fault_of(pair, ours, theirs):
-    """What is wrong with a pair, or ''."""
+    """Return the error of a pair, or ''."""
     if pair.is_same:
         return "" if ours == theirs else f"GRASS answers {theirs!r}, and rcell {ours!r}"
     if ours == theirs:
@@ -176,7 +179,7 @@ def fault_of(pair, ours, theirs):
 
 
 def target_of(pair, room):
-    """The map that the script of a pair makes, once rcell has run it."""
+    """Return the map that the script of a pair makes, after rcell has run it."""
     with open(f"{room}/script", encoding="ascii") as file:
         return (
             made_map(
@@ -188,7 +191,7 @@ def target_of(pair, room):
 
 
 def compared(program):
-    """For each pair what is wrong with it: nothing, or one text."""
+    """Return the error of each pair: an empty list, or a list with one text."""
     found, ours, asked = list(pairs()), [], []
     for pair in found:
         with tempfile.TemporaryDirectory() as room:

@@ -1,15 +1,18 @@
 #!/usr/bin/env python3
-"""Compares the program with the modules of GRASS, on grids and scripts made at random (Debian: grass-core).
+"""Compare the program with the modules of GRASS, on random grids and scripts (Debian: grass-core).
 
     runs.py --runs N --seed S [--program PATH] [--keep FOLDER] [--first F]
 
-The grids and scripts come from shared_cases.py, for which docs/grass.md lists no difference but three that
-are undone here: grids of r.out.ascii get no space at the end of a row and a line for another null text (`as_here`), and the
-areas of r.clump are numbered by their first cells (`by_first_cells`). GRASS reads the grids by r.in.ascii, and runs the commands one by one, each in its own
-module. What they write must be what the program writes, byte for byte. Run F of seed S is the same wherever it is made.
-Each difference is printed with its grids, its script and both results; with --keep it is also written to FOLDER as a case
-whose expected files come from GRASS, with the program's result in a folder next to it. The last line is
-'N runs, M differences'.
+The grids and scripts are from shared_cases.py. docs/grass.md lists no differences for them, except
+for three that are undone here: grids of r.out.ascii get no space at line ends and a line for a null
+text other than `*` (`as_here`), and the clumps of r.clump are numbered by their first cells
+(`by_first_cells`).
+
+GRASS reads the grids with r.in.ascii, and runs each command in its own module. The output must
+equal the program's, byte for byte. Run F of seed S is the same everywhere. Each difference is
+printed with its grids, its script and both results. With --keep it is also written to FOLDER as a
+case whose expected files are from GRASS, next to a folder with the program's result. The last line
+is 'N runs, M differences'.
 """
 import argparse
 import os
@@ -30,7 +33,8 @@ SECONDS_OF_A_COMMAND = 60
 
 
 def as_here(text, null_text):
-    """A grid of r.out.ascii as rcell writes it: no space at the end of a row, and a line for another null text."""
+    """Return a grid of r.out.ascii as rcell writes it: without a space at line ends, and with a
+    line for a null text other than `*`."""
     lines = [line.removesuffix(b" ") for line in text.splitlines()]
     if null_text != b"*":
         lines.insert(6, b"null: " + null_text)
@@ -38,7 +42,7 @@ def as_here(text, null_text):
 
 
 def by_first_cells(text):
-    """A grid of areas with the areas numbered by their first cells."""
+    """Return a grid of clumps, numbered by their first cells."""
     lines = text.splitlines()
     cells = [line.split() for line in lines[6:]]
     first = dict.fromkeys(cell for row in cells for cell in row if cell != b"*")
@@ -54,7 +58,7 @@ class RefusedByGrass(Exception):
 
 
 class Grass:
-    """The modules of GRASS over a location in a folder, a mapset a run."""
+    """Runs the modules of GRASS over a location in a folder, with one mapset per run."""
 
     def __init__(self, room):
         asked = subprocess.run(
@@ -100,7 +104,7 @@ class Grass:
         return done.stdout
 
     def answer(self, made, room):
-        """What GRASS writes where the program would write the output of the run."""
+        """Return the output of GRASS for a run, in the form of the program's output."""
         shutil.rmtree(
             f"{self.room}/here/run{self.mapsets - 1}", ignore_errors=True
         )  # not the current one
@@ -139,7 +143,8 @@ class Grass:
         )
 
     def renumber(self, room, name):
-        """Numbers the areas of a map by their first cells, since their order is one of the listed differences."""
+        """Number the clumps of a map by their first cells, because their order is one of the listed
+        differences."""
         areas = self.ran(room, "r.out.ascii", b"input=" + name)
         if by_first_cells(areas) != areas:
             write(f"{room}/areas", by_first_cells(areas))
@@ -149,7 +154,7 @@ class Grass:
 
 
 def commands_of(script):
-    """The lines of a script that are commands, each with the text of its rules."""
+    """Yield the lines of a script that are commands, each with the text of its rules."""
     lines = iter(script_lines(script))
     for line in lines:
         rules = []
@@ -181,7 +186,7 @@ def program_answer(program, made, room):
 
 
 def report(name, made, expected, got):
-    """A run that differs: its files and both results."""
+    """Return a report of a run that differs: its files and both results."""
     texts = {
         **made.files,
         "GRASS": expected.output,
@@ -196,7 +201,7 @@ def report(name, made, expected, got):
 
 
 def compared(program, seed, first, count, folder=None):
-    """For each run what differs: nothing, or one report."""
+    """Yield the differences of each run: an empty list, or a list with one report."""
     program = os.path.abspath(program)
     with tempfile.TemporaryDirectory(prefix="rcell-grass-") as room:
         grass = Grass(room)

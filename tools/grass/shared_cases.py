@@ -1,8 +1,9 @@
-"""Grids and scripts made at random for runs.py, by the makers of made_cases.py: such as rcell and GRASS both
-take, and for which docs/grass.md lists no difference.
+"""Make random grids and scripts for runs.py that rcell and GRASS both accept, and for which
+docs/grass.md lists no differences.
 
-`SharedMaker` leaves out the spellings that the document lists. A statement for which `IS_LISTED` finds a listed difference,
-over the maps known at that point, is made anew.
+The makers of made_cases.py are used. `SharedMaker` leaves out the spellings that the document
+lists. If `IS_LISTED` finds a listed difference for a statement, over the maps known at that point,
+the statement is made again.
 """
 import re
 
@@ -11,10 +12,11 @@ from model import Mapcalc, Reclass, ScriptReader, Stats, reclassed
 from model_expressions import FUNCTIONS, Binary, Call, MapCell, Negated, Not, Place
 from model_grids import GREATEST, Refused, read_map
 
-# GRASS keeps an entry for each category between, and with `* = *` takes time that grows with the square of their number.
+# GRASS keeps an entry for each category in between, and with `* = *` its time grows with the square
+# of their number.
 FARTHEST_CATEGORY = 4000
 NO_FRACTIONS = (b"", b"", b"", b"")
-# Of at most 15 digits: GRASS keeps an edge as a floating-point number.
+# Edges have at most 15 digits, because GRASS stores them as floating-point numbers.
 REGIONS = [
     ((3, 0, 4, 0), NO_FRACTIONS),
     ((0, -3, 10, -2), NO_FRACTIONS),
@@ -56,13 +58,14 @@ def operands(term):
 
 
 def is_tie(values):
-    """Whether several values are the most frequent."""
+    """Return whether several values are the most frequent."""
     counts = [values.count(value) for value in set(values) - {None}]
     return counts.count(max(counts, default=0)) > 1
 
 
 def has_listed_value(term, place):
-    """Whether some part of an expression, taken or not, wraps at 32 bits, is % 0, or is a mode with a tie at a cell."""
+    """Return whether some part of an expression, evaluated or not, overflows 32 bits, is % 0, or is
+    a mode with a tie."""
     if any(has_listed_value(operand, place) for operand in operands(term)):
         return True
     values = [operand.value(place) for operand in operands(term)]
@@ -71,13 +74,14 @@ def has_listed_value(term, place):
     if not isinstance(term, Binary) or None in values:
         return False
     left, right = values
-    # 2147483648 itself is null in GRASS, with either sign.
+    # In GRASS, 2147483648 is null, with either sign.
     exact = {b"+": left + right, b"-": left - right, b"*": left * right}.get(term.operator, 0)
     return abs(exact) > GREATEST + 1 or (term.operator == b"%" and right == 0)
 
 
 def is_listed_of_mapcalc(statement, maps, line):
-    """Wrapping, % 0 and ties; two signs in a row; labels that a map alone hands on."""
+    """Return whether an r.mapcalc has overflow, % 0, a tie, two consecutive signs, or labels that
+    only a plain map passes on."""
     region = next(iter(maps.values())).region
     term = statement.expression
     return (
@@ -94,12 +98,14 @@ def cells_of(made):
 
 
 def may_be_empty(rules, given):
-    """Whether no cell gets a category, so that the table of GRASS, from the first map that was reclassed, may be empty."""
+    """Return whether no cell gets a category, so that the table of GRASS, from the first map that
+    was reclassed, may be empty."""
     return all(reclassed(rules, cell) is None for cell in cells_of(given))
 
 
 def is_listed_of_reclass(statement, maps, line):
-    """No rule; rules of `*` before others, and what they do to labels; wide ranges; category 0 through an empty table."""
+    """Return whether an r.reclass has no rules, rules of `*` before others, labels affected by
+    these, wide ranges, or category 0 through an empty table."""
     rules, given = statement.rules, maps[statement.input]
     stars = [rule for rule in rules if rule.ranges is None]
     if not rules or rules[len(rules) - len(stars) :] != stars:
@@ -119,7 +125,7 @@ def is_listed_of_reclass(statement, maps, line):
 
 
 def is_listed_of_stats(statement, maps, line):
-    """The option `after`; the category 2147483647."""
+    """Return whether an r.stats has the option `after` or the category 2147483647."""
     return statement.after is not None or any(
         GREATEST in cells_of(maps[name]) for name in statement.inputs
     )
@@ -136,7 +142,8 @@ IS_LISTED = {
 
 
 class SharedMaker(ScriptMaker):
-    """Grids and scripts that rcell and GRASS both take; the spellings that docs/grass.md lists are left out."""
+    """Makes grids and scripts that rcell and GRASS both accept, without the spellings that
+    docs/grass.md lists."""
 
     def __init__(self, random_source):
         super().__init__(random_source)
@@ -174,7 +181,7 @@ class SharedMaker(ScriptMaker):
         return super().call(depth, known)
 
     def mode_call(self, depth, known):
-        """A mode that mostly has one most frequent value."""
+        """Make a mode that usually has one most frequent value."""
         choices = [self.expression(depth - 1, known) for _ in range(self.number(1, 3))]
         arguments = choices + [choices[0]] * self.number(1, 3)
         self.random.shuffle(arguments)
@@ -188,12 +195,12 @@ class SharedMaker(ScriptMaker):
         )
 
     def rule(self):
-        """No commas, no plus signs and no comments."""
+        """Make a rule without commas, plus signs and comments."""
         if self.chance(0.05):
             return self.one([b"", b"  "])
         is_star = self.chance(0.25)
         items = [self.rule_item() for _ in range(self.one([1, 1, 2, 3]))]
-        # Not 2147483647: r.stats of GRASS takes it for one of the map as soon as a rule gives it.
+        # r.stats of GRASS treats 2147483647 as a category of the map as soon as a rule assigns it.
         categories = [category for category in self.categories if category < GREATEST] + [
             0,
             1,
@@ -214,7 +221,7 @@ class SharedMaker(ScriptMaker):
         )
 
     def reclass(self, known):
-        """Rules of which the rules of `*` are the last."""
+        """Make an r.reclass in which the rules of `*` are last."""
         command, *rules, end = super().reclass(known)
         return [command, *sorted(rules, key=lambda rule: rule.startswith(b"*")), end]
 
@@ -234,7 +241,7 @@ class SharedMaker(ScriptMaker):
         return self.one(makers)(known)
 
     def unlisted(self, known, maps):
-        """A statement for which no difference is listed, done over the maps as well."""
+        """Make a statement without listed differences, and apply it to the maps."""
         while True:
             names = list(known)
             lines = self.statement(names)
@@ -259,7 +266,8 @@ class SharedMaker(ScriptMaker):
                 return texts, maps
 
     def questions(self, made, maps):
-        """What writes each cell of the maps made, with its label where r.stats is asked."""
+        """Return statements that write each cell of the new maps, with its label if r.stats is
+        used."""
         for_stats = [name for name in made if GREATEST not in cells_of(maps[name])]
         lines = [b"r.out.ascii input=" + name for name in made if name not in for_stats]
         return lines + ([b"r.stats -1l input=" + b",".join(for_stats)] if for_stats else [])

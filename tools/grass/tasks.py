@@ -1,12 +1,14 @@
 #!/usr/bin/env python3
-"""Five tasks over 20 million cells with the modules of GRASS and with rcell: are the results the same, and what does each take?
+"""Compare GRASS and rcell in five tasks over 20 million cells: whether the results agree, and the
+time of each.
 
     tasks.py [--program PATH] [--rows N] [--cols N]
 
-Two land covers are made: patches of 12 classes, some cells changed, 5 % null; cells of 1 m. The maps are in GRASS and the
-texts for rcell are there before a task begins. A task's results are compared byte for byte, maps as grids. Shown are
-seconds of the processor, from the start of the first program to the end of the last, and the seconds of r.rcell (grass/r.rcell),
-which takes maps of GRASS and makes maps of GRASS. The last line is 'N passed, M failed'.
+Two land covers with cells of 1 m are made: patches of 12 classes, some changed cells, and 5 % null.
+Before a task begins, the maps are in GRASS, and the texts for rcell are written. The results of a
+task are compared byte for byte, with maps as grids. The output shows processor seconds, from the
+start of the first program to the end of the last, and the seconds of r.rcell (grass/r.rcell), which
+reads and makes maps of GRASS. The last line is 'N passed, M failed'.
 """
 import argparse
 import os
@@ -30,7 +32,8 @@ AREAS = WOOD + "r.clump -d input=wood output=areas\n"
 
 @dataclass
 class Task:
-    """A task as commands of a shell for GRASS, for rcell and for r.rcell, and the map that it makes, if it makes one."""
+    """A task as shell commands for GRASS, for rcell and for r.rcell, and the map that it makes, if
+    any."""
 
     name: str
     grass: str
@@ -91,7 +94,8 @@ FILES = {
 
 
 def covers(rows, cols):
-    """Two land covers: patches of 16 x 16 cells with single cells between them, and the same some years on."""
+    """Return two land covers: patches of 16 x 16 cells with single cells in between, and the same
+    area some years later."""
     import numpy as np
 
     made = np.random.default_rng(7)
@@ -108,7 +112,7 @@ def covers(rows, cols):
 
 
 def write_grid(path, cover):
-    """A grid of rcell, all categories of two digits."""
+    """Write a grid for rcell. All categories have two digits."""
     import numpy as np
 
     rows, cols = cover.shape
@@ -126,7 +130,7 @@ def write_grid(path, cover):
 
 
 def prepare(rows, cols):
-    """The maps, texts and scripts, in the current folder and mapset."""
+    """Write the maps, texts and scripts in the current folder and mapset."""
     for name, cover in zip(("lc", "yr2"), covers(rows, cols)):
         cover.tofile("cells")
         write_grid(f"{name}.txt", cover)
@@ -159,7 +163,7 @@ def prepare(rows, cols):
 
 
 def seconds_of(commands):
-    """The time of the processor that commands take."""
+    """Return the processor time of commands."""
     before = resource.getrusage(resource.RUSAGE_CHILDREN)
     subprocess.run(["sh", "-ec", commands], check=True, stderr=subprocess.PIPE)
     after = resource.getrusage(resource.RUSAGE_CHILDREN)
@@ -167,7 +171,7 @@ def seconds_of(commands):
 
 
 def take_out(task):
-    """The maps of GRASS as grids, as rcell writes them."""
+    """Write the maps of GRASS as grids, as rcell writes them."""
     for name, path in ((task.map, "grass.out"), (f"{task.map}_addon", "addon.out")):
         subprocess.run(
             ["sh", "-ec", f"r.out.ascii input={name} output=- | sed 's/ $//' > {path}"], check=True
@@ -179,7 +183,7 @@ def same(left, right):
 
 
 def inside():
-    """The part that runs in a session of GRASS, in a folder of its own."""
+    """Run the part within a GRASS session, in a separate folder."""
     rows, cols = int(os.environ["TASK_ROWS"]), int(os.environ["TASK_COLS"])
     prepare(rows, cols)
     passed = failed = 0
@@ -209,7 +213,7 @@ def inside():
 
 
 def compared(program, rows, cols):
-    """Runs the tasks in a location of their own; the lines about them."""
+    """Run the tasks in their own location, and return the lines about them."""
     with tempfile.TemporaryDirectory(prefix="rcell-tasks-") as room:
         os.makedirs(f"{room}/path")
         shutil.copy(program, f"{room}/path/rcell")

@@ -1,11 +1,12 @@
-"""Make the site of the documents, or try it in a browser.
+"""Make the site of the documents, or test it in a browser.
 
     python3 tools/documents/site [--check | --code] [--out FOLDER]
 
-The pages are made from the Markdown of the repository with mkdocs, the reference of Python from docstrings, R's from its Rd
-files, and the manual pages with groff. The site works from the file system and loads nothing from elsewhere. --check opens each page
-of it in headless Chromium. The last line is then 'N passed, M failed'. --code makes nothing: it prints what of the code of
-the pages would differ from its Markdown, and needs python3-markdown only.
+The pages are made from the repository's Markdown with mkdocs, the Python reference from docstrings,
+the R reference from the Rd files, and the manual pages with groff. The site works from the file
+system and loads nothing from elsewhere. --check opens each page in headless Chromium, and the last
+line is then 'N passed, M failed'. --code makes nothing: it prints code that the site would show
+differently from its Markdown, and needs only python3-markdown.
 """
 import argparse
 import pathlib
@@ -21,7 +22,7 @@ ROOT = pathlib.Path(__file__).resolve().parents[3]
 
 
 def build(out):
-    """Build the site into a folder, which is made anew."""
+    """Build the site in a folder, which is created anew."""
     with tempfile.TemporaryDirectory(prefix="rcell-site-") as room:
         source = pathlib.Path(room)
         (source / "docs").mkdir()
@@ -47,7 +48,7 @@ def build(out):
 
 
 def compare_code():
-    """Print the code that the site would show otherwise than its source has it."""
+    """Print the code that the site would show differently from its source."""
     import markdown
 
     names = pages.named(ROOT)

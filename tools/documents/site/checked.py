@@ -1,4 +1,5 @@
-"""The site in a browser: pages open without errors, links lead somewhere, code equals its source, search finds, nothing is too wide."""
+"""Test the site in a browser: pages open without errors, links work, code equals its source, search
+finds pages, and nothing is too wide."""
 import html
 import pathlib
 import re
@@ -18,7 +19,7 @@ CHROMIUM = [
     "--virtual-time-budget=4000",
 ]
 NOTHING_ELSE = re.compile(r'(?:src|href)="(https?:)?//', re.IGNORECASE)
-# A page that opens others in a frame, and writes how wide each is.
+# A page that opens other pages in a frame, and writes their widths.
 FRAMES = """<body><pre id="widths"></pre><script>
 const names = %s, widths = [];
 function next() {
@@ -35,7 +36,8 @@ next();
 
 
 def opened(url, *words):
-    """The page as the browser has it after its scripts, and the errors on its console."""
+    """Return the page as the browser sees it after running its scripts, and the errors on its
+    console."""
     ran = subprocess.run(
         [*CHROMIUM, *words, "--dump-dom", url], capture_output=True, text=True, timeout=180
     )
@@ -45,7 +47,7 @@ def opened(url, *words):
 
 
 def dead_links(out):
-    """The links of the site that lead nowhere, as PAGE: LINK."""
+    """Return the broken links of the site, as PAGE: LINK."""
     texts = {path: path.read_text(encoding="utf-8") for path in out.rglob("*.html")}
     anchors = {
         path: set(re.findall(r'(?:id|name)="([^"]+)"', text)) for path, text in texts.items()
@@ -63,7 +65,7 @@ def dead_links(out):
 
 
 def too_wide(out, width):
-    """The pages that are wider than a window of this width."""
+    """Return the pages that are wider than a window of this width."""
     names = sorted(
         path.relative_to(out).as_posix() for path in out.rglob("*.html") if path.name != "404.html"
     )
@@ -83,7 +85,7 @@ def too_wide(out, width):
 
 
 def main_of(out, name):
-    """The part of a page that is its own."""
+    """Return the part of a page that is not shared with other pages."""
     text = (out / name).with_suffix(".html").read_text(encoding="utf-8")
     found = re.search(r'role="main">(.*?)<footer', text, re.DOTALL)
     return found[1] if found else ""

@@ -1,4 +1,5 @@
-"""The pages of the site: the Markdown of the repository under the names of the site, a landing page, and the index of the search."""
+"""Make the pages of the site: the repository's Markdown with new names, a landing page, and the
+search index."""
 import html
 import json
 import os
@@ -11,7 +12,7 @@ import reference
 import spans
 
 HERE = pathlib.Path(__file__).resolve().parent
-# The pages in the order of the menu: heading, then title and file of the repository.
+# The pages in the order of the menu: heading, then title and file in the repository.
 MENU = {
     "Start": {
         "Overview": "README.md",
@@ -78,7 +79,7 @@ PICTURES = {
 }
 SCRIPTS = ("site.css", "search.js", "copy.js")
 EXTENSIONS = ["tables", "fenced_code"]
-# How much more or less than others a page counts in the search.
+# The weights of pages in the search, if they differ from 1.
 WEIGHTS = {"commands.html": 2, "results.html": 0.1, "hostile.html": 0.1, "changelog.html": 0.1}
 FILE = re.compile(r"^```\w+ file=(\S+)", re.MULTILINE)
 LINK = re.compile(r"(!?\[[^\]]*\])\(([^)\s#]*)(#[^)\s]*)?\)")
@@ -86,7 +87,7 @@ HEADING = re.compile(r'<h([1-3]) id="([^"]*)">(.*?)</h\1>', re.DOTALL)
 
 
 def named(root):
-    """The pages that are there, each as a path below the root with its name in the site."""
+    """Return the existing pages: paths below the root, with their names in the site."""
     found = {"README.md": "overview.md"}
     for titles in MENU.values():
         for name in titles.values():
@@ -99,7 +100,8 @@ def named(root):
 
 
 def linked(text, name, root, names):
-    """A page whose links lead to the pages of the site, by their titles; a link to another file becomes its name."""
+    """Return a page whose links lead to the site's pages, by title. A link to any other file
+    becomes the file's name."""
 
     def target(found):
         words, path, anchor = found.groups()
@@ -121,7 +123,8 @@ def linked(text, name, root, names):
 
 
 def page_text(root, name, names):
-    """The Markdown of a page for mkdocs; a block to be saved has the name of its file above it."""
+    """Return the Markdown of a page for mkdocs. The name of the file is added above a block to be
+    saved."""
     text = linked((root / name).read_text(encoding="utf-8"), name, root, names)
     text = re.sub(r"\A# rcell$", "# Overview", text, flags=re.MULTILINE)
     text = FILE.sub(r'<div class="file">\1</div>\n\n\g<0>', text)
@@ -129,7 +132,8 @@ def page_text(root, name, names):
 
 
 def code_faults(root, shown):
-    """What of the code of the pages the site shows otherwise; `shown` returns the HTML of a page, by its name in the site."""
+    """Return the code that the site shows differently. `shown` returns the HTML of a page, by its
+    name in the site."""
     found = []
     for name, own in named(root).items():
         source = (root / name).read_text(encoding="utf-8")
@@ -138,7 +142,8 @@ def code_faults(root, shown):
 
 
 def picture_name(path):
-    """The name in the site of a picture: the pictures of an example have its name before their own."""
+    """Return the name of a picture in the site. Pictures of an example are prefixed with the
+    example's name."""
     path = pathlib.Path(path)
     return path.name if path.parent.name == "docs" else f"{path.parent.name}-{path.name}"
 
@@ -177,7 +182,8 @@ SEARCH = """# Search
 
 
 def landing(root):
-    """The first page: what rcell is, with numbers of the README and of the cases, and one call in four languages."""
+    """Return the first page: what rcell is, with numbers from the README and the cases, and one
+    call in four languages."""
     readme = (root / "README.md").read_text(encoding="utf-8")
     lines = re.search(r"for a table of r\.stats (\d+) lines", readme)[1]
     row = re.search(r"^\| table .*\|$", readme, re.MULTILINE)[0].split("|")
@@ -210,7 +216,7 @@ def said_by(root, *words):
 
 
 def configuration(root, folder):
-    """The configuration of mkdocs."""
+    """Return the configuration of mkdocs."""
     names = named(root)
     menu = [
         {heading: [{title: names[name]} for title, name in titles.items() if name in names]}
@@ -243,12 +249,13 @@ def configuration(root, folder):
 
 
 def words_of(text):
-    """The words of HTML, without its tags."""
+    """Return the words in HTML, without tags."""
     return html.unescape(re.sub(r"\s+", " ", re.sub(r"<[^>]*>", " ", text))).strip()
 
 
 def sections_of(name, text):
-    """The sections of a page for the search: address, title of the page, own title, text. A reference has finer ones."""
+    """Return the sections of a page for the search: address, page title, section title, text.
+    References are split more finely."""
     deepest = 3 if name.startswith("api/") else 2
     headings = [it for it in HEADING.finditer(text) if int(it[1]) <= deepest]
     page = words_of(headings[0][3]) if headings else name
@@ -264,7 +271,7 @@ def sections_of(name, text):
 
 
 def add_index(out):
-    """Write the index of the search as a script."""
+    """Write the search index as a script."""
     found = []
     for path in sorted(out.rglob("*.html")):
         name = path.relative_to(out).as_posix()

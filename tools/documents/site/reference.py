@@ -1,4 +1,5 @@
-"""The references of the site: Python's from docstrings, R's from its Rd files, and the manual pages as man shows them."""
+"""Make the references of the site: Python's from docstrings, R's from its Rd files, and the manual
+pages as man shows them."""
 import html
 import importlib
 import inspect
@@ -6,7 +7,7 @@ import re
 import subprocess
 import sys
 
-# The order of use; what is public and not named here follows under the last heading.
+# The order of use. Public names that are not listed here follow under the last heading.
 GROUPS = {
     "Calls": "composition cross change trajectories patches adjacency zonal dominant accuracy sample metrics majority "
     "within reclass clump sieve aggregate align",
@@ -23,12 +24,12 @@ ENTRY = re.compile(r"^(\S[^\n]*)\n((?:[ \t]+[^\n]*\n?|\n)*)", re.MULTILINE)
 
 
 def in_code(text):
-    """Return text as HTML, with what backticks enclose as code."""
+    """Return text as HTML, with the text in backticks as code."""
     return re.sub(r"``?([^`]+)``?", r"<code>\1</code>", html.escape(text.strip()))
 
 
 def as_html(documented):
-    """Return a docstring of numpydoc as HTML: paragraphs, and its sections as lists or code."""
+    """Return a numpydoc docstring as HTML: paragraphs, and its sections as lists or code."""
     lead, *sections = UNDERLINED.split(documented)
     parts = [f"<p>{in_code(it)}</p>" for it in lead.split("\n\n") if it.strip()]
     for title, body in zip(sections[::2], sections[1::2]):
@@ -49,7 +50,8 @@ def as_html(documented):
 
 
 def signature_of(thing):
-    """Return the signature of a callable, or '' for an exception and for what has none."""
+    """Return the signature of a callable, or '' for exceptions and for objects without a
+    signature."""
     if not callable(thing) or (inspect.isclass(thing) and issubclass(thing, Exception)):
         return ""
     try:
@@ -60,7 +62,7 @@ def signature_of(thing):
 
 
 def described(name, thing, level):
-    """Return the Markdown of a public thing, and of its public methods."""
+    """Return the Markdown of a public object, and of its public methods."""
     parts = [
         f"{'#' * level} {name}\n",
         f'<pre class="signature">{html.escape(name + signature_of(thing))}</pre>\n',
@@ -77,7 +79,8 @@ def described(name, thing, level):
 
 
 def python(root):
-    """Return the page of the Python package: each public name with its docstring, in the order of use."""
+    """Return the page of the Python package: each public name with its docstring, in the order of
+    use."""
     sys.path.insert(0, str(root / "python" / "src"))
     package = importlib.import_module("rcell")
     public = [

@@ -1,7 +1,7 @@
-"""The code of the pages: as their Markdown means it, and as HTML shows it.
+"""Compare the code of pages in Markdown with the code in HTML.
 
-GitHub reads `\\|` in a row of a table as `|`, also in code, and keeps the tabs of a block. Markdown of Python keeps the
-backslash and expands tabs, so such code goes to the site as HTML.
+In a table row, GitHub reads `\|` as `|`, also in code, and it keeps the tabs in a block. Python's
+Markdown keeps the backslash and expands tabs, so such code is passed to the site as HTML.
 """
 import html
 import re
@@ -13,7 +13,7 @@ PIPE = r"\|"
 
 
 def as_html(text):
-    """Return a page whose spans with an escaped `|` and whose blocks with tabs are HTML."""
+    """Return a page in which code spans with an escaped `|` and blocks with tabs are HTML."""
 
     def escaped(span):
         if PIPE not in span[2]:
