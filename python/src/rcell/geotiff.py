@@ -9,8 +9,7 @@ from typing import TYPE_CHECKING, Any
 
 import numpy as np
 
-from .core.protocol import NULL
-
+from .core.protocol import NULL, NULL_BYTE
 from .core.writing import replacing, write_errors
 from .core.labels import checked_labels, write_labels
 from .core.libraries import need
@@ -156,14 +155,14 @@ def _write(grid: Raster, path: str, profile: dict[str, Any]) -> None:
             }
             dataset.write_colormap(1, colors)
         for row, cells in _rows_of(grid):
-            dataset.write(cells.filled(nodata).astype(dtype), 1, window=_window(row, cells))
+            dataset.write(_filled(cells, dtype, nodata), 1, window=_window(row, cells))
 
 
 def _check(grid: Raster, path: str, profile: dict[str, Any]) -> None:
     """Raise OSError unless a file contains the cells of a map."""
     with need("rasterio", "gis", "to write a GeoTIFF").open(path) as dataset:
         for row, cells in _rows_of(grid):
-            expected = cells.filled(profile["nodata"]).astype(profile["dtype"])
+            expected = _filled(cells, profile["dtype"], profile["nodata"])
             if not np.array_equal(dataset.read(1, window=_window(row, cells)), expected):
                 rows = f"rows {row + 1} to {row + len(cells)}"
                 raise OSError(f"{rows} are not as they were written: the disk may be full")
@@ -176,18 +175,35 @@ def _window(row: int, cells: Any) -> Any:
 
 def _range_of(grid: Raster) -> tuple[int, int]:
     """Return the smallest and the largest category, or 0 and 0 if all cells are null."""
-    lowest, highest = [], []
-    for _, cells in _rows_of(grid):
-        if np.ma.count(cells):
-            lowest.append(int(cells.min()))
-            highest.append(int(cells.max()))
-    return min(lowest, default=0), max(highest, default=0)
+    ends = [end for _, cells in _rows_of(grid) for end in _ends_of(cells)]
+    return min(ends, default=0), max(ends, default=0)
+
+
+def _ends_of(cells: Any) -> tuple[int, ...]:
+    """Return the smallest and the largest category of some rows, or nothing if all cells are null."""
+    if isinstance(cells, np.ma.MaskedArray):
+        return (int(cells.min()), int(cells.max())) if np.ma.count(cells) else ()
+    smallest = int(cells.min())
+    # As 8-bit numbers, null plus 1 is 0, so the largest sum belongs to the largest category.
+    return () if smallest == NULL_BYTE else (smallest, int((cells + np.uint8(1)).max()) - 1)
 
 
 def _rows_of(grid: Raster) -> Iterator[tuple[int, Any]]:
-    """Yield the rows of a map in blocks, each with the index of its first row."""
+    """Yield the rows of a map in blocks, each with the index of its first row.
+
+    They are masked arrays, or bytes with 255 for null if the map keeps its cells so.
+    """
     rows, cols = grid.region.shape
     step = max(_BLOCK_CELLS // cols // TILE, 1) * TILE
     for row in range(0, rows, step):
-        cells = grid.rows(row, min(row + step, rows))
-        yield row, cells if cells.dtype == np.int64 else cells.astype(np.int32)
+        end = min(row + step, rows)
+        cells = grid._bytes(row, end)
+        if cells is None:
+            cells = grid.rows(row, end)
+            cells = cells if cells.dtype == np.int64 else cells.astype(np.int32)
+        yield row, cells
+
+
+def _filled(cells: Any, dtype: str, nodata: float) -> Any:
+    """Return rows as the file stores them; bytes already have the type and the nodata value of the file."""
+    return cells.filled(nodata).astype(dtype) if isinstance(cells, np.ma.MaskedArray) else cells

@@ -19,7 +19,7 @@ from .core.arrays import ArrayLike, NDArray
 from .core.errors import BadArgument
 from .core.legends import legend_of
 from .core.libraries import has, need
-from .core.protocol import NULL
+from .core.protocol import NULL, NULL_BYTE
 from .core.region import Region, Transform
 from .core.sieve import Sieved
 from .core.sources import ArrayMap, array_map, null_cells
@@ -137,6 +137,12 @@ class Raster:
         [[2, None]]
         """
         return self.array[first:end] if "array" in vars(self) else self._masked(first, end)
+
+    def _bytes(self, first: int, end: int) -> Any:
+        """Return consecutive rows as bytes, with 255 for null, or None if the map does not keep its cells as bytes."""
+        source = self._source
+        is_kept = source.is_narrow and source.null is None and source.nodata_value == NULL_BYTE
+        return source.array[first:end] if is_kept and "array" not in vars(self) else None
 
     def _masked(self, first: int, end: int) -> Any:
         source = self._source
