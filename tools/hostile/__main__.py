@@ -1,25 +1,30 @@
 #!/usr/bin/env python3
-"""Uses the program as an enemy would, and compares it with the plain model of tools/model/model.py: whatever happens, it ends as the model says.
+"""Use the program as an attacker would, and compare each run with the plain model in
+tools/model/model.py.
 
-    tools/hostile [--short] [--slice K/N] [--program PATH] [--seed S] [--keep FOLDER] --clang CLANG [PART..]
+    tools/hostile [--short] [--slice K/N] [--program PATH] [--seed S] [--keep FOLDER] --clang CLANG
+    [PART..]
 
-    growths   each growth of memory denied in turn, over each case: status 3, and what is written is whole statements
-    tests     the same over the built test programs of the crates: each ends by what it returns or asserts; in a call that
-              leaves its object unchanged it is made again
-    reads     each read fails in turn, for good and once only, each reports an end once, and reads move pieces of each size from 1
-              to 70 and a block more or less one
-    writes    the same of writes, and standard error that takes nothing
-    outputs   full, closed and waiting outputs, files limited to each size, a disk that fills
-    inputs    pipes with names, standard input as script and as grid, readers that stop in the middle of a token
+    growths   each growth of memory is denied in turn, for each case: status 3, and the output ends
+              with a complete statement
+    tests     the same for the built test programs of the crates: each ends with its own result or
+              assertion; a call that leaves its object unchanged is repeated
+    reads     each read fails in turn, once or for good; each reports an end once; and reads return
+              pieces of 1 to 70 bytes and of about one block
+    writes    the same for writes, and standard error that accepts nothing
+    outputs   full, closed and waiting outputs, files limited to each size, a full disk
+    inputs    named pipes, standard input as script and as grid, pauses in the middle of a token
     terminals each file on a terminal that reports an end at the start of a line and then continues
-    bytes     each proper prefix of each grid, script, rule block and expression; each byte turned to each of nine others
+    bytes     each proper prefix of each grid, script, rule block and expression; each byte replaced
+              with nine others
     stack     each case and the deepest expressions on a stack of 64 KiB
-    sizes     the largest inputs, 2,000 grids and 1,200 maps made
-    memory    the bytes a cell of each command, over patches and over noise
-    times     times at 1,000, 10,000 and 100,000 of each kind of thing: none grows by more than its number
+    sizes     the largest inputs, 2,000 grids and 1,200 maps
+    memory    the bytes per cell of each command, over patches and over noise
+    times     the time for 1,000, 10,000 and 100,000 things of each kind: it grows at most linearly
 
-Without names all parts run. With --short each makes a choice of its runs, within a minute. What differs is written to
-FOLDER as a case that can be put under cases/. The last line is 'N passed, M failed'.
+Without names, all parts are run. With --short, each part selects some of its runs and takes less
+than a minute. Differences are written to FOLDER as cases that can be put under cases/. The last
+line is 'N passed, M failed'.
 """
 import argparse
 import os
@@ -40,7 +45,7 @@ from compare import BIN, ROOT, Program
 
 ALL = 10**9
 
-# What a short run makes of each part.
+# The size of each part in a short run.
 SHORT = {
     "cases": 30,
     "longest": 1000,
@@ -60,7 +65,7 @@ WHOLE = {
 
 
 def some(cases, settings):
-    """All cases, or a choice of them in a short run."""
+    """Return all cases, or some of them in a short run."""
     names = settings.random.sample(list(cases.made), min(settings.cases, len(cases.made)))
     return {name: cases.made[name] for name in sorted(names)}
 
@@ -98,7 +103,7 @@ PARTS = {
     "times": of_sizes(sizes.growing),
 }
 NOT_SHORT = ("inputs", "memory", "times")
-# What is left out of a program that was compiled without proofs, and why.
+# The parts that are left out for a program compiled without proofs, and why.
 NOT_UNPROVED = {
     "tests": "only the gate builds the tests of the crates",
     "stack": "an unproved program takes more of the stack",
@@ -106,7 +111,8 @@ NOT_UNPROVED = {
 
 
 def is_unproved(program):
-    """Whether a program was compiled without proofs: tools/build/unproved.py says so next to it."""
+    """Return whether a program was compiled without proofs, as recorded next to it by
+    tools/build/unproved.py."""
     try:
         with open(f"{program}.origin", encoding="utf-8") as file:
             return file.read().startswith("NOT proved")

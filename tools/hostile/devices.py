@@ -1,4 +1,5 @@
-"""Each read and each write in turn: files that fail, end or give little, terminals, and outputs that fail, fill up, close or wait."""
+"""Test each read and write: files that fail, end or return little, terminals, and outputs that
+fail, fill up, close or wait."""
 from __future__ import annotations
 
 import fcntl
@@ -22,7 +23,7 @@ SECONDS = 60  # the most that a run may take
 
 
 class Devices:
-    """The program with tools/hostile/devices.c before its reads and writes."""
+    """Runs the program with tools/hostile/devices.c, which intercepts its reads and writes."""
 
     def __init__(self, program: Program, shim: str):
         self.program, self.shim = program, shim
@@ -49,7 +50,7 @@ class Devices:
         return got
 
     def blocks(self) -> list[int]:
-        """The sizes of the program's own blocks, as the last run asked for them, and one more and one less."""
+        """Return the program's block sizes in the last run, plus and minus one."""
         sizes = {
             size + more
             for size in (self.longest_read, self.longest_write)
@@ -59,18 +60,19 @@ class Devices:
         return sorted(size for size in sizes if size > 0)
 
     def place_of_stop(self) -> Optional[int]:
-        """Which file failed, or was made to end: the script is opened first, as 3, and then each grid."""
+        """Return the index of the file that failed or ended early. The script is opened first, as
+        descriptor 3, and then each grid."""
         return self.stopped - 3 if self.stopped >= 0 else None
 
 
 def written(expected: model.Answer, count: int) -> model.Answer:
-    """The result of a run that would have ended well, at a writer that took so many bytes."""
+    """Return the expected result of a successful run if the output accepts only `count` bytes."""
     told = b"rcell: output:0: write failed after %d bytes\n" % count
     return model.Answer(4, expected.output[:count], told)
 
 
 def places(count: int, settings) -> list[int]:
-    """The numbers from 1 to count, or some of them if they are many."""
+    """Return the numbers from 1 to `count`, or some of them if there are many."""
     most = (
         settings.places if count <= LONGEST_WHOLE else min(settings.places, settings.places_of_long)
     )
@@ -87,7 +89,7 @@ def places(count: int, settings) -> list[int]:
 def stopped_read(
     devices: Devices, made: Made, expected: model.Answer, answer_of, **how
 ) -> tuple[str, bool]:
-    """One read fails or reports an end: what is wrong, and whether a read was stopped so."""
+    """Make one read fail or report an end. Return the error, and whether a read was stopped."""
     got = devices.answer(made, **how)
     place = devices.place_of_stop()
     wanted = expected if place is None else answer_of(made, place, devices.before)
@@ -97,8 +99,11 @@ def stopped_read(
 def stopped_reads(
     devices: Devices, made: Made, expected: model.Answer, settings
 ) -> tuple[str, int]:
-    """Each read fails in turn, for good and then once only, and each reports an end once, with all bytes a read and with one: what
-    is wrong, and how many reads were stopped so. A file that fails or ends once continues if it is asked again.
+    """Make each read fail in turn, for good and once, and report an end once, with full reads and
+    with single bytes.
+
+    Returns the error, and the number of stopped reads. A file that fails or ends once continues if
+    it is read again.
     """
     stopped = 0
     for piece in (0, 1):
@@ -121,7 +126,7 @@ def stopped_reads(
 def small_pieces(
     devices: Devices, made: Made, expected: model.Answer, variable: str, settings
 ) -> tuple[str, int]:
-    """Reads or writes move a piece at a time, of each size."""
+    """Limit reads or writes to a piece at a time, for each size."""
     if devices.answer(made) != expected:
         return "the preload alone changes the answer", 0
     sizes = [*PIECES, *devices.blocks()]
@@ -141,7 +146,8 @@ def read_pieces(devices: Devices, made: Made, expected: model.Answer, settings) 
 def each_case(
     report: Report, devices: Devices, cases: dict[str, Made], settings, what: str, failing, pieces
 ) -> None:
-    """The reads or writes of each case: each fails in turn (of reads, or ends), and then they move pieces."""
+    """Make each read or write of each case fail (or, for reads, end) in turn, and then limit their
+    sizes."""
     failed = others = 0
     for name, made in cases.items():
         expected = answer_of_model(made)
@@ -178,7 +184,7 @@ def failing_writes(
 
 
 def untold(devices: Devices, made: Made, expected: model.Answer) -> str:
-    """A line that cannot be written on standard error leaves status and output as they are."""
+    """Check that a failed write to standard error does not change the status and the output."""
     got = devices.answer(made, TELL_FAILS=1)
     return (
         ""
@@ -188,7 +194,7 @@ def untold(devices: Devices, made: Made, expected: model.Answer) -> str:
 
 
 def write_pieces(devices: Devices, made: Made, expected: model.Answer, settings) -> tuple[str, int]:
-    """Pieces, and then standard error that takes nothing."""
+    """Limit the sizes of writes, and then make standard error accept nothing."""
     wrong, count = small_pieces(devices, made, expected, "WRITE_PIECE", settings)
     return wrong or untold(devices, made, expected), count + 1
 
@@ -203,7 +209,7 @@ def writes(report: Report, devices: Devices, cases: dict[str, Made], settings) -
 def ran(
     program: Program, words, output=subprocess.PIPE, given: Optional[bytes] = None, **more
 ) -> model.Answer:
-    """A run by way of subprocess, its standard error in a pipe."""
+    """Run with subprocess, with a pipe for standard error."""
     done = subprocess.run(
         [program.path, *words],
         stdout=output,
@@ -217,7 +223,7 @@ def ran(
 
 
 def file_limited(program: Program, made: Made, limit: int) -> model.Answer:
-    """A run whose output is a file of limited size, with the signal ignored."""
+    """Run with a file of limited size as output, and the signal ignored."""
 
     def before():
         signal.signal(signal.SIGXFSZ, signal.SIG_IGN)
@@ -241,12 +247,13 @@ def to_closed(program: Program, made: Made) -> model.Answer:
 
 
 def closed_at_start(program: Program, made: Made, number: int) -> model.Answer:
-    """A run that begins with one of the three standard files closed, so that the script takes its place."""
+    """Run with one of the three standard files closed at the start, so that the script takes its
+    descriptor."""
     return ran(program, made.words, preexec_fn=lambda: os.close(number))
 
 
 def to_waiting(program: Program, made: Made) -> model.Answer:
-    """A run whose output is read a byte at a time, after a second."""
+    """Run with an output that is read byte by byte, after a second."""
     child = subprocess.Popen(
         [program.path, *made.words],
         stdin=subprocess.DEVNULL,
@@ -262,7 +269,8 @@ def to_waiting(program: Program, made: Made) -> model.Answer:
 
 
 def without_waiting(program: Program, made: Made) -> model.Answer:
-    """A run whose output is a small pipe that is read at the end, and that says so, in place of waiting, when it is full."""
+    """Run with a small pipe as output, which is read at the end. When it is full, it reports this
+    instead of waiting."""
     reading, writing = os.pipe()
     fcntl.fcntl(writing, fcntl.F_SETPIPE_SZ, mmap.PAGESIZE)
     os.set_blocking(writing, False)
@@ -273,7 +281,7 @@ def without_waiting(program: Program, made: Made) -> model.Answer:
 
 
 def wrong_output(program: Program, made: Made, expected: model.Answer, settings) -> tuple[str, int]:
-    """What is wrong with the program at outputs that fail, and how many runs were made."""
+    """Return the error of the program with outputs that fail, and the number of runs."""
     nothing_out = written(expected, 0) if expected.output else expected
     untold = model.Answer(expected.status, expected.output, b"")
     runs = [
@@ -303,12 +311,13 @@ DISK = """mount -t tmpfs -o size="$1" tmpfs "$2" || exit 99
 shift; disk=$1; shift
 "$@" > "$disk/out"; status=$?
 cat "$disk/out"; umount "$disk"; exit $status"""
-# In a chroot whose root is no mount point, the first is denied.
+# In a chroot whose root is not a mount point, the first command is denied.
 OWN_MOUNTS = (["unshare", "--mount"], ["unshare", "--mount", "--propagation", "unchanged"])
 
 
 def on_a_full_disk(program: Program, made: Made, size: int) -> Optional[model.Answer]:
-    """A run whose output goes to a file system of a given size; None if it cannot be mounted."""
+    """Run with a file system of a given size for the output. Return None if it cannot be
+    mounted."""
     disk = f"{program.room}/disk"
     os.makedirs(disk, exist_ok=True)
     words = ["sh", "-c", DISK, "sh", str(size), disk, program.path, *made.words]
@@ -322,7 +331,7 @@ def on_a_full_disk(program: Program, made: Made, size: int) -> Optional[model.An
 
 
 def large_output() -> Made:
-    """A grid that is written as more than a few blocks."""
+    """Return a run whose output grid is longer than several blocks."""
     header = b"north: 50\nsouth: 0\neast: 100\nwest: 0\nrows: 50\ncols: 100\n"
     cells = b"\n".join(
         b" ".join(b"%d" % (row * col % 1000) for col in range(100)) for row in range(50)
@@ -378,7 +387,7 @@ def outputs(report: Report, devices: Devices, cases: dict[str, Made], settings) 
 
 
 def poured(path: str, text: bytes, at: int, seconds: float) -> threading.Thread:
-    """Writes a text to a pipe with a name, waiting in the middle."""
+    """Write a text to a named pipe, with a pause in the middle."""
 
     def pour():
         try:
@@ -395,7 +404,7 @@ def poured(path: str, text: bytes, at: int, seconds: float) -> threading.Thread:
 
 
 def middle_of_a_token(text: bytes) -> int:
-    """A place inside a token, near the middle of the text."""
+    """Return a position inside a token, near the middle of the text."""
     inside = [
         at
         for at in range(1, len(text))
@@ -405,7 +414,7 @@ def middle_of_a_token(text: bytes) -> int:
 
 
 def through_pipes(program: Program, made: Made, paths: list[str], seconds: float) -> model.Answer:
-    """A run over files of which some are pipes with names, each of which waits in the middle of a token."""
+    """Run with named pipes for some files, each of which pauses in the middle of a token."""
     for path in paths:
         os.unlink(path)
         os.mkfifo(path)
@@ -418,7 +427,7 @@ def through_pipes(program: Program, made: Made, paths: list[str], seconds: float
 
 
 def of_standard_input(program: Program, made: Made, path: str) -> model.Answer:
-    """A run that reads one of its files as its standard input."""
+    """Run with one of the files as standard input."""
     words = [b"/dev/stdin" if path == "script" else b"script"]
     words += [
         name + b"=" + (b"/dev/stdin" if grid == path else grid.encode())
@@ -428,7 +437,7 @@ def of_standard_input(program: Program, made: Made, path: str) -> model.Answer:
 
 
 def inputs(report: Report, devices: Devices, cases: dict[str, Made], settings) -> None:
-    """Pipes, standard input and readers that wait, over a few cases."""
+    """Test pipes, standard input and pauses, for a few cases."""
     program, runs = devices.program, 0
     chosen = [
         name
@@ -462,7 +471,8 @@ LOCAL_MODES = 3
 
 
 def on_a_terminal(program: Program, made: Made, path: str, at: int) -> model.Answer:
-    """A run that reads one of its files from a terminal, which reports an end after some bytes and then continues."""
+    """Run with one of the files on a terminal, which reports an end after some bytes and then
+    continues."""
     ours, theirs = os.openpty()
     try:
         modes = termios.tcgetattr(theirs)
@@ -479,12 +489,13 @@ def on_a_terminal(program: Program, made: Made, path: str, at: int) -> model.Ans
 
 
 def may_be_typed(text: bytes) -> bool:
-    """Whether each byte of a text is itself on a terminal."""
+    """Return whether each byte of a text represents itself on a terminal."""
     return len(text) <= MOST_TYPED and all(byte == 10 or 32 <= byte < 127 for byte in text)
 
 
 def terminals(report: Report, devices: Devices, cases: dict[str, Made], settings) -> None:
-    """Each file of each case on a terminal that reports an end at the start of a line, and then continues: the run ends there."""
+    """Test each file of each case on a terminal that reports an end at the start of a line and then
+    continues. The run must end there."""
     program, runs = devices.program, 0
     typed = [
         (name, made, path)

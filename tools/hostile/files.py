@@ -1,12 +1,15 @@
 #!/usr/bin/env python3
-"""Hostile files, through the helpers and the Python package: no traceback, and no wrong number.
+"""Pass hostile files through the helpers and the Python package, and check for tracebacks and wrong
+numbers.
 
     files.py [--count N] [--tiffs N] [--seed N]
 
-AAIGrids go through rcell.core.esri_grids, grids through rcell and rcell.core, TIFFs with changed or missing bytes through both readers. What is
-written is compared with a plain reading of the same text, or for TIFFs with what GDAL's own arrays say; what is rejected is rejected by the
-exceptions that end in one line. TIFFs of which GDAL alone reads other cells each time are left out, and counted. Each kind gets N files. Needs
-numpy and, for TIFFs, GDAL's Python. The last line is 'N passed, M failed'.
+AAIGrids are read with rcell.core.esri_grids, grids with rcell and rcell.core, and TIFFs with
+changed or missing bytes with both readers. The output is compared with a plain reading of the text
+or, for TIFFs, with GDAL's own arrays. Files must be rejected with the exceptions that end in one
+line. TIFFs that GDAL itself reads differently each time are left out, and counted. There are N
+files of each kind. Needs numpy and, for TIFFs, GDAL's Python. The last line is 'N passed, M
+failed'.
 """
 import argparse
 import importlib.machinery
@@ -95,7 +98,7 @@ NODATA = [
 
 
 def value_of(word):
-    """The number that a word spells, or None."""
+    """Return the number that a word spells, or None."""
     found = NUMBER.fullmatch(word)
     if not found or len(word) > 64 or abs(int((found[2] or "e0")[1:])) > 400:
         return None
@@ -103,7 +106,8 @@ def value_of(word):
 
 
 def is_null(word, nodata):
-    """Whether a cell of an AAIGrid is null: by its value, by its text, or as a float of 32 bits that is written otherwise."""
+    """Return whether a cell of an AAIGrid is null: by its value, by its text, or as a 32-bit float
+    that is spelled differently."""
     if nodata is None:
         return False
     if word == nodata or (nodata.lstrip("+-").lower() == "nan" == word.lstrip("+-").lower()):
@@ -115,7 +119,8 @@ def is_null(word, nodata):
 
 
 def cells_of(text):
-    """The cells of a grid of rcell, in the plainest way; None if rcell would reject one."""
+    """Return the cells of an rcell grid, read in the plainest way, or None if rcell would reject
+    one."""
     lines, fields = text.decode("latin-1").split("\n"), {}
     while lines and ":" in lines[0]:
         key, _, value = lines.pop(0).partition(":")
@@ -135,7 +140,7 @@ def cells_of(text):
 
 
 def hostile_aaigrid(chance):
-    """The text of an AAIGrid, its nodata value, and its cells as words."""
+    """Return the text of an AAIGrid, its nodata value, and its cells as words."""
     rows, cols = chance.randint(1, 4), chance.randint(1, 5)
     nodata = chance.choice(NODATA) if chance.random() < 0.8 else None
     some = chance.sample(WORDS, 3) + ["1", "7", "0", nodata or "3"]
@@ -220,7 +225,7 @@ def hostile_grid(chance):
 
 
 def fault_of_grid(listing, printing, model, chance):
-    """The helpers and packages take what rcell takes, with the same cells."""
+    """Check that the helpers and packages accept what rcell accepts, with the same cells."""
     text = hostile_grid(chance)
     try:
         with printing.spooled([text]) as path, listing.printed_grid(f"{BIN}/rcell", path) as grid:
@@ -239,7 +244,7 @@ def fault_of_grid(listing, printing, model, chance):
 
 
 def hostile_tiff(chance, gdal, numpy, path):
-    """A TIFF with changed or missing bytes."""
+    """Write a TIFF with changed or missing bytes."""
     shape = chance.randint(1, 40), chance.randint(1, 40)
     code, dtype = chance.choice(
         [(1, "u1"), (3, "i2"), (5, "i4"), (6, "f4"), (12, "u8"), (13, "i8")]
@@ -265,7 +270,7 @@ def hostile_tiff(chance, gdal, numpy, path):
 
 
 def ways_of_tiff(rcell, gdal_reader):
-    """What reads a TIFF, with the exceptions that end in one line."""
+    """Return the readers of TIFFs, with their exceptions that end in one line."""
 
     def with_gdal(path):
         return with_rasterio(gdal_reader.open_raster("m", path))
@@ -296,7 +301,8 @@ def fault_of_tiff(ways, chance, gdal, numpy, path):
 
 
 def is_unsteady(path):
-    """Whether the cells that GDAL alone reads depend on the bytes in free memory: of a block that ends early, it leaves the rest as it was."""
+    """Return whether the cells that GDAL itself reads depend on uninitialized memory: if a block
+    ends early, GDAL leaves its rest unchanged."""
     readings = [
         subprocess.run(
             [sys.executable, "-c", READ, path],
@@ -310,7 +316,7 @@ def is_unsteady(path):
 
 
 def tried(name, count, seed, fault_of):
-    """Return how many files of a kind are good, and how many are not."""
+    """Return the numbers of good and of bad files of a kind."""
     failed = left_out = 0
     for at in range(count):
         chance = random.Random(f"{seed} {name} {at}")

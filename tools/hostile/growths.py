@@ -1,4 +1,5 @@
-"""Each growth of memory denied in turn: over the program on each case, and over the built test programs of the crates."""
+"""Deny each growth of memory in turn: for the program on each case, and for the built test programs
+of the crates."""
 from __future__ import annotations
 
 import glob
@@ -30,7 +31,8 @@ CALLS_AGAIN = 8  # the calls that leave their object unchanged, and a run over a
 
 
 def numbers(settings, asked: int) -> Iterator[int]:
-    """The growths to deny: all, counted upwards without an end, or some of those that were asked for."""
+    """Return the numbers of the growths to deny: all, counted upwards without an end, or some of
+    those requested."""
     if settings.growths >= asked:
         return itertools.count(1)
     return iter(sorted(settings.random.sample(range(1, asked + 1), settings.growths)))
@@ -39,7 +41,7 @@ def numbers(settings, asked: int) -> Iterator[int]:
 def wrong_growth(
     program: Program, made: Made, expected: model.Answer, shim: str, settings
 ) -> tuple[str, int]:
-    """What is wrong with a run of which a growth was denied, and how many were denied."""
+    """Return the error of a run in which a growth is denied, and the number of denied growths."""
     plain, asked = program.answer_refused(made.words, shim, 0)
     if plain != expected:
         return f"{plain}, and not {expected}", 0
@@ -54,14 +56,15 @@ def wrong_growth(
                 "" if got == expected else f"growth {at} was not asked for, and yet {got}"
             ), refused
         refused += 1
-        # A run that asks once more, or does without what only saves time, does all its work.
+        # If the program asks again, or does without memory that only saves time, it does all its
+        # work.
         if got != expected and not is_told_refusal(expected, got):
             return f"with growth {at} refused: {got}", refused
     return "", refused
 
 
 def in_turn(program: Program, cases: Cases) -> Iterator[tuple[str, Made, model.Answer]]:
-    """Each case, with its files in the current folder, and what the model gives."""
+    """Yield each case, with its files in the current folder, and the model's result."""
     for name, made in cases.made.items():
         program.put(made)
         yield name, made, answer_of_model(made)
@@ -85,7 +88,8 @@ def growths(report: Report, program: Program, shim: str, cases: Cases, settings)
 
 
 def run_test(path: str, test: str, room: str, shim: str, at: int) -> tuple[int, bytes, int]:
-    """How a test ends with growth `at` denied, what it prints, and how many growths it asked for."""
+    """Return how a test ends with growth `at` denied, its output, and the number of growths that it
+    requested."""
     count = f"{room}/count"
     environment = {
         "PATH": "/usr/bin:/bin",
@@ -105,7 +109,8 @@ def run_test(path: str, test: str, room: str, shim: str, at: int) -> tuple[int, 
 
 
 def is_end(test: str, status: int, told: bytes) -> bool:
-    """Whether a test may end so with a growth denied. One that makes a failed call once more has to find all as it asserts."""
+    """Return whether a test may end like this with a denied growth. A test that repeats a failed
+    call must find everything as it asserts."""
     return (
         status in (PASSED, FAILED)
         or not test.endswith(AGAIN)
@@ -121,7 +126,7 @@ def end_of(status: int, told: bytes) -> str:
 
 
 def wrong_test(path: str, test: str, room: str, shim: str, settings) -> tuple[str, dict[str, int]]:
-    """What is wrong with a test of which each growth is denied in turn, and how its runs ended."""
+    """Deny each growth of a test in turn. Return the error, and how the runs ended."""
     status, told, asked = run_test(path, test, room, shim, 0)
     ends = {
         "growths": asked,
@@ -153,9 +158,10 @@ def wrong_test(path: str, test: str, room: str, shim: str, settings) -> tuple[st
 
 
 def tests(report: Report, room: str, shim: str, settings) -> None:
-    """The test programs that the gate built: a denied growth ends a test by what it returns or asserts, and in no other way.
+    """Test the test programs that the gate built: with a denied growth, a test ends only with its
+    own result or assertion.
 
-    A short run takes those tests alone that make a failed call once more.
+    A short run includes only the tests that repeat a failed call.
     """
     programs = sorted(glob.glob(f"{ROOT}/crates/*/out/*_tests"))
     made_again = 0

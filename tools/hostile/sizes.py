@@ -1,4 +1,5 @@
-"""The largest inputs, a stack of 64 KiB, memory a cell, and times as each kind of thing grows."""
+"""Test the largest inputs, a stack of 64 KiB, memory per cell, and times as each kind of thing
+grows."""
 from __future__ import annotations
 
 import math
@@ -53,7 +54,8 @@ HELD = re.compile(rb"VmHWM:\s*([0-9]+) kB")
 
 
 def spent(program: Program, words: list[bytes], stack_kib: int = 0, shim: str = "") -> Spent:
-    """A run with its time, under a stack of so many KiB if that is asked for, and with its memory if a shim reports it."""
+    """Run the program and return its time. The stack may be limited, and memory is measured if a
+    shim reports it."""
     limits = f'ulimit -c 0; ulimit -n {MOST_FILES}; ulimit -t {MOST_SECONDS}; ulimit -s {stack_kib or MOST_WORDS_KIB}; exec "$@"'
     whole = ["sh", "-c", limits, "sh", program.path, *words]
     more = {"LD_PRELOAD": shim, "DEVICE_STATUS": program.count} if shim else {}
@@ -76,7 +78,8 @@ def spent(program: Program, words: list[bytes], stack_kib: int = 0, shim: str = 
 
 
 def deep() -> dict[str, bytes]:
-    """The expressions that nest deepest, each 1000 tokens or the most that the grammar admits of its kind."""
+    """Return the expressions that nest deepest, each with 1000 tokens or the most that the grammar
+    allows."""
     return {
         "997 signs": b"-" * 997 + b"g",
         "998 signs and no operand": b"-" * 998,
@@ -100,7 +103,7 @@ def on_stack(program: Program, made: Made, kib: int) -> model.Answer:
 
 
 def stack_needed(program: Program, made: Made, expected: model.Answer) -> int:
-    """The smallest stack, to the step, on which a run ends as it must."""
+    """Return the smallest stack, to within a step, on which a run ends correctly."""
     few, enough = LEAST_STACK_KIB, STACK_KIB
     while enough - few > STACK_STEP_KIB:
         middle = (few + enough) // 2
@@ -111,7 +114,7 @@ def stack_needed(program: Program, made: Made, expected: model.Answer) -> int:
 
 
 def stack(report: Report, program: Program, cases: dict[str, Made], settings) -> None:
-    """Each case, and each deep expression over a few cells, on the small stack."""
+    """Test each case, and each deep expression over a few cells, on the small stack."""
     text = grid(3, 4, lambda row, col: row * col)
     made_deep = {
         f"a script of {name}": over(text, b"r.mapcalc x = %s\nr.out.ascii input=x\n" % body)
@@ -137,7 +140,7 @@ def stack(report: Report, program: Program, cases: dict[str, Made], settings) ->
 
 
 def name_at(number: int) -> bytes:
-    """Short names, all distinct, none of them g."""
+    """Return short, distinct names other than g."""
     letters, name = b"abcdef_ABCDEFGHIJKLMNOPQRSTUVWXYZ", b""
     while True:
         number, letter = divmod(number, len(letters))
@@ -147,7 +150,7 @@ def name_at(number: int) -> bytes:
 
 
 def fitting(head: list[bytes], many: list[bytes], tail: list[bytes]) -> tuple[bytes, int]:
-    """A script of these lines with as many of the middle ones as it can hold, and how many those are."""
+    """Return a script of these lines with as many of the middle lines as fit, and their number."""
     left = model.LONGEST_SCRIPT - sum(len(line) + 1 for line in head + tail)
     count = 0
     for line in many:
@@ -158,7 +161,8 @@ def fitting(head: list[bytes], many: list[bytes], tail: list[bytes]) -> tuple[by
     return b"".join(line + b"\n" for line in head + many[:count] + tail), count
 
 
-# Times as a kind of thing grows. Each kind makes a run of about so many things, and says how many they are.
+# Times as a kind of thing grows. Each kind makes a run of about this many things, and returns their
+# exact number.
 
 Kind = Callable[[int], tuple[Made, list[bytes], int]]
 
@@ -177,7 +181,7 @@ def of_grid(text: bytes, script: bytes, count: int) -> tuple[Made, list[bytes], 
 
 
 def in_rows(count: int, cell: Callable[[int], int]) -> bytes:
-    """A grid of so many cells, at most 1000 a row."""
+    """Return a grid with this many cells, at most 1000 per row."""
     cols = min(count, 1000)
     return grid(count // cols, cols, lambda row, col: cell(row * cols + col))
 
@@ -224,7 +228,7 @@ def rules_and_categories(count: int):
 
 
 def ranges_in_ranges(count: int):
-    """Each range lies in the one before; then the other way round."""
+    """Return rules whose ranges each contain the next, and then the reverse."""
     inward = [b"%d thru %d=%d" % (at, 2 * count - at, at % 9) for at in range(count // 2)]
     return of_script(
         [b"r.reclass input=g output=r"],
@@ -295,7 +299,8 @@ def time_of(program: Program, shim: str, kind: Kind, size: int) -> tuple[int, Sp
 
 
 def is_steep(times: list[tuple[int, Spent]]) -> bool:
-    """Whether a time grows much faster than what it is spent on, from one size to the next."""
+    """Return whether the time grows much faster than the number of things, from one size to the
+    next."""
     return any(
         late.status == OUT_OF_TIME
         or late.seconds > SLOW
@@ -336,7 +341,7 @@ def growing(report: Report, program: Program, shim: str) -> None:
 
 
 def sums_in_a_chain(count: int) -> Made:
-    """Each map is one more than the map before it, and the last is counted."""
+    """Return a run in which each map is the previous map plus one, and the last is counted."""
     maps = [b"g", *(name_at(at) for at in range(count))]
     lines = [b"r.mapcalc %s=%s+1\n" % (new, old) for old, new in zip(maps, maps[1:])]
     return over(ONE_CELL, b"".join(lines) + b"r.stats -c input=%s\n" % maps[-1])
@@ -401,7 +406,7 @@ WORK = {
 
 
 def patches_and_noise(side: int) -> dict[str, bytes]:
-    """Two square grids of eight categories: in patches, and each cell by chance."""
+    """Return two square grids of eight categories: in patches, and with random cells."""
     choice = random.Random(1)
     patches = [
         [choice.randint(1, 8) for _ in range(side // PATCH + 1)] for _ in range(side // PATCH + 1)
@@ -413,7 +418,8 @@ def patches_and_noise(side: int) -> dict[str, bytes]:
 
 
 def memory(report: Report, program: Program, shim: str) -> None:
-    """Bytes a cell of each command, by what a larger grid takes beyond a smaller one."""
+    """Measure the bytes per cell of each command, from the difference between a larger and a
+    smaller grid."""
     texts = {side: patches_and_noise(side) for side in SIDES}
     less, more = SIDES
     print(

@@ -1,4 +1,5 @@
-"""Each byte: every proper prefix of every text of the cases, and every byte of them turned to others."""
+"""Test every proper prefix of every text of the cases, and every byte of them replaced with
+others."""
 from __future__ import annotations
 
 import re
@@ -17,7 +18,7 @@ EXPRESSION = re.compile(rb"(?:\A|(?<=\n))[ \t\r]*r\.mapcalc([^\n]*)")
 
 @dataclass(frozen=True)
 class Change:
-    """Bytes of a text of a case that others replace."""
+    """A change to a case: bytes of a text, and their replacement."""
 
     case: str
     path: str
@@ -35,7 +36,7 @@ class Change:
 
 
 def parts_of(script: bytes) -> Iterator[tuple[int, int]]:
-    """Where the rule blocks and the expressions of a script begin and end."""
+    """Yield the start and end of the rule blocks and expressions in a script."""
     for head in RECLASS.finditer(script):
         block = RULES.match(script, head.end() + 1)
         if block:
@@ -45,7 +46,7 @@ def parts_of(script: bytes) -> Iterator[tuple[int, int]]:
 
 
 def changes_of(case: str, path: str, text: bytes, settings) -> Iterator[Change]:
-    """Each change of one text; of a long one at some of its bytes."""
+    """Yield the changes to one text. A long text is changed only at some of its bytes."""
     at_bytes = range(len(text))
     if len(text) > LONGEST_WHOLE:
         at_bytes = sorted(settings.random.sample(at_bytes, settings.places_of_long))
@@ -60,7 +61,7 @@ def changes_of(case: str, path: str, text: bytes, settings) -> Iterator[Change]:
 
 
 def all_changes(cases: dict[str, Made], settings) -> list[Change]:
-    """The changes of all cases, a text that several cases share once."""
+    """Return the changes to all cases. A text that several cases share is changed once."""
     seen, changes = set(), []
     for case, made in cases.items():
         for path, text in made.files.items():
@@ -74,7 +75,7 @@ def all_changes(cases: dict[str, Made], settings) -> list[Change]:
 
 
 def spoiled(report: Report, program: Program, cases: dict[str, Made], settings) -> None:
-    """Runs the program and the model over each change, or some of them."""
+    """Run the program and the model on each change, or on some of them."""
     cases = {
         name: made
         for name, made in cases.items()

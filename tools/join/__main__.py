@@ -1,17 +1,18 @@
 #!/usr/bin/env python3
-"""Runs rcell-join against a plain model of it, and against rcell over maps that are not cut.
+"""Test rcell-join against a plain model, and against rcell over maps that are not cut.
 
     tools/join [CLANG] [--program PROGRAM] [--rcell PROGRAM] [--runs N] [--maps N] [--seed N]
 
-- named cases of each command, with each message;
-- N random sets of tables, short and long, with labels and without;
-- N random maps and some that are hard to cut, each cut into a grid of tiles: tables, numbers and sizes that are joined must be those
-  of the full map, cell by cell; tables with labels; and sets of texts of which one is damaged;
-- borders that are cut short, outputs that take few bytes, closed outputs; each growth of memory denied in turn, and each read that
-  fails or ends once.
+- named cases of each command, with each message
+- N random sets of tables, short and long, with and without labels
+- N random maps, and some that are hard to cut, each cut into a grid of tiles: joined tables,
+  numbers and sizes must be the full map's, cell by cell; also tables with labels, and sets of texts
+  of which one is damaged
+- truncated borders, outputs that accept few bytes, closed outputs, each growth of memory denied in
+  turn, and each read that fails or ends once
 
-Some reads move few bytes. CLANG compiles what denies growths and stops reads; without it these parts are left out. The last line is
-'N passed, M failed'.
+Some reads return few bytes. CLANG compiles the shims that deny growths and stop reads. Without it,
+these parts are left out. The last line is 'N passed, M failed'.
 """
 from __future__ import annotations
 
@@ -44,7 +45,7 @@ LABELS_IN = 4  # one map in this many also has tables with labels
 SECONDS = 120
 HEADER_LINES = 6
 NAMED = list(named_cases.named_cases())
-# A run of each command whose growths, reads and writes are stopped one after another.
+# A run of each command, whose growths, reads and writes are stopped one after another.
 STOPPED = ("two tables", "labels of two maps", "border of a wide tile", "clumps of tiles", "sizes")
 
 
@@ -93,7 +94,8 @@ class Runner:
         return output
 
     def answers_of_rcell(self, grid: CellMap, with_corners: bool) -> tuple[bytes, bytes, bytes]:
-        """The table of a map, the grid of its clump numbers and their table."""
+        """Return the table of a map, the grid of its clump numbers, and the table of these
+        numbers."""
         flag = b"-d " if with_corners else b""
         output = self.output_of_rcell(
             grid,
@@ -126,7 +128,7 @@ def try_named(runner: Runner, count: cases.Count) -> None:
 
 
 def reads_of_pieces(draw: random.Random, shims: Mapping[str, str]) -> dict[str, str]:
-    """In one run of two, reads that move few bytes."""
+    """Return settings that make reads return few bytes, in every second run."""
     return (
         {"LD_PRELOAD": shims["devices"], "READ_PIECE": str(draw.choice(PIECES))}
         if shims and draw.random() < 0.5
@@ -149,7 +151,7 @@ def try_tables(runner: Runner, count: cases.Count, shims: Mapping[str, str], see
 
 
 def try_labels(runner: Runner, count: cases.Count, shims: Mapping[str, str], seed: int) -> None:
-    """Merged tables with labels of the tiles of a map are the table of the full map."""
+    """Check that the labelled tables of a map's tiles merge into the table of the full map."""
     draw = random.Random(seed)
     cut = made.random_cut(draw, made.random_map(draw))
     script, options = made.labelling(draw, cut.whole)
@@ -169,7 +171,7 @@ def try_labels(runner: Runner, count: cases.Count, shims: Mapping[str, str], see
 
 
 class Tiles:
-    """The tiles of a map: their maps, what rcell computes of each, and their borders."""
+    """The tiles of a map: their maps, what rcell computes for each, and their borders."""
 
     def __init__(
         self,
@@ -205,7 +207,7 @@ class Tiles:
         return {letter + b"%d" % place: text for place, text in enumerate(texts)}
 
     def answer(self, words: list[bytes], files: Mapping[bytes, bytes]) -> Reply:
-        """The reply of the program, which must be the model's."""
+        """Return the program's reply, which must be the model's."""
         got = self.runner.answer(words, files, **reads_of_pieces(self.draw, self.shims))
         self.wrong = self.wrong or difference(got, join_model.answer(words, files))
         return got
@@ -215,7 +217,7 @@ class Tiles:
 
 
 def full_numbers(numbering: bytes) -> dict[tuple[int, int], int]:
-    """The number in the full map of each clump of each tile, by a numbering."""
+    """Return the full map's number for each clump of each tile, from a numbering."""
     lines = [tuple(map(int, line.split())) for line in numbering.splitlines()]
     return {
         (tile, clump): number + clump - first
@@ -225,7 +227,7 @@ def full_numbers(numbering: bytes) -> dict[tuple[int, int], int]:
 
 
 def wrong_cells(numbering: bytes, tiles: Tiles, whole: bytes) -> str:
-    """Where the numbers of tiles, by a numbering, are not the numbers of the full map."""
+    """Return where the numbers of tiles, from a numbering, differ from the full map's numbers."""
     numbers, wanted = full_numbers(numbering), read_map(b"whole", whole).rows
     rows = [list(row) for row in wanted]
     for tile, ((top, bottom, left, right), text) in enumerate(
@@ -237,7 +239,8 @@ def wrong_cells(numbering: bytes, tiles: Tiles, whole: bytes) -> str:
 
 
 def wrong_join(tiles: Tiles, with_corners: bool) -> str:
-    """What of a map that was cut is not as in the full map: its table, its numbers or their sizes."""
+    """Return which results of a map that was cut differ from the full map's: its table, its numbers
+    or their sizes."""
     table, numbers, sizes = tiles.runner.answers_of_rcell(tiles.cut.whole, with_corners)
     numbering = tiles.numbering()
     merged = tiles.answer([b"tables", *tiles.tables], tiles.tables)
@@ -282,7 +285,8 @@ def try_random_map(runner: Runner, count: cases.Count, shims: Mapping[str, str],
 
 
 def damaged_texts(tiles: Tiles, draw: random.Random) -> tuple[list[bytes], dict[bytes, bytes]]:
-    """Words and files of which one is damaged, is another's, or is there twice."""
+    """Return arguments and files, of which one is damaged, belongs to another map, or is given
+    twice."""
     command = draw.choice([b"border", b"clumps", b"clumps", b"clumps", b"sizes", b"sizes"])
     files: Named = [*tiles.borders.items()]
     if command == b"border":
@@ -314,7 +318,8 @@ def damaged_texts(tiles: Tiles, draw: random.Random) -> tuple[list[bytes], dict[
 
 
 def hard_cuts() -> Iterator[tuple[str, random.Random, Cut]]:
-    """Maps that are hard to cut: each shape by many cuts, and larger ones by one or two."""
+    """Yield maps that are hard to cut: each shape with many cuts, and larger maps with one or
+    two."""
     for name, shape in made.SHAPES.items():
         draw = random.Random(name)
         whole = made.in_region(draw, shape(5, 7))
@@ -346,7 +351,7 @@ def try_maps(runner: Runner, count: cases.Count, shims: Mapping[str, str], seeds
 
 
 def wrong_prefix(runner: Runner, text: bytes) -> str:
-    """What is wrong where a border is cut short: only its last line feed may be missing."""
+    """Return the error for truncated borders. Only the last line feed may be missing."""
     for length in range(len(text)):
         files = {b"b": text[:length]}
         got = runner.answer([b"clumps", b"b"], files)
@@ -358,7 +363,7 @@ def wrong_prefix(runner: Runner, text: bytes) -> str:
 
 
 def closed(runner: Runner, words: list[bytes], files: Mapping[bytes, bytes]) -> str:
-    """What is wrong where standard output is a pipe that nobody reads, or a full device."""
+    """Return the error if standard output is a pipe that nobody reads, or a full device."""
     runner.lay_out(files)
     reading, writing = os.pipe()
     os.close(reading)
@@ -371,7 +376,7 @@ def closed(runner: Runner, words: list[bytes], files: Mapping[bytes, bytes]) -> 
 
 
 def limited(runner: Runner, words: list[bytes], files: Mapping[bytes, bytes], wanted: bytes) -> str:
-    """What is wrong where the output takes 0, 1, .. bytes."""
+    """Return the error if the output accepts only 0, 1, .. bytes."""
     soft, hard = resource.getrlimit(resource.RLIMIT_FSIZE)
     runner.lay_out(files)
     for size in range(len(wanted)):
@@ -394,7 +399,8 @@ def limited(runner: Runner, words: list[bytes], files: Mapping[bytes, bytes], wa
 def growths_refused(
     runner: Runner, words: list[bytes], files: Mapping[bytes, bytes], wanted: bytes, shim: str
 ) -> str:
-    """What is wrong where growth 1, 2, .. is denied: the message says so, and nothing is written but whole lines of tables."""
+    """Return the error if growth 1, 2, .. is denied: the message must report this, and only
+    complete lines of tables may be written."""
     runner.lay_out(files)
     counted, fronts = f"{runner.room}/count", {b""}
     if words[0] == b"tables":
@@ -426,7 +432,7 @@ def growths_refused(
 def stopped_as(
     names: list[bytes], files: Mapping[bytes, bytes], shim_counts: str, fails: bool
 ) -> Mapping[bytes, bytes | Failing]:
-    """The files, of which the one whose read was stopped fails or ends where that was."""
+    """Return the files, of which the one whose read was stopped fails or ends at that point."""
     with open(shim_counts, encoding="ascii") as file:
         _, before, stopped, *_ = map(int, file.read().split())
     if stopped < 0:
@@ -438,7 +444,8 @@ def stopped_as(
 def wrong_reads(
     runner: Runner, words: list[bytes], names: list[bytes], files: Mapping[bytes, bytes], shim: str
 ) -> str:
-    """What is wrong where read 1, 2, .. fails, for good or once only, or ends once: a source is not asked again."""
+    """Return the error if read 1, 2, .. fails, for good or once, or ends once. The source must not
+    be read again."""
     runner.lay_out(files)
     counts = f"{runner.room}/reads"
     for piece in READS:

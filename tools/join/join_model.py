@@ -1,8 +1,9 @@
-"""What rcell-join must write and print, straight from the definitions of its commands, plain and slow.
+"""A plain, slow model of rcell-join, which follows the definitions of its commands directly.
 
-It shares no code with the program; grids are read and written by the model of rcell, tools/model/model_grids.py. A clump of a tile is
-placed by the row of tiles, the row of the tile in which it begins, the column of tiles and its number, and clumps that meet at a seam are
-walked from one to the other.
+The model shares no code with the program. Grids are read and written by the model of rcell,
+tools/model/model_grids.py. A clump of a tile is identified by the row of tiles, the row of the tile
+in which it begins, the column of tiles and its number. Clumps that meet at a seam are traversed
+from one to the other.
 """
 from __future__ import annotations
 
@@ -33,7 +34,8 @@ ESCAPES = {"\t": "\\t", "\r": "\\r", "\n": "\\n"}
 
 
 class Fault(Exception):
-    """What stops a run: the source, the line and the text of the message, the status, and what was written before."""
+    """An error that ends a run: the source, the line and the text of the message, the status, and
+    the output before it."""
 
     def __init__(self, source: bytes, line: int, text: bytes, status: int = 1, output: bytes = b""):
         super().__init__(source, line, text)
@@ -68,7 +70,7 @@ class Format:
     labels: bool = False
 
     def is_clear(self) -> bool:
-        """Whether fields printed so can be distinguished."""
+        """Return whether fields printed in this format can be distinguished."""
         is_in_number = self.separator.isdigit() or self.separator == b"-"
         is_in_label = self.labels and self.separator in NULL_LABEL
         return (
@@ -92,7 +94,8 @@ def is_category(field: bytes) -> bool:
 
 
 class TableText:
-    """A text of a table that is read line by line: its head is the entry that was read last, None at its end, with its labels."""
+    """A text of a table that is read line by line. Its head is the last entry read, with its
+    labels, or None at the end."""
 
     def __init__(self, name: bytes, given: bytes | Failing, width: int, form: Format):
         self.name, self.width, self.form, self.number = name, width, form, 0
@@ -113,7 +116,7 @@ class TableText:
         return (False, int(field))
 
     def entry_of(self, line: bytes) -> Entry:
-        """The cells of a line and its count; its labels are kept."""
+        """Return the cells of a line and its count. The labels are stored."""
         *fields, last = line.split(self.form.separator)
         step = 2 if self.form.labels else 1
         cells = tuple(
@@ -154,7 +157,7 @@ class TableText:
 
 
 def opened(names: list[bytes], files: Mapping[bytes, Given]) -> list[bytes | Failing]:
-    """What the files give; the first that cannot be opened is reported."""
+    """Return the contents of the files. The first file that cannot be opened is reported."""
     for name in names:
         if files.get(name) is None:
             raise Fault(name, 0, b"cannot open", 4)
@@ -188,7 +191,8 @@ def tables(form: Format, names: list[bytes], given: list[bytes | Failing]) -> by
 
 
 def labels_of(texts: list[TableText]) -> Labels:
-    """The labels that texts have for the combination that they all continue with; the first text that has others is reported."""
+    """Return the labels for the combination with which all texts continue. The first text with
+    different labels is reported."""
     labels = texts[0].labels
     for it in texts[1:]:
         for (_, category), label, other in zip(it.head[0], labels, it.labels):
@@ -200,7 +204,7 @@ def labels_of(texts: list[TableText]) -> Labels:
 
 
 def shown(text: bytes) -> bytes:
-    """A path or a label as messages print it: control characters are escaped."""
+    """Return a path or a label as messages print it, with control characters escaped."""
     return "".join(
         ESCAPES.get(c, f"\\u{{{ord(c):x}}}") if unicodedata.category(c) == "Cc" else c
         for c in text.decode(errors="replace")
@@ -225,7 +229,7 @@ NUMBERING_KINDS = {
 
 
 class Numbering:
-    """A numbering that is read line by line: its head is the run of clumps that was read last, None at its end."""
+    """A numbering that is read line by line. Its head is the last run read, or None at the end."""
 
     def __init__(self, name: bytes, given: bytes | Failing):
         self.name, self.head = name, None
@@ -246,7 +250,7 @@ class Numbering:
         return self.text.number
 
     def take(self) -> None:
-        """Makes a run of the entry that was read."""
+        """Convert the entry that was read to a run."""
         if not self.text.head:
             self.head = None
             return
@@ -272,7 +276,7 @@ Run = tuple[int, int, int, int]  # tile, first and last clump, number of the fir
 
 
 def runs_of_numbering(name: bytes, given: bytes | Failing) -> list[Run]:
-    """All runs of a numbering, whose numbers are at most as many as it has clumps."""
+    """Return all runs of a numbering, whose numbers must not exceed its number of clumps."""
     numbering, runs = Numbering(name, given), list[Run]()
     while numbering.head:
         runs.append(numbering.head)
@@ -285,7 +289,7 @@ def runs_of_numbering(name: bytes, given: bytes | Failing) -> list[Run]:
 
 
 def add_run(run: Run, table: TableText, sizes: dict[int, int]) -> None:
-    """Reads the clumps of a run from the table of their tile, and adds their sizes."""
+    """Read the clumps of a run from their tile's table, and add their sizes."""
     _, first, last, number = run
     for clump in range(first, last + 1):
         if not table.head or table.head[0] != ((False, clump),):
@@ -296,7 +300,7 @@ def add_run(run: Run, table: TableText, sizes: dict[int, int]) -> None:
 
 
 def end_table(table: TableText, last: int) -> None:
-    """What may be left of a table is an entry of null."""
+    """Check that the rest of a table is at most an entry of null."""
     if table.head and table.head[0] == ((True, 0),):
         table.next()
         last += 1
@@ -336,7 +340,8 @@ Place = tuple[
 
 @dataclass(frozen=True)
 class Border:
-    """The region of a tile, its connectivity, first row, last row, first column and last column, and how many clumps begin in each row."""
+    """The region of a tile, its connectivity, its first row, last row, first column and last
+    column, and the number of clumps that begin in each row."""
 
     region: Region
     connectivity: int
@@ -389,7 +394,7 @@ def border(with_corners: bool, names: list[bytes], given: list[bytes | Failing])
 
 
 def pair_fault(most: int, cell: Cell, number: Cell) -> bytes:
-    """Why a cell and a number do not go together, or nothing."""
+    """Return why a cell and a number do not match, or nothing."""
     if cell is None:
         return b"" if number is None else b"number of a null cell"
     if number is None:
@@ -402,7 +407,7 @@ def pair_fault(most: int, cell: Cell, number: Cell) -> bytes:
 def judge_line(
     name: bytes, row: int, most: list[int], cells: list[Cell], numbers: list[Cell]
 ) -> None:
-    """A row of cells and the numbers below it, where each cell has a largest number."""
+    """Check a row of cells and the row of their numbers, given the largest number for each cell."""
     for at, line in ((row, cells), (row + 1, numbers)):
         for col, cell in enumerate(line[len(most) :], len(most)):
             if cell is not None:
@@ -415,7 +420,7 @@ def judge_line(
 
 
 def size_of(grid: CellMap) -> Optional[tuple[Region, int, int]]:
-    """The region of the tile, its number of clumps and its connectivity."""
+    """Return the tile's region, its number of clumps, and its connectivity."""
     cells, region = grid.rows[SIZE_ROW], grid.region
     if region.cols < SIZE_CELLS or None in cells[:SIZE_CELLS] or set(cells[SIZE_CELLS:]) - {None}:
         return None
@@ -461,7 +466,7 @@ def read_border(name: bytes, given: bytes | Failing) -> Border:
 
 
 def edge_text(edge: int) -> bytes:
-    """A coordinate in its shortest form."""
+    """Return a coordinate in its shortest form."""
     whole, part = divmod(abs(edge), COORDINATE_UNIT)
     digits = (b".%08d" % part).rstrip(b"0").rstrip(b".")
     return (b"-" if edge < 0 else b"") + b"%d" % whole + digits
@@ -481,7 +486,7 @@ def size_fault(own: int, what: bytes, other: int) -> bytes:
 
 
 def beside_fault(left: Region, tile: Region) -> bytes:
-    """Why a tile is not right of another, or nothing."""
+    """Return why a tile is not right of another tile, or nothing."""
     return (
         edge_fault(b"west", tile.west, b"east", left.east)
         or size_fault(tile.rows, b"rows", left.rows)
@@ -506,8 +511,9 @@ class Tile:
 
 
 def in_first_row(row: list[Tile], tile: Tile) -> bool:
-    """Whether a tile is right of the last one; if not, it is below the first. If it is neither, it was meant to be below the first if the
-    first tile ends where it begins, and begins elsewhere than the last one ends."""
+    """Return whether a tile is right of the last tile. If not, it is below the first. If it is
+    neither, it was meant to be below the first tile if the first tile ends where it begins, and the
+    last tile does not."""
     region = tile.border.region
     beside, below = beside_fault(row[-1].border.region, region), below_fault(
         row[0].border.region, region
@@ -528,7 +534,8 @@ def judge(tile: Tile, other: Tile, wrong: bytes) -> None:
 
 
 def begins_row(rows: list[list[Tile]], tile: Tile) -> bool:
-    """Whether a tile begins the next row of tiles; if not, it is the next of the last one."""
+    """Return whether a tile begins the next row of tiles. If not, it is the next tile of the last
+    row."""
     if len(rows) < 2:
         return not (rows and in_first_row(rows[0], tile))
     row, above, region = rows[-1], rows[-2], tile.border.region
@@ -575,7 +582,7 @@ def clumps(with_corners: bool, names: list[bytes], given: list[bytes | Failing])
 
 
 def runs_of(tile: int, numbers: list[int]) -> Iterator[bytes]:
-    """The lines of a tile: runs of clumps whose numbers follow one another, each as long as it can be."""
+    """Yield the lines of a tile: the longest runs of clumps with consecutive numbers."""
     begin = 0
     for end in range(1, len(numbers) + 1):
         if end == len(numbers) or numbers[end] != numbers[end - 1] + 1:
@@ -601,7 +608,8 @@ def marks(row: int, col: int, tile: Border, side: int) -> list[Mark]:
 
 
 def seams(rows: list[list[Border]]) -> Iterator[tuple[list[Mark], list[Mark]]]:
-    """The lines of cells on both sides of each seam: between two tiles of a row of tiles, and between two rows of tiles."""
+    """Yield the lines of cells on both sides of each seam: between two tiles of a row, and between
+    two rows of tiles."""
     for row, line in enumerate(rows):
         for col, (left, right) in enumerate(zip(line, line[1:])):
             yield marks(row, col, left, 3), marks(row, col + 1, right, 2)
@@ -613,7 +621,8 @@ def seams(rows: list[list[Border]]) -> Iterator[tuple[list[Mark], list[Mark]]]:
 
 
 def numbers_of(rows: list[list[Border]], with_corners: bool) -> dict[Place, int]:
-    """The number in the full map of each clump of each tile: clumps that a chain of meetings joins have one number."""
+    """Return the full map's number for each clump of each tile. Clumps that are connected by a
+    chain of meetings have one number."""
     places = sorted(
         place_of(row, col, tile, number)
         for row, line in enumerate(rows)
@@ -661,7 +670,7 @@ def is_option(word: bytes) -> bool:
 
 
 def is_wrong(key: bytes, value: bytes) -> bool:
-    """Whether r.stats also rejects the value of an option."""
+    """Return whether r.stats also rejects the value of an option."""
     if key == b"null_value":
         return not VISIBLE.fullmatch(value)
     return value not in SEPARATORS and not (len(value) == 1 and VISIBLE.fullmatch(value))
@@ -726,7 +735,8 @@ def output_of(words: list[bytes], files: Mapping[bytes, Given]) -> bytes:
 
 
 def answer(words: list[bytes], files: Mapping[bytes, Given]) -> Reply:
-    """The status, the output and the message of rcell-join with these words, over files by their names."""
+    """Return the status, the output and the message of rcell-join with these arguments, over files
+    by name."""
     try:
         return 0, output_of(words, files), b""
     except Fault as fault:

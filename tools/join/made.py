@@ -1,4 +1,5 @@
-"""What rcell-join is tried on: random tables, maps that are hard to cut, their tiles, and texts that are damaged."""
+"""Make the inputs of rcell-join's tests: random tables, maps that are hard to cut, their tiles, and
+damaged texts."""
 from __future__ import annotations
 
 import random
@@ -37,7 +38,7 @@ LABELS = [
 
 
 def labels_of(draw: random.Random, form: Format, cells: Cells, strange: float) -> Labels:
-    """The labels of cells, which all texts have, but others now and then."""
+    """Return the labels of cells, which are usually the same in all texts."""
     if not form.labels:
         return ()
     usual = [
@@ -48,7 +49,7 @@ def labels_of(draw: random.Random, form: Format, cells: Cells, strange: float) -
 
 
 def random_files(draw: random.Random, form: Format) -> Named:
-    """Texts of tables at random, of which one in three is damaged."""
+    """Return random texts of tables, one in three of which is damaged."""
     width, cells, strange = draw.randint(1, 4), draw.choice([2, 3, 9]), draw.choice([0, 0, 0.03])
     files = []
     for place in range(draw.randint(1, 6)):
@@ -78,7 +79,8 @@ def random_files(draw: random.Random, form: Format) -> Named:
 
 
 def long_files(draw: random.Random, form: Format) -> Named:
-    """Texts of tables that are longer than the blocks in which they are read, of which one in three is damaged."""
+    """Return texts of tables that are longer than the blocks in which they are read, one in three
+    of which is damaged."""
     width, files = draw.choice([1, 2, 4, 16]), []
     greatest = draw.choice([9, 5000, 2**31 - 1])
     for place in range(draw.randint(1, 5)):
@@ -103,7 +105,8 @@ def long_files(draw: random.Random, form: Format) -> Named:
 
 
 def damaged(draw: random.Random, text: bytes, separator: bytes = b" ") -> bytes:
-    """A text that was cut off, or has one byte other or more, or its lines in another order, or one of them twice."""
+    """Return a text that is truncated, has a changed or added byte, or has its lines reordered or
+    repeated."""
     lines, at = text.splitlines(keepends=True), draw.randrange(len(text) + 1)
     kind = draw.randrange(6)
     if kind == 0:
@@ -122,7 +125,8 @@ def damaged(draw: random.Random, text: bytes, separator: bytes = b" ") -> bytes:
 
 
 def labelling(draw: random.Random, whole: CellMap) -> tuple[bytes, list[bytes]]:
-    """A script that gives the categories of a map labels and prints its table with them, and the options by which such tables are joined."""
+    """Return a script that labels the categories of a map and prints its table with labels, and the
+    options with which these tables are joined."""
     cells = sorted({cell for row in whole.rows for cell in row if cell is not None})
     rules = [b"* = *" if draw.random() < 0.5 else b"* = 5 the rest"]
     for cell in draw.sample(cells, draw.randint(0, min(len(cells), 6))):
@@ -149,14 +153,15 @@ def labelling(draw: random.Random, whole: CellMap) -> tuple[bytes, list[bytes]]:
 
 
 def comb(rows: int, cols: int) -> Rows:
-    """Teeth that meet in the last row alone: one clump, which is many until the last row of tiles."""
+    """Return a comb whose teeth meet only in the last row: a single clump, which looks like many
+    until the last row of tiles."""
     return [
         [1 if row == rows - 1 or col % 2 == 0 else 2 for col in range(cols)] for row in range(rows)
     ]
 
 
 def spiral(rows: int, cols: int) -> Rows:
-    """A way from the corner to the middle, one cell wide."""
+    """Return a path from the corner to the middle, one cell wide."""
     cells: Rows = [[2] * cols for _ in range(rows)]
 
     def is_way(row: int, col: int) -> bool:
@@ -203,7 +208,8 @@ SHAPES: dict[str, Callable[[int, int], Rows]] = {
 
 
 def random_rows(draw: random.Random, rows: int, cols: int) -> Rows:
-    """Random cells of one to nine categories, up to half of them null; copies of neighbours make longer clumps."""
+    """Return random cells with one to nine categories, up to half of them null. Copies of
+    neighbours make longer clumps."""
     kinds: list[Cell] = [
         *draw.choice([range(1, 10), range(0, 9), range(-4, 5), [-2147483647, 2147483647]])
     ][: draw.randint(1, 9)]
@@ -229,7 +235,7 @@ def random_rows(draw: random.Random, rows: int, cols: int) -> Rows:
 
 
 def random_map(draw: random.Random) -> CellMap:
-    """A random map of up to 24 x 24 cells, or a shape that is hard to cut."""
+    """Return a random map of up to 24 x 24 cells, or a shape that is hard to cut."""
     rows, cols = (
         draw.choice([1, draw.randint(1, LARGEST_SIDE), draw.randint(1, LARGEST_SIDE)])
         for _ in range(2)
@@ -243,7 +249,8 @@ def random_map(draw: random.Random) -> CellMap:
 
 
 def in_region(draw: random.Random, rows: Rows) -> CellMap:
-    """Cells as a map; its sides have decimals in some, and are as far out as sides may be in others."""
+    """Return cells as a map. Some regions have decimal edges, and some are as far out as
+    possible."""
     height, width = draw.choice([(1, 1), (25, 25), (0.5, 2), (0.00000001, 3)])
     north = draw.choice([0, len(rows) * height, 5 * 10**6, -0.25])
     south, west = north - len(rows) * height, draw.choice([0, -3.5, 4 * 10**5])
@@ -259,7 +266,8 @@ def in_region(draw: random.Random, rows: Rows) -> CellMap:
 
 @dataclass(frozen=True)
 class Cut:
-    """A map, and the row after each row of tiles, from the top, with the column after each column of tiles, from the left."""
+    """A map, and where it is cut: the row after each row of tiles, and the column after each column
+    of tiles."""
 
     whole: CellMap
     ends: list[int]
@@ -271,7 +279,7 @@ class Cut:
 
     @property
     def spans(self) -> list[Span]:
-        """The rows and the columns of each tile, up to the one after it, row by row."""
+        """Return the rows and columns of each tile, up to the one after it, row by row."""
         return [
             (*rows, *cols)
             for rows in zip([0, *self.ends], self.ends)
@@ -280,7 +288,7 @@ class Cut:
 
 
 def tile_of(whole: CellMap, span: Span) -> CellMap:
-    """Some rows and columns as a map of their own."""
+    """Return some rows and columns as a separate map."""
     region, (top, bottom, left, right) = whole.region, span
     height, width = (region.north - region.south) // region.rows, (
         region.east - region.west
@@ -294,7 +302,7 @@ def tile_of(whole: CellMap, span: Span) -> CellMap:
 
 
 def random_ends(draw: random.Random, count: int) -> list[int]:
-    """One to five rows or columns of tiles."""
+    """Return one to five rows or columns of tiles."""
     return [
         *sorted(draw.sample(range(1, count), draw.randint(0, min(count, MOST_TILES) - 1))),
         count,
@@ -302,7 +310,7 @@ def random_ends(draw: random.Random, count: int) -> list[int]:
 
 
 def random_cut(draw: random.Random, whole: CellMap) -> Cut:
-    """A grid of tiles of uneven sizes; in one of four it has one column."""
+    """Return a grid of tiles with uneven sizes. One in four grids has only one column."""
     cols = whole.region.cols
     return Cut(
         whole,
@@ -312,7 +320,7 @@ def random_cut(draw: random.Random, whole: CellMap) -> Cut:
 
 
 def some_cuts(draw: random.Random, whole: CellMap) -> list[Cut]:
-    """Single cells, single columns, single rows, halves, and random cuts."""
+    """Return cuts into single cells, single columns, single rows, halves, and random cuts."""
     rows, cols = whole.region.rows, whole.region.cols
     all_rows, all_cols = list(range(1, rows + 1)), list(range(1, cols + 1))
     return [

@@ -1,4 +1,5 @@
-"""Named cases of rcell-join: words, files, and the status, output and message that must come. join_model.py must agree in each."""
+"""Named cases of rcell-join: arguments, files, and the expected status, output and message.
+join_model.py must agree with each."""
 from __future__ import annotations
 
 from typing import Iterator, Mapping
@@ -428,7 +429,7 @@ GREATEST_SIDE = 65535
 
 
 def placed(place: Place, body: bytes) -> bytes:
-    """A grid of these rows between these edges."""
+    """Return a grid of these rows between these edges."""
     north, south, west, east = place
     rows, cols = body.count(b"\n"), len(body.partition(b"\n")[0].split())
     return (
@@ -439,7 +440,7 @@ def placed(place: Place, body: bytes) -> bytes:
 
 
 def bordered(place: Place, *lines: bytes, width: int = 4) -> bytes:
-    """A border between these edges: its lines, filled with nulls."""
+    """Return a border between these edges: its lines, padded with nulls."""
     return placed(
         place,
         b"".join(
@@ -449,7 +450,8 @@ def bordered(place: Place, *lines: bytes, width: int = 4) -> bytes:
     )
 
 
-# A map of three rows of four, 1 1 2 2, 1 2 2 *, 3 3 1 1, cut after the second row and the second column.
+# A map of three rows of four cells, 1 1 2 2, 1 2 2 *, 3 3 1 1, cut after the second row and the
+# second column.
 PLACES: dict[bytes, Place] = {
     b"a": (3, 1, 0, 2),
     b"b": (3, 1, 2, 4),
@@ -468,14 +470,15 @@ NUMBERING = b"1 1 2 1\n2 1 1 2\n3 1 1 3\n4 1 1 4\n"
 
 
 def by_corners(text: bytes) -> bytes:
-    """The same border, of a tile whose clumps are also joined by corners, and are the same."""
+    """Return the border of a tile whose clumps do not change if cells are also connected at
+    corners."""
     return b"\n".join(
         line[:-1] + b"8" if at == 14 else line for at, line in enumerate(text.split(b"\n"))
     )
 
 
 def with_line(name: bytes, number: int, line: bytes, width: int = 4) -> dict[bytes, bytes]:
-    """The tiles, of which one has another line in its border."""
+    """Return the tiles, of which one has a different line in its border."""
     lines = [line if at == number else own for at, own in enumerate(LINES[name], 1)]
     return {**TILES, name: bordered(PLACES[name], *lines, width=width)}
 

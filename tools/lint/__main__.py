@@ -1,14 +1,17 @@
-"""Lints the crates, documents and Python: `make lint`, in seconds and without a proof.
+"""Lint the crates, documents and Python: `make lint`, in seconds and without proofs.
 
     python3 tools/lint [--write | --words] [RULE..]
 
-Each rule has its findings, one a line, and its lines in exceptions.txt. A finding that is not there is an error, and so is a line
-that is no finding any more: the lists may only shrink. Rules that count list a number a file or crate, which may only fall. The
-documents and messages for users have no retired word (prose.py); pages keep to their lengths and have no sentence in common
-(pages.py). Rules are tried side by side. Python files that passed are kept by their sums (passed.py), and not tried again.
+Each rule has findings, one per line, and allowed findings in exceptions.txt. A finding that is not
+listed there is an error, and so is a listed line that is no longer a finding: the lists may only
+shrink. Rules that count list a number per file or crate, which may only fall. The documents and
+messages for users must not contain retired words (prose.py), and pages must keep to their lengths
+and share no sentences (pages.py). Rules are run in parallel. Python files that passed are recorded
+by their hashes (passed.py), and not checked again.
 
-With --write the lists are written as the findings are, which is for the commit that takes findings away; a list that would grow
-is left as it is. --words prints the retired words of docstrings and comments. The last line is 'N passed, M failed, K skipped'.
+--write updates the lists, for a commit that removes findings; a list that would grow is not
+changed. --words prints the retired words in docstrings and comments. The last line is 'N passed, M
+failed, K skipped'.
 """
 import argparse
 import pathlib
@@ -25,7 +28,7 @@ import rules
 
 ROOT = pathlib.Path(__file__).resolve().parent.parent.parent
 MANUAL = ".1"  # the ending of a manual page
-# These use one graph of citations, which takes longer than the rules.
+# These rules share a graph of citations, which takes longer to build than the rules.
 TOGETHER = [("uncited", "dead_lemmas")]
 
 
@@ -34,7 +37,7 @@ def as_counts(lines):
 
 
 def faults_of(rule, findings, allowed):
-    """What is wrong with findings and exceptions: a list of lines."""
+    """Return the errors in findings and exceptions, as a list of lines."""
     if rule in rules.COUNTED:
         found, listed = as_counts(findings), as_counts(allowed)
         grown = [key for key, number in found.items() if number > listed.get(key, 0)]
@@ -63,7 +66,7 @@ def total(rule, lines):
 
 
 def write_exceptions(rule, findings, allowed):
-    """Writes the findings as the exceptions, unless there would be more of them."""
+    """Write the findings as exceptions, unless there would be more of them."""
     if any("not listed" in it or "at most" in it for it in faults_of(rule, findings, allowed)):
         print(f"{rule}: the list would grow, and is left as it is")
     elif findings != allowed:
@@ -86,13 +89,13 @@ def python_files():
 
 
 def faults_of_tool(tool):
-    """Errors of black, flake8 or mypy; None if it is not installed."""
+    """Return the errors of black, flake8 or mypy, or None if it is not installed."""
     if not shutil.which(tool):
         return None
     settings = [ROOT / ".flake8", ROOT / "pyproject.toml"]
     files = python_files()
     if tool == "mypy":
-        # It reads files in terms of one another.
+        # mypy checks files in the context of one another.
         files = [it for it in files if it.startswith("tools/lint/")]
         settings += [ROOT / it for it in files]
     known = passed.Passed(passed.tool(tool, *settings), ROOT)
@@ -115,13 +118,13 @@ TOOLS = ("black", "flake8", "mypy")
 
 
 def findings_of(names):
-    """The findings of some rules, each list by its rule; a tool for Python and the prose are tasks as well."""
+    """Return the findings of some rules, by rule. The Python tools and the prose are also tasks."""
     tasks = {**rules.ALL, "prose": lambda: prose.faults() + pages.faults()}
     return {it: faults_of_tool(it) if it in TOOLS else tasks[it]() for it in names}
 
 
 def all_findings(names):
-    """The findings of rules, by rule, tried side by side."""
+    """Return the findings of rules, by rule. The rules are run in parallel."""
     shared = [tuple(it for it in group if it in names) for group in TOGETHER]
     alone = [(it,) for it in names if not any(it in group for group in shared)]
     with ProcessPoolExecutor() as pool:
@@ -130,7 +133,7 @@ def all_findings(names):
 
 
 def report(rule, findings, is_written):
-    """Prints what a rule found, and returns whether all is well."""
+    """Print the findings of a rule, and return whether all is well."""
     allowed = exceptions.of(rule)
     if is_written:
         write_exceptions(rule, findings, allowed)
@@ -145,7 +148,8 @@ def report(rule, findings, is_written):
 
 
 def report_others(found):
-    """Prints the errors in Python files and in the documents, and returns which are well and how many tools are not installed."""
+    """Print the errors in Python files and documents. Return which are right, and the number of
+    tools that are not installed."""
     missing = [it for it in TOOLS if found[it] is None]
     for tool in missing:
         print(f"skipped  lint: {tool} is not installed; install: apt-get install {tool}")

@@ -1,4 +1,5 @@
-"""The rule of the lint on the subjects of commits: `room: imperative sentence`, at most 72 characters, without a full stop."""
+"""Check the subjects of commits: `room: imperative sentence`, at most 72 characters, without a full
+stop."""
 import pathlib
 import re
 import subprocess
@@ -7,22 +8,24 @@ ROOT = pathlib.Path(__file__).resolve().parent.parent.parent
 LAST_OLD = "45e62915"  # the last commit before the rule
 MOST_COLUMNS = 72
 SUBJECT = re.compile(r"[a-z][\w./-]*(, [a-z][\w./-]*)*: (?P<verb>[a-z]+) .*[^.]")
-# `adds` and `added` are not imperative; these are, and end in the same letters.
+# `adds` and `added` are not imperatives. These words are, although they have the same endings.
 NOT_IMPERATIVE = re.compile(r".*(ed|ing|[^s]s)")
 IMPERATIVE = set("embed exceed feed need shed seed speed bring string focus discus bias".split())
 
 
 def subjects():
-    """The commits after the last old one, each with its subject; none if the history is not here."""
+    """Yield the commits after the last old one, each with its subject, or none if the history is
+    not available."""
     words = ["git", "log", "--no-merges", "--format=%H %s", f"{LAST_OLD}..HEAD"]
     listed = subprocess.run(words, cwd=ROOT, capture_output=True, text=True, check=False).stdout
-    # git's own short hashes grow with the repository, and the list of exceptions has these.
+    # The length of git's short hashes grows with the repository, so the list of exceptions has a
+    # fixed length.
     pairs = (line.split(" ", 1) for line in listed.splitlines())
     return [(commit[: len(LAST_OLD)], subject) for commit, subject in pairs]
 
 
 def fault_of(subject):
-    """What is wrong with a subject, or ''."""
+    """Return the error of a subject, or ''."""
     if len(subject) > MOST_COLUMNS:
         return f"{len(subject)} characters, at most {MOST_COLUMNS}"
     found = SUBJECT.fullmatch(subject)

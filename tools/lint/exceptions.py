@@ -1,4 +1,5 @@
-"""The findings allowed so far, in exceptions.txt: `[RULE]`, then one a line. A rule that is not there has none."""
+"""Read and write the allowed findings in exceptions.txt: `[RULE]`, then one per line. A rule that
+is not listed has none."""
 import pathlib
 import re
 
@@ -6,7 +7,7 @@ PATH = pathlib.Path(__file__).resolve().parent / "exceptions.txt"
 
 
 def read():
-    """The comment at the head of the file, and the lines of each rule."""
+    """Return the comment at the head of the file, and the lines of each rule."""
     text = PATH.read_text(encoding="utf-8") if PATH.exists() else ""
     head, *sections = re.split(r"^\[(\w+)\]\n", text, flags=re.MULTILINE)
     return head, {
@@ -16,12 +17,12 @@ def read():
 
 
 def of(rule):
-    """The lines of a rule."""
+    """Return the lines of a rule."""
     return read()[1].get(rule, [])
 
 
 def write(rule, lines):
-    """Writes the lines of a rule."""
+    """Write the lines of a rule."""
     head, sections = read()
     sections[rule] = lines
     texts = [f"[{name}]\n" + "".join(f"{it}\n" for it in sections[name]) for name in sections]

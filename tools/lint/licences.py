@@ -1,4 +1,4 @@
-"""The rule of the lint on licences and versions: what each place in the repository says of them is the same."""
+"""Check licences and versions: all places in the repository must name the same ones."""
 import pathlib
 import re
 import subprocess
@@ -8,7 +8,7 @@ LICENCE = "Apache-2.0 OR GPL-2.0-or-later"
 SPDX = f"SPDX-License-Identifier: {LICENCE}"
 TOP_LINES = 5
 HELPERS = ("rcell-gis",)
-# Each place that names the licence, and its line in the form of that place.
+# The places that name the licence, each with its line in the format of that place.
 NAMED = {
     "LICENSE.md": SPDX,
     "python/pyproject.toml": f'license = "{LICENCE}"',
@@ -17,7 +17,7 @@ NAMED = {
     "CITATION.cff": "license:\n  - Apache-2.0\n  - GPL-2.0-or-later",
     "packaging/copyright.in": "License: Apache-2.0 or GPL-2+",
 }
-# Of the folders that users copy files from, those that carry the line themselves.
+# The folders from which users copy files, and that contain the line themselves.
 COPIED = re.compile(
     r"helpers/(?!tests/|.*\.(1|json|md|mk)$)|(python/src|qgis/rcell)/.*\.py$|r/rcell/R/.*\.R$|grass/r\.rcell/r\.rcell\.py$|Makefile$"
 )
@@ -29,7 +29,7 @@ def read(name):
 
 
 def tracked():
-    """The files of the repository, also new ones that git does not ignore."""
+    """Return the files of the repository, including new ones that git does not ignore."""
     words = ["git", "ls-files", "--cached", "--others", "--exclude-standard"]
     names = subprocess.run(
         words, cwd=ROOT, capture_output=True, text=True, check=True

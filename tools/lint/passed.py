@@ -1,4 +1,5 @@
-"""Remembers which files a check found good, in the user's folder of caches, by a sum of the file, its name and the check."""
+"""Remember which files passed a check, in the user's cache folder, by a hash of the file, its name
+and the check."""
 import hashlib
 import os
 import pathlib
@@ -10,13 +11,13 @@ FOLDER = pathlib.Path(
 
 
 def tool(words, *configurations):
-    """A sum of a tool and its files of settings, for Passed."""
+    """Return a hash of a tool and its configuration files, for Passed."""
     version = subprocess.run([words, "--version"], capture_output=True, check=False).stdout
     return version + b"".join(path.read_bytes() for path in configurations)
 
 
 class Passed:
-    """The files that a check found good. Where nothing can be kept, every file is checked."""
+    """The files that passed a check. If nothing can be stored, every file is checked."""
 
     def __init__(self, check, root):
         self.check, self.root = hashlib.sha256(check).digest(), root

@@ -1,8 +1,8 @@
-"""The English of the documents: retired words (retired.txt), and the lengths of sentences.
+"""Check the English of the documents: retired words (retired.txt), and the lengths of sentences.
 
-A document for users has no retired word, nor has a message of the helpers and of rcell.core, a docstring or a comment. In a
-page for users a sentence has at most 18 words on average, at most 10 % of the sentences have more than 25, and at most 1 % more
-than 45.
+Documents for users, messages of the helpers and of rcell.core, docstrings and comments must not
+contain retired words. In a page for users, sentences have at most 18 words on average, at most 10 %
+of them have more than 25 words, and at most 1 % more than 45.
 """
 import ast
 import functools
@@ -17,7 +17,7 @@ import passed
 
 ROOT = pathlib.Path(__file__).resolve().parent.parent.parent
 MEAN_WORDS, LONG, MOST_LONG, VERY_LONG, MOST_VERY_LONG = 18, 25, 0.10, 45, 0.01
-# For those who change the program, not for those who use it.
+# Documents for developers of the program, not for its users.
 FOR_DEVELOPERS = {
     "docs/DECISIONS.md",
     "docs/architecture.md",
@@ -36,7 +36,7 @@ MESSAGES_OF, SENTENCES = (
     "python/src/rcell/core/messages.json",
 )
 FENCED = re.compile(r"^```.*?^```$", re.MULTILINE | re.DOTALL)
-# Phrases that neither a document nor a helper or package has, in code and tests of R included.
+# Phrases that must not occur in documents, helpers and packages, including the code and tests of R.
 IN_SOURCES = re.compile(r"README\.md|docs/[^/]*\.(md|1)|(helpers|python/src|r/rcell|qgis/rcell)/.*")
 PHRASES = re.compile(
     r"\b(is|are|was) told\b|\btells?\b|\banswers (a|an|the|all|which|one)\b|\bwhat (no|the) [a-z]+ (names|refuses|has|gives|makes)\b"
@@ -44,7 +44,8 @@ PHRASES = re.compile(
     r"|\bstands? (in|for|on|beside|behind|alone)\b",
     re.IGNORECASE,
 )
-# Code in docstrings and comments: what backticks enclose, paths, options, targets of make; keys of tables, and of parameters.
+# Code in docstrings and comments: text in backticks, paths, options, make targets, and keys of
+# tables and parameters.
 CODE = re.compile(
     r"`[^`]*`|[\w.*]*/[\w./*]*|(?<=[\s[])--[\w-]+|^# make [\w-]+|\b\w+\.py\b|^[\w, ]+ : |^\w+  "
 )
@@ -64,7 +65,7 @@ COMMENT_OF = {
 
 @functools.cache
 def patterns():
-    """The retired patterns, each with what to write instead."""
+    """Return the retired patterns, each with its replacement."""
     lines = (pathlib.Path(__file__).parent / "retired.txt").read_text(encoding="utf-8").splitlines()
     return [
         (re.compile(pattern), instead)
@@ -76,7 +77,7 @@ def patterns():
 
 @functools.cache
 def tracked():
-    """The files of the repository, by their paths below its top."""
+    """Return the files of the repository, as relative paths."""
     listed = subprocess.run(
         ["git", "ls-files", "--cached", "--others", "--exclude-standard"],
         cwd=ROOT,
@@ -88,7 +89,8 @@ def tracked():
 
 
 def documents():
-    """The documents for users: Markdown pages, manual pages, pages of R, the page of r.rcell and notebooks."""
+    """Return the documents for users: Markdown pages, manual pages, R pages, the page of r.rcell
+    and notebooks."""
     return [
         name
         for name in tracked()
@@ -97,13 +99,14 @@ def documents():
 
 
 def text_cells(notebook):
-    """The cells of a notebook that are prose, on lines of their own."""
+    """Return the prose cells of a notebook, each on separate lines."""
     cells = json.loads(notebook)["cells"]
     return "\n\n".join("".join(it["source"]) for it in cells if it["cell_type"] == "markdown")
 
 
 def plain(name):
-    """The prose of a document on its lines, but for notebooks: code, links and markup are blanked out."""
+    """Return the prose of a document with code, links and markup blanked out. Lines are preserved,
+    except for notebooks."""
     text = (ROOT / name).read_text(encoding="utf-8")
     if name.endswith(".ipynb"):
         return re.sub(r"`[^`\n]*`", "CODE", text_cells(text))
@@ -129,7 +132,7 @@ def plain(name):
 
 
 def retired_in(text):
-    """The retired words of a text: the line, the word, and what to write instead."""
+    """Yield the retired words in a text: the line, the word, and its replacement."""
     for number, line in enumerate(text.split("\n"), 1):
         for pattern, instead in patterns():
             for found in pattern.finditer(line):
@@ -137,7 +140,7 @@ def retired_in(text):
 
 
 def sentences(text):
-    """The sentences of a page, without headings and tables; an item of a list is a paragraph."""
+    """Return the sentences of a page, without headings and tables. A list item is a paragraph."""
     lines = [
         re.sub(r"^\s*(?:[-*]|\d+\.) ", "\n", line)
         for line in text.split("\n")
@@ -151,7 +154,7 @@ def sentences(text):
 
 
 def long_winded(name):
-    """What is wrong with the lengths of the sentences of a page, or ''."""
+    """Return the error in the sentence lengths of a page, or ''."""
     lengths = [len(re.findall(r"[^\s·]*\w[^\s·]*", it)) for it in sentences(plain(name))]
     if len(lengths) < 10:
         return ""
@@ -165,7 +168,8 @@ def long_winded(name):
 
 
 def strings_of(name):
-    """The strings of several words of a Python file, each with its line; a string that is a statement documents something."""
+    """Return the strings of several words in a Python file, each with its line, except for
+    docstrings."""
     tree = ast.parse((ROOT / name).read_text(encoding="utf-8"))
     documenting = {id(node.value) for node in ast.walk(tree) if isinstance(node, ast.Expr)}
     for node in ast.walk(tree):
@@ -179,7 +183,7 @@ def strings_of(name):
 
 
 def messages():
-    """The messages that are checked, each with its file and line."""
+    """Yield the messages that are checked, each with its file and line."""
     for name in filter(MESSAGES_OF.fullmatch, tracked()):
         yield from ((name, number, text) for number, text in strings_of(name))
     for sentences in json.loads((ROOT / SENTENCES).read_text(encoding="utf-8")).values():
@@ -187,7 +191,7 @@ def messages():
 
 
 def phrases_in_sources():
-    """Yield each retired phrase of the documents, helpers and packages, with its file and line."""
+    """Yield each retired phrase in the documents, helpers and packages, with its file and line."""
     for name in filter(IN_SOURCES.fullmatch, tracked()):
         content = (ROOT / name).read_bytes()
         for number, line in enumerate(
@@ -200,7 +204,7 @@ def phrases_in_sources():
 
 
 def faults():
-    """What is wrong with the documents for users, one a line."""
+    """Return the errors in the documents for users, one per line."""
     found = list(phrases_in_sources())
     for name in documents():
         found += [
@@ -218,7 +222,7 @@ def faults():
 
 
 def comments_of_python(text):
-    """The lines of the docstrings and comments of a Python file, by their numbers."""
+    """Return the lines of the docstrings and comments in a Python file, by line number."""
     lines, found = text.split("\n"), {}
     for node in ast.walk(ast.parse(text)):
         if isinstance(node, DOCUMENTED) and ast.get_docstring(node) is not None:
@@ -233,7 +237,7 @@ def comments_of_python(text):
 
 
 def comments_of(name):
-    """The lines of the docstrings and comments of a source file, by their numbers."""
+    """Return the lines of the docstrings and comments in a source file, by line number."""
     text = (ROOT / name).read_text(encoding="utf-8", errors="replace")
     if PYTHON.fullmatch(name):
         return comments_of_python(text)
@@ -246,7 +250,8 @@ def comments_of(name):
 
 
 def retired_in_comments(name):
-    """Yield each retired word of the docstrings and comments of a file, with its file and line; code is left out."""
+    """Yield each retired word in the docstrings and comments of a file, with its file and line.
+    Code is left out."""
     is_code = False
     for number, line in sorted(comments_of(name).items()):
         is_code ^= "```" in line
@@ -255,7 +260,8 @@ def retired_in_comments(name):
 
 
 def retired_by_file():
-    """The number of retired words in the docstrings and comments of each file that has some."""
+    """Return the number of retired words in the docstrings and comments of each file that contains
+    some."""
     rules = [pathlib.Path(__file__), pathlib.Path(__file__).parent / "retired.txt"]
     known = passed.Passed(b"".join(path.read_bytes() for path in rules), ROOT)
     sources = [

@@ -1,15 +1,19 @@
 #!/usr/bin/env python3
-"""Prints what has to be believed of the program: the definitions that its theorem uses, in reading order.
+"""Print what has to be believed of the program: the definitions that its theorem uses, in reading
+order.
 
     reading.py [--count | --check] [COMMAND]
 
-The theorem is the clause `headline` of rcell::run. From it the definitions and the declarations of Rust types are followed
-that it cites, each printed after the ones that it uses, with its comment and under the name of its file. COMMAND (r.mapcalc,
-r.reclass, r.clump, r.stats, r.out.ascii) leaves out what the other commands alone use, with the equations and constructors
-that are theirs, and r.stats what its lines of single cells (-1) alone do: it is the table that is read. The last line is
-'N lines of definitions, M with comments, T of Rust types'; with --count it is the only one. What the standard library and
-the language define is not printed. --check prints each name that a printed definition uses and that is not printed itself, and
-ends with status 1 if there is one.
+The theorem is the clause `headline` of rcell::run. The definitions and the declarations of Rust
+types that it cites are followed from there. Each is printed after those that it uses, with its
+comment and under the name of its file. COMMAND (r.mapcalc, r.reclass, r.clump, r.stats,
+r.out.ascii) leaves out what only the other commands use, with their equations and constructors. For
+r.stats, it also leaves out the lines of single cells (-1).
+
+The last line is 'N lines of definitions, M with comments, T of Rust types'. With --count, it is the
+only line. Definitions of the standard library and the language are not printed. --check prints each
+name that a printed definition uses but that is not printed, and exits with status 1 if there is
+one.
 """
 import argparse
 import itertools
@@ -20,7 +24,8 @@ import sys
 import sources
 
 RUN_FILE, RUN, HEADLINE = "rcell/src/running.rt", "run", "headline"
-# What one command alone uses begins at these definitions: how a line spells it, and what it makes or prints.
+# What only one command uses begins at these definitions: how a line spells the command, and what it
+# makes or prints.
 BEGINNINGS = {
     "r.mapcalc": ["SpellsMapcalc", "IsWithValues"],
     "r.reclass": ["SpellsReclass", "IsWithClasses", "AreRules", "IsEnd"],
@@ -28,7 +33,7 @@ BEGINNINGS = {
     "r.stats": ["SpellsStats", "stats_text"],
     "r.out.ascii": ["SpellsOutAscii", "out_ascii_text"],
 }
-# What a command's other output alone uses, if its main one is read.
+# Definitions used only by a secondary output of a command.
 BESIDES = {"r.stats": ["cell_lines"]}
 
 
@@ -52,7 +57,7 @@ class Reading:
         self.find_types()
 
     def find_given_on(self):
-        """What modules give on of others."""
+        """Find what modules re-export from others."""
         for _, path, text in sources.read_files("specs"):
             for line in text.split("\n"):
                 if match := re.match(r"pub use Rattle\.([^\s{}]+?)\.\{(.*)\}", line):
@@ -62,7 +67,8 @@ class Reading:
                     )
 
     def find_types(self):
-        """The declarations of public structs, enums and constants, by crate, module and name."""
+        """Find the declarations of public structs, enums and constants, by crate, module and
+        name."""
         for crate, path, text in sources.read_files("src"):
             module = path[len(crate) + len("/src/") :].removesuffix(".rt").replace("/", ".")
             blanked = sources.blank_literals(text)
@@ -76,7 +82,7 @@ class Reading:
                 )
 
     def resolve(self, target):
-        """The definition or the type that a (module, name) pair stands for, or None."""
+        """Return the definition or type that a (module, name) pair denotes, or None."""
         while target in self.given_on:
             target = self.given_on[target]
         if target in self.definitions:
@@ -97,7 +103,8 @@ class Reading:
         )
 
     def lines_without(self, key, stops):
-        """The lines of a definition, without equations and constructors that cite what is named in stops, where others are left."""
+        """Return the lines of a definition, without equations and constructors that cite names in
+        `stops`, if others remain."""
         it = self.definitions[key]
         begins = re.compile(r"  \S+ : " if it.kind == "data" else re.escape(it.name) + r" (?!: )")
         starts = [place for place, line in enumerate(it.lines) if begins.match(line)]
@@ -114,7 +121,7 @@ class Reading:
         )
 
     def cited_by(self, key, stops):
-        """The keys that a definition cites, in the order of its words."""
+        """Return the keys that a definition cites, in the order of its words."""
         it, found = self.definitions[key], {}
         for word in sources.words_of(
             sources.without_comment("\n".join(self.lines_without(key, stops)))
@@ -129,14 +136,15 @@ class Reading:
         return list(found)
 
     def targets_of(self, definition, word):
-        """The (module, name) pairs that a word of a definition may stand for, imported or of its own module."""
+        """Return the (module, name) pairs that a word in a definition may denote, imported or from
+        its own module."""
         head, targets = word.strip(".:").split(".")[0], definition.imports.targets(word)
         if head in self.own[definition.module] or (definition.module, head) in self.constructors:
             targets = [*targets, (definition.module, head)]
         return targets
 
     def starts(self):
-        """What the headline cites."""
+        """Return what the headline cites."""
         text = next(text for _, path, text in sources.read_files("src") if path == RUN_FILE)
         imports, found = sources.read_imports(text), {}
         clauses = [
@@ -153,7 +161,8 @@ class Reading:
         return headline, list(found)
 
     def walk(self, starts, stops):
-        """All that the starts use, each after what it uses; what is named in stops is left out."""
+        """Return everything that the starts use, each after what it uses, without the names in
+        `stops`."""
         order, seen = [], set()
 
         def visit(key):
@@ -170,9 +179,11 @@ class Reading:
 
 
 def unprinted(reading, order):
-    """The names that printed definitions use and that are not printed: PATH: DEFINITION uses NAME.
+    """Return the names that printed definitions use but that are not printed: PATH: DEFINITION uses
+    NAME.
 
-    A definition is read again from its file up to a blank line, so that what the reader of sources leaves out is found.
+    Each definition is read again from its file up to a blank line, so that this also finds what the
+    reader of sources leaves out.
     """
     found, printed, crates = [], set(order), sources.crate_names(True)
     for key in order:
@@ -189,7 +200,7 @@ def unprinted(reading, order):
 
 
 def words_up_to_blank(path, line):
-    """The words of a file from a line to the next blank line, without comments."""
+    """Return the words in a file from a line to the next blank line, without comments."""
     lines = path.read_text(encoding="utf-8").split("\n")[line - 1 :]
     return sources.words_of(
         sources.without_comment("\n".join(itertools.takewhile(str.strip, lines)))
@@ -201,7 +212,7 @@ def lines_of_code(text):
 
 
 def print_reading(reading, headline, order, stops):
-    """Prints what was found, under the names of files."""
+    """Print what was found, under the names of files."""
     print(f"-- {RUN_FILE}: the theorem\n{headline.text}")
     last = None
     for key in order:
@@ -223,7 +234,7 @@ def print_reading(reading, headline, order, stops):
 
 
 def main():
-    # Of a pipe that is closed early, as by head, nothing is said.
+    # If the output is a pipe that is closed early, for example with head, no error is reported.
     signal.signal(signal.SIGPIPE, signal.SIG_DFL)
     parser = argparse.ArgumentParser(description=__doc__.splitlines()[0])
     parser.add_argument("--count", action="store_true", help="print the numbers of lines alone")

@@ -1,4 +1,5 @@
-"""The rules of the lint. Each is a function that returns its findings, one a line; the first line of its doc says what they are."""
+"""The rules of the lint. Each function returns its findings, one per line, and the first line of
+its docstring describes them."""
 import functools
 import re
 import subprocess
@@ -12,14 +13,14 @@ import sources
 
 CLAUSE_COLUMNS, LONGEST_CLAUSE, SPECS_COLUMNS, PROOF_COLUMNS = 100, 120, 120, 120
 MOST_FUNCTIONS, MOST_CODE, MOST_PROOFS = 100, 1600, 5000
-# Names that mean the same wherever they are: Rust's own, and the ones that std's traits ask for.
+# Names that have the same meaning everywhere: Rust's own, and those that std's traits require.
 COMMON_FUNCTIONS = {"new", "len", "get", "next", "from", "is_empty", "bytes", "drop", "clone"}
 COMMON_FILES = {"lib", "main", "law"}
 COMMON_SPECS = {"Lib", "parts"}
 ANSWERS = {"Answers.antt", "Invariants.antt", "Proof.antt"}
 WORKED = "Worked.antt"
-# The crates that the steps of an expression are for: those that make them, the one that evaluates them, and the one that
-# says how far they reach.
+# The crates that use the steps of an expression: they make them, evaluate them, or compute how far
+# they reach.
 CRATES_OF_STEPS = {
     "cell_calc_grammar",
     "cell_calc_language",
@@ -61,7 +62,7 @@ def widest_clauses():
 
 
 def wide_lines(kind, most):
-    """The numbers of lines of more columns, by crate."""
+    """Return the numbers of lines with more columns, by crate."""
     counts = Counter()
     for crate, _, text in sources.read_files(kind):
         counts[crate] += sum(1 for line in text.split("\n") if len(line) > most)
@@ -116,12 +117,13 @@ def undocumented():
 
 
 def names_alike():
-    """The names that are meant to be in several files, as kind and name."""
+    """Return the names that are meant to be in several files, as kind and name."""
     return {line.partition(": ")[0] for line in exceptions.of("names_alike")}
 
 
 def in_several(places, what):
-    """Those names that are in several files and are not meant to, and those that are meant to and do not."""
+    """Return the names that are in several files without being meant to, and the names that are
+    meant to be but are not."""
     several, alike = {
         name: paths for name, paths in places.items() if len(paths) > 1
     }, names_alike()
@@ -181,7 +183,8 @@ def names():
 
 @functools.cache
 def citations(kinds):
-    """Who cites what among definitions: from (module, name) or None, what a proof or a source cites, to (module, name) pairs."""
+    """Return who cites what among definitions: from (module, name), or None for citations in proofs
+    or sources, to (module, name) pairs."""
     edges = defaultdict(set)
     of_module = defaultdict(list)
     for kind in kinds:
@@ -200,7 +203,7 @@ def citations(kinds):
 
 
 def cite_file(edges, crate, path, text, definitions):
-    """Adds what a file cites to the edges."""
+    """Add the citations in a file to the edges."""
     imports, own = sources.read_imports(text), {it.name for it in definitions}
     is_root = path.endswith(".rt") or path.rpartition("/")[2] in ANSWERS
     starts = {it.line: it for it in definitions}
@@ -259,12 +262,14 @@ def dead_lemmas():
 
 
 def is_infix(name):
-    """Whether a name is the name of an operator, which is among its operands without its marks."""
+    """Return whether a name is an operator's, which occurs between its operands without its
+    marks."""
     return "◌" in name
 
 
 def citing_of_public():
-    """The (module, name) pairs that clauses of public functions, traits and models cite, and members of what implements them."""
+    """Return the (module, name) pairs cited in clauses of public functions, traits and models, and
+    members of their implementations."""
     texts = {path: text for _, path, text in sources.read_files("src", True)}
     found = {
         it
@@ -325,7 +330,7 @@ def unused_edges():
 
 
 def without_layout(text):
-    """A text without blanks, line ends and the commas that a formatter adds."""
+    """Return a text without blanks, line ends and the commas that a formatter adds."""
     return "".join(text.split()).replace(",)", ")")
 
 

@@ -1,6 +1,8 @@
-"""Reads the crates' sources: functions with their clauses, definitions with their comments, and who cites what.
+"""Read the crates' sources: functions with their clauses, definitions with their comments, and who
+cites what.
 
-Used by reading.py, rules.py and documents/citations.py. It reads the layout that `rt fmt` leaves, and no more of the language than that takes.
+Used by reading.py, rules.py and documents/citations.py. This module understands the layout that `rt
+fmt` produces, and only the part of the language that is needed.
 """
 import functools
 import pathlib
@@ -34,7 +36,8 @@ CLOSING = {"{": "}", "(": ")", "[": "]"}
 
 @dataclass
 class Clause:
-    """A clause of a contract: its keyword, label and condition, its text whole, and the line that it begins at."""
+    """A clause of a contract: its keyword, label and condition, its full text, and the line at
+    which it begins."""
 
     keyword: str
     label: str
@@ -63,7 +66,8 @@ class Function:
 
 @dataclass
 class Definition:
-    """A definition or lemma: its module, comment and lines, and what the names that its file imports stand for."""
+    """A definition or lemma: its module, comment and lines, and the meaning of the names that its
+    file imports."""
 
     crate: str
     path: str
@@ -77,19 +81,20 @@ class Definition:
 
     @property
     def size(self):
-        """The number of its lines that are not blank."""
+        """Return the number of nonblank lines."""
         return sum(1 for line in self.lines if line.strip())
 
 
 @dataclass
 class Imports:
-    """The imports of a file: names with the module and the name that they stand for, and modules under names."""
+    """The imports of a file: names with the module and the name that they denote, and modules by
+    name."""
 
     names: dict[str, tuple[str, str]] = field(default_factory=dict)
     modules: dict[str, str] = field(default_factory=dict)
 
     def targets(self, word):
-        """The (module, name) pairs that a word of the file may stand for."""
+        """Return the (module, name) pairs that a word in the file may denote."""
         parts = word.strip(".:").split(".")
         head, rest = parts[0], parts[1] if len(parts) > 1 else ""
         if head in self.names:
@@ -109,7 +114,8 @@ def crate_names(with_tests=False):
 
 
 def with_short_imports(text):
-    """A text whose imports are on one line each, with blank lines after them, so that the others keep their numbers."""
+    """Return a text with each import on one line, followed by blank lines, so that line numbers do
+    not change."""
 
     def joined(match):
         names = ", ".join(name.strip() for name in match[2].split(",") if name.strip())
@@ -120,7 +126,7 @@ def with_short_imports(text):
 
 @functools.cache
 def read_files(kind, with_tests=False):
-    """The files of src, specs or proofs: a list of crate, path below crates/ and text."""
+    """Return the files of src, specs or proofs: a list of crate, path below crates/ and text."""
     suffix = ".rt" if kind == "src" else ".antt"
     return [
         (crate, str(path.relative_to(CRATES)), path.read_text(encoding="utf-8"))
@@ -130,7 +136,7 @@ def read_files(kind, with_tests=False):
 
 
 def module_of(path):
-    """The name of the module that a file of specs or proofs is."""
+    """Return the module name of a file of specs or proofs."""
     return path.removesuffix(".antt").replace("/", ".")
 
 
@@ -143,7 +149,7 @@ def without_comment(text):
 
 
 def blank_literals(text):
-    """The text with comments, strings and characters blanked out, at its length."""
+    """Return the text with comments, strings and characters blanked out, with the same length."""
     parts, at = [], 0
     while at < len(text):
         if text.startswith("//", at):
@@ -167,7 +173,7 @@ def blank_literals(text):
 
 
 def closing_place(text, at):
-    """Where the bracket that opens at a place closes."""
+    """Return the position at which the bracket that opens at `at` closes."""
     opening, closing, depth = text[at], CLOSING[text[at]], 0
     for place in range(at, len(text)):
         depth += (text[place] == opening) - (text[place] == closing)
@@ -177,7 +183,7 @@ def closing_place(text, at):
 
 
 def comments_above(text, start):
-    """The lines of comments and attributes right above a place."""
+    """Return the lines of comments and attributes right above a position."""
     found = []
     for line in reversed(
         text[:start].rstrip("\n").split("\n")
@@ -191,7 +197,7 @@ def comments_above(text, start):
 
 
 def clauses_after(text, blanked, at):
-    """The clauses that follow the parameters of a function, which end at a place."""
+    """Return the clauses that follow a function's parameters, which end at `at`."""
     found = []
     while keyword := KEYWORD.search(blanked, at):
         if keyword.group() in "{;":
@@ -212,7 +218,7 @@ def clauses_after(text, blanked, at):
 
 
 def container_of(blanked, start):
-    """The head of the impl or trait around a place, or nothing."""
+    """Return the head of the impl or trait around a position, or nothing."""
     around = ""
     for found in CONTAINER.finditer(blanked, 0, start):
         if closing_place(blanked, found.end() - 1) > start:
@@ -260,12 +266,13 @@ def read_imports(text):
 
 
 def definitions_of(crate, path, text):
-    """The definitions of a file in their order. A blank line ends one; a comment inside one is a part of it."""
+    """Return the definitions in a file, in order. A definition ends at a blank line, and includes
+    the comments inside it."""
     imports, found, current, comments, outermost = read_imports(text), [], None, [], 0
     for number, line in enumerate(text.split("\n"), 1):
         words, indent = line.strip(), len(line) - len(line.lstrip())
         if re.match(r"(abbrev |unfoldable )?mutual\b|module ", words):
-            # What is in a module or a mutual block is indented by two.
+            # The contents of a module or a mutual block are indented by two.
             outermost, current, comments = indent + 2, None, []
             continue
         if not words or is_import(line) or re.match(r"(pub )?mod ", line):
@@ -303,7 +310,7 @@ def definitions_of(crate, path, text):
 
 @functools.cache
 def read_definitions(kind, with_tests=False):
-    """The definitions of specs or of proofs by (module, name)."""
+    """Return the definitions of specs or proofs, by (module, name)."""
     return {
         (it.module, it.name): it
         for crate, path, text in read_files(kind, with_tests)
@@ -316,13 +323,14 @@ def words_of(text):
 
 
 def targets_in(text, imports):
-    """The (module, name) pairs that words of a text may stand for."""
+    """Return the (module, name) pairs that words in a text may denote."""
     return {target for word in words_of(without_comment(text)) for target in imports.targets(word)}
 
 
 @functools.cache
 def crate_edges():
-    """What each crate uses, by crates.txt: the crates of the repository and the libraries of the kit."""
+    """Return what each crate uses according to crates.txt: crates of the repository and libraries
+    of the kit."""
     edges = defaultdict(list)
     for line in (CRATES.parent / "crates.txt").read_text(encoding="utf-8").splitlines():
         name, colon, used = line.partition("#")[0].partition(":")
