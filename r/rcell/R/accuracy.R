@@ -1,10 +1,10 @@
 # SPDX-License-Identifier: Apache-2.0 OR GPL-2.0-or-later
 # The accuracy of a map, and the areas of its classes corrected with a reference sample.
 
-# The fields of points that have the class if none is named.
+# Fields that may contain the class of points if the caller names none.
 CLASS_FIELDS <- c("class", "reference")
-# A test of whether a sample is random: the normal deviate of one in a thousand, and the fewest
-# cells expected of a class.
+# For the test whether a sample is random: the normal deviate exceeded once in a thousand, and the
+# smallest expected number of cells in a class.
 DEVIATE <- 3.09
 FEWEST_EXPECTED <- 5
 
@@ -54,9 +54,9 @@ confusion_of <- function(classes, counts, labels) {
   frame
 }
 
-# Shares of the area by class of the map (rows) and of the reference (columns), from a sample that
-# is stratified by the map, by the equations of Olofsson et al. 2014, Remote Sensing of Environment
-# 148. A stratum of one cell has no variance, and one without area needs none.
+# Estimate area shares by map class (rows) and reference class (columns) from a sample stratified by
+# map class. The equations are those in Olofsson et al. 2014, Remote Sensing of Environment 148. The
+# variance of a stratum with one cell is undefined; a stratum without area adds none.
 estimate_of <- function(counts, weights) {
   rows <- rowSums(counts)
   within <- counts / pmax(rows, 1)
@@ -70,17 +70,17 @@ estimate_of <- function(counts, weights) {
   )
 }
 
-# R's diag() makes an identity matrix of a matrix with one cell.
+# Return the diagonal. R's diag() would turn a matrix with one cell into an identity matrix.
 diag_of <- function(matrix) matrix[cbind(seq_len(nrow(matrix)), seq_len(nrow(matrix)))]
 
-# The cells and the accuracies of each class, with their standard errors.
+# Return the cells and accuracies of each class, with standard errors.
 accuracies_of <- function(counts, estimate) {
   has_rows <- estimate$rows > 0
   shares <- ifelse(estimate$shares > 0, estimate$shares, NaN)
   producers <- diag_of(estimate$joint) / shares # equation 3
   own <- diag_of(estimate$squares)
   others <- colSums(estimate$squares) - own
-  # Equation 7, with shares in place of numbers of cells.
+  # Equation 7, with shares instead of cell counts.
   squares <- (1 - producers)^2 * own + producers^2 * others
   list(
     cells_map = as.integer(estimate$rows), cells_reference = as.integer(colSums(counts)),
@@ -90,8 +90,8 @@ accuracies_of <- function(counts, estimate) {
   )
 }
 
-# The overall accuracy with its standard error, kappa, and the disagreement in the quantities of
-# classes and in their places (Pontius and Millones 2011).
+# Return overall accuracy with its standard error, kappa, and the disagreement in quantity and
+# allocation of classes (Pontius and Millones 2011).
 agreement_of <- function(estimate) {
   overall <- sum(diag_of(estimate$joint)) # equation 1
   marginal <- rowSums(estimate$joint)
@@ -121,8 +121,8 @@ check_strata <- function(classes, mapped, rows) {
   }
 }
 
-# How often classes of the map and of the reference occur together, and the maps, if there are any.
-# A warning if points that are said to be a random sample are not.
+# Count how often map and reference classes occur together, and return the counts with the maps, if
+# there are any. Warn if points are treated as a random sample but are not one.
 sample_of <- function(x, reference, field, layer, crs, is_random) {
   is_file <- is_path(reference) && grepl("[.](csv|tsv)$", reference, ignore.case = TRUE)
   choose <- function(known) class_field(field, known)
@@ -172,7 +172,7 @@ sample_of_table <- function(reference) {
   )
 }
 
-# The field that has the class of points: the one that is named, or the only one of a usual name.
+# Return the field with the class of points: the named field, or the only one with a usual name.
 class_field <- function(field, known) {
   usual <- intersect(CLASS_FIELDS, known)
   if (is.null(field) && length(usual) == 1L) return(usual)
@@ -184,7 +184,8 @@ class_field <- function(field, known) {
   if (field %in% known) field else no_field(POINTS, field, known)
 }
 
-# A map numbers the cells that have points, and the program says which class each of them has.
+# Look up the map class of each point: a map with the numbered cells that contain points is crossed
+# with the map.
 sample_of_points <- function(x, points, crs, is_random) {
   source <- with_stated(source_of("map", x), stated_crs(crs))
   check_crs_of_features(POINTS, points, source)
@@ -210,8 +211,9 @@ sample_of_points <- function(x, points, crs, is_random) {
   )
 }
 
-# A warning if a sample has the map's classes in shares that a random sample hardly ever has, by a
-# test of chi squared. The rarest classes count as one, and the limit is Wilson and Hilferty's.
+# Warn if a chi-squared test shows that a random sample would hardly ever contain the map's classes
+# in these shares. The rarest classes are pooled, and the limit is Wilson and Hilferty's
+# approximation.
 warn_of_strata <- function(map, counts) {
   cells <- as.numeric(counts$cells)
   order <- order(cells)
@@ -232,7 +234,8 @@ warn_of_strata <- function(map, counts) {
   warning(text, call. = FALSE)
 }
 
-# The class of each point, and the cell in which it is; a cell has its northern and western edge.
+# Return the class of each point and the cell that contains it. A cell includes its northern and
+# western edges.
 placed_points <- function(points, source) {
   if (!length(points$ids)) return(list(cell = integer(), class = integer()))
   corners <- geom(points$shapes)
@@ -264,7 +267,7 @@ warn_of_left_out <- function(count, placed, outside, on_null) {
   warning(sprintf(text, sum(left), count, listed), call. = FALSE)
 }
 
-# The area of each class of the map, from which the sample was drawn, and the unit of the result.
+# Return the area of each map class from which the sample was drawn, and the unit of the result.
 strata_of <- function(areas, choice, sources) {
   if (is.null(areas)) return(NULL)
   if (identical(areas, "map")) {

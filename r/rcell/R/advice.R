@@ -1,6 +1,7 @@
 # SPDX-License-Identifier: Apache-2.0 OR GPL-2.0-or-later
-# Which word of a line is wrong, and what to write instead. The code of the Python package finds
-# both; it is in this package, or in Python's. Without Python there is no advice.
+# Advice on rejected scripts: the wrong word of a line, and a correction. It is computed by the
+# Python package's code, which is bundled here or installed in Python. Without Python there is no
+# advice.
 
 ADVICE_SECONDS <- 30
 ADVICE_CODE <- "
@@ -13,14 +14,15 @@ with open(path, 'rb') as script:
 sys.stdout.buffer.write(('%d\\n%s' % (column or 0, found or '')).encode())
 "
 
-# The word with its column in bytes from 1, or NULL, and a text, which may be empty.
+# Return the wrong word with its column (in bytes, from 1) or NULL, and the advice, which may be
+# empty.
 advice_on <- function(program, lines, line, text, names) {
   nothing <- list(bad = NULL, text = "")
   python <- getOption("rcell.python", Sys.which("python3")[[1]])
   if (!nzchar(python)) return(nothing)
   path <- tempfile("rcell-")
   on.exit(unlink(path))
-  # An error of the advice must not hide the message.
+  # A failure to get advice must not hide the message.
   tryCatch({
     writeLines(lines, path, useBytes = TRUE)
     words <- c(
@@ -35,7 +37,7 @@ advice_on <- function(program, lines, line, text, names) {
   }, error = function(e) nothing)
 }
 
-# The word of a line that begins at a column.
+# Return the word that begins at a column of a line.
 word_at <- function(line, column) {
   bytes <- charToRaw(line)
   word <- sub("[ \t\r].*", "", rawToChar(bytes[column:length(bytes)]), useBytes = TRUE)

@@ -39,7 +39,7 @@ rcell_aggregate <- function(x, factor, min_percent = 0, filename = "", overwrite
   written(raster, filename, "FLT8S")
 }
 
-# The grid of blocks, which may reach beyond the southern and the eastern edge of the map.
+# Return the grid of blocks, which may extend beyond the southern and eastern edges of the map.
 blocks_of <- function(source, factor) {
   template <- template_of(source)
   size <- res(template) * factor

@@ -1,9 +1,8 @@
 # SPDX-License-Identifier: Apache-2.0 OR GPL-2.0-or-later
-# A map on the grid of another one: moved by whole cells, or by its nearest cells if that is asked
-# for.
+# Move a map onto the grid of another map: by whole cells, or to the nearest cells on request.
 
-# Tolerances in parts of a cell: of a shift by whole cells, and of a centre on a border, which is in
-# the southern or eastern cell.
+# Tolerances as fractions of a cell: for a shift by whole cells, and for a centre on a border, which
+# belongs to the southern or eastern cell.
 SHIFT_TOLERANCE <- 1e-3
 BORDER_TOLERANCE <- 1e-6
 TRY_NEAREST <- "resample=\"nearest\" takes the nearest cell"
@@ -39,13 +38,13 @@ rcell_align <- function(x, to, resample = NULL, filename = "", overwrite = FALSE
   raster
 }
 
-# A map of which only the grid matters; it may have no values.
+# Return the source of a target map. Only its grid matters, so it may have no values.
 target_source <- function(name, to) {
   if (!inherits(to, "SpatRaster") || hasValues(to)) return(source_of(name, to))
   list(name = name, raster = to, region = region_of(name, to), crs = crs(to))
 }
 
-# Check that a map only has to be moved by whole cells.
+# Check that a shift by whole cells is enough to align a map.
 check_alignment <- function(map, target, is_same) {
   if (!is_same) check_crs(list(target, map), "")
   sizes <- list(res(map$raster), res(target$raster))
@@ -66,15 +65,15 @@ check_alignment <- function(map, target, is_same) {
   }
 }
 
-# The row and the column of the grid of `from` at which `to` begins; whole if they nearly are.
+# Return the row and column of `from` at which `to` begins, rounded if they are nearly whole.
 shift_of <- function(from, to) {
   size <- res(from)
   shift <- c((ymax(from) - ymax(to)) / size[[2]], (xmin(to) - xmin(from)) / size[[1]])
   ifelse(abs(shift - round(shift)) <= SHIFT_TOLERANCE, round(shift), shift)
 }
 
-# For each row and each column of `to` the row and the column of `from` in which its centres lie, NA
-# for none.
+# Return, for each row and column of `to`, the row and column of `from` that contain its centres, or
+# NA.
 places_by_side <- function(from, to) {
   shift <- shift_of(from, to)
   along <- function(shift, ratio, count, most) {
@@ -89,8 +88,8 @@ places_by_side <- function(from, to) {
   )
 }
 
-# For each cell of `to` the cell of `from` in which its centre lies, if the reference systems
-# differ.
+# Return, for each cell of `to`, the cell of `from` that contains its centre. The reference systems
+# may differ.
 places_by_centre <- function(from, to) {
   centres <- project(xyFromCell(to, seq_len(ncell(to))), from = crs(to), to = crs(from))
   row <- floor((ymax(from) - centres[, 2]) / res(from)[[2]] + BORDER_TOLERANCE)
@@ -102,11 +101,10 @@ places_by_centre <- function(from, to) {
   list(index = index, shift = c(NA_real_, NA_real_))
 }
 
-# How many cells of the map that have a value are in the result, are in it more than once, and are
-# not in it.
+# Count the map's cells with a value that are in the result, in it more than once, and not in it.
 facts_of <- function(places, cells, moved) {
   with_value <- function(cells) length(cells) - sum(is.na(cells))
-  # Without repetitions the result has each cell that is used.
+  # Without repetitions, the result contains each used cell once.
   used <- once <- with_value(moved)
   if (!is.null(places$index)) {
     times <- tabulate(places$index, length(cells))[!is.na(cells)]
@@ -124,7 +122,7 @@ facts_of <- function(places, cells, moved) {
   )
 }
 
-# The call that moves a map onto the first one of a run, to be pasted.
+# Return a call that moves a map onto the first map of a run, as text that users can paste.
 align_call <- function(first, source) {
   spelled <- function(source) {
     if (is.character(source$given)) sprintf("\"%s\"", source$given) else source$name

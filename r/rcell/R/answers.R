@@ -1,5 +1,5 @@
 # SPDX-License-Identifier: Apache-2.0 OR GPL-2.0-or-later
-# Run a script over maps and return its outputs.
+# Run scripts on maps and return their outputs.
 
 rcell_run <- function(.script, ..., crs = NULL, maps = list()) {
   if (missing(.script)) no_script()
@@ -34,11 +34,11 @@ rcell_table <- function(.script, ..., area = NULL, percent = FALSE, wide = FALSE
   if (length(tables) == 1L) tables[[1]] else tables
 }
 
-# Their names begin with a dot, since R completes names of arguments: otherwise it would take a map
-# `s` for the script.
+# The parameter names begin with a dot because R matches argument names partially: a map named `s`
+# would otherwise be taken for the script.
 no_script <- function() {
   text <- paste0(
-    "the script comes first and has no name, and in rcell_grid then the map: ",
+    "pass the script first, without a name, and in rcell_grid a map's name second: ",
     "rcell_table(\"r.stats -c input=lc\", lc = x)"
   )
   refuse(text, status = 2L)
@@ -68,14 +68,14 @@ rcell_grid <- function(.script, .name, ..., filename = "", overwrite = FALSE, cr
   written(raster_of(frame, answer$source, answer$labels[[frame$maps]]), filename)
 }
 
-# Return the maps of a call and its script, which the program accepts before any map is opened.
+# Return the maps and script of a call. The program checks the script before any map is opened.
 request_of <- function(script, dots, maps) {
   maps <- named_maps(dots, maps)
   c(accepted(script, names(maps)), list(maps = maps))
 }
 
-# Run an accepted script over its maps: the frames of the outputs that are asked for, the maps that
-# are wanted, and what is needed to read them.
+# Run an accepted script on its maps. Return the frames of the requested outputs and maps, with the
+# labels and the first source, which are needed to read them.
 answer_of <- function(request, sources, outputs = list(), wanted = character()) {
   labels <- c(lapply(sources, `[[`, "labels"), request$labels)
   script <- sent_script(request, outputs, wanted)
@@ -83,9 +83,9 @@ answer_of <- function(request, sources, outputs = list(), wanted = character()) 
   list(frames = frames, labels = labels, source = sources[[1]])
 }
 
-# Run a script of this package and return its frames. If polygons are taken one after another, the
-# script runs for each part of them, and the rows of its tables are put in order, but for the first
-# few, in which there are no zones.
+# Run a script that this package has written, and return its frames. If polygons are counted
+# separately, the script runs once for each part, and the rows of its tables are merged in order,
+# except for the first tables, which contain no zones.
 run_own <- function(script, sources, without_zones = 0L) {
   path <- program_path()
   parts <- sources$zones$parts
@@ -115,9 +115,9 @@ output_of <- function(output, answer) {
   raster_of(frame, answer$source, answer$labels[[frame$maps]])
 }
 
-# The raster of a frame with the geometry of a source, a name and labels, perhaps with new values
-# for the numbers 1, 2, .. of its cells. Everything else is set in place: terra copies the cells of
-# a raster that is assigned to.
+# Return a frame's raster with a source's geometry, a name and labels, and optionally with new
+# values for the cell values 1, 2, .. Attributes are set in place, because assignment would make
+# terra copy the cells.
 raster_of <- function(frame, source, labels, name = frame$maps, new = NULL) {
   raster <- frame$raster
   if (!is.null(new)) values(raster) <- new[values(raster, mat = FALSE)]

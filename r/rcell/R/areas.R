@@ -1,20 +1,21 @@
 # SPDX-License-Identifier: Apache-2.0 OR GPL-2.0-or-later
-# The areas of cells: one size in metres or feet, and in degrees one for each row, on the ellipsoid
+# Cell areas: a single size in metres or feet, and in degrees a size for each row, on the ellipsoid
 # of the reference system.
 
 UNITS <- c(m2 = 1, ha = 1e4, km2 = 1e6)
 DEFAULT_UNIT <- "ha"
-# Cells may be centred on a pole: rows reach this far beyond it, in cells, but for rounding.
+# Cells may be centred on a pole, so rows may extend this far beyond it, in cells, plus rounding.
 BEYOND_THE_POLE <- 0.5 + 1e-6
 
-# What a call says of areas; `is_left_out` if it says nothing.
+# Return the unit of areas that a call requests; `is_left_out` means that it does not specify one.
 area_choice <- function(area, is_left_out) {
   if (is_left_out) return(list(unit = DEFAULT_UNIT, is_asked_for = FALSE))
   if (!is.null(area)) check_one_of(area, "area", names(UNITS))
   list(unit = area, is_asked_for = TRUE)
 }
 
-# The unit of the areas of maps: none if they have no reference system and areas were not asked for.
+# Return the unit of areas: NULL if the map has no reference system and the call did not request
+# areas.
 unit_of <- function(choice, source, argument = "area=") {
   if (is.null(choice$unit)) return(NULL)
   kind <- kind_of_crs(source$crs)
@@ -43,7 +44,7 @@ area_title <- function(area) paste0("area_", area)
 
 is_in_degrees <- function(source) kind_of_crs(source$crs) == "degrees"
 
-# Rejects a map whose cells do not all have one size in metres, which an argument needs.
+# Reject a map whose cells do not all have the same size in metres, if an argument requires it.
 check_metres <- function(source, argument, advice = "") {
   unit_of(list(unit = "m2", is_asked_for = TRUE), source, argument)
   if (!is_in_degrees(source)) return(invisible())
@@ -51,15 +52,15 @@ check_metres <- function(source, argument, advice = "") {
   refuse(sprintf(text, argument, advice), status = 2L)
 }
 
-# The length of a projected map's unit in metres; NA if it is not known.
+# Return the length of a projected map's unit in metres, or NA if it is unknown.
 metres_of_unit <- function(source) {
   if (kind_of_crs(source$crs) != "projected") return(NA_real_)
   metres <- suppressWarnings(linearUnits(template_of(source)))
   if (isTRUE(metres > 0)) metres else NA_real_
 }
 
-# The size of a cell in square metres: of each row from the north if the map is in degrees, else one
-# number.
+# Return the size of a cell in square metres: a single number, or for a map in degrees a number for
+# each row from the north.
 cell_sizes <- function(source) {
   template <- template_of(source)
   size <- res(template)
@@ -77,8 +78,8 @@ cell_sizes <- function(source) {
   zones * shape$minor^2 / 2 * size[[1]] * shape$angle
 }
 
-# The closed form of the area between two parallels, but for the factor of the ellipsoid and its
-# longitudes; it loses no digits if they are close.
+# Compute the area between two parallels, without the factors for ellipsoid and longitude. This
+# closed form loses no digits if the parallels are close.
 zone_areas <- function(north, south, e) {
   sines <- sin(north) * sin(south)
   difference <- 2 * cos((north + south) / 2) * sin((north - south) / 2)
@@ -87,7 +88,7 @@ zone_areas <- function(north, south, e) {
   difference * (1 + e^2 * sines) / squares + atanh(e * difference / (1 - e^2 * sines)) / e
 }
 
-# The ellipsoid of a reference system in metres, and its unit of angles in radians, of its
+# Read the ellipsoid (in metres) and the angle unit (in radians) of a reference system from its
 # well-known text.
 ellipsoid_of <- function(wkt) {
   flat <- gsub("[\r\n]+ *", "", wkt)
@@ -107,11 +108,11 @@ ellipsoid_of <- function(wkt) {
   )
 }
 
-# The areas of counts of cells in a unit: divided last, so that they print as short as they are.
+# Return the areas of cell counts in a unit. Dividing last keeps short numbers short when printed.
 areas_of <- function(cells, source, unit) cells * cell_sizes(source) / UNITS[[unit]]
 
-# The tables of a script of r.stats -cn, each of some maps, as `measured` has them. In a map in
-# degrees cells are counted by rows as well, in the tables for which `by_row` says so.
+# Count combinations of maps with r.stats -cn, and return a table for each, as in `measured`. In a
+# map in degrees, tables with `by_row` also count cells by row.
 count_cells <- function(sources, combinations, area = NULL, before = character(),
                         by_row = rep(TRUE, length(combinations)), include_null = FALSE,
                         without_zones = 0L) {
@@ -126,9 +127,9 @@ count_cells <- function(sources, combinations, area = NULL, before = character()
   unname(Map(measured, frames, list(area), list(sources[[1]]), by_row))
 }
 
-# A table of counts as its columns of codes, the cells and, if a unit is given, the areas. If the
-# last map is the row, the rows of each combination are added up, weighed by the size of their
-# cells: their areas are `weights`.
+# Return a table of counts as its code columns, the cells and, with a unit, the areas. If the last
+# map is the row, the rows of each combination are added up, weighted by the size of their cells;
+# these areas are also the `weights`.
 measured <- function(frame, area, source, by_row) {
   table <- frame[c("codes", "cells")]
   if (by_row) return(summed_over_rows(table, area, cell_sizes(source)))
@@ -151,12 +152,12 @@ summed_over_rows <- function(table, area, sizes) {
   )
 }
 
-# What shares are computed from: the areas in degrees, else the cells, whose sums are exact.
+# Return the weights for shares: areas for a map in degrees, otherwise cells, whose sums are exact.
 weights_of <- function(table) {
   as.numeric(if (is.null(table$weights)) table$cells else table$weights)
 }
 
-# The areas of sums of what `weights_of` returns.
+# Return the areas of sums of weights (see `weights_of`).
 areas_of_sums <- function(sums, table, source, area) {
   if (is.null(table$weights)) areas_of(sums, source, area) else sums
 }

@@ -1,10 +1,9 @@
-# SPDX-License-Identifier: Apache-2.0 OR GPL-2.0-or-later
-# The cells of sources, block by block.
+# SPDX-License-Identifier: Apache-2.0 OR GPL-2.0-or-later Read the cells of sources, block by block.
 
 BLOCK_CELLS <- 131072L
 EXACT_FLOAT <- 16777216
 EXACT_TYPES <- c("INT1U", "INT2U", "INT2S")
-# Values that often mean no data; as a border they are named in a warning.
+# Values that often mean no data. If one fills most of a map's border, a warning names it.
 USUAL_NODATA <- c(255L, -9999L, -32768L)
 
 # Call a function with the cells of each block of rows, as whole numbers.
@@ -37,7 +36,7 @@ each_block <- function(source, use) {
   border$warn()
 }
 
-# Count the values of a map's border that often mean no data.
+# Count values on a map's border that often mean no data.
 border_of <- function(source) {
   region <- source$region
   counts <- integer(length(USUAL_NODATA))
@@ -80,13 +79,13 @@ warn_of_floats <- function(name) {
   FALSE
 }
 
-# Return whether a raster is in a file whose data type holds only categories.
+# Return whether a raster is in a file whose data type contains only categories.
 is_exact_type <- function(raster) {
   !inMemory(raster) && isTRUE(is.int(raster)) && isTRUE(datatype(raster) %in% EXACT_TYPES)
 }
 
-# Return the cells of some rows, with null for transparent cells. A broken part of a file is an
-# error, never null.
+# Return the cells of a range of rows, with null for transparent cells. Broken parts of a file raise
+# an error and are never null.
 read_block <- function(source, row, count) {
   cells <- read_rows(source, source$raster, row, count)
   if (!is.null(source$alpha)) {
@@ -104,8 +103,8 @@ read_rows <- function(source, raster, row, count) {
   tryCatch(readValues(raster, row, count), error = failed, warning = failed)
 }
 
-# Return the cells of a block as whole numbers, scaled and rounded on demand, or raise an error
-# about the first that is not one.
+# Return the cells of a block as whole numbers, scaled and rounded on request. Raise an error about
+# the first cell that is not a whole number.
 whole_cells <- function(source, cells, first_row) {
   if (is.integer(cells) && is.null(source$scale)) return(cells)
   exact <- if (is.null(source$scale)) cells else round(cells * source$scale)

@@ -4,7 +4,7 @@
 rcell_change <- function(before, after = NULL, years = NULL, area, labels = NULL, crs = NULL) {
   choice <- area_choice(area, missing(area))
   maps <- if (is.null(after)) before else list(before, after)
-  rule <- "two maps or more are needed: rcell_change(before, after), or a list of maps"
+  rule <- "two or more maps are required: rcell_change(before, after), or a list of maps"
   check_argument(is.list(maps) && length(maps) > 1L, before, rule)
   check_years(years, length(maps))
   is_pair <- length(maps) == 2L
@@ -36,11 +36,11 @@ check_years <- function(years, count) {
   }
   is_right <- is.numeric(years) && length(years) == count && all(is.finite(years)) &&
     all(years == trunc(years) & abs(years) <= CATEGORY_LIMIT) && !anyDuplicated(years)
-  rule <- "years= must be %d whole numbers, one for each map, and none twice"
+  rule <- "years= must be %d different whole numbers, one for each map"
   check_argument(is_right, years, rule, count)
 }
 
-# The labels of each map: the legend, or its own, or the labels of the first map that has some.
+# Return each map's labels: the legend, its own, or the labels of the first map that has some.
 legends_of_years <- function(sources, legend) {
   own <- lapply(sources, `[[`, "labels")
   shared <- Find(function(labels) length(labels$codes) > 0L, own)
@@ -50,7 +50,7 @@ legends_of_years <- function(sources, legend) {
   })
 }
 
-# Tables of several pairs of years, one below the other.
+# Stack the tables of several pairs of years.
 stacked <- function(frames) {
   frame <- do.call(rbind, unname(frames))
   rownames(frame) <- NULL
@@ -77,7 +77,7 @@ change_table <- function(pair, area) {
   frame_of(columns)
 }
 
-# Classes before by classes after, of areas or else cells.
+# Return a matrix of earlier by later classes, with areas, or cells if there are no areas.
 change_matrix <- function(pairs) {
   after <- sort(unique(unlist(lapply(pairs, function(pair) pair$table$codes[[2]]))))
   before <- lapply(pairs, function(pair) sort(unique(pair$table$codes[[1]])))
@@ -100,7 +100,7 @@ change_matrix <- function(pairs) {
   frame
 }
 
-# The labels of classes after, of the last year that has one.
+# Return the labels of the later classes, each from the last year in which it has a label.
 legend_of_columns <- function(pairs) {
   legends <- rev(lapply(pairs, function(pair) pair$legends[[2]]))
   codes <- unlist(lapply(legends, `[[`, "codes"))
@@ -109,7 +109,8 @@ legend_of_columns <- function(pairs) {
   list(codes = codes[is_first], labels = labels[is_first])
 }
 
-# Gains and losses are the sums of what changed, counted in cells if each has one area.
+# Summarise changes by class. Cells are added up before they become areas, unless areas differ by
+# row.
 change_summary <- function(pair, area, source) {
   table <- pair$table
   classes <- sort(unique(unlist(table$codes)))

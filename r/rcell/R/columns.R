@@ -1,12 +1,12 @@
 # SPDX-License-Identifier: Apache-2.0 OR GPL-2.0-or-later
-# Columns of tables: codes with their labels, cells, areas and percentages.
+# Table columns: codes with their labels, cells, areas and percentages.
 
-# Columns as a data frame.
+# Return columns as a data frame.
 frame_of <- function(columns) {
   structure(columns, class = "data.frame", row.names = seq_along(columns[[1]]))
 }
 
-# A column of codes, and one of their labels after it if there are any.
+# Return a column of codes, followed by a column of labels if there are any.
 coded <- function(title, codes, labels, label_title = paste0(title, "_label")) {
   columns <- list(codes)
   if (length(labels$codes)) columns[[2]] <- labels_for(labels, codes)
@@ -14,14 +14,14 @@ coded <- function(title, codes, labels, label_title = paste0(title, "_label")) {
   columns
 }
 
-# The labels of codes, NA for none.
+# Return the label of each code, or NA.
 labels_for <- function(labels, codes) {
   if (!length(labels$codes)) return(rep(NA_character_, length(codes)))
   labels$labels[match(codes, labels$codes)]
 }
 
-# Class titles for both sides of a matrix: labels, or else numbers. A label that another
-# class has, or that is taken, is followed by its class.
+# Return class titles for both sides of a matrix: labels, or class numbers. If another class has the
+# same label, or the label is taken, the class is appended.
 class_titles <- function(labels, codes, taken = character()) {
   labels <- Map(labels_for, labels, codes)
   titles <- Map(function(labels, codes) ifelse(is.na(labels), codes, labels), labels, codes)
@@ -34,7 +34,7 @@ class_titles <- function(labels, codes, taken = character()) {
   }, labels, titles, codes)
 }
 
-# The sums of values by their groups, which are numbers from 1 to `count`.
+# Sum values by group; groups are numbers from 1 to `count`.
 summed <- function(values, group, count) {
   total <- numeric(count)
   if (!length(group)) return(total)
@@ -43,8 +43,8 @@ summed <- function(values, group, count) {
   total
 }
 
-# The cells of a table, their area, and the percentage of the area, or else of the cells, of the
-# part of their group that has data; rows with null have none.
+# Return a table's cells, their area, and their percentage of the group's area with data (of its
+# cells, without areas). Rows with null get no percentage.
 sized <- function(table, area, group = rep(1L, length(table$cells))) {
   columns <- list(cells = table$cells)
   if (!is.null(area)) columns[[area_title(area)]] <- table$area
@@ -54,14 +54,14 @@ sized <- function(table, area, group = rep(1L, length(table$cells))) {
   columns
 }
 
-# The rows of a table that are wanted.
+# Keep only selected rows of a table.
 kept_rows <- function(table, is_kept) {
   table$codes <- lapply(table$codes, function(code) code[is_kept])
   for (column in setdiff(names(table), "codes")) table[[column]] <- table[[column]][is_kept]
   table
 }
 
-# Repeated titles get `_2`.
+# Add `_2`, `_3`, .. to repeated titles.
 unique_titles <- function(titles) {
   for (place in seq_along(titles)) {
     number <- 2L

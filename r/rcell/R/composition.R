@@ -1,6 +1,5 @@
 # SPDX-License-Identifier: Apache-2.0 OR GPL-2.0-or-later
-# What a map is made of, and how maps combine: tables of the program with labels, areas and
-# percentages.
+# The composition of a map and the cross table of several maps, with labels, areas and percentages.
 
 rcell_composition <- function(x, zones = NULL, area, labels = NULL, zone_labels = NULL,
                               zone_field = NULL, layer = NULL, each = FALSE, include_null = FALSE,
@@ -23,13 +22,13 @@ rcell_composition <- function(x, zones = NULL, area, labels = NULL, zone_labels 
   frame_of(c(zone_columns, coded("class", class, labels, "label"), sized(table, area, zone)))
 }
 
-# The sources of a map and, if they are given, its zones.
+# Return the sources of a map and, if given, its zones.
 zoned_sources <- function(x, zones, zone_field, layer, crs, name = "map", each = FALSE) {
   check_flag(each, "each")
   source <- source_of(name, x)
   if (is.null(zones)) {
     if (!is.null(zone_field) || !is.null(layer) || each) {
-      refuse("zone_field=, layer= and each= need zones=", status = 2L)
+      refuse("zone_field=, layer= and each= require zones=", status = 2L)
     }
     return(fitted_sources(list(source), crs))
   }
@@ -65,7 +64,7 @@ check_legends <- function(labels, names) {
   is_named <- is.list(labels) && !is.data.frame(labels) && !is.null(names(labels))
   if (is.null(labels) || (is_named && all(names(labels) %in% names))) return(invisible())
   text <- paste(
-    "labels= must be a list of legends by the names of the maps,",
+    "labels= must be a list of legends, named after the maps,",
     "for example list(%s = \"legend.csv\")"
   )
   refuse(sprintf(text, names[[1]]), "labels", status = 2L)

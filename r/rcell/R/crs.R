@@ -1,11 +1,11 @@
 # SPDX-License-Identifier: Apache-2.0 OR GPL-2.0-or-later
-# Coordinate reference systems: the maps of one call have one.
+# Coordinate reference systems: all maps of a call must have the same one.
 
-# How far apart two systems may be at a place, in their units, and still be the same.
+# Two systems count as the same if their coordinates differ by at most this, in their units.
 SAME_PLACE <- 1e-6
 PLACES <- as.matrix(expand.grid(x = seq(-175, 175, by = 5), y = seq(-85, 85, by = 5)))
 
-# The system that `crs=` states for maps that have none, as well-known text; "" if it states none.
+# Return the well-known text of the system stated with `crs=` for maps that have none, or "".
 stated_crs <- function(crs) {
   if (is.null(crs)) return("")
   bad <- function(e) {
@@ -23,7 +23,7 @@ with_stated <- function(source, stated) {
   source
 }
 
-# Return the system that all maps must have: the first one found, or the stated one.
+# Check that all maps have the same system: the stated one, or the first one found.
 check_crs <- function(sources, stated) {
   known <- Filter(function(source) nzchar(source$crs), sources)
   if (!length(known)) return(invisible())
@@ -55,7 +55,7 @@ other_crs <- function(source, first, tool = "gdalwarp") {
   bad_map(source$name, text, class = "rcell_other_crs")
 }
 
-# The name of a system, its code ("" if it has none) and how PROJ would spell it.
+# Return the name of a system, its code (or ""), and its PROJ string.
 crs_facts <- function(wkt) {
   raster <- rast(nrows = 1, ncols = 1, xmin = 0, xmax = 1, ymin = 0, ymax = 1)
   crs(raster, warn = FALSE) <- wkt
@@ -78,15 +78,15 @@ crs_name <- function(wkt) {
   if (nzchar(known$code)) sprintf("%s (%s)", known$code, name) else name
 }
 
-# The first quoted text of a well-known text: the name of the system.
+# Return the name of a system: the first quoted text in its well-known text.
 title_in <- function(wkt) {
   title <- regmatches(wkt, regexec("^[A-Za-z_]+ *[[(] *\"([^\"]*)\"", wkt))[[1]]
   if (length(title) == 2L) title[[2]] else ""
 }
 
-# Return whether two systems are the same, whatever the order of their axes: they have one datum and
-# ellipsoid, and PROJ gives places all over the earth the same coordinates. (terra also calls
-# systems equal if only their datum differs, and unequal if one method has two names.)
+# Return whether two systems are the same, regardless of axis order: they have the same datum and
+# ellipsoid, and PROJ returns the same coordinates for places all over the earth. (terra also
+# considers systems equal if only their datum differs, and unequal if a method has two names.)
 same_crs <- function(one, other) {
   if (identical(one, other)) return(TRUE)
   kinds <- vapply(c(one, other), kind_of_crs, "")
@@ -106,7 +106,7 @@ same_earth <- function(one, other) {
   is_compound[[1]] == is_compound[[2]] && isTRUE(all.equal(shapes[[1]], shapes[[2]]))
 }
 
-# The name of the datum of a well-known text, without the marks in which its spellings differ.
+# Return the datum name in a well-known text, normalised so that different spellings compare equal.
 datum_of <- function(wkt) {
   form <- "(DATUM|ENSEMBLE|TRF)\\[\"([^\"]*)\""
   datum <- regmatches(wkt, regexec(form, wkt))[[1]]
@@ -125,8 +125,8 @@ same_places <- function(one, other) {
     all(apart[is_known[[1]]] <= SAME_PLACE)
 }
 
-# What coordinates are: "degrees" for latitude and longitude, "projected", "none" without a system,
-# or "other" for local, geocentric and vertical systems.
+# Return the kind of a system: "degrees" for latitude and longitude, "projected", "none" without a
+# system, or "other" for local, geocentric and vertical systems.
 kind_of_crs <- function(wkt) {
   if (!nzchar(wkt)) return("none")
   flat <- gsub("[\r\n]+ *", "", wkt)

@@ -1,5 +1,5 @@
 # SPDX-License-Identifier: Apache-2.0 OR GPL-2.0-or-later
-# The majority and the minority of the classes of each zone.
+# The most frequent and the rarest class of each zone.
 
 rcell_dominant <- function(x, zones, area, labels = NULL, zone_labels = NULL, zone_field = NULL,
                            layer = NULL, each = FALSE, crs = NULL) {

@@ -1,25 +1,24 @@
 # SPDX-License-Identifier: Apache-2.0 OR GPL-2.0-or-later
-# What goes wrong: conditions, each with a class of its own.
+# Errors: conditions, each with its own class.
 
-# Of a longer line, an error shows this many characters.
+# An error shows only SHOWN characters of a script line longer than LONGEST_SHOWN.
 LONGEST_SHOWN <- 300L
 SHOWN <- 100L
 
-# Ends the call with an error of the given class and fields.
+# Stop with an error of the given class and fields.
 signal <- function(class, message, ...) {
   fields <- list(message = message, call = NULL, ...)
   stop(structure(fields, class = c(class, "rcell_error", "error", "condition")))
 }
 
-# The text of an error begins on a new line, so that a mark is below its column.
+# Print the message of an error on a new line, so that the mark is below its column.
 print.rcell_error <- function(x, ...) {
   cat(sprintf("<%s>\n%s\n", class(x)[[1]], conditionMessage(x)))
   invisible(x)
 }
 
-# A map, a script or a request was rejected, and nothing was returned. `content` is the line of the
-# script itself, `bad` its word that the text is about, with its column, and `advice` what to
-# write instead.
+# Reject a map, a script or a request. `content` is the line of the script, `bad` the wrong word
+# with its column, and `advice` a correction.
 refuse <- function(text, source = "arguments", line = 0L, status = 1L, content = NULL, class = NULL,
                    bad = NULL, advice = "") {
   column <- if (is.null(bad)) column_in(text) else bad$column
@@ -37,21 +36,21 @@ refuse <- function(text, source = "arguments", line = 0L, status = 1L, content =
   )
 }
 
-# The names that could be meant, for a message about an unknown one.
+# List the known names for a message about an unknown name.
 known_names <- function(noun, names) {
   if (!length(names)) return(sprintf("there are no %ss", noun))
   if (length(names) == 1L) return(sprintf("the only %s is %s", noun, names))
   sprintf("the %ss are %s", noun, paste(names, collapse = ", "))
 }
 
-# The column that a message of the program names, in bytes from 1.
+# Return the column that a program message names, in bytes from 1, or NA.
 column_in <- function(text) {
   column <- regmatches(text, regexec(" at column ([0-9]+)$", text))[[1]]
   if (length(column) == 2L) as.integer(column[[2]]) else NA_integer_
 }
 
-# A line of a script and, if a column is given (in bytes, from 1), a mark under it, before which a
-# tab stays a tab; of a line that is long, the part around the column.
+# Return a script line and, if a column is given (in bytes, from 1), a line with a mark under it.
+# Tabs before the mark stay tabs. Long lines are cut to the part around the column.
 lines_of_error <- function(content, column) {
   bytes <- charToRaw(content)
   starts <- unique(c(1L, which(bitwAnd(as.integer(bytes), 0xC0L) != 0x80L)))
@@ -70,8 +69,8 @@ lines_of_error <- function(content, column) {
   c(content, paste0(if (from > 1L) "  ", blanks, "^"))
 }
 
-# A map that is not a map of whole numbers, or has no grid of its own. The cell is the first that is
-# wrong, from 1 at the top left.
+# Reject a map that contains decimals or has no regular grid. `row` and `column` locate the first
+# wrong cell, from 1 at the top left.
 bad_map <- function(name, text, row = NA_integer_, column = NA_integer_, value = NA_real_,
                     class = NULL, status = 1L) {
   signal(
@@ -80,12 +79,12 @@ bad_map <- function(name, text, row = NA_integer_, column = NA_integer_, value =
   )
 }
 
-# A file that cannot be opened, or a part of it that cannot be read.
+# Report a file that cannot be opened, or that is broken in part.
 read_failed <- function(name, text) {
   bad_map(name, text, class = "rcell_read_failed", status = 4L)
 }
 
-# What a caller passed, for a message.
+# Format an argument for a message.
 shown <- function(x) {
   if (is.null(x)) return("NULL")
   if (!is.atomic(x)) return(paste("a", class(x)[[1]]))
@@ -93,7 +92,7 @@ shown <- function(x) {
   shortened(if (is.character(x)) sprintf("\"%s\"", x) else format(x, trim = TRUE, digits = 15))
 }
 
-# The first of many, for a message.
+# List the first few items for a message.
 shortened <- function(items, most = 5L) {
   rest <- length(items) - most
   paste0(paste(head(items, most), collapse = ", "), if (rest > 0L) sprintf(" and %d more", rest))
@@ -101,7 +100,7 @@ shortened <- function(items, most = 5L) {
 
 is_whole <- function(x) is.numeric(x) && length(x) == 1L && is.finite(x) && x == trunc(x)
 
-# An argument must obey a rule, in which sprintf puts the other words.
+# Reject an argument that breaks a rule; `...` fills the rule's placeholders.
 check_argument <- function(is_right, value, rule, ...) {
   if (is_right) return(invisible())
   refuse(sprintf(paste0(rule, "; got %s"), ..., shown(value)), status = 2L)
@@ -118,15 +117,15 @@ check_one_of <- function(choice, name, known) {
 
 check_text <- function(text, name) {
   is_text <- is.character(text) && length(text) == 1L && isTRUE(nzchar(text))
-  check_argument(is.null(text) || is_text, text, "%s= must be one text", name)
+  check_argument(is.null(text) || is_text, text, "%s= must be a single text", name)
 }
 
-# A file could not be written completely; nothing is left of it.
+# Report a file that could not be written completely. No part of it is left.
 write_failed <- function(path, text) {
   signal("rcell_write_failed", sprintf("%s cannot be written: %s", path, text), path = path)
 }
 
-# The program was ended by a signal.
+# Report that a signal killed the program.
 killed <- function(number) {
   name <- switch(as.character(number),
     "4" = " (SIGILL)", "9" = " (SIGKILL)", "15" = " (SIGTERM)", "")

@@ -1,8 +1,8 @@
-# SPDX-License-Identifier: Apache-2.0 OR GPL-2.0-or-later
-# The features of a layer of polygons or points, with the values of one of their fields.
+# SPDX-License-Identifier: Apache-2.0 OR GPL-2.0-or-later Read the features of a layer of polygons
+# or points, with the values of one field.
 
 LAYER_MARK <- "|layername="
-# What a layer is read for: its name in messages, and what its features must be.
+# The roles of a layer: its name in messages, and the required kind of features.
 POLYGONS <- list(
   name = "zones", are = "polygons", kinds = c("POLYGON", "MULTIPOLYGON"), type = "wkbMultiPolygon"
 )
@@ -10,15 +10,15 @@ POINTS <- list(
   name = "reference", are = "points", kinds = c("POINT", "MULTIPOINT"), type = "wkbMultiPoint"
 )
 CURVED_KINDS <- c("CURVEPOLYGON", "MULTISURFACE")
-# How many ranges of features one query names.
+# The maximum number of feature ranges in a query.
 RANGES_OF_A_QUERY <- 200L
 SIDECARS_OF_A_LAYER <- c(
   "shx", "dbf", "prj", "cpg", "sbn", "sbx", "qix", "qpj", "qmd", "shp.xml", "tab", "dat", "map",
   "id", "ind", "mif", "mid", "xsd", "gfs"
 )
 
-# A layer in GDAL's virtual format, in which features keep their numbers. Of its fields only one is
-# left, as text: terra 1.7 reads a missing whole number as 0 and a long one inexactly.
+# A layer in GDAL's virtual format, in which features keep their numbers. It contains a single
+# field, as text, because terra 1.7 reads missing whole numbers as 0 and long ones inexactly.
 VIRTUAL_LAYER <- paste0(
   "<OGRVRTDataSource><OGRVRTLayer name=\"features\"><SrcDataSource>%s</SrcDataSource>",
   "<SrcLayer>%s</SrcLayer>%s</OGRVRTLayer></OGRVRTDataSource>"
@@ -27,12 +27,12 @@ FIELD_AS_TEXT <- "<Field name=\"content\" src=\"%s\" type=\"String\"/>"
 GEOMETRY_AS <- "<GeometryType>%s</GeometryType>"
 DATE_OF_GDAL <- "^([0-9]{4})/([0-9]{2})/([0-9]{2})( 00:00:00$)?"
 
-# The features that have a geometry and a value, with their own numbers; NULL if there is no layer.
-# `choose` returns the field that is read of the fields of a layer, or NULL.
+# Return the features with a geometry and a value, and their numbers, or NULL if there is no layer.
+# `choose` selects the field to read from a layer's fields, or returns NULL.
 features_of <- function(role, given, layer, choose, is_field_needed) {
   if (inherits(given, "SpatVector")) {
     if (!is.null(layer)) {
-      text <- "layer= names a layer of a file, and %s= is a SpatVector"
+      text <- "layer= must not be given if %s= is a SpatVector, which has one layer"
       refuse(sprintf(text, role$name), status = 2L)
     }
     return(features_of_vector(role, given, choose(names(given))))
@@ -42,7 +42,7 @@ features_of <- function(role, given, layer, choose, is_field_needed) {
   path <- parts[[1]]
   if (length(parts) > 1L) {
     if (!is.null(layer) && !identical(layer, parts[[2]])) {
-      text <- "layer= is %s, and %s= names the layer %s: name only one"
+      text <- "layer= is %s, but %s= names the layer %s: name only one layer"
       refuse(sprintf(text, layer, role$name, parts[[2]]), status = 2L)
     }
     layer <- parts[[2]]
@@ -75,7 +75,7 @@ layers_of <- function(path) {
   utf8_of(layers)
 }
 
-# Return the layer asked for, or the only one.
+# Return the requested layer, or the only one.
 chosen_layer <- function(role, path, layers, layer) {
   if (!is.null(layer)) {
     if (layer %in% layers) return(layer)
@@ -99,7 +99,7 @@ features_of_layer <- function(role, path, layer, choose) {
   }
   typed <- ask("* FROM features")
   field <- choose(names(typed))
-  # Without a field any one is left, so that none is called FID.
+  # Without a field, keep any field, so that no field named FID hides the feature numbers.
   left <- intersect(c(field, names(typed)), names(typed))
   content <- if (length(left)) sprintf(FIELD_AS_TEXT, xml_text(left[[1]])) else ""
   features <- ask("FID AS id, OGR_GEOMETRY AS kind, OGR_GEOM_AREA AS size FROM features", content)
@@ -131,7 +131,7 @@ features_of_layer <- function(role, path, layer, choose) {
   )
 }
 
-# Conditions for features by their numbers; of none if there are no numbers.
+# Return SQL conditions that select features by number. Without numbers, they select nothing.
 ranges_of_ids <- function(ids) {
   if (!length(ids)) return("FID < -1")
   ends <- which(c(diff(ids) != 1, TRUE))
@@ -183,7 +183,7 @@ check_kinds <- function(role, ids, kinds) {
   bad_map(role$name, text)
 }
 
-# A SpatVector has the numbers of its rows, and the values that terra shows.
+# Return the features of a SpatVector, numbered by row, with the values that terra has read.
 features_of_vector <- function(role, vector, field) {
   kind <- geomtype(vector)
   is_kept <- has_geometry(vector)
@@ -206,7 +206,8 @@ features_of_vector <- function(role, vector, field) {
   )
 }
 
-# terra 1.7 reads a missing whole number of a file as 0: the file says whether it has some.
+# Reject a field with missing numbers, which terra 1.7 reads as 0. If the file is unknown, only
+# warn.
 check_zeros <- function(role, vector, field, column) {
   if (!is.integer(column) || is.factor(column) || !any(column == 0L, na.rm = TRUE)) {
     return(invisible())
@@ -217,7 +218,7 @@ check_zeros <- function(role, vector, field, column) {
   if (is.na(missing)) {
     text <- paste(
       "%s: the field %s of feature %d is 0, and terra reads a missing number of a file as 0: pass",
-      "the path of the file; if 0 is meant, make it x$%s <- as.numeric(x$%s)"
+      "the path of the file, or use x$%s <- as.numeric(x$%s) if 0 is correct"
     )
     warning(sprintf(text, role$name, field, feature, field, field), call. = FALSE)
     return(invisible())
@@ -230,7 +231,7 @@ check_zeros <- function(role, vector, field, column) {
   bad_map(role$name, sprintf(text, field, missing, path))
 }
 
-# The number of features of a file that lack a field's value; NA if the file does not say.
+# Count the features in a file that have no value in a field, or return NA if this is unknown.
 count_missing <- function(source, field) {
   if (length(source) != 1L || !nzchar(source)) return(NA_integer_)
   parts <- strsplit(source, "::", fixed = TRUE)[[1]]
@@ -248,8 +249,8 @@ has_geometry <- function(vector) {
   seq_len(nrow(vector)) %in% corners[!is.na(corners[, "x"]), "geom"]
 }
 
-# The values of a field: numbers if it has numbers, and texts, which are NA for missing values:
-# null, NaN and the empty text.
+# Return a field's values as numbers, if it contains numbers, and as texts. Null, NaN and empty
+# texts are missing (NA).
 field_values <- function(column, texts) {
   if (is.double(column) && !inherits(column, c("Date", "POSIXct"))) {
     column[is.na(texts)] <- NA
@@ -272,7 +273,7 @@ picked <- function(values, is_kept) {
   if (!is.null(values)) lapply(values, function(part) part[is_kept])
 }
 
-# The shortest decimal number that is read as this one; a whole one ends in `.0`.
+# Return the shortest decimal that reads back as the same number. Whole numbers end in `.0`.
 number_text <- function(numbers) {
   texts <- sprintf("%.15g", numbers)
   for (digits in 16:17) {
@@ -284,7 +285,7 @@ number_text <- function(numbers) {
   texts
 }
 
-# Return the files that belong to a layer's file.
+# Return a layer's file and the files that belong to it.
 files_of_layer <- function(path) {
   if (is_address(path) || !file.exists(path)) return(path)
   if (dir.exists(path)) return(list.files(path, full.names = TRUE))

@@ -1,9 +1,10 @@
-# SPDX-License-Identifier: Apache-2.0 OR GPL-2.0-or-later
-# Write maps to a private folder first; a file gets its name only when it is complete.
+# SPDX-License-Identifier: Apache-2.0 OR GPL-2.0-or-later Write files to a private folder, and
+# rename them only when they are complete.
 
 PIECE_BYTES <- 4194304L
 
-# Files that GDAL reads with a raster: files of an old raster would change a new one.
+# Files that GDAL reads along with a raster. If they belong to an old raster, they would change a
+# new one.
 SIDECARS <- c(".msk", ".aux.xml", ".ovr")
 
 check_filename <- function(filename, overwrite) {
@@ -18,13 +19,13 @@ check_filename <- function(filename, overwrite) {
   folder <- dirname(target)
   if (!dir.exists(folder)) write_failed(filename, "No such file or directory")
   if (file.access(folder, 2L) != 0L) write_failed(filename, "Permission denied")
-  if (file.exists(target) && !overwrite) write_failed(filename, "it exists, and overwrite is FALSE")
+  if (file.exists(target) && !overwrite) write_failed(filename, "it exists and overwrite is FALSE")
   if (file.exists(target) && file.access(target, 2L) != 0L) {
     write_failed(filename, "Permission denied")
   }
 }
 
-# The map of a call that may write a file.
+# Return the source of a call that may write a file, after checking the file.
 map_to_write <- function(x, crs, filename, overwrite) {
   check_filename(filename, overwrite)
   sources <- sources_of(list(map = x), crs)
@@ -32,10 +33,10 @@ map_to_write <- function(x, crs, filename, overwrite) {
   sources
 }
 
-# Return the files that the sources of a call are read from.
+# Return the files from which the sources of a call are read.
 inputs_of <- function(sources) files_of(unlist(lapply(sources, `[[`, "files")))
 
-# Reject an output file, with the files next to it that are replaced with it, that is also an input.
+# Reject an output file that is also an input, or that would replace an input next to it.
 check_inputs <- function(filename, inputs) {
   if (!nzchar(filename)) return(invisible())
   absolute <- function(paths) {
@@ -45,13 +46,13 @@ check_inputs <- function(filename, inputs) {
   same <- intersect(absolute(paste0(target, c("", SIDECARS))), absolute(inputs))
   if (!length(same)) return(invisible())
   if (!identical(same[[1]], absolute(target))) {
-    text <- "%s, which is read, would be replaced with the output file: give another filename="
+    text <- "the output file would replace %s, which is an input: give another filename="
     refuse(sprintf(text, same[[1]]), status = 2L)
   }
   refuse("the output file is the input file: give another filename=", status = 2L)
 }
 
-# Write a file: `fill` gets a function that writes bytes or 32-bit integers.
+# Write a file. `fill` receives a function that writes bytes or 32-bit integers.
 write_file <- function(path, fill) {
   failed <- function(e) write_failed(path, conditionMessage(e))
   size <- 0
@@ -59,7 +60,7 @@ write_file <- function(path, fill) {
   is_open <- TRUE
   on.exit(if (is_open) close(to))
   fill(function(numbers) {
-    # An error in evaluating it is not a failure of writing.
+    # An error while evaluating the argument is not a write failure.
     force(numbers)
     tryCatch(writeBin(numbers, to, endian = "little"), error = failed, warning = failed)
     size <<- size + length(numbers) * (if (is.raw(numbers)) 1 else 4)
@@ -69,16 +70,16 @@ write_file <- function(path, fill) {
   check_size(path, size)
 }
 
-# R does not report a full disk when it closes a file, so the size is checked.
+# Check the size of a written file, because R does not report a full disk when it closes a file.
 check_size <- function(path, size) {
   there <- file.size(path)
   if (!identical(as.numeric(there), as.numeric(size))) {
-    text <- "%.0f of its %.0f bytes are there, the disk may be full"
+    text <- "only %.0f of its %.0f bytes were written, the disk may be full"
     write_failed(path, sprintf(text, if (is.na(there)) 0 else there, size))
   }
 }
 
-# Return a path for the system as bytes, since in the C locale R cannot write letters beyond ASCII.
+# Return a path as bytes for the system, because R cannot write non-ASCII letters in the C locale.
 native_path <- function(path) {
   if (!validEnc(path)) {
     text <- "%s: terra only accepts UTF-8 paths: rename the file"
@@ -88,7 +89,7 @@ native_path <- function(path) {
   path.expand(path)
 }
 
-# Return the target of a path: links are followed, even if their file does not exist yet.
+# Return the target of a path. Links are followed even if their target does not exist yet.
 linked_path <- function(path) {
   for (step in seq_len(40L)) {
     to <- Sys.readlink(path)
@@ -98,10 +99,10 @@ linked_path <- function(path) {
   path
 }
 
-# The links of /dev and /proc lead to open files.
+# Links in /dev and /proc point to open files.
 is_of_system <- function(path) grepl("^/(dev|proc)/", path)
 
-# Return whether a path is a device, a pipe or one of the links of /dev.
+# Return whether a path is a device, a pipe or a link in /dev or /proc.
 is_stream <- function(path) {
   if (!file.exists(path) || dir.exists(path)) return(FALSE)
   if (is_of_system(path) && nzchar(Sys.readlink(path))) return(TRUE)
@@ -109,7 +110,7 @@ is_stream <- function(path) {
   nzchar(test) && run(test, c("-f", path), error_on_status = FALSE)$status != 0L
 }
 
-# In the C locale, terra changes non-ASCII letters of a path, so the call runs in another locale.
+# Run a call in a UTF-8 locale, because terra changes non-ASCII letters of a path in the C locale.
 with_path <- function(path, call) {
   is_ascii <- !any(charToRaw(path) > as.raw(127L))
   if (!is_ascii && validUTF8(path) && !isTRUE(l10n_info()[["UTF-8"]])) {
@@ -120,7 +121,7 @@ with_path <- function(path, call) {
   call
 }
 
-# Write a raster and return it as read from the file.
+# Write a raster and return it as read back from the file.
 written <- function(raster, filename, type = "INT4S") {
   force(raster)
   if (!nzchar(filename)) return(raster)
@@ -129,7 +130,7 @@ written <- function(raster, filename, type = "INT4S") {
   is_stream <- is_stream(target)
   room <- private_folder(if (is_stream) tempdir() else dirname(target), filename)
   on.exit(room$remove())
-  # A device has no ending that would give terra the format.
+  # A device name has no extension from which terra could infer the format.
   path <- file.path(room$path, if (is_stream) "map.tif" else basename(target))
   failed <- function(e) write_failed(filename, told(e))
   write <- function() with_path(path, writeRaster(raster, path, datatype = type))
@@ -143,17 +144,16 @@ written <- function(raster, filename, type = "INT4S") {
   }
   replace_files(room$path, target, filename)
   stored <- with_path(filename, rast(filename))
-  # terra treats a map without a system as one in degrees if its edges are within 180 by 90.
+  # terra assumes degrees for a map without a system if its edges are within 180 by 90.
   if (!nzchar(crs(raster))) crs(stored) <- ""
   stored
 }
 
-# Create a folder that only this user can open. If this process is killed, another process removes
-# it.
+# Create a folder that only this user can open. A guard process removes it if R is killed.
 private_folder <- function(beside, filename) {
   path <- tempfile(".rcell-", tmpdir = beside)
   if (!dir.create(path, showWarnings = FALSE, mode = "0700")) {
-    write_failed(filename, "no file can be made in its folder")
+    write_failed(filename, "no file can be created in its folder")
   }
   script <- "trap '' HUP INT TERM; cat > /dev/null; rm -rf -- \"$1\""
   guard <- process$new("/bin/sh", c("-c", script, "sh", path), stdin = "|", cleanup = FALSE)
@@ -164,8 +164,8 @@ private_folder <- function(beside, filename) {
   list(path = path, remove = remove)
 }
 
-# Rename the files of a folder to their names next to the target, the target last. Old files next to
-# it are removed, or restored if the target cannot be replaced.
+# Move the files of a folder next to the target, the target itself last. Old sidecar files are
+# removed, or restored if the target cannot be replaced.
 replace_files <- function(room, target, filename) {
   made <- list.files(room, all.files = TRUE, no.. = TRUE)
   main <- basename(target)
@@ -196,12 +196,14 @@ copy_to_stream <- function(path, target, filename) {
   }, error = failed, warning = failed)
 }
 
-# terra would also write colours for a map with labels, and warn that this type has none.
+# Muffle terra's warning that this cell type has no colours, which it tries to write for a map with
+# labels.
 without_colours <- function(w) {
   if (grepl("color-table", conditionMessage(w), fixed = TRUE)) invokeRestart("muffleWarning")
 }
 
-# A full disk on closing a file is not reported, so the file is read again and compared.
+# Read a written file and compare it with the raster, because a full disk is not reported on
+# closing.
 check_whole <- function(raster, path, filename) {
   failed <- function(e) write_failed(filename, told(e))
   again <- tryCatch(with_path(path, rast(path)), error = failed, warning = failed)
@@ -212,7 +214,7 @@ check_whole <- function(raster, path, filename) {
     readStop(again)
   })
   if (any(is.factor(raster)) && !any(is.factor(again))) {
-    write_failed(filename, "its labels are not there")
+    write_failed(filename, "its labels were not written")
   }
   count <- max(1L, BLOCK_CELLS %/% as.integer(ncol(raster)))
   for (row in seq(1L, as.integer(nrow(raster)), by = count)) {
@@ -221,7 +223,7 @@ check_whole <- function(raster, path, filename) {
     cells <- tryCatch(lapply(list(raster, again), read), error = failed, warning = failed)
     has_nulls <- identical(is.na(cells[[1]]), is.na(cells[[2]]))
     if (!has_nulls || any(cells[[1]] != cells[[2]], na.rm = TRUE)) {
-      write_failed(filename, "what was written is not what was to be written")
+      write_failed(filename, "the cells in the file differ from the map")
     }
   }
 }

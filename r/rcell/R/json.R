@@ -10,10 +10,10 @@ TOKENS_OF_R <- c(
   "true" = "TRUE", "false" = "FALSE"
 )
 
-# The backslash is the first, since the others contain it.
+# The backslash must come first because the other escapes contain it.
 ESCAPES <- c("\\" = "\\\\", "\"" = "\\\"", "\t" = "\\t", "\r" = "\\r", "\n" = "\\n")
 
-# A list as JSON: names are keys, in alphabetical order; one value is not an array.
+# Return a list as JSON. Names become keys, in alphabetical order; a single value is not an array.
 json_of <- function(value, indent = "") {
   if (is.null(value)) return("null")
   if (is.character(value) && length(value) == 1L) return(json_text(value))
@@ -37,7 +37,7 @@ json_text <- function(text) {
   paste0("\"", text, "\"")
 }
 
-# JSON as a list. Its tokens have the forms of R, but for the names of punctuation.
+# Parse JSON into a list. JSON tokens are valid R except for punctuation and null, true and false.
 list_of_json <- function(text, wrong) {
   tokens <- parts_of(text, JSON_TOKEN)
   if (tokens$end <= nchar(text, "bytes")) wrong()

@@ -1,15 +1,15 @@
 # SPDX-License-Identifier: Apache-2.0 OR GPL-2.0-or-later
-# Labels that a caller gives: a CSV or TSV file, a style of QGIS, a data frame or a named vector.
+# Legends that a caller passes: a CSV or TSV file, a QGIS style, a data frame or a named vector.
 
 COLOUR <- "^#[0-9a-fA-F]{6}$"
 WHOLE <- "^[+-]?[0-9]+([.]0*)?$"
 
-# Texts as whole numbers, NA for others.
+# Convert texts to whole numbers; other texts become NA.
 whole_numbers <- function(texts) {
   suppressWarnings(as.numeric(ifelse(grepl(WHOLE, texts), texts, NA)))
 }
 
-# The labels of a map: the labels of the legend, else its own.
+# Return the labels of the legend, or the map's own labels without a legend.
 labels_from <- function(legend, own, name = "labels") {
   if (is.null(legend)) own else legend_of(legend, name)
 }
@@ -23,7 +23,7 @@ legend_of <- function(legend, name) {
   if (!is.atomic(legend) && !is.list(legend) || !length(legend) || is.null(names(legend))) {
     text <- paste(
       "must be the path of a CSV, TSV or QML file, a data frame with the columns value and label,",
-      "or a vector with the classes as its names; got %s"
+      "or a vector with the classes as names; got %s"
     )
     refuse(sprintf(text, shown(legend)), name, status = 2L)
   }
@@ -34,7 +34,7 @@ legend_of <- function(legend, name) {
 
 is_path <- function(x) is.character(x) && length(x) == 1L && is.null(names(x)) && !is.na(x)
 
-# Return the files that a legend is read from.
+# Return the files from which legends are read.
 legend_files <- function(...) {
   paths <- unlist(Filter(is_path, list(...)))
   vapply(paths, native_path, "", USE.NAMES = FALSE)
@@ -56,7 +56,7 @@ check_colours <- function(colours, places, name) {
   refuse(text, name)
 }
 
-# Each value is a whole number and occurs once. Places begin the text of an error.
+# Check that each value is a whole number and occurs once. Messages begin with the place.
 checked_legend <- function(values, labels, name, places) {
   values <- trimmed(values)
   codes <- whole_numbers(values)
@@ -77,7 +77,7 @@ checked_legend <- function(values, labels, name, places) {
 
 quoted_if_empty <- function(text) if (is.na(text) || !nzchar(text)) "\"\"" else text
 
-# Warns of classes for which a legend has no label.
+# Warn about classes for which a legend has no label.
 check_legend <- function(labels, codes, map, name = "labels") {
   without <- if (isTRUE(labels$is_legend)) setdiff(sort(unique(codes)), labels$codes)
   if (length(without)) {

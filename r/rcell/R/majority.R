@@ -1,8 +1,8 @@
 # SPDX-License-Identifier: Apache-2.0 OR GPL-2.0-or-later
-# The most frequent class of the square around each cell.
+# The most frequent class in the square around each cell.
 
 SIZES <- seq(3, 15, 2)
-# The largest window whose cells fit into one expression.
+# The size of the largest window whose cells fit into one expression.
 SIZE_OF_AN_EXPRESSION <- 9
 # The largest number of classes whose counts fit into one expression.
 CLASSES_OF_AN_EXPRESSION <- 100L
@@ -25,16 +25,16 @@ rcell_majority <- function(x, size = 3, fill = FALSE, filename = "", overwrite =
   written(raster_of(frame, sources$map, sources$map$labels, "majority"), filename)
 }
 
-# The commonest class of a window as one expression.
+# Return an expression for the most frequent class in a window.
 window_lines <- function(size) {
   steps <- seq_len(size) - (size + 1) / 2
   cells <- paste(sprintf("map[%d,%d]", rep(steps, each = size), steps), collapse = ",")
   sprintf("r.mapcalc commonest = nmode(%s)", cells)
 }
 
-# The commonest class of windows too large for one expression: the cells of each class are counted
-# along rows and then along columns, and of the counts the largest is taken, the first class of
-# several. Classes are known by their places, from the last.
+# Return lines for the most frequent class in windows that are too large for one expression. They
+# count the cells of each class along rows and then along columns, and take the largest count; the
+# first class wins ties. Classes are encoded by their position from the end.
 class_lines <- function(size, classes) {
   if (!length(classes)) return("r.mapcalc commonest = map")
   steps <- seq_len(size) - (size + 1) / 2

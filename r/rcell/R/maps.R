@@ -5,20 +5,20 @@
 HEADER_BYTES <- 65536L
 CATEGORY_LIMIT <- 2147483647
 HEADER_LINE <- "^[ \t\r\n]*(north|south|east|west|rows|cols|null|type|multiplier):"
-# The parameters of functions that take maps by name.
+# The parameters of functions that accept maps by name.
 PARAMETERS <- c(
   "area", "percent", "wide", "labels", "include_null", "filename", "overwrite", "crs", "maps"
 )
-# Paths of GDAL that are not files of this machine.
+# GDAL paths that are not local files.
 ADDRESS <- "^/vsi|^[A-Za-z][A-Za-z0-9+.-]+:"
 
-# Return the maps of a call by name: the ones in `...` and in `maps`.
+# Return the maps of a call by name, from `...` and `maps`.
 named_maps <- function(dots, maps) {
   check_argument(is.list(maps), maps, "maps= must be a list of maps by name")
   named <- c(maps, dots)
   if (!length(named) || is.null(names(named)) || any(!nzchar(names(named)))) {
     refuse(
-      "a map without a name, or none at all: name them, for example lc = \"landcover.tif\"",
+      "pass at least one map, and name every map, for example lc = \"landcover.tif\"",
       status = 2L
     )
   }
@@ -29,18 +29,17 @@ named_maps <- function(dots, maps) {
   named
 }
 
-# A path to no file, under a name close to a parameter's, is a misspelt parameter.
+# Reject a misspelt parameter: a name close to a parameter's whose value is not the path of a file.
 check_spelling <- function(name, map) {
   near <- PARAMETERS[adist(name, PARAMETERS) <= 2L]
   if (!length(near) || !is_path(map) || is_address(map) || file.exists(native_path(map))) {
     return(invisible())
   }
-  text <- "%s= would be a map, and there is no file %s: did you mean %s=?"
+  text <- "%s= would be a map, but there is no file %s: did you mean %s=?"
   refuse(sprintf(text, name, map, near[[1]]), status = 2L)
 }
 
-# Return maps by name as sources; `crs` states the reference system to assume for maps that have
-# none.
+# Return maps by name as sources. `crs` is the reference system to assume for maps without one.
 sources_of <- function(maps, crs = NULL) fitted_sources(Map(source_of, names(maps), maps), crs)
 
 # Return sources by name, after checking that they have the same reference system and region.
@@ -71,7 +70,7 @@ source_of <- function(name, map) {
   if (is.character(map) && length(map) == 1L && !is.na(map)) {
     return(c(path_source(name, map), given = map))
   }
-  # R reads the bits of such a number as a double.
+  # R would read the bits of integer64 values as doubles.
   if (inherits(map, "integer64")) {
     bad_map(name, "a matrix of integer64: convert it with matrix(as.integer(x), nrow(x))")
   }
@@ -80,7 +79,7 @@ source_of <- function(name, map) {
   bad_map(name, sprintf(text, class(map)[[1]]))
 }
 
-# A matrix has cells of side 1, the bottom left corner at 0, 0, and no reference system.
+# Return a matrix as a source: cells of side 1, bottom left corner at 0, 0, no reference system.
 matrix_source <- function(name, map) {
   if (!length(map)) {
     bad_map(name, sprintf("a matrix without cells (%d x %d)", nrow(map), ncol(map)))
@@ -118,7 +117,7 @@ is_grid_of_rcell <- function(path) {
   !any(head == 0L) && grepl(HEADER_LINE, rawToChar(head), useBytes = TRUE)
 }
 
-# An rcell grid is read by the program `rcell`, which writes it with a number for null: GDAL would
+# Read an rcell grid with the program `rcell`, which writes null as a number, because GDAL would
 # read the null text `*` as 0.
 grid_source <- function(name, path) {
   folder <- new_folder()
@@ -148,14 +147,14 @@ grid_source <- function(name, path) {
 grid_fault <- function(ran) {
   parts <- regmatches(ran$stderr, regexec("^rcell: ([^:]*):([0-9]+): ([^\n]*)", ran$stderr))[[1]]
   if (length(parts) != 4L) {
-    text <- sprintf("the program rcell ended in status %d and said: %s", ran$status, ran$stderr)
-    wrong_program(text)
+    text <- "the program rcell ended with status %d and printed: %s"
+    wrong_program(sprintf(text, ran$status, ran$stderr))
   }
   class <- if (ran$status == 3L) "rcell_out_of_memory"
   refuse(parts[4], parts[2], as.integer(parts[3]), ran$status, class = class)
 }
 
-# A coordinate with eight decimals, digit by digit: a double has too few.
+# Return a coordinate with eight decimals, as text, because a double has too few digits.
 decimals_of <- function(text) {
   parts <- strsplit(text, ".", fixed = TRUE)[[1]]
   decimals <- if (length(parts) > 1L) parts[[2]] else ""

@@ -1,11 +1,11 @@
 # SPDX-License-Identifier: Apache-2.0 OR GPL-2.0-or-later
-# Landscape metrics: of patches, of classes, and of the landscape, in total or by zone. Definitions
-# are as in FRAGSTATS 4, without a border; edges are only between classes.
+# Landscape metrics of patches, classes or the landscape, in total or by zone. They are defined as
+# in FRAGSTATS 4, without a border; only sides between classes are edges.
 
 LEVELS <- c("class", "landscape", "patch")
 SQUARE_KM <- 1e6
 UNITS_FOLLOW <- c("mean_patch", "area_weighted_mean_patch", "effective_mesh", "edge_density_m")
-# Areas that differ from 1 m2 by no more have no fractal dimension.
+# Areas that differ from 1 m2 by at most this have no fractal dimension.
 NEARLY_ONE <- 1e-9
 
 rcell_metrics <- function(x, level = "class", connectivity = 4, area, zones = NULL, labels = NULL,
@@ -38,11 +38,11 @@ rcell_metrics <- function(x, level = "class", connectivity = 4, area, zones = NU
   frame_of(c(columns, measures[[level]](found, area)))
 }
 
-# The counts of landscapes, which are the zones or the map. A member is a class in a landscape.
-# Of patches, in the order of zones and first cells: `member`, `cells`, `weight` (the area in
-# degrees, else the cells), `ends` and `flanks` on their border. Of members: `class`,
-# `landscape`, `like` (sides between their own cells). Of `pairs` of members: their sides and the
-# `length` of their border. `area_of` returns the areas of weights.
+# Return the counts of landscapes, which are the zones or the map. A member is a class in a
+# landscape. Patches, in the order of zones and first cells, have `member`, `cells`, `weight` (the
+# area in degrees, otherwise the cells), and `ends` and `flanks` on their border. Members have
+# `class`, `landscape` and `like` (sides between their own cells). `pairs` of members have their
+# sides and the `length` of their border. `area_of` converts weights to areas.
 landscapes_of <- function(sources, connectivity, area) {
   has_zones <- "zones" %in% names(sources)
   name <- if (has_zones) "member" else "map"
@@ -57,7 +57,8 @@ landscapes_of <- function(sources, connectivity, area) {
       "r.mapcalc member = rank_zones + rank_map"
     )
   }
-  # Cells of a class that share a side are of one patch, so that two comparisons give all sides.
+  # Cells of the same class that share a side belong to one patch, so two comparisons count all
+  # sides.
   like <- "r.mapcalc like = nmax(%1$s == %1$s[0,1], 0) + 2 * nmax(%1$s == %1$s[1,0], 0)"
   by_row <- is_in_degrees(sources$map) && !is.null(area)
   frames <- run_own(c(
@@ -85,17 +86,18 @@ landscapes_of <- function(sources, connectivity, area) {
 
 check_members <- function(known) {
   if (prod(lengths(known)) <= CATEGORY_LIMIT) return(invisible())
-  text <- "%d zones of %d classes are more than can be told apart: use fewer zones"
+  text <- "%d zones with %d classes are too many to distinguish: use fewer zones"
   refuse(sprintf(text, length(known$zones), length(known$map)), "zones")
 }
 
-# Lines that number the categories of a map 0, step, 2 step, ..
+# Return lines that renumber the categories of a map as 0, step, 2 * step, ..
 rank_lines <- function(name, codes, step) {
   rules <- sprintf("%d = %.0f", codes, (seq_along(codes) - 1) * step)
   c(sprintf("r.reclass input=%1$s output=rank_%1$s", name), rules, "end")
 }
 
-# Polygons that overlap are in several runs with their own numbers of patches; a member is in one.
+# Return the counts of members. Overlapping polygons are in several runs, each with its own patch
+# numbers, but a member is in only one run.
 members_of <- function(frame, known) {
   group <- rleidv(frame$codes[1:2])
   count <- max(group, 0L)
@@ -116,7 +118,7 @@ members_of <- function(frame, known) {
 
 perimeters_in <- function(found) found$ends * found$sides[[1]] + found$flanks * found$sides[[2]]
 
-# 1 for a square.
+# Return shape indices, which are 1 for a square.
 shapes_of <- function(found) {
   0.25 * perimeters_in(found) / sqrt(found$cells * found$sides[[1]] * found$sides[[2]])
 }
@@ -136,10 +138,10 @@ cells_and_area <- function(found, cells, weight, area) {
   columns
 }
 
-# The measures that classes and landscapes share; `group` numbers the group of each patch.
+# Return the measures that classes and landscapes share. `group` is the group number of each patch.
 size_measures <- function(found, group, whole, edge, area) {
   count <- length(whole)
-  edge <- edge + 0 * found$sides[[1]] # missing if lengths are, also without an edge
+  edge <- edge + 0 * found$sides[[1]] # NA if lengths are unknown, even without an edge
   weight <- summed(found$weight, group, count)
   squares <- summed(found$weight^2, group, count)
   patches <- tabulate(group, count)
@@ -169,7 +171,7 @@ class_measures <- function(found, area) {
   cells <- summed(found$cells, found$member, count)
   weight <- summed(found$weight, found$member, count)
   whole <- in_landscape(weight)
-  # A border belongs to both of its sides.
+  # A border counts for the classes on both sides.
   side <- c(found$pairs$class, found$pairs$neighbour)
   lengths <- rep(found$pairs$length, 2L)
   edge <- summed(lengths, side, count)
@@ -211,8 +213,8 @@ whole_measures <- function(found, area) {
   ))
 }
 
-# The sides between cells of a member, in percent of the most that an area of this size can have.
-# NaN for one cell.
+# Return the number of sides between cells of a member, as a percentage of the maximum for its area,
+# or NaN for a single cell.
 aggregation <- function(found) {
   cells <- summed(found$cells, found$member, length(found$class))
   side <- floor(sqrt(cells))
@@ -221,7 +223,7 @@ aggregation <- function(found) {
   ifelse(most > 0, 100 * found$like / most, NaN)
 }
 
-# Perimeters in sides, and areas in cells.
+# Compute patch cohesion, with perimeters in sides and areas in cells.
 cohesion <- function(found, group, cells) {
   sides <- found$ends + found$flanks
   sums <- summed(sides, group, length(cells))
@@ -229,7 +231,7 @@ cohesion <- function(found, group, cells) {
   ifelse(cells > 1, 100 * (1 - sums / weighted) / (1 - 1 / sqrt(cells)), NaN)
 }
 
-# Each side of a cell is counted from both of its cells.
+# Compute contagion. Each side is counted from both of its cells.
 contagion <- function(found, shares, classes) {
   count <- length(found$class)
   side <- c(found$pairs$class, found$pairs$neighbour, seq_len(count))
@@ -240,7 +242,7 @@ contagion <- function(found, shares, classes) {
   ifelse(classes >= 2, 100 * (1 + sums / (2 * log(classes))), NaN)
 }
 
-# The entropy of the parts of each group in nats.
+# Return the entropy of each group's parts, in nats.
 entropy <- function(parts, group, count) {
   shares <- parts / summed(parts, group, count)[group]
   summed(ifelse(shares > 0, -shares * log(shares), 0), group, count)

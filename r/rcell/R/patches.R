@@ -1,5 +1,5 @@
 # SPDX-License-Identifier: Apache-2.0 OR GPL-2.0-or-later
-# Patches, the map of their numbers, and the sides that classes share.
+# Patches, the map of patch numbers, and the sides that classes share.
 
 CONNECTIVITIES <- c(4, 8)
 DEPTHS <- 1:20
@@ -45,7 +45,7 @@ is_selected <- function(patches, classes, min_cells) {
 
 warn_of_lengths <- function() warning("lengths are not computed in degrees", call. = FALSE)
 
-# The measures of patches, as the program counts them in one run.
+# Return the measures of patches that the program counts in a single run.
 counted_patches <- function(sources, connectivity, core_depth, area, has_zones) {
   zones <- if (has_zones) "zones" else ""
   question <- list(map = "map", connectivity = connectivity, depth = core_depth, zones = zones)
@@ -58,8 +58,8 @@ counted_patches <- function(sources, connectivity, core_depth, area, has_zones) 
   found
 }
 
-# The same measures from tables, for overlapping polygons, and in degrees, where areas differ by
-# row.
+# Compute the same measures from tables. This is needed for overlapping polygons, and in degrees,
+# because cell areas differ by row.
 tabulated_patches <- function(sources, connectivity, core_depth, area, has_zones) {
   parts <- c("map", "core", "side", "rows", "cols", if (has_zones) "zones")
   combinations <- lapply(parts, function(part) c("patch", part))
@@ -91,8 +91,8 @@ tabulated_patches <- function(sources, connectivity, core_depth, area, has_zones
   )
 }
 
-# The patches of a map; for each cell how many of its sides above and below, and three times how
-# many at its left and right, end its patch; whether it is core; its row and its column.
+# Return lines that make maps of the patch numbers, of the sides of each cell at which its patch
+# ends (above and below, plus three times left and right), of core cells, and of rows and columns.
 patch_lines <- function(connectivity, core_depth) {
   ends <- function(step) sprintf("(isnull(patch[%s]) ||| patch != patch[%s])", step, step)
   steps <- c("-1,0", "1,0", "0,-1", "0,1")
@@ -116,8 +116,8 @@ clump_line <- function(connectivity, name = "map") {
   sprintf("r.clump%s input=%s output=patch", if (connectivity == 8) " -d" else "", name)
 }
 
-# A row for each patch in the order of their numbers. Perimeters are in metres, NA if the system
-# does not say how long a unit is.
+# Return a row for each patch, in the order of patch numbers. Perimeters are in metres, or NA if the
+# length of the system's unit is unknown.
 patch_columns <- function(found, source, area, labels, zone_labels) {
   template <- template_of(source)
   size <- res(template)
@@ -143,7 +143,7 @@ patch_columns <- function(found, source, area, labels, zone_labels) {
   frame_of(columns)
 }
 
-# The zone of most cells of each patch, the smaller one of several.
+# Return the zone that contains most cells of each patch; ties go to the smallest zone.
 most_frequent <- function(table, patch) {
   order <- order(table$codes[[1]], -table$cells, table$codes[[2]])
   table$codes[[2]][order][match(patch, table$codes[[1]][order])]
@@ -176,7 +176,7 @@ rcell_adjacency <- function(x, labels = NULL, crs = NULL) {
   frame_of(columns)
 }
 
-# The pairs of a map's cells next to each other, and below each other.
+# Return lines that count pairs of cells next to each other and below each other.
 side_lines <- function(name) {
   c(
     sprintf("r.mapcalc right = %s[0,1]", name), sprintf("r.mapcalc below = %s[1,0]", name),
@@ -184,8 +184,9 @@ side_lines <- function(name) {
   )
 }
 
-# Each pair of classes once, the smaller class first: the sides of cells next to each other, which
-# are as long as a cell is high, and of cells below each other.
+# Return each pair of classes once, with the smaller class first. `flanks` counts sides between
+# cells next to each other, which are as long as a cell is high, and `ends` sides between cells
+# below each other.
 pairs_of <- function(frames) {
   smaller <- unlist(lapply(frames, function(frame) pmin(frame$codes[[1]], frame$codes[[2]])))
   larger <- unlist(lapply(frames, function(frame) pmax(frame$codes[[1]], frame$codes[[2]])))

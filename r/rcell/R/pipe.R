@@ -11,14 +11,14 @@ PATCHES <- 1L
 COMMANDS <- c("r.mapcalc", "r.reclass", "r.clump", "r.stats", "r.out.ascii")
 FLAGS <- c("c", "l", "1", "n", "N")
 BITS_OF_FLAGS <- c(1L, 2L, 4L, 8L, 16L)
-# The size of a plan's entries: for a map that is read, a map that is needed, and a call such as
+# The sizes of a plan's entries for a map that is read, a map that is needed, and a call such as
 # row().
 BYTES_OF_MARGINS <- c(32L, 33L)
 BYTES_OF_CALL <- 17L
 PATCH_MEASURES <- c("cells", "ends", "flanks", "core", "top", "bottom", "left", "right")
-# A class, and measures of two words each.
+# The class takes one word, each measure two.
 WORDS_OF_PATCH <- 1L + 2L * length(PATCH_MEASURES)
-# Columns, rows, north, type, null, file, first byte, bytes per cell and bytes per row.
+# To fill in: columns, rows, north, type, null, file, first byte, bytes per cell, bytes per row.
 RAW_RASTER <- "<VRTDataset rasterXSize=\"%.0f\" rasterYSize=\"%.0f\">
 <GeoTransform>0, 1, 0, %.0f, 0, -1</GeoTransform>
 <VRTRasterBand dataType=\"%s\" band=\"1\" subClass=\"VRTRawRasterBand\">
@@ -33,8 +33,9 @@ short_text <- function(text) {
   c(as.raw(length(bytes)), bytes)
 }
 
-# Cells are sent as 32-bit integers, in which NA has the bits of -2147483648. It is the nodata
-# value, a 64-bit integer. Labels stay here: they may be any text.
+# Return the bytes that precede a map's cells. Cells are sent as 32-bit integers. R stores NA as
+# -2147483648, which is declared as the nodata value (a 64-bit integer). Labels are not sent,
+# because they may contain any text.
 map_head <- function(name, region) {
   c(
     short_text(name), unlist(lapply(region$edges, short_text)),
@@ -42,8 +43,8 @@ map_head <- function(name, region) {
   )
 }
 
-# A request is a function that writes its bytes by calls of another one. A source has `cells`, or a
-# raster that is read in blocks of rows.
+# Return a request: a function that writes its bytes with the function it is given. A source has
+# `cells`, or a raster that is read in blocks of rows.
 run_request <- function(sources, script, questions = list()) function(write) {
   write(c(REQUEST_MAGIC, bytes_of(length(sources))))
   for (source in sources) {
@@ -54,7 +55,7 @@ run_request <- function(sources, script, questions = list()) function(write) {
   write(c(script_bytes(script), bytes_of(length(questions)), bytes))
 }
 
-# A question about the patches of a map.
+# Return the bytes of a question about the patches of a map.
 question_bytes <- function(question) {
   c(
     as.raw(PATCHES), short_text(question$map), as.raw(question$connectivity),
@@ -73,14 +74,14 @@ script_bytes <- function(lines) {
   c(bytes_of(length(text)), text)
 }
 
-# Read the fields of a response one after another. `wrong` is called if the file ends within a
-# field.
+# Return functions that read the fields of a response in order. If the file ends within a field,
+# they call `wrong`.
 reader_of <- function(from, path, wrong) {
   place <- 0
   end <- file.size(path)
-  # Returns where the bytes begin.
+  # Skip bytes and return where they begin.
   pass <- function(bytes) {
-    # `bytes` may itself be read here.
+    # Evaluating `bytes` may itself read from the file.
     force(bytes)
     place <<- place + bytes
     if (is.na(place) || place > end) wrong()
@@ -113,8 +114,8 @@ reader_of <- function(from, path, wrong) {
   )
 }
 
-# A raster of the cells in a file, null as NA. GDAL reads them, since each cell that R has in
-# between costs as much as that again.
+# Return a raster of cells in a file, with NA for null. GDAL reads the cells directly, because
+# passing them through R would double the cost.
 raster_at <- function(path, begin, rows, cols, is_small) {
   header <- paste0(path, ".vrt")
   on.exit(unlink(header))
@@ -131,7 +132,7 @@ raster_at <- function(path, begin, rows, cols, is_small) {
   raster
 }
 
-# A table, or the cells of maps one after another.
+# Read a table, or a list of cells.
 table_frame <- function(reader) {
   head <- reader$numbers(3)
   entries <- head[[2]]
@@ -157,8 +158,8 @@ grid_frame <- function(reader) {
   list(line = line, maps = name, raster = reader$raster(size[[1]], size[[2]], is_small))
 }
 
-# The measures of patches: class, then counts and rows and columns from 0, of 64 bits; and the
-# zones, if the question has zones.
+# Read the measures of patches: the class, then counts, rows and columns (from 0) in 64 bits, and
+# the zones if the question names zones.
 patches_frame <- function(reader) {
   reader$numbers()
   has_zones <- reader$bytes(6L)[[6L]] == 1L
@@ -174,8 +175,8 @@ patches_frame <- function(reader) {
   c(list(class = words[1L, ]), measures, if (has_zones) list(zone = words[WORDS_OF_PATCH + 1L, ]))
 }
 
-# A statement: whether it writes a frame, the map that it makes, its flags, its maps, the
-# combination after which a table begins, and the labels that its rules give.
+# Read a statement: whether it writes a frame, the map that it makes, its flags and maps, the
+# combination after which its table begins, and the labels of its rules.
 plan_frame <- function(reader) {
   line <- as.integer(reader$numbers())
   head <- as.integer(reader$bytes(2))
@@ -195,7 +196,7 @@ plan_frame <- function(reader) {
   )
 }
 
-# The last label of a category counts.
+# Read labels. The last label of a category applies.
 labels_in <- function(reader) {
   count <- reader$numbers()
   codes <- integer(count)
@@ -221,8 +222,8 @@ FRAMES <- list(
   PLAN = plan_frame, DONE = end_frame
 )
 
-# Return the frames of a response, the last of which is DONE. `wrong` is called if it is invalid or
-# incomplete.
+# Return the frames of a response, the last of which is DONE. Call `wrong` if the response is
+# invalid or incomplete.
 read_response <- function(path, wrong) {
   from <- file(path, "rb")
   on.exit(close(from))

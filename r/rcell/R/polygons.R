@@ -1,5 +1,5 @@
-# SPDX-License-Identifier: Apache-2.0 OR GPL-2.0-or-later
-# Zones as polygons: the cells whose centres they contain.
+# SPDX-License-Identifier: Apache-2.0 OR GPL-2.0-or-later Polygons as zones: a cell belongs to the
+# polygon that contains its centre.
 
 # Return the source of zones: a map, or polygons drawn on the grid of the map.
 zones_source <- function(zones, field, layer, source, each = FALSE) {
@@ -35,8 +35,8 @@ zones_source <- function(zones, field, layer, source, each = FALSE) {
   )
 }
 
-# The zone of each polygon: the whole numbers of the field, else 1, 2, .. in the order in which its
-# values occur first, with labels; without a field the polygon's own number.
+# Return the zone of each polygon: the field's whole numbers; or, for other values, 1, 2, .. in the
+# order in which they first occur, with the values as labels; or the feature number without a field.
 zones_of <- function(polygons) {
   if (is.null(polygons$values)) {
     check_ids(polygons$ids)
@@ -58,7 +58,7 @@ check_ids <- function(ids) {
   bad_map("zones", sprintf(text, beyond[[1]]))
 }
 
-# Features in parts in which no two zones overlap, by the boxes around them.
+# Divide features into parts in which no two zones overlap, judged by their bounding boxes.
 apart <- function(polygons, zones) {
   if (!length(zones)) return(list(integer()))
   corners <- geom(polygons$shapes)
@@ -80,8 +80,8 @@ apart <- function(polygons, zones) {
   lapply(parts, function(part) unlist(members[part], use.names = FALSE))
 }
 
-# For each cell the feature of a part that has its centre, the later one of several; NA if none.
-# The features that have none so far stay in the state.
+# Return, for each cell, the last feature of a part that contains its centre, or NA. `state` keeps
+# the features that contain no centre so far.
 winners_of <- function(polygons, zones, part, template, state) {
   draw <- function(order) {
     if (!length(order)) return(NA_integer_)
@@ -98,7 +98,7 @@ winners_of <- function(polygons, zones, part, template, state) {
   first <- draw(rev(part))
   is_contested <- which(zones[winners] != zones[first])
   losers <- unique(first[is_contested])
-  # Polygons between a first and a last one.
+  # Find polygons hidden between the first and the last one.
   while (length(hidden <- intersect(part, state$without))) {
     drawn <- unique(as.vector(na.omit(draw(hidden))))
     if (!length(drawn)) break
@@ -108,7 +108,7 @@ winners_of <- function(polygons, zones, part, template, state) {
   winners
 }
 
-# Warn of polygons that contain no centre of a cell; none with one is an error.
+# Warn about polygons that contain no cell centre. It is an error if no polygon contains one.
 check_centres <- function(polygons, without) {
   if (length(without) == length(polygons$ids)) {
     bad_map("zones", "no polygon contains the centre of a cell")
@@ -130,7 +130,7 @@ warn_of_losers <- function(polygons, losers, is_contested, columns) {
   warning(sprintf(text, length(is_contested), row, column, lost), call. = FALSE)
 }
 
-# Features by their numbers, and by their values if the zones are of a field.
+# Name features by their numbers, and by their values if there is a zone field.
 feature_names <- function(polygons, places) {
   names <- sprintf("%.0f", polygons$ids[places])
   if (!is.null(polygons$values)) {

@@ -1,5 +1,5 @@
-# SPDX-License-Identifier: Apache-2.0 OR GPL-2.0-or-later
-# The programs: their paths, and a run of one in a temporary folder of its own.
+# SPDX-License-Identifier: Apache-2.0 OR GPL-2.0-or-later Find the programs, and run them in
+# temporary folders.
 
 known_programs <- new.env(parent = emptyenv())
 
@@ -15,16 +15,16 @@ rcell_program <- function() {
   list(path = path, version = version)
 }
 
-# Return the path of the program, which was tried once.
+# Return the path of the program, after testing it once.
 program_path <- function() {
   path <- find_program()
   is_one <- is.character(path) && length(path) == 1L && !is.na(path)
   check_argument(is_one, path, "options(rcell.program) must be the path of a program")
   if (!nzchar(path)) {
     missing_program(paste(
-      "the program rcell-pipe was not found: neither by the option rcell.program,",
-      "nor in the environment variable RCELL_PIPE, nor next to the program of RCELL,",
-      "nor in this package, nor on the path"
+      "the program rcell-pipe was not found: not in the option rcell.program,",
+      "the environment variable RCELL_PIPE, next to the program in RCELL,",
+      "in this package or on the path"
     ))
   }
   if (dir.exists(path) || file.access(path, 1L) != 0L) {
@@ -49,8 +49,8 @@ REMEDY <- paste0(
 missing_program <- function(text) signal("rcell_missing", paste0(text, REMEDY))
 wrong_program <- function(text) signal("rcell_wrong_program", text)
 
-# The first of: the option, the environment variable, next to the program of RCELL, the program of
-# this package, the one on the path.
+# Return the first that exists: the option, the environment variable, the program next to the
+# program in RCELL, the program in this package, the program on the path.
 find_program <- function() {
   option <- getOption("rcell.program", "")
   if (!identical(option, "")) return(option)
@@ -63,7 +63,7 @@ find_program <- function() {
   ))
 }
 
-# The program `rcell`, which reads grids of its own form.
+# Return the path of the program `rcell`, which reads rcell grids.
 find_rcell <- function(pipe) {
   beside <- file.path(dirname(pipe), sub(PIPE, "rcell", basename(pipe), fixed = TRUE))
   is_beside <- beside != pipe && file.exists(beside)
@@ -71,7 +71,7 @@ find_rcell <- function(pipe) {
     Sys.getenv("RCELL"), if (is_beside) beside, bundled_program("rcell"), Sys.which("rcell")[[1]]
   ))
   if (!nzchar(path) || file.access(path, 1L) != 0L) {
-    missing_program("the program rcell, which reads grids of its own form, was not found")
+    missing_program("the program rcell, which reads rcell grids, was not found")
   }
   normalizePath(path)
 }
@@ -83,7 +83,7 @@ bundled_program <- function(name) {
   if (nzchar(path)) normalizePath(path) else ""
 }
 
-# Run the program once on three cells, with everything that this package uses.
+# Test the program on three cells, with all features that this package uses.
 probe <- function(path) {
   wrong <- function(e) {
     text <- "%s is not a program rcell-pipe of a version that this package knows"
@@ -101,24 +101,24 @@ probe <- function(path) {
   if (!is_right) wrong()
 }
 
-# A map of a row of cells.
+# Return a map with a single row of cells.
 small_map <- function(name, cells) {
   cols <- length(cells)
   region <- list(edges = as.character(c(1L, 0L, cols, 0L)), rows = 1L, cols = cols)
   list(name = name, cells = cells, region = region)
 }
 
-# A folder whose files have ASCII names, so that no locale can get in the way.
+# Create a folder for files with ASCII names, which work in every locale.
 new_folder <- function() {
   folder <- tempfile("rcell-")
   if (!dir.create(folder, showWarnings = FALSE)) {
-    write_failed(folder, "the temporary folder cannot be made")
+    write_failed(folder, "the temporary folder cannot be created")
   }
   folder
 }
 
-# The words before a command that make it end with R, even if R is killed; none if the system has no
-# such command.
+# Return the words to put before a command so that it ends with R, even if R is killed. If the
+# system has no such command, return none.
 guard_words <- function() {
   if (is.null(known_programs[[" guard"]])) {
     words <- c(Sys.which("setpriv")[["setpriv"]], "--pdeathsig", "KILL")
@@ -129,8 +129,8 @@ guard_words <- function() {
   known_programs[[" guard"]]
 }
 
-# Run a program in the folder, its input from a file there, its output to the file `out`. An
-# interrupt ends it, and is passed on.
+# Run a program in a folder. It reads a file there and writes the file `out`. An interrupt ends the
+# program and is passed on.
 execute <- function(path, folder, words = character(), input = NULL) {
   command <- c(guard_words(), path, words)
   failed <- function(text) {
@@ -146,7 +146,7 @@ execute <- function(path, folder, words = character(), input = NULL) {
   }
   child <- tryCatch(start(), rlib_error = function(e) failed(conditionMessage(e)))
   on.exit(child$kill())
-  # (processx::run would keep the text of errors in a file, for which a full disk has no room.)
+  # (processx::run would write error texts to a file, which fails on a full disk.)
   text <- ""
   while (child$is_incomplete_error()) {
     child$poll_io(-1L)
@@ -160,7 +160,7 @@ execute <- function(path, folder, words = character(), input = NULL) {
   list(status = status, stderr = trimws(text))
 }
 
-# Sends a request, and returns the frames of the response, the last of which says how it ended.
+# Send a request and return the frames of the response. The last frame reports how the run ended.
 ask_pipe <- function(path, request) {
   folder <- new_folder()
   on.exit(unlink(folder, recursive = TRUE))
@@ -171,10 +171,10 @@ ask_pipe <- function(path, request) {
   wrong <- function() {
     if (ran$status == 4L) write_failed(out, "the disk may be full")
     if (ran$status == 0L) {
-      wrong_program(sprintf("%s has written what this package does not understand", path))
+      wrong_program(sprintf("%s returned a response that this package cannot read", path))
     }
     printed <- if (nzchar(ran$stderr)) ran$stderr else "nothing"
-    wrong_program(sprintf("the program ended in status %d and said: %s", ran$status, printed))
+    wrong_program(sprintf("the program ended with status %d and printed: %s", ran$status, printed))
   }
   frames <- tryCatch(
     read_response(out, wrong), rcell_error = function(e) stop(e), error = function(e) wrong()
@@ -185,15 +185,15 @@ ask_pipe <- function(path, request) {
 
 end_of <- function(frames) frames[[length(frames)]]
 
-# Run a script over maps, and return its frames without the last. An error of the script is one of
-# the caller's lines.
+# Run a script on maps and return its frames without the last. Errors of the script show the
+# caller's lines.
 run_pipe <- function(path, sources, script, lines = script, questions = list()) {
   if (is.function(recorder$add)) recorder$add(sources, c(script, question_texts(questions)))
   request <- run_request(sources, script, questions)
   frames_of(ask_pipe(path, request), path, names_of(sources), lines)
 }
 
-# The questions of a request, as records have them.
+# Return the questions of a request as texts for records.
 question_texts <- function(questions) {
   vapply(questions, function(question) {
     zones <- if (nzchar(question$zones)) paste0(", zones ", question$zones) else ""
@@ -202,13 +202,13 @@ question_texts <- function(questions) {
   }, "")
 }
 
-# The frames of a response without the last, which may be an error.
+# Return the frames of a response without the last, or raise the error that it contains.
 frames_of <- function(frames, path, names, lines) {
   if (end_of(frames)$status != 0) fault(end_of(frames), path, names, lines)
   frames[-length(frames)]
 }
 
-# The error that ended a run.
+# Raise the error that ended a run.
 fault <- function(end, path, names, lines) {
   status <- as.integer(end$status)
   kind <- if (status == 3L) "rcell_out_of_memory"

@@ -1,18 +1,19 @@
 # SPDX-License-Identifier: Apache-2.0 OR GPL-2.0-or-later
-# Rasters of terra: what GDAL knows of their files, and which of them terra would misread.
+# terra rasters: facts that GDAL reports about their files, and checks for files that terra
+# misreads.
 
-# terra returns 64-bit cells as floats, in which a null value beyond this limit equals other
+# terra returns 64-bit cells as doubles, in which a null value beyond this limit equals other
 # numbers.
 INEXACT_FLOAT <- 2^53
 COMPLEX_TYPES <- c("CInt16", "CInt32", "CFloat32", "CFloat64")
 ROTATED <- "a rotated transform: warp the map to a north-up grid first (terra: rectify)"
 
 raster_source <- function(name, raster, is_opened_here = FALSE) {
-  # S4 methods wrap errors of their arguments in errors of their own.
+  # S4 methods would wrap errors of their arguments in their own errors.
   force(raster)
   chosen <- opaque_layer(name, raster)
   raster <- chosen$raster
-  # terra treats a map without a system as one in degrees if its edges are within 180 by 90.
+  # terra assumes degrees for a map without a system if its edges are within 180 by 90.
   if (is_opened_here && isFALSE(chosen$facts$has_crs)) crs(raster) <- ""
   if (!hasValues(raster)) bad_map(name, "a raster without values")
   scale <- scoff(raster)
@@ -29,8 +30,8 @@ raster_source <- function(name, raster, is_opened_here = FALSE) {
   )
 }
 
-# Return the only layer that is not an alpha band, the alpha band of its file if there is one, and
-# what GDAL knows of the file.
+# Return the only layer that is not an alpha band, its file's alpha band if there is one, and the
+# facts that GDAL reports about the file.
 opaque_layer <- function(name, raster) {
   bands <- sources(raster, bands = TRUE)
   paths <- unique(bands$source[nzchar(bands$source)])
@@ -53,17 +54,17 @@ opaque_layer <- function(name, raster) {
 
 alpha_layer <- function(raster, path, band) {
   alpha <- with_path(path, rast(path))[[band]]
-  # A part of a file may be chosen by terra's window().
+  # terra's window() may have selected a part of the file.
   if (nrow(alpha) != nrow(raster) || ncol(alpha) != ncol(raster)) window(alpha) <- ext(raster)
   alpha
 }
 
-# Return what GDAL says about a file, line by line.
+# Return GDAL's description of a file, line by line.
 description_of <- function(path) {
   tryCatch(suppressWarnings(with_path(path, describe(path))), error = function(e) character())
 }
 
-# Return what GDAL knows about a file and terra does not report.
+# Return facts about a file that GDAL reports but terra does not.
 file_facts <- function(path) {
   loose_rows <- character()
   keep <- function(w) {
@@ -84,7 +85,7 @@ file_facts <- function(path) {
   )
 }
 
-# Return files with their sidecars and, of virtual rasters, the files from which they read.
+# Return files with their sidecars and, for virtual rasters, the files from which they read.
 files_of <- function(paths) {
   known <- character()
   while (length(paths)) {
@@ -105,12 +106,12 @@ files_in <- function(path) {
 }
 
 # Reject rasters that terra would misread: rotated rasters, complex cells, null values that are not
-# exact as floats, masks next to the cells, and, before GDAL 3.7, signed bytes (-5 is read as 251).
+# exact as doubles, masks next to the cells, and, before GDAL 3.7, signed bytes (-5 is read as 251).
 check_file <- function(name, raster, facts, band) {
   if (is.null(facts)) return(invisible())
-  # GDAL would write the table without these rows over the file when the cells have been read.
+  # After reading the cells, GDAL would overwrite the file's table without these rows.
   if (length(facts$loose_rows)) {
-    read_failed(name, sprintf("cannot be read: its attribute table: %s", facts$loose_rows))
+    read_failed(name, sprintf("its attribute table cannot be read: %s", facts$loose_rows))
   }
   if (facts$is_rotated) bad_map(name, ROTATED)
   if (facts$has_points_alone) {
@@ -125,7 +126,7 @@ check_file <- function(name, raster, facts, band) {
   if (any(grepl("PIXELTYPE=SIGNEDBYTE", lines, fixed = TRUE)) && "INT1U" %in% datatype(raster)) {
     text <- paste(
       "its bytes are signed, and terra reads them as 0 to 255:",
-      "write it with 16 bits per cell with another program first"
+      "first write it with 16 bits per cell in another program"
     )
     bad_map(name, text)
   }
@@ -156,7 +157,8 @@ check_wide_null <- function(name, lines) {
   }
 }
 
-# terra reads a rotated raster as if it were not rotated, with a warning.
+# Open a raster. Reject rotated rasters, which terra reads as if they were not rotated, with a
+# warning.
 open_raster <- function(name, path) {
   failed <- function(e) read_failed(name, sprintf("cannot open: %s: %s", path, told(e)))
   withCallingHandlers(
@@ -168,5 +170,5 @@ open_raster <- function(name, path) {
   )
 }
 
-# The text of an error of terra, without the name of its function.
+# Return the message of a terra error without the function name.
 told <- function(e) sub("^\\[[a-zA-Z]+\\] ", "", conditionMessage(e))

@@ -1,5 +1,5 @@
 # SPDX-License-Identifier: Apache-2.0 OR GPL-2.0-or-later
-# New classes by a crosswalk: a table of old and new classes.
+# New classes from a crosswalk: a table of old and new classes.
 
 OTHERS <- c("keep", "null")
 VALUES <- "^([+-]?[0-9]+)(?:[.]0*)?(?:\\s*-\\s*([+-]?[0-9]+)(?:[.]0*)?)?$"
@@ -21,7 +21,7 @@ rcell_reclass <- function(x, rules, other = NULL, filename = "", overwrite = FAL
   written(raster_of(frames[[2]], sources$map, labels, "new"), filename)
 }
 
-# Rules in the order of their values: the first and last value, the new class, NA for null, and its
+# Return rules sorted by value: the first and last value, the new class (NA for null), and its
 # label.
 rules_of <- function(rules) {
   if (is_path(rules) || is.data.frame(rules)) {
@@ -39,8 +39,8 @@ rules_of <- function(rules) {
     table <- list(values = names(rules), new = unname(new), labels = NULL, places = places)
   } else {
     text <- paste(
-      "must be a CSV file or a data frame with the columns value, new and perhaps label,",
-      "or a vector of new classes with the old ones as its names; got %s"
+      "must be a CSV file or a data frame with the columns value, new and optionally label,",
+      "or a vector of new classes with the old classes as names; got %s"
     )
     refuse(sprintf(text, shown(rules)), "rules", status = 2L)
   }
@@ -78,7 +78,7 @@ check_rule <- function(is_right, table, texts, reason) {
   refuse(text, "rules")
 }
 
-# Lines of r.reclass: consecutive values with the same new class share a line.
+# Return lines for r.reclass. Consecutive values with the same new class share a line.
 rule_lines <- function(rules) {
   count <- length(rules$low)
   if (!count) return(character())
@@ -89,7 +89,8 @@ rule_lines <- function(rules) {
   high <- sprintf("%.0f", rules$high[c(!is_next, TRUE)])
   lines <- paste(ifelse(low == high, low, paste(low, "thru", high)), "=", new[is_first])
   if (sum(nchar(lines) + 1L) > RULES_BYTES) {
-    refuse(sprintf("%d ranges of classes are too many for a script", length(lines)), "rules")
+    text <- "%d ranges of classes do not fit into a script: use fewer ranges"
+    refuse(sprintf(text, length(lines)), "rules")
   }
   lines
 }
@@ -104,7 +105,7 @@ check_covered <- function(classes, rules) {
   refuse(sprintf(text, noun, shortened(classes[!is_covered])), "map")
 }
 
-# The labels of new classes, in the order of the rules.
+# Return the labels of new classes, in the order of the rules.
 new_labels <- function(rules) {
   is_kept <- nzchar(rules$labels) & !is.na(rules$new)
   codes <- as.integer(rules$new[is_kept])

@@ -1,15 +1,15 @@
 # SPDX-License-Identifier: Apache-2.0 OR GPL-2.0-or-later
-# Tables with a record of what they were made from, which anyone can verify later.
+# Tables with a record of their inputs, which anyone can verify later.
 
 RECORD_FORM <- 1
-# Arguments that are words; other texts are paths if there is such a file.
+# Arguments that are never paths. Other texts are paths if such a file exists.
 WORDS <- c(
   "area", "crs", "zone_field", "field", "layer", "level", "allocation", "other", "resample", "seed"
 )
-# Files that are not sent as cells, so that their bytes count.
+# Files that are not sent as cells, so a record contains the checksum of their bytes.
 TEXT_FILES <- "[.](csv|tsv|qml)$"
 
-# What is noted of each run while a call is recorded.
+# Holds a function that notes each run while a call is recorded.
 recorder <- new.env(parent = emptyenv())
 
 rcell_record <- function(.path, .call, ..., .table = NULL) {
@@ -64,7 +64,7 @@ rcell_verify <- function(path) {
   c(told, other_runs(made$runs, record$runs), other_lines(kept, made$text))
 }
 
-# The record of a table, which the package for R has made.
+# Return the record of a table that was recorded in R.
 record_of <- function(path) {
   beside <- paste0(path, ".json")
   if (!file.exists(native_path(beside))) {
@@ -72,7 +72,7 @@ record_of <- function(path) {
     refuse(sprintf(text, path, beside), "record", status = 4L)
   }
   wrong <- function() {
-    text <- "%s is not a record of this version of the package for R"
+    text <- "%s is not a record from this version of the R package"
     refuse(sprintf(text, beside), "record")
   }
   record <- list_of_json(utf8_text(native_path(beside), "record"), wrong)
@@ -84,7 +84,7 @@ record_of <- function(path) {
   record
 }
 
-# Whether all parts of a record are there; its call is one of this package.
+# Return whether a record is complete and its call is a function of this package.
 is_record <- function(record) {
   if (!is.list(record) || !identical(record$rcell_record, RECORD_FORM)) return(FALSE)
   parts <- list(record$call, record$runs, record$table, record$versions)
@@ -108,7 +108,7 @@ name_of_call <- function(call) {
   names
 }
 
-# Run a call: its result, the text of its table, the runs of the program, and the files it read.
+# Run a call. Return its result, the text of its table, the runs of the program, and the files read.
 recorded_call <- function(call, arguments, part) {
   program_path()
   runs <- list()
@@ -139,7 +139,8 @@ table_in <- function(result, part) {
   tables[[part]]
 }
 
-# A table as text: numbers in the shortest form that reads back the same, missing values empty.
+# Return a table as CSV text. Numbers have the shortest form that reads back the same; missing
+# values are empty.
 csv_of <- function(table) {
   quoted <- function(texts) {
     is_odd <- grepl("[\",\r\n]", texts)
@@ -155,7 +156,7 @@ csv_of <- function(table) {
   paste0(enc2utf8(c(paste(quoted(names(table)), collapse = ","), rows)), "\n", collapse = "")
 }
 
-# Write the table, and next to it the record, both or none.
+# Write the table and its record, or neither of them.
 write_record <- function(path, text, record) {
   target <- linked_path(native_path(path))
   room <- private_folder(dirname(target), path)
@@ -170,14 +171,14 @@ write_record <- function(path, text, record) {
 
 # Sums
 
-# The SHA-256 of a file.
+# Return the SHA-256 of a file.
 sum_of <- function(path) {
   failed <- function(e) read_failed("record", sprintf("cannot open: %s", path))
   tryCatch(digest(path, "sha256", file = TRUE), error = failed)
 }
 
-# The checksum of a map's region and cells, as 32-bit integers, whatever its file has: Python's is
-# the same.
+# Return the checksum of a map's region and of its cells as 32-bit integers, independent of the
+# file's type. Python computes the same checksum.
 sum_of_cells <- function(source) {
   folder <- new_folder()
   on.exit(unlink(folder, recursive = TRUE))
@@ -193,7 +194,7 @@ sum_of_cells <- function(source) {
 
 # Arguments
 
-# An argument as a record has it; files by their paths relative to a folder.
+# Return an argument in the form stored in records. Paths become relative to a folder.
 plain_argument <- function(name, value, folder) {
   if (is.character(value) && length(value) == 1L && is.null(names(value))) {
     return(plain_text(name, value, folder))
@@ -227,14 +228,14 @@ relative_path <- function(path, folder) {
   paste(c(up, parts[[1]][-seq_len(shared)]), collapse = "/")
 }
 
-# An argument from a record.
+# Return an argument from its form in a record.
 placed_argument <- function(told, folder) {
   if (!is.list(told)) return(told)
   if (!is.null(told$path)) return(file.path(folder, told$path))
   items <- if (is.null(told$items)) told else lapply(told$items, `[[`, 2L)
   values <- lapply(items, placed_argument, folder)
   if (!is.null(told$items)) names(values) <- vapply(told$items, `[[`, "", 1L)
-  # Paths are lists in a record, and several of them are a list of maps.
+  # Paths are lists in a record, so several paths form a list of maps.
   is_plain <- !vapply(items, is.list, NA)
   kinds <- unique(vapply(values, typeof, ""))
   if (all(is_plain) && length(kinds) == 1L) unlist(values) else values
@@ -247,7 +248,7 @@ legend_files_in <- function(arguments) {
 
 # Differences
 
-# Which legends and other texts of a call have changed.
+# Return texts for the legends and other text files of a call that have changed.
 other_files <- function(told, folder) {
   if (!is.list(told)) return(NULL)
   if (is.null(told$sha256)) return(unlist(lapply(unname(told), other_files, folder)))
@@ -270,7 +271,8 @@ other_runs <- function(now, then) {
   )
 }
 
-# The first line in which a table differs from what its call returns now, and how many others do.
+# Return a text about the first line in which a table differs from its call's current result, and
+# the number of other lines that differ.
 other_lines <- function(kept, now) {
   if (identical(kept, now)) return(NULL)
   lines <- lapply(c(kept, now), function(text) strsplit(text, "\n", fixed = TRUE)[[1]])

@@ -1,6 +1,6 @@
 # SPDX-License-Identifier: Apache-2.0 OR GPL-2.0-or-later
-# The region of a map: its edges as the program sees them, texts of eight decimals, and its rows and
-# columns.
+# The region of a map: its rows, columns, and edges as texts with eight decimals, as the program
+# reads them.
 
 DECIMALS <- 8L
 EDGE_LIMIT <- 1e10
@@ -9,7 +9,7 @@ CELL_LIMIT <- 2147483647
 
 EDGES <- c("north", "south", "east", "west")
 
-# An edge as a text of eight decimals; these texts are compared, never the numbers.
+# Return an edge as a text with eight decimals. Only these texts are compared, never the numbers.
 edge_text <- function(edge) sub("^-(0\\.0+)$", "\\1", sprintf("%.8f", edge))
 
 region_of <- function(name, raster) {
@@ -38,7 +38,7 @@ region_of <- function(name, raster) {
 check_region <- function(name, region) {
   is_long <- region$rows > SIDE_LIMIT || region$cols > SIDE_LIMIT
   if (is_long || as.numeric(region$rows) * region$cols > CELL_LIMIT) {
-    text <- "%d rows and %d columns; the program takes 1 to %d of each, and %.0f cells in all"
+    text <- "%d rows and %d columns: there must be 1 to %d of each, and at most %.0f cells"
     bad_map(name, sprintf(text, region$rows, region$cols, SIDE_LIMIT, CELL_LIMIT))
   }
   numbers <- as.numeric(region$edges)
@@ -50,7 +50,7 @@ check_region <- function(name, region) {
   }
 }
 
-# Without the zeros at its end.
+# Remove trailing zeros.
 short_edge <- function(text) sub("\\.$", "", sub("0+$", "", text))
 
 region_text <- function(region) {
@@ -58,7 +58,7 @@ region_text <- function(region) {
   sprintf("%s, %d rows, %d columns", edges, region$rows, region$cols)
 }
 
-# In which edges and sizes a region differs from the first map's, and by how much.
+# Return texts that describe how a region differs from the first map's region.
 differences <- function(first, other) {
   more <- function(by) if (by > 0) "more" else "less"
   by <- as.numeric(other$edges) - as.numeric(first$edges)
@@ -77,7 +77,7 @@ differences <- function(first, other) {
   texts
 }
 
-# All maps of a call have the region of the first; nothing is resampled.
+# Check that all maps of a call have the region of the first map.
 check_regions <- function(sources) {
   first <- sources[[1]]
   for (source in sources[-1]) {

@@ -1,10 +1,10 @@
 # SPDX-License-Identifier: Apache-2.0 OR GPL-2.0-or-later
-# Random cells of each class, for a reference sample: always the same, in every package.
+# Random cells of each class for a reference sample. A seed draws the same cells in every package.
 
 ALLOCATIONS <- c("equal", "proportional")
-# Its product with the number of cells of a map is exact as a double.
+# The largest sample: its product with a map's number of cells is exact as a double.
 POINTS_LIMIT <- 1e6
-# The most cells that one run lists.
+# The largest number of cells that one run lists.
 LISTED_LIMIT <- 2^22
 # Random numbers use this many bits of a hash.
 NUMBERS_OF_A_HASH <- 2^48
@@ -22,7 +22,7 @@ rcell_sample <- function(x, n, seed, allocation = "equal", labels = NULL, crs = 
   wanted <- divided(n, allocation, class, sizes)
   warn_of_few(class, sizes, wanted)
   seed <- if (is.character(seed)) enc2utf8(seed) else sprintf("%.0f", seed)
-  # The places of the cells that are drawn, among all cells in the order of classes and rows.
+  # The positions of the drawn cells among all cells, in the order of classes and rows.
   places <- unlist(Map(function(class, size, count, before) {
     before + drawn(paste(seed, class, sep = ":"), size, count)
   }, class, sizes, wanted, cumsum(sizes) - sizes))
@@ -53,11 +53,11 @@ check_numbers <- function(n, allocation) {
     "c(\"11\" = 50, \"31\" = 100)"
   )
   check_argument(is_right, n, rule, POINTS_LIMIT)
-  rule <- "allocation= is for a number of cells in all, and n= has one for each class"
+  rule <- "allocation= is for a total number of cells, but n= has a number for each class"
   check_argument(is.null(names(n)) || allocation == ALLOCATIONS[[1]], allocation, rule)
 }
 
-# How many cells are wanted of each class: the rest of a division goes to the largest fractions.
+# Return how many cells to draw from each class. The remainder goes to the largest fractions.
 divided <- function(n, allocation, class, sizes) {
   if (!is.null(names(n))) {
     codes <- as.numeric(names(n))
@@ -85,8 +85,8 @@ warn_of_few <- function(class, sizes, wanted) {
   warning(sprintf("fewer cells than wanted of the class %s", listed), call. = FALSE)
 }
 
-# The columns of cells, which are known by their class, their row, and their place among the cells
-# of this class in the row. The program lists the cells of some rows at a time.
+# Return the columns of cells that are identified by class, row, and position among the cells of
+# this class in the row. The program lists a limited number of cells at a time.
 columns_of <- function(sources, class, row, place) {
   rows <- sort(unique(row))
   step <- max(1, LISTED_LIMIT %/% sources$map$region$cols)
@@ -104,15 +104,15 @@ columns_of <- function(sources, class, row, place) {
   col
 }
 
-# Different numbers from 0 to size - 1, in ascending order: Floyd's algorithm, with the numbers that
-# a key and a counter give.
+# Draw distinct numbers from 0 to size - 1, in ascending order, using Floyd's algorithm with numbers
+# computed from a key and a counter.
 drawn <- function(key, size, count) {
   count <- min(count, size)
   if (count == 0) return(numeric())
   limits <- size - count + seq_len(count)
   last <- count
   values <- numbers_of(sprintf("%s:%d", key, seq_len(last)))
-  # A number that would make some places more likely is left out.
+  # Skip numbers that would make some positions more likely than others.
   while (!all(is_fair <- values < NUMBERS_OF_A_HASH %/% limits * limits)) {
     last <- last + 1L
     values <- c(values[-match(FALSE, is_fair)], numbers_of(sprintf("%s:%d", key, last)))
@@ -127,7 +127,7 @@ drawn <- function(key, size, count) {
   sort(unlist(as.list(found), use.names = FALSE))
 }
 
-# The first 48 bits of the SHA-256 of each text as a number, from two halves of 24 bits.
+# Return the first 48 bits of each text's SHA-256 as a number, computed from two halves of 24 bits.
 numbers_of <- function(texts) {
   hashes <- getVDigest("sha256")(enc2utf8(texts), serialize = FALSE)
   strtoi(substr(hashes, 1L, 6L), 16L) * 2^24 + strtoi(substr(hashes, 7L, 12L), 16L)

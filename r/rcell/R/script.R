@@ -1,13 +1,13 @@
-# SPDX-License-Identifier: Apache-2.0 OR GPL-2.0-or-later
-# What a script asks for: the program says so, before a map is looked for.
+# SPDX-License-Identifier: Apache-2.0 OR GPL-2.0-or-later Plan a script: the program reports its
+# statements before any map is opened.
 
 MAPS_LIMIT <- 16L
 NAME <- "[A-Za-z_][A-Za-z0-9_.]{0,63}"
 
 is_name <- function(words) grepl(paste0("^", NAME, "$"), words, useBytes = TRUE)
 
-# Texts as UTF-8. In the C locale R does not recognise non-ASCII letters, and would print their
-# bytes.
+# Return texts as UTF-8. In the C locale, R does not recognise non-ASCII letters and would print
+# their bytes.
 utf8_of <- function(text) {
   if (is_ascii_locale()) Encoding(text)[Encoding(text) == "unknown" & validUTF8(text)] <- "UTF-8"
   enc2utf8(text)
@@ -15,7 +15,7 @@ utf8_of <- function(text) {
 
 is_ascii_locale <- function() Sys.getlocale("LC_CTYPE") %in% c("C", "POSIX")
 
-# A script as lines. Each text of a vector is a line.
+# Return the lines of a script, which may be one text or a vector of lines.
 lines_of <- function(script) {
   if (!is.character(script) || anyNA(script)) refuse("the script is not text", "script")
   text <- paste(utf8_of(script), collapse = "\n")
@@ -23,8 +23,8 @@ lines_of <- function(script) {
   if (length(lines)) lines else ""
 }
 
-# A script that the program accepts for maps of these names: its lines and statements, what it
-# writes, the maps that it makes, and the labels that it gives them.
+# Return a script that the program accepts for maps with these names: its lines, outputs, the maps
+# that it makes, and their labels.
 accepted <- function(script, names) {
   lines <- lines_of(script)
   path <- program_path()
@@ -39,9 +39,9 @@ accepted <- function(script, names) {
 
 is_grid <- function(output) output$command == "r.out.ascii"
 
-# What is sent for an accepted script, and which of its outputs are. The lines keep their numbers;
-# after the last one follow the maps that are wanted. Labels are joined here, a column at a time,
-# and so tables go without -l.
+# Return the lines to send for an accepted script, with only the requested outputs. Lines keep their
+# numbers, and an r.out.ascii for each wanted map follows the last line. Tables are sent without -l,
+# because this package joins labels, a column at a time.
 sent_script <- function(script, outputs, wanted) {
   lines <- script$lines
   for (output in script$outputs) lines[[output$line]] <- ""
@@ -49,7 +49,7 @@ sent_script <- function(script, outputs, wanted) {
   c(lines, sprintf("r.out.ascii input=%s", wanted))
 }
 
-# A statement that writes the same, but no labels.
+# Return the statement of an output without labels.
 statement_of <- function(output) {
   flags <- setdiff(output$flags, "l")
   after <- paste(ifelse(is.na(output$after), "*", output$after), collapse = ",")

@@ -4,7 +4,7 @@
 SIDES <- c(right = "0,1", below = "1,0")
 CORNERS <- c(falling = "1,1", rising = "1,-1")
 CHANGED <- "r.mapcalc changed = if(isnull(map), null(), isnull(new) ||| map != new)"
-# Digits to which a number of cells is rounded, before a part of a cell counts as one more.
+# Decimals to which a number of cells is rounded before it is rounded up to whole cells.
 DIGITS_OF_CELLS <- 9
 
 rcell_sieve <- function(x, min_cells = NULL, min_ha = NULL, connectivity = 4, drop = FALSE,
@@ -34,7 +34,7 @@ rcell_sieve <- function(x, min_cells = NULL, min_ha = NULL, connectivity = 4, dr
   raster
 }
 
-# The smallest number of cells of a patch.
+# Return the smallest number of cells that a patch may have.
 fewest_cells <- function(min_cells, min_ha, source) {
   if (is.null(min_cells) == is.null(min_ha)) {
     met <- if (is.null(min_cells)) "neither" else "both"
@@ -47,11 +47,11 @@ fewest_cells <- function(min_cells, min_ha, source) {
   }
   is_size <- is.numeric(min_ha) && length(min_ha) == 1L && is.finite(min_ha) && min_ha > 0
   check_argument(is_size, min_ha, "min_ha= must be a number above 0")
-  check_metres(source, "min_ha=", ": give min_cells=")
+  check_metres(source, "min_ha=", ": use min_cells=")
   max(1, ceiling(round(min_ha * UNITS[["ha"]] / cell_sizes(source), DIGITS_OF_CELLS)))
 }
 
-# Lines with tables of patches, and of the pairs of patches that are one step from each other.
+# Return lines for tables of patches, and of pairs of patches that are one step apart.
 touching_lines <- function(name, connectivity, tables, steps) {
   other <- "r.mapcalc %1$s = if(patch != patch[%2$s], patch[%2$s], null())"
   pairs <- sprintf("r.stats -cn input=patch,%s", names(steps))
@@ -61,17 +61,17 @@ touching_lines <- function(name, connectivity, tables, steps) {
   )
 }
 
-# The final class of each patch. While a patch below the size shares a side with another class,
-# the smallest one (of several, the first) gets the class of the neighbour with which it shares most
-# sides (of several, the first), and becomes one patch with all of this class that it touches. A
-# patch has the smallest number of its parts, which is in the order of their first cells.
+# Return the final class of each patch. While a patch below the size shares a side with another
+# class, the smallest patch (ties: the first) gets the class of the neighbour with which it shares
+# most sides (ties: the first). It then merges with all patches of this class that it touches. A
+# merged patch keeps the smallest number of its parts, which follow the order of first cells.
 merged_classes <- function(class, cells, sides, corners, fewest) {
   fewest <- min(fewest, sum(as.numeric(cells)) + 1)
   sides <- touching_of(sides, cells < fewest)
   corners <- touching_of(corners, cells < fewest)
   into <- seq_along(class)
   parts <- as.list(into)
-  # Patches by their sizes: a patch that grows is larger than all that were tried.
+  # Process patches by size, since a patch that grows is larger than all patches processed so far.
   waiting <- vector("list", fewest - 1)
   small <- which(cells < fewest)
   by_size <- split(small, cells[small])
@@ -111,8 +111,8 @@ merged_classes <- function(class, cells, sides, corners, fewest) {
   class[into]
 }
 
-# The patches that each small patch touches, and how often: a patch has as many entries of
-# `near` and `times` as `counts` says, from its entry of `starts`.
+# Return the patches that each small patch touches, and how often. `starts` and `counts` locate a
+# patch's entries in `near` and `times`.
 touching_of <- function(frames, is_small) {
   one <- unlist(lapply(frames, function(frame) frame$codes[[1]]))
   other <- unlist(lapply(frames, function(frame) frame$codes[[2]]))
@@ -126,12 +126,13 @@ touching_of <- function(frames, is_small) {
   list(near = near[order], times = times[order], counts = counts, starts = starts)
 }
 
-# The result as the program counts it: a small patch that is left shares no side with another class.
+# Return the counts of the result, and check that no remaining small patch shares a side with
+# another class.
 account_of <- function(frames, fewest, before) {
   cells <- frames[[1]]$cells
   small <- frames[[1]]$codes[[1]][cells < fewest]
   if (any(small %in% unlist(lapply(frames[-(1:2)], `[[`, "codes")))) {
-    stop("a small patch with a neighbour is left: this is a bug in rcell")
+    stop("a small patch still has a neighbour: this is a bug in rcell")
   }
   is_changed <- frames[[2]]$codes[[1]] == 1L
   data.frame(

@@ -1,5 +1,5 @@
-# SPDX-License-Identifier: Apache-2.0 OR GPL-2.0-or-later
-# Styles of QGIS: the classes of a paletted renderer or a colour ramp. XML is read without entities.
+# SPDX-License-Identifier: Apache-2.0 OR GPL-2.0-or-later Read the classes of a paletted renderer or
+# colour ramp from a QGIS style. Custom XML entities are rejected.
 
 XML_NAME <- "[A-Za-z_:][-A-Za-z0-9_:.]*+"
 XML_ATTRIBUTE <- sprintf("\\s++(%s)\\s*+=\\s*+(?:\"([^\"<]*+)\"|'([^'<]*+)')", XML_NAME)
@@ -34,12 +34,12 @@ legend_of_style <- function(path, name) {
   checked_legend(attribute("value"), attribute("label"), name, places)
 }
 
-# The tags of an XML document: their text and place, and the names of their element and of the one
-# around it.
+# Return the tags of an XML document: their text and position, the name of their element, and the
+# name of its parent.
 tags_of <- function(text, wrong) {
   tokens <- parts_of(text, XML_TOKEN)
   if (tokens$end <= nchar(text, "bytes")) {
-    wrong(tokens$end, "not XML, or XML with entities of its own, which are not read")
+    wrong(tokens$end, "not XML, or XML with custom entities, which are not supported")
   }
   is_tag <- grepl("^</?[A-Za-z_:]", tokens$texts)
   tags <- tokens$texts[is_tag]
@@ -52,14 +52,15 @@ tags_of <- function(text, wrong) {
   for (place in seq_along(tags)) {
     if (is_end[[place]]) {
       if (around[[1]] != names[[place]]) {
-        wrong(places[[place]], sprintf("</%s> where <%s> should end", names[[place]], around[[1]]))
+        reason <- sprintf("found </%s>, expected the end of <%s>", names[[place]], around[[1]])
+        wrong(places[[place]], reason)
       }
       around <- around[-1]
     }
     parents[[place]] <- around[[1]]
     if (is_open[[place]]) around <- c(names[[place]], around)
   }
-  if (length(around) > 1L) wrong(nchar(text, "bytes"), sprintf("<%s> has no end", around[[1]]))
+  if (length(around) > 1L) wrong(nchar(text, "bytes"), sprintf("<%s> is not closed", around[[1]]))
   list(
     text = tags[!is_end], place = places[!is_end], name = names[!is_end], parent = parents[!is_end]
   )
@@ -75,13 +76,13 @@ attributes_of <- function(tag, place, wrong) {
   texts
 }
 
-# A text with its references to letters replaced.
+# Replace a text's character references.
 resolved <- function(text, place, wrong) {
   text <- gsub("[\t\r\n]", " ", text)
   others <- gsub(XML_REFERENCE, "", text, perl = TRUE)
   if (grepl("&", others, fixed = TRUE)) {
     entity <- regmatches(others, regexpr("&[^; ]*;?", others))
-    wrong(place, sprintf("%s is not a letter that XML knows", entity))
+    wrong(place, sprintf("%s is not one of XML's own entities", entity))
   }
   references <- gregexpr(XML_REFERENCE, text, perl = TRUE)
   regmatches(text, references) <- lapply(regmatches(text, references), function(found) {
@@ -97,6 +98,6 @@ letter_of <- function(reference, place, wrong) {
   digits <- sub("^#x?", "", name)
   code <- if (is_hex) suppressWarnings(as.numeric(paste0("0x", digits))) else as.numeric(digits)
   is_letter <- code > 0 && code <= LAST_LETTER && !(code >= 0xD800 && code <= 0xDFFF)
-  if (!is_letter) wrong(place, sprintf("%s is not a letter", reference))
+  if (!is_letter) wrong(place, sprintf("%s is not a character", reference))
   intToUtf8(code)
 }

@@ -1,7 +1,7 @@
-# SPDX-License-Identifier: Apache-2.0 OR GPL-2.0-or-later
-# What a table of a script gets next to its counts: areas, percentages, the shape of a matrix.
+# SPDX-License-Identifier: Apache-2.0 OR GPL-2.0-or-later Finish a script's table: add areas and
+# percentages, or convert it to a matrix.
 
-# A table with the columns that are asked for, or as a matrix.
+# Return a table with the requested columns, or as a matrix.
 finished <- function(table, answer, statement, area, percent, wide) {
   needs <- c(if (!is.null(area)) "area=", if (percent) "percent=", if (wide) "wide=")
   if (length(needs) && !("c" %in% statement$flags)) {
@@ -19,7 +19,7 @@ finished <- function(table, answer, statement, area, percent, wide) {
   wide_of(table, statement, answer$labels, table[[value]])
 }
 
-# A table of two maps as a matrix with the labels, or else the categories, as its names; null is
+# Return a table of two maps as a matrix, named by labels, or by categories without labels; null is
 # last.
 wide_of <- function(table, statement, labels, numbers) {
   has_labels <- "l" %in% statement$flags
@@ -29,7 +29,7 @@ wide_of <- function(table, statement, labels, numbers) {
   matrix <- array(if (is.integer(numbers)) 0L else 0, lengths(codes))
   matrix[do.call(cbind, places)] <- numbers
   legends <- lapply(statement$maps, function(map) if (has_labels) labels[[map]])
-  # The sides of this matrix are different maps, whose labels may be alike.
+  # The rows and columns of this matrix are different maps, which may have equal labels.
   dimnames(matrix) <- Map(function(legend, codes) {
     as.character(class_titles(list(legend), list(codes))[[1]])
   }, legends, codes)

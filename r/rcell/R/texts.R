@@ -1,8 +1,8 @@
-# SPDX-License-Identifier: Apache-2.0 OR GPL-2.0-or-later
-# Text files: their bytes, and the rows of CSV and TSV files.
+# SPDX-License-Identifier: Apache-2.0 OR GPL-2.0-or-later Read text files, and the rows of CSV and
+# TSV files.
 
 BYTE_ORDER_MARK <- as.raw(c(0xef, 0xbb, 0xbf))
-# A field of separated values, in quotation marks or without, and what ends it.
+# A field of separated values, with or without quotation marks, and its separator or line end.
 FIELD_FORM <- paste0(
   "\\G(?:[ ]*\"((?:[^\"]++|\"\")*+)\"[ ]*|([^%s\"\r\n][^%s\r\n]*|))(%s|\r\n|\r|\n|\\z)"
 )
@@ -17,7 +17,8 @@ utf8_text <- function(path, name) {
   null <- match(as.raw(0L), bytes)
   if (!is.na(null)) {
     line <- sum(bytes[seq_len(null)] == as.raw(10L)) + 1L
-    refuse(sprintf("%s, line %d: a byte 0, which no text has: save it as UTF-8", path, line), name)
+    reason <- "%s, line %d: a null byte, so this is not text: save it as UTF-8"
+    refuse(sprintf(reason, path, line), name)
   }
   text <- rawToChar(bytes)
   if (!validUTF8(text)) {
@@ -33,13 +34,13 @@ utf8_text <- function(path, name) {
   text
 }
 
-# Without blanks at their ends; a no-break space is a letter.
+# Remove blanks at both ends. No-break spaces stay.
 trimmed <- function(texts) gsub("^[ \t\r\n]+|[ \t\r\n]+$", "", utf8_of(texts))
 
-# The parts of a text that a form finds one after another, with the bytes at which they begin, the
-# first byte after them, and the groups of the form.
+# Return consecutive matches of a regular expression in a text, with the bytes at which they begin,
+# the first byte after the last one, and their groups.
 parts_of <- function(text, form) {
-  # As bytes, since R counts letters from the beginning of a text for each part.
+  # Treat the text as bytes, because R would count letters from its beginning for each match.
   Encoding(text) <- "latin1"
   places <- gregexpr(form, text, perl = TRUE, useBytes = TRUE)[[1]]
   cut <- function(starts, sizes) {
@@ -56,14 +57,14 @@ parts_of <- function(text, form) {
   )
 }
 
-# The lines in which some bytes of a text are.
+# Return the line numbers of byte positions in a text.
 lines_at <- function(text, places) {
   breaks <- gregexpr("\r\n|\r|\n", text, useBytes = TRUE)[[1]]
   findInterval(places, breaks[breaks > 0L] + 1L) + 1L
 }
 
-# The rows of a CSV, or of a TSV if its first line has tabs and no commas, with the lines on which
-# they begin. Blank lines are skipped.
+# Return the rows of a CSV file, or of a TSV file if its first line contains tabs but no commas,
+# with the lines on which they begin. Blank lines are skipped.
 separated_values <- function(path, name) {
   text <- utf8_text(path, name)
   first <- sub("[\r\n].*$", "", sub("^[ \r\n]+", "", text))
@@ -71,7 +72,7 @@ separated_values <- function(path, name) {
   fields <- parts_of(text, sprintf(FIELD_FORM, separator, separator, separator))
   if (fields$end <= nchar(text, "bytes")) {
     line <- lines_at(text, fields$end)
-    refuse(sprintf("%s, line %d: a quotation mark without its pair", path, line), name)
+    refuse(sprintf("%s, line %d: a quotation mark is not closed", path, line), name)
   }
   quoted <- gsub("\"\"", "\"", fields$groups[[1]], fixed = TRUE)
   content <- paste0(quoted, fields$groups[[2]])
@@ -83,14 +84,14 @@ separated_values <- function(path, name) {
   list(rows = rows[!is_blank], lines = lines[!is_blank], first = first)
 }
 
-# The columns of a CSV or TSV file or of a data frame by their titles, in any case and order, as
-# texts, and the places of its rows, which begin the text of an error.
+# Return columns of a CSV or TSV file or a data frame, as texts. Titles may be in any case and
+# order. `places` names the rows for messages.
 table_of_columns <- function(given, name, needed, optional = character()) {
   columns_of <- if (is.data.frame(given)) frame_columns else file_columns
   table <- columns_of(given, name, needed)
   columns <- lapply(c(needed, optional), function(title) {
     place <- which(table$titles == title)
-    if (length(place) > 1L) refuse(sprintf("has two columns %s", title), name)
+    if (length(place) > 1L) refuse(sprintf("has two columns named %s", title), name)
     if (length(place)) table$column(place)
   })
   names(columns) <- c(needed, optional)
@@ -102,7 +103,7 @@ file_columns <- function(path, name, needed) {
   table <- separated_values(path, name)
   titles <- tolower(trimmed(table$rows[[1]]))
   if (!all(needed %in% titles)) {
-    text <- "%s, line %d: no header with %s, divided by commas or tabs: %s"
+    text <- "%s, line %d: no header with %s, separated by commas or tabs: %s"
     listed <- paste(needed, collapse = " and ")
     refuse(sprintf(text, path, table$lines[[1]], listed, table$first), name)
   }
@@ -127,7 +128,7 @@ frame_columns <- function(frame, name, needed) {
   list(titles = titles, column = column, places = sprintf("row %d: ", seq_len(nrow(frame))))
 }
 
-# Check that no field is cut at a comma.
+# Check that no label was split at a comma.
 check_widths <- function(rows, width, places, name) {
   for (place in seq_along(rows)) {
     row <- rows[[place]]

@@ -1,5 +1,5 @@
 # SPDX-License-Identifier: Apache-2.0 OR GPL-2.0-or-later
-# What became of cells over many years: each sequence of classes, and maps of when classes changed.
+# Changes over many years: the sequences of classes, and maps of when classes changed.
 
 # The largest number of changes that fits into one expression.
 CHANGES_OF_AN_EXPRESSION <- 50L
@@ -54,7 +54,7 @@ sequences_table <- function(table, codes, is_moved, years, legends, area) {
   )))
 }
 
-# A row for each number of changes.
+# Return a row for each number of changes.
 changes_table <- function(table, changes, source, area) {
   known <- sort(unique(changes))
   sums <- function(values) summed(values, match(changes, known), length(known))
@@ -64,7 +64,7 @@ changes_table <- function(table, changes, source, area) {
   frame_of(c(list(changes = as.integer(known)), sized(together, area)))
 }
 
-# A row for each pair of consecutive years, with the changes of each year, and with the mean of all
+# Return a row for each pair of consecutive years, with the yearly change and its mean over all
 # years (Aldwaik and Pontius 2012, equations 1 and 2).
 intervals_table <- function(table, is_moved, years, source, area) {
   weights <- weights_of(table)
@@ -82,8 +82,8 @@ intervals_table <- function(table, is_moved, years, source, area) {
   )))
 }
 
-# How often each sequence of classes occurs. The classes of more maps than a table has columns are
-# packed into fewer numbers.
+# Count each sequence of classes. If there are more maps than a table has columns, the classes of
+# several maps are packed into one number.
 count_sequences <- function(sources, area) {
   by_row <- !is.null(area) && is_in_degrees(sources[[1]])
   names <- names(sources)
@@ -94,7 +94,7 @@ count_sequences <- function(sources, area) {
   base <- max(length(classes), 2)
   size <- sum(cumprod(rep(base, 32)) <= CATEGORY_LIMIT)
   packs <- unname(split(names, (seq_along(names) - 1L) %/% size))
-  rule <- "maps= must be at most %d with %d classes"
+  rule <- "maps= must be at most %d maps with %d classes"
   check_argument(length(packs) <= limit, length(names), rule, size * limit, length(classes))
   ranks <- unlist(lapply(names, function(name) rank_lines(name, classes, 1)))
   packed <- sprintf("pack_%d", seq_along(packs))
@@ -110,7 +110,7 @@ count_sequences <- function(sources, area) {
   table
 }
 
-# Maps of the number of changes, and of the years of the first and the last one.
+# Return maps of the number of changes and of the years of the first and last change.
 maps_of_changes <- function(sources, years) {
   names <- names(sources)
   moves <- sprintf("%s != %s", names[-length(names)], names[-1])

@@ -5,7 +5,7 @@
 STEPS_LIMIT <- 255
 # The largest number of cells with offsets that fits into one expression.
 TERMS_OF_AN_EXPRESSION <- 100L
-# The parts of fractions, and the digits of decimals, that are sizes of cells.
+# Cell sizes are fractions with at most this many parts, or decimals with this many digits.
 MOST_PARTS <- 12
 SECONDS_OF_ARC <- c(60, 120, 240, 360, 1200, 3600, 10800)
 DIGITS_OF_SIZES <- 9
@@ -17,7 +17,7 @@ rcell_within <- function(x, classes, distances, filename = "", overwrite = FALSE
   if (!length(classes)) refuse("classes= must be whole numbers; got none", status = 2L)
   is_right <- is.numeric(distances) && length(distances) && all(is.finite(distances)) &&
     all(diff(c(0, distances)) > 0)
-  rule <- "distances= must be numbers that ascend from above 0, for example c(100, 500)"
+  rule <- "distances= must be ascending numbers above 0, for example c(100, 500)"
   check_argument(is_right, distances, rule)
   sources <- map_to_write(x, crs, filename, overwrite)
   check_metres(sources$map, "distances=")
@@ -29,23 +29,23 @@ rcell_within <- function(x, classes, distances, filename = "", overwrite = FALSE
   written(raster_of(frame, sources$map, labels, "within"), filename)
 }
 
-# A ring begins where the one before ends.
+# Return ring labels. Each ring begins at the end of the previous one.
 ring_labels <- function(distances) {
   ends <- sprintf("%.10g", distances)
   begins <- c("up", ends[-length(ends)])
   c("inside", sprintf("%s to %s m", begins, ends))
 }
 
-# The sizes of cells as the file has them: terra computes them from the edges of the map, which
-# blurs their last digits.
+# Return the cell sizes as stored in the file. terra computes them from the map's edges, which makes
+# their last digits inexact.
 exact_sizes <- function(template) {
   blur <- 4 * .Machine$double.eps * max(abs(as.vector(ext(template)))) /
     c(ncol(template), nrow(template))
   mapply(simplest_near, res(template), blur)
 }
 
-# The simplest number this close to a size: a fraction of few parts, else a short decimal, else a
-# fraction of seconds of arc.
+# Return the simplest number within `blur` of a size: a fraction with few parts, a short decimal, or
+# a fraction in seconds of arc.
 simplest_near <- function(size, blur) {
   parts <- c(seq_len(MOST_PARTS), SECONDS_OF_ARC)
   fractions <- round(size * parts) / parts
@@ -54,7 +54,7 @@ simplest_near <- function(size, blur) {
   found[abs(found - size) <= blur][[1]]
 }
 
-# For 0, 1, 2, .. columns how many rows away a cell may be.
+# Return how many rows away a cell may be at 0, 1, 2, .. columns.
 reaches <- function(distance, sizes) {
   if (distance >= min(sizes) * (STEPS_LIMIT + 1)) {
     text <- "distances= must be at most %d cells; got %.10g m, which is %.1f cells"
@@ -74,8 +74,8 @@ reaches <- function(distance, sizes) {
   }
 }
 
-# Whether cells that many columns and rows apart are within a distance, exactly: the sum of the
-# products is computed without rounding.
+# Return whether cells this many columns and rows apart are within a distance. The sum of products
+# is computed without rounding.
 is_within <- function(distance, cols, rows, sizes) {
   squares <- lapply(c(distance, sizes), function(size) product(size, size))
   terms <- c(
@@ -96,7 +96,7 @@ is_within <- function(distance, cols, rows, sizes) {
   exact[[length(exact)]] >= 0
 }
 
-# A product as the sum of two doubles.
+# Return a product as the exact sum of two doubles.
 product <- function(one, other) {
   product <- one * other
   halves <- lapply(c(one, other), function(number) {
@@ -108,8 +108,8 @@ product <- function(one, other) {
   c(product, a[[2]] * b[[2]] - (((product - a[[1]] * b[[1]]) - a[[2]] * b[[1]]) - a[[1]] * b[[2]]))
 }
 
-# The map `v_N` is 1 where a cell of the classes is at most N rows up or down. A ring is the largest
-# of some of them, each shifted by columns.
+# Return lines that make the rings. The map `v_N` is 1 if a cell of the classes is at most N rows
+# above or below. A ring is the maximum of several of these maps, each shifted by columns.
 within_lines <- function(classes, rings) {
   rules <- sprintf("%.0f = 1", classes)
   lines <- c(
@@ -117,7 +117,7 @@ within_lines <- function(classes, rings) {
   )
   last <- 0
   for (reach in setdiff(sort(unique(unlist(rings))), 0)) {
-    # From windows of `last`, shifted so that no row is left out.
+    # Combine windows of `last`, shifted so that they cover every row.
     step <- 2 * last + 1
     steps <- unique(c(step * seq_len((reach - last) %/% step), reach - last))
     shifted <- sprintf("v_%d[%d,0]", last, c(steps, -steps))

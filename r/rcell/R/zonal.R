@@ -1,5 +1,5 @@
 # SPDX-License-Identifier: Apache-2.0 OR GPL-2.0-or-later
-# Statistics of the values of a map by zone, from the table of zones and values.
+# Statistics of a map's values by zone, computed from the table of zones and values.
 
 MEASURES <- c("cells", "sum", "mean", "minimum", "maximum", "variance")
 
@@ -35,7 +35,7 @@ rcell_zonal <- function(values, zones, quantiles = 0.5, scale = NULL, zone_label
   frame_of(c(coded("zone", zone, zone_labels), columns))
 }
 
-# Of values in ascending order and how many cells have each.
+# Return the statistics of values in ascending order with their numbers of cells.
 statistics_of <- function(values, cells, quantiles) {
   count <- sum(cells)
   sum <- sum(values * cells)
@@ -50,7 +50,7 @@ statistics_of <- function(values, cells, quantiles) {
   c(count, sum, mean, values[[1]], values[[length(values)]], variance, between)
 }
 
-# Such as q50, and q2_5 for 0.025.
+# Return column titles, for example q50, or q2_5 for 0.025.
 quantile_titles <- function(quantiles) {
   if (!length(quantiles)) return(character())
   paste0("q", sub(".", "_", sprintf("%.10g", 100 * quantiles), fixed = TRUE))

@@ -53,7 +53,7 @@ bad <- list(
   quote(rcell_table("r.stats -c input=lc", lc = land, percent = NA)), quote(rcell_table("r.stats -c input=lc", lc = land, areas = "ha")),
   quote(rcell_clump(land, min_cells = -1)), quote(rcell_clump(land, filename = 7)), quote(rcell_adjacency(land, labels = 1)))
 expect_identical(refusal(rcell_table("r.stats -c input=lc", lc = land, areas = "ha"))$text,
-  "areas= would be a map, and there is no file ha: did you mean area=?")
+  "areas= would be a map, but there is no file ha: did you mean area=?")
 for (call in bad) expect_inherits(refusal(eval(call)), "rcell_error", info = deparse(call))
 unlink(room, recursive = TRUE)
 expect_identical(leftovers(), character())

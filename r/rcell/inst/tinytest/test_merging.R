@@ -72,7 +72,7 @@ expect_identical(rcell:::reaches(0.5, c(0.1, 0.1)), c(4, 4, 4, 3, 2))
 expect_identical(rcell:::reaches(150, c(30, 30)), c(5, 4, 4, 4, 3, 0))
 fault <- function(...) refusal(rcell_within(...))$text
 expect_identical(fault(far, 7, 2560), "distances= must be at most 255 cells; got 2560 m, which is 256.0 cells")
-expect_identical(fault(far, 7, c(50, 20)), "distances= must be numbers that ascend from above 0, for example c(100, 500); got 50, 20")
+expect_identical(fault(far, 7, c(50, 20)), "distances= must be ascending numbers above 0, for example c(100, 500); got 50, 20")
 expect_identical(fault(far, NULL, 20), "classes= must be whole numbers; got none")
 expect_identical(fault(degrees, 1, 20), "distances= must be for a map in metres or feet, and this one is in degrees")
 expect_true(startsWith(fault(matrix(1:4, 2), 1, 20), "distances= needs a coordinate reference system"))

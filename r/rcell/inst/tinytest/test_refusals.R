@@ -71,4 +71,4 @@ expect_identical(leftovers(), character())
 # R completes names of arguments: a map may be called `s` or `n`, and a script is never given by name.
 expect_identical(rcell_table("r.stats -c input=s,n", s = lc, n = lc)$s, rcell_table("r.stats -c input=lc", lc = lc)$lc)
 expect_identical(as_rows(rcell_grid("", "n", n = lc)), as_rows(lc))
-expect_true(grepl("^the script comes first", refusal(rcell_run(script = "r.stats input=lc", lc = lc))$text))
+expect_true(grepl("^pass the script first", refusal(rcell_run(script = "r.stats input=lc", lc = lc))$text))

@@ -85,7 +85,7 @@ years <- function(...) refusal(rcell_trajectories(series, ...))$text
 expect_identical(years(20:1), "years= must ascend, one for each map; got 20, 19, 18, 17, 16 and 15 more")
 expect_identical(refusal(rcell_trajectories(series[1], 2000))$text, "maps= must be a list of two or more maps; got a list")
 many <- rep(list(matrix(1:30, 5)), 100)
-expect_identical(refusal(rcell_trajectories(many, 1:100))$text, "maps= must be at most 96 with 30 classes; got 100")
+expect_identical(refusal(rcell_trajectories(many, 1:100))$text, "maps= must be at most 96 maps with 30 classes; got 100")
 
 expect_identical(leftovers(), character())
 

@@ -108,7 +108,7 @@ expect_identical(refusal(rcell_composition(land, zones = file("none.gpkg")))$tex
 writeLines("north", file("text.md"))
 expect_true(grepl("neither polygons nor a raster", refusal(rcell_composition(land, zones = file("text.md")))$text))
 expect_identical(refusal(rcell_composition(land, zones = land, zone_field = "x"))$text, "zone_field= names a field of polygons, and zones= is a raster")
-expect_identical(refusal(rcell_composition(land, zone_field = "x"))$text, "zone_field=, layer= and each= need zones=")
+expect_identical(refusal(rcell_composition(land, zone_field = "x"))$text, "zone_field=, layer= and each= require zones=")
 
 # An output is no file that the call reads: a raster, its sidecars, the sources of a VRT, a crosswalk.
 labelled <- land
