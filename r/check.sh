@@ -1,12 +1,12 @@
 #!/bin/sh
-# Checks the package for R that is in dist/: R CMD check with its tests and examples, then an installation of it alone, on which each
-# block of docs/r.md is run. The last line is 'N passed, M failed, K skipped'.
+# Check the R package in dist/: run R CMD check with its tests and examples, then install the package alone and run each
+# block of docs/r.md. The last line is 'N passed, M failed, K skipped'.
 cd "$(dirname "$0")/.." || exit 1
 package=$PWD/dist/rcell_$(cat VERSION).tar.gz
 room=$(mktemp -d) || exit 1
 trap 'rm -rf "$room"' EXIT
 unset RCELL RCELL_PIPE R_LIBS R_LIBS_USER
-# No repository is asked for anything.
+# Do not contact any repository.
 export R_REPOSITORIES=NULL LC_ALL=C.UTF-8 _R_CHECK_CRAN_INCOMING_=FALSE
 . tools/counting.sh
 
@@ -17,7 +17,7 @@ checked() {
     grep -qx 'Status: OK' "$room/check.log"
 }
 
-# The tests of the check, by their own count.
+# Take the number of tests from the check's output.
 counted() {
     tests=$(sed -n 's/.*All ok, \([0-9]*\) results.*/\1/p' "$room"/rcell.Rcheck/tests/tinytest.Rout 2> /dev/null | tail -n 1)
     if [ -n "$tests" ]; then echo "$tests passed, 0 failed"; else echo '0 passed, 1 failed'; fi

@@ -1,5 +1,5 @@
-# Runs each block ```r of a document, in the folder of the example rasters and one environment, and compares what comes out with the
-# lines `#>` beneath each part. With --write the lines are written anew. The last line is 'N passed, M failed'.
+# Run each ```r block of a document, in the folder of the example rasters and in one environment, and compare the output
+# with the lines `#>` below each part. With --write, rewrite these lines. The last line is 'N passed, M failed'.
 #
 #     Rscript r/check_docs.R DOCUMENT [--write]
 
@@ -13,13 +13,13 @@ copied <- file.copy(list.files("examples/rasters", full.names = TRUE), room)
 setwd(room)
 options(width = 110L, digits = 7L)
 Sys.setenv(LANGUAGE = "en")
-# The messages are the package's, whatever Python has.
+# Keep messages independent of an installed Python.
 options(rcell.python = "")
 suppressMessages(library(terra))
 terraOptions(progress = 0)
 world <- new.env(parent = globalenv())
 
-# What a session would show of some lines of code.
+# Return what a session would print for lines of code.
 shown <- function(code) {
   out <- character()
   for (expression in parse(text = code, keep.source = FALSE)) {
@@ -42,7 +42,7 @@ code <- character()
 expected <- character()
 is_inside <- FALSE
 
-# Compares the part that has ended.
+# Compare the part that has ended.
 finish <- function() {
   if (!length(code)) return(invisible())
   found <- shown(code)

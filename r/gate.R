@@ -1,4 +1,4 @@
-# Runs the tests of the gate; the last line is 'N passed, M failed'.
+# Run the tests of the gate. The last line is 'N passed, M failed'.
 folder <- commandArgs(TRUE)[[1]]
 failed <- 0L
 passed <- 0L

@@ -1,6 +1,6 @@
 #!/bin/sh
-# The part of the package for R that takes seconds, on bin/rcell: what the gate runs of it. If R or a package that it needs is not
-# installed, its checks are skipped. The last line is 'N passed, M failed, K skipped'.
+# Run the R package's quick tests on bin/rcell, as the gate does. If R or a required package is not installed, skip them.
+# The last line is 'N passed, M failed, K skipped'.
 cd "$(dirname "$0")/.." || exit 1
 room=$(mktemp -d) || exit 1
 trap 'rm -rf "$room"' EXIT

@@ -1,4 +1,4 @@
-# Checks that files of R code have lines of at most 100 columns, and one statement a line: prints those that do not.
+# Check that R files have lines of at most 100 columns and one statement per line; print lines that do not.
 COLUMNS <- 100L
 is_right <- TRUE
 for (path in commandArgs(TRUE)) {

@@ -1,14 +1,14 @@
-# What the tests share: maps made at random, and the class of what a call ends in.
+# Helpers of the tests: random maps, errors of calls, and R in another process.
 
 suppressMessages({
   library(terra)
   library(rcell)
 })
 terraOptions(progress = 0)
-# The messages are this package's, whatever Python has.
+# Keep messages independent of an installed Python.
 options(rcell.python = "")
 
-# A map of some classes with nulls: noise, or patches as smooth as land cover.
+# Return a map of classes with nulls: noise, or patches like land cover.
 made_map <- function(rows, cols, classes, is_patchy = FALSE, seed = 1, cell = c(30, 30)) {
   set.seed(seed)
   cells <- sample(c(NA, seq_len(classes)), rows * cols, replace = TRUE, prob = c(0.05, rep(0.95 / classes, classes)))
@@ -18,7 +18,7 @@ made_map <- function(rows, cols, classes, is_patchy = FALSE, seed = 1, cell = c(
   map
 }
 
-# Each cell of the top left part becomes a block of so many cells a side.
+# Enlarge each cell of the top left part to a block with `side` rows and columns.
 aggregate_up <- function(map, side, rows, cols) {
   cells <- matrix(values(map, mat = FALSE), rows, cols, byrow = TRUE)
   cells <- cells[(seq_len(rows) - 1) %/% side + 1, (seq_len(cols) - 1) %/% side + 1]
@@ -26,19 +26,19 @@ aggregate_up <- function(map, side, rows, cols) {
   map
 }
 
-# As rows from north to south. Null is NA in some rasters of terra and NaN in others.
+# Return a matrix with rows from north to south. terra returns null as NA or NaN; here it is NA.
 as_rows <- function(map) {
   cells <- values(map, mat = FALSE)
   matrix(replace(cells, is.na(cells), NA), nrow(map), ncol(map), byrow = TRUE)
 }
 
-# The error of a call, or NULL.
+# Return the error of a call, or NULL.
 refusal <- function(call) tryCatch({
   force(call)
   NULL
 }, rcell_error = function(e) e)
 
-# R in a process of its own, with the libraries of this one: some lines, in an environment.
+# Run lines of code in a separate R process with the same libraries and extra environment variables.
 run_apart <- function(room, lines, env = character(), command = character()) {
   file <- file.path(room, "run.R")
   libraries <- sprintf(".libPaths(%s)", paste(deparse(.libPaths()), collapse = ""))
@@ -47,7 +47,7 @@ run_apart <- function(room, lines, env = character(), command = character()) {
   processx::process$new(words[[1]], words[-1], env = if (length(env)) c("current", env), stdout = "|", stderr = "2>&1")
 }
 
-# What it says until its end.
+# Return the output of a process after it has ended.
 said_by <- function(process) {
   process$wait(600000)
   process$read_all_output()
@@ -55,16 +55,16 @@ said_by <- function(process) {
 
 leftovers <- function() list.files(tempdir(), pattern = "^rcell-", all.files = TRUE)
 
-# Whether a raster has the reference system of a file.
+# Return whether a raster has the reference system of a file.
 same_crs_of <- function(map, path) identical(crs(map), crs(rast(path)))
 
-# The surface of an ellipsoid, by its major axis and its inverse flattening.
+# Return the surface area of an ellipsoid, given its major axis and inverse flattening.
 surface <- function(major, inverse) {
   e2 <- (2 - 1 / inverse) / inverse
   2 * pi * major^2 * (1 + (1 - e2) * atanh(sqrt(e2)) / sqrt(e2))
 }
 
-# The patches of a map by a flood of its cells in plain R, numbered by their first cells.
+# Find the patches of a map with a flood fill in plain R, numbered by their first cells.
 flooded <- function(map, connectivity) {
   cells <- as_rows(map)
   found <- matrix(NA_integer_, nrow(cells), ncol(cells))

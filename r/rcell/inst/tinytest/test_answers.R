@@ -6,7 +6,7 @@ zones <- made_map(40, 30, 3, seed = 33)
 rows <- function(map) as.integer(values(map, mat = FALSE))
 same <- function(found, wanted, ...) expect_equal(as.matrix(found), as.matrix(wanted), check.attributes = FALSE, ...)
 
-# Composition: the cells of terra's freq, and by zone the cells of its crosstab; percentages of the zone.
+# Composition equals terra's freq, and by zone its crosstab; percentages refer to the zone.
 found <- rcell_composition(land)
 expect_identical(names(found), c("class", "cells", "area_ha", "percent"))
 same(found[c("class", "cells")], freq(land)[, c("value", "count")])
@@ -30,7 +30,7 @@ expect_equal(sum(found$percent), 100)
 expect_identical(names(rcell_cross(maps = list(cells = land, area = later))), c("cells", "area", "cells_2", "area_ha", "percent"))
 expect_identical(sum(rcell_cross(a = land, b = later, include_null = TRUE)$cells), 1200L)
 
-# Change, against the matrix of R's table.
+# Change equals the matrix of R's table().
 counts <- unclass(table(rows(land), rows(later)))
 found <- rcell_change(land, later, area = NULL)
 expect_identical(names(found), c("table", "matrix", "summary"))
@@ -49,7 +49,7 @@ expect_identical(names(found$table), c("year_from", "year_to", "from", "to", "ce
 expect_identical(rcell_change(land, land)$summary$gain_ha, c(0, 0, 0, 0))
 expect_true(grepl("years= must be given", refusal(rcell_change(list(land, later, land)))$text))
 
-# Zonal statistics: terra's, R's quantiles.
+# Zonal statistics equal terra's, and quantiles equal R's.
 found <- rcell_zonal(land, zones, quantiles = c(0, 0.025, 0.5, 0.9))
 expect_identical(names(found), c("zone", "cells", "sum", "mean", "minimum", "maximum", "variance", "q0", "q2_5", "q50", "q90"))
 for (fun in c("sum", "mean", "min", "max")) {
@@ -62,7 +62,8 @@ expect_equal(found$q2_5, as.vector(sapply(parts, quantile, 0.025, na.rm = TRUE))
 expect_equal(found$q90, as.vector(sapply(parts, quantile, 0.9, na.rm = TRUE)))
 expect_identical(refusal(rcell_zonal(land, zones, quantiles = 1.5))$text, "quantiles= must be from 0 to 1; got 1.5")
 
-# Degrees: all cells of the globe are the surface of its ellipsoid, whatever that is; terra's cells have other edges than parallels.
+# In degrees, all cells of the globe add up to the surface of each ellipsoid. (terra's cells are not bounded by
+# parallels.)
 for (crs in c("EPSG:4326", "EPSG:4267", "+proj=longlat +R=6371000")) {
   globe <- rast(nrows = 45, ncols = 90, xmin = -180, xmax = 180, ymin = -90, ymax = 90, crs = crs, vals = rep(1:3, 1350))
   area <- sum(rcell_composition(globe, area = "m2")$area_m2)
@@ -79,7 +80,7 @@ expect_equal(rcell_change(degrees, degrees)$summary$persistence_ha, rcell_compos
 beyond <- rast(nrows = 2, ncols = 2, xmin = 0, xmax = 2, ymin = 89.5, ymax = 91.5, crs = "EPSG:4326", vals = 1)
 expect_true(grepl("rows beyond the pole: north is 91.5", refusal(rcell_composition(beyond))$text))
 
-# Zones as polygons, by the centres of cells; identifiers of a field of whole numbers, else names.
+# Polygons as zones: cell centres decide. Whole numbers in a field are zone numbers; other values become names.
 room <- tempfile("zones")
 dir.create(room)
 shapes <- vect(c("POLYGON ((500000 5400000, 500450 5400000, 500450 5401200, 500000 5401200, 500000 5400000))",
@@ -100,7 +101,7 @@ expect_identical(refusal(rcell_composition(land, zones = shapes[3]))$text, "no p
 expect_identical(refusal(rcell_composition(land, zones = shapes, zone_field = "x"))$text, "no field x: the fields are number, name")
 expect_inherits(refusal(rcell_composition(land, zones = project(shapes, "EPSG:4326"))), "rcell_other_crs")
 
-# Legends: CSV, a style of QGIS, a vector, a data frame; each error has the value met.
+# Legends: CSV, QGIS style, vector, data frame. Each error shows the value found.
 legend <- function(...) { path <- file.path(room, "legend.csv"); writeLines(c(...), path, useBytes = TRUE); path }
 wanted <- c("wood, wet", "Wiese \u00fc", NA, "say \"x\"")
 csv <- legend("value,label,colour", "1,\"wood, wet\",#00ff00", "2,Wiese \u00fc,", "4,\"say \"\"x\"\"\",#0000ff")
@@ -120,7 +121,7 @@ expect_identical(text_of("class,name", "7,a"), "line 1: no header with value and
 expect_identical(text_of(character()), "is empty")
 expect_identical(rcell_change(land, later, labels = c("1" = "a", "2" = "b", "3" = "c", "4" = "d"))$summary$label, c("a", "b", "c", "d"))
 
-# Alignment: whole cells, the nearest cells, another reference system; and what happened.
+# Alignment by whole cells, to the nearest cells, and across reference systems, with its counts.
 moved <- shift(land, 60, -90)
 aligned <- rcell_align(moved, to = land)
 expect_equal(rows(aligned), rows(extend(crop(moved, land), land)))

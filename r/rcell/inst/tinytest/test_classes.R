@@ -1,6 +1,6 @@
 source("helpers.R")
 
-# New classes by a crosswalk, the map of patches, and arguments that are none.
+# New classes from a crosswalk, the map of patches, and invalid arguments.
 room <- tempfile("classes")
 dir.create(room)
 land <- rast(matrix(c(1, 1, 2, NA, 31, 32, 39, 5), 2, byrow = TRUE), extent = ext(0, 4, 0, 2), crs = "EPSG:32632")
@@ -27,7 +27,7 @@ expect_identical(fault(rules, other = "drop"), "other= must be one of keep, null
 writeLines(c("value,new", "1,2", "x,3"), file)
 expect_identical(fault(file), paste0(file, ", line 3: x is not a class or a range of classes such as 31-39"))
 
-# The map of patches has the numbers of their table.
+# The map of patches has the same numbers as the table.
 noise <- made_map(20, 30, 3, seed = 41)
 all <- rcell_patches(noise, 8)
 chosen <- rcell_patches(noise, 8, classes = c(1, 3), min_cells = 3)
@@ -37,7 +37,7 @@ expect_identical(as.integer(names(counts)), chosen$patch)
 expect_identical(as.integer(counts), chosen$cells)
 expect_true(all(is.na(values(rcell_clump(noise, min_cells = 1000)))))
 
-# Arguments that are none are errors of this package, with the value met.
+# Invalid arguments raise this package's errors, which show the value found.
 bad <- list(
   quote(rcell_patches(land, classes = Inf)), quote(rcell_patches(land, classes = "a")), quote(rcell_patches(land, classes = list(1))),
   quote(rcell_patches(land, min_cells = "5")), quote(rcell_patches(land, connectivity = NULL)), quote(rcell_patches(land, connectivity = "8")),

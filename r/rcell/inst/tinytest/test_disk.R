@@ -1,13 +1,13 @@
 source("helpers.R")
 
-# A full disk: files of a limited size everywhere, and small disks of memory where they may be mounted.
+# Full disks: limited file sizes on every system, and small memory disks if they can be mounted.
 room <- tempfile("disk")
 dir.create(room)
 
 sizes <- c("noise <- function(side, most) { set.seed(1); matrix(sample.int(most, side * side, TRUE), side) }",
   "refused <- function(call) tryCatch({ call; 'nothing' }, rcell_error = function(e) class(e)[[1]])",
   "left <- function() length(list.files(tempdir(), '^rcell-'))")
-# The request, and the response, which is longer.
+# The disk is full while the request is written, and while the longer response is written.
 sending <- "cat(refused(rcell_table('r.stats -c input=x', x = noise(1000, 9))), left(), '')"
 answering <- "cat(refused(rcell_run(rep('r.out.ascii input=x', 20), x = noise(250, 9))), left(), '')"
 full <- "rcell_write_failed 0"

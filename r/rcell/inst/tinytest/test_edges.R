@@ -1,12 +1,12 @@
 source("helpers.R")
 
-# Rasters at the edge of what a file can say: each is read exactly, or rejected by an error of this package.
+# Unusual raster files: each is read exactly, or rejected with an error of this package.
 room <- tempfile("edges \u00fc ")
 dir.create(room)
 file <- function(name) file.path(room, name)
 counts <- function(map, ...) rcell_table("r.stats -c input=x", x = map, ...)
 
-# A raster of bytes described by a VRT: its bands, and what is before them.
+# Write a VRT that describes a raster of bytes: the header and the bands.
 writeBin(as.raw(c(1, 2, 2, 3)), file("cells.raw"))
 writeBin(as.raw(c(255, 0, 255, 1)), file("alpha.raw"))
 band <- function(raw, number = 1, type = "Byte", inner = "", bytes = 1) c(
@@ -21,7 +21,7 @@ write_vrt <- function(name, bands = band("cells.raw"), transform = "500000, 20, 
 }
 plain <- write_vrt("plain.vrt")
 
-# A transparent cell is null, also in one layer of the file and in a window of it.
+# Transparent cells are null, even if only one layer or a window of the file is used.
 alpha <- band("alpha.raw", 2, inner = "<ColorInterp>Alpha</ColorInterp>")
 grey <- band("cells.raw", inner = "<ColorInterp>Gray</ColorInterp>")
 transparent <- write_vrt("transparent.vrt", c(grey, alpha))
@@ -31,7 +31,7 @@ expect_identical(counts(rast(transparent)), expected)
 expect_identical(counts(rast(transparent)[[1]]), expected)
 expect_identical(counts(rast(transparent)[[2]])$x, c(0L, 1L, 255L))
 expect_identical(as_rows(rcell_grid("", "x", x = transparent)), matrix(c(1, 2, NA, 3), 2))
-# Also if both bands have a nodata value, as in a TIFF.
+# The same holds if both bands have a nodata value, as in a TIFF.
 for (case in list(list(null = 0, x = expected), list(null = 255, x = expected), list(null = 2, x = data.frame(x = c(1L, 3L, NA), cells = c(1L, 1L, 2L))))) {
   inner <- sprintf("<NoDataValue>%d</NoDataValue>", case$null)
   both_bands <- c(band("cells.raw", inner = inner), band("alpha.raw", 2, inner = paste0(inner, "<ColorInterp>Alpha</ColorInterp>")))
@@ -44,13 +44,13 @@ three <- write_vrt("three.vrt", c(grey, band("cells.raw", 2), band("alpha.raw", 
 expect_identical(refusal(counts(three))$text, "has 2 layers: choose one, for example x[[1]]")
 expect_identical(counts(rast(three)[[2]]), expected)
 
-# Complex cells, whose imaginary part terra drops.
+# Complex cells are rejected because terra drops their imaginary part.
 writeBin(as.numeric(1:8), file("complex.raw"), size = 4)
 complex <- write_vrt("complex.vrt", band("complex.raw", type = "CFloat32", bytes = 8))
 expect_identical(refusal(counts(complex))$text, "not a map of whole numbers: its cells are of the type CFloat32")
 expect_inherits(refusal(counts(rast(complex))), "rcell_bad_map")
 
-# Whole numbers of 64 bits, which terra reads as floats: a null beyond 2^53 may hide another number.
+# terra reads 64-bit integers as doubles, so a null value beyond 2^53 may hide other numbers.
 writeBin(c(1L, 0L, 2L, 0L, 2L, 0L, 3L, 0L), file("wide.raw"))
 wide <- function(name, nodata, type = "Int64") write_vrt(name, band("wide.raw", type = type, bytes = 8, inner = sprintf("<NoDataValue>%s</NoDataValue>", nodata)))
 expect_identical(counts(wide("small.vrt", "3")), data.frame(x = c(1L, 2L, NA), cells = c(1L, 2L, 1L)))
@@ -59,7 +59,7 @@ for (nodata in c("9007199254740992", "-9223372036854775808")) {
 }
 expect_inherits(refusal(counts(wide("wide.vrt", "18446744073709551615", "UInt64"))), "rcell_bad_map")
 
-# Transforms that are no place on the earth.
+# Invalid transforms are rejected.
 for (transform in c("nan, 1, 0, 0, 0, -1", "0, inf, 0, 0, 0, -1", "0, 1, 0, 0, 0, nan")) {
   expect_true(grepl("^a transform with a number that is not finite", refusal(counts(write_vrt("nan.vrt", transform = transform)))$text), info = transform)
 }
@@ -68,7 +68,7 @@ expect_true(grepl("^a transform whose columns are from east to west", refusal(co
 turned <- write_vrt("turned.vrt", transform = "10, 1, 0.5, 100, 0.5, -1")
 expect_true(grepl("^a rotated transform", refusal(counts(suppressWarnings(rast(turned))))$text))
 
-# Two reference systems are never taken for one; a map without one needs crs=.
+# Maps with different reference systems are rejected, and a map without one needs crs=.
 gauss <- write_vrt("gauss.vrt", crs = "EPSG:31467")
 bare <- write_vrt("bare.vrt", crs = "")
 both <- function(a, b, ...) rcell_table("r.stats -c input=a,b", a = a, b = b, ...)
@@ -92,14 +92,14 @@ expect_identical(refusal(counts(plain, crs = "nonsense"))[c("source", "status", 
 expect_identical(refusal(counts(plain, crs = 25832))$status, 2L)
 expect_inherits(refusal(rcell_cross(a = plain, b = matrix(1, 2, 2), crs = "EPSG:25832")), "rcell_other_region")
 
-# One system, however it is spelled: with and without its code.
+# Spellings of the same system, with and without its code, are equal.
 unnamed <- sub(",[^,]*ID\\[\"EPSG\",25832\\]\\]$", "]", crs(rast(plain)))
 expect_false(identical(unnamed, crs(rast(plain))))
 spelled <- rast(plain)
 crs(spelled) <- unnamed
 expect_identical(nrow(both(plain, spelled)), 3L)
 
-# terra takes a map without a system within 180 by 90 for one in degrees: here it has none, read or written.
+# terra assumes degrees for a map without a system within 180 by 90. This package does not, when reading or writing.
 near <- write_vrt("near.vrt", transform = "0, 1, 0, 2, 0, -1", crs = "")
 expect_identical(counts(near, area = "m2", crs = "EPSG:25832")$area_m2, c(1, 2, 1))
 written <- rcell_grid("", "x", x = near, filename = file("written.tif"))
@@ -108,17 +108,17 @@ expect_false(any(grepl("Coordinate System", describe(file("written.tif")))))
 expect_identical(rcell_table("r.stats -c input=x", x = written, area = "m2", crs = "EPSG:25832")$area_m2, c(1, 2, 1))
 expect_identical(rcell_patches(near, area = "m2", crs = "EPSG:25832")$area_m2, c(1, 1, 1, 1))
 
-# Hectares are what they print: 74183 cells of 30 m are 6676.47 ha.
+# Hectares are the exact decimal that is printed: 74183 cells of 30 m are 6676.47 ha.
 many <- rast(nrows = 269, ncols = 277, xmin = 0, xmax = 277 * 30, ymin = 0, ymax = 269 * 30, crs = "EPSG:25832", vals = rep(1:2, c(74183, 330)))
 expect_identical(rcell_table("r.stats -c input=x", x = many, area = "ha")$area_ha[[1]], 6676.47)
 expect_identical(rcell_patches(many)$area_ha[[1]], 6676.47)
 
-# One default for the map of patches and for their sizes: r.clump's.
+# The map of patches and their table have the same default connectivity as r.clump.
 board <- matrix(c(1, 2, 1, 2, 1, 2, 1, 2, 3), 3)
 expect_equal(max(values(rcell_grid("r.clump input=x output=p", "p", x = board), mat = FALSE)), max(rcell_patches(board)$patch))
 expect_identical(formals(rcell_patches)$connectivity, 4)
 
-# The script is judged before a map is looked for.
+# The script is checked before any map is opened.
 quoted <- refusal(rcell_grid("r.mapcalc \"x = lc * 2\"", "x", lc = plain))
 expect_identical(quoted[c("source", "line", "column", "text")],
   list(source = "script", line = 1L, column = 11L, text = "bad byte at column 11"))
@@ -126,7 +126,7 @@ expect_identical(conditionMessage(quoted), "script, line 1: bad byte at column 1
 expect_identical(refusal(rcell_grid("r.mapcalc y = lc", "x", lc = plain))$text, "no map x: the maps are lc, y")
 expect_identical(conditionMessage(refusal(rcell_run("r.stats -cn lc", lc = plain))), "script, line 1: bad option\n  r.stats -cn lc")
 
-# With Python, the word that is no option is named, and what to write instead.
+# With Python, the message names the invalid option and suggests a correction.
 python <- Sys.which("python3")[[1]]
 folder <- system.file("python", package = "rcell")
 has_code <- nzchar(python) && processx::run(python, c("-c", "import sys; sys.path.append(sys.argv[1]); import rcell.core.hints", folder),
@@ -155,7 +155,7 @@ for (name in c("a=b", "a-b", "1a", strrep("x", 65))) {
   expect_true(grepl("is not a name for a map: 1 to 64 letters", found$text, fixed = TRUE), info = name)
 }
 
-# A label that begins with a blank of Unicode keeps it.
+# A label keeps a leading Unicode blank.
 labelled <- rcell_table("r.reclass input=lc output=k\n1 = 1 \u3000wide\n2 = 2 \u00a0wood\nend\nr.stats -cnl input=k", lc = plain)
 expect_identical(labelled$k_label, c("\u3000wide", "\u00a0wood"))
 

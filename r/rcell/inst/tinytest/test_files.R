@@ -6,7 +6,7 @@ file <- function(name) file.path(room, name)
 lc <- made_map(20, 30, 3)
 rules <- "r.reclass input=lc output=kind\n1 = 1 wood\n2 3 = 100000 town, dense\nend"
 
-# A file of INT4S, with the geometry, the reference system and the labels of the rules.
+# The file has type INT4S, the map's geometry and reference system, and the labels of the rules.
 found <- rcell_grid(rules, "kind", lc = lc, filename = file("kind.tif"))
 expect_identical(datatype(found), "INT4S")
 expect_identical(basename(sources(found)), "kind.tif")
@@ -21,7 +21,7 @@ expect_identical(sort(list.files(room, all.files = TRUE, no.. = TRUE)), c("kind.
 rcell_grid("r.mapcalc x = 16777216 + lc", "x", lc = lc, filename = file("great.tif"))
 expect_equal(values(rast(file("great.tif")), mat = FALSE), values(lc, mat = FALSE) + 16777216)
 
-# A majority, and a file that is there already.
+# A majority, and an existing file.
 rcell_majority(lc, filename = file("majority.tif"))
 expect_equivalent(as_rows(rast(file("majority.tif"))), as_rows(rcell_majority(lc)))
 before <- tools::md5sum(file("majority.tif"))

@@ -1,15 +1,15 @@
 source("helpers.R")
 
-# The maps that all are held against: noise, patches, one class, one row, one cell, cells that are no squares.
+# The maps of all tests: noise, patches, one class, one row, one cell, cells that are not squares.
 maps <- list(
   noise = made_map(30, 40, 3, seed = 2), patchy = made_map(60, 50, 6, TRUE, seed = 3), one_class = made_map(20, 20, 1, seed = 5),
   row = made_map(1, 30, 2, seed = 6), cell = made_map(1, 1, 1, seed = 8), oblong = made_map(25, 20, 3, seed = 7, cell = c(20, 50)))
 
-# And a real one: the countries of South-East Asia, which the built package has, without their labels.
+# A real map: the countries of South-East Asia, included in the built package, without labels.
 real <- system.file("extdata", "country.tif", package = "rcell")
 if (nzchar(real)) maps$real <- setValues(rast(rast(real)), values(rast(real), mat = FALSE))
 
-# Whether all cells of the diamond around a cell are of its patch.
+# Return whether all cells in the diamond around a cell belong to its patch.
 is_core <- function(numbers, depth) {
   rows <- row(numbers)
   cols <- col(numbers)
@@ -33,15 +33,15 @@ for (name in names(maps)) for (connectivity in c(4, 8)) {
   if (ncell(map) <= 1200) expect_equal(numbers, flooded(map, connectivity), info = info)
   expect_true(compareGeom(patches, map), info = info)
 
-  # Class by class they are the patches of terra, which has none by values; the numbers are its own within a class. (A map of one
-  # cell it numbers otherwise.)
+  # For each class, the patches and their numbers equal terra's, which joins all values. (terra numbers a map with one
+  # cell differently.)
   if (ncell(map) > 1) for (class in unique(na.omit(values(map, mat = FALSE)))) {
     of_class <- as_rows(clumped(ifel(map == class, class, NA), connectivity))
     terras <- as_rows(patches(map == class, directions = connectivity, zeroAsNA = TRUE, allowGaps = FALSE))
     expect_equal(of_class, terras, info = paste(info, class))
   }
 
-  # Numbers, classes, sizes, areas, perimeters, outlines; the polygons of terra have the last two as well.
+  # Check numbers, classes, sizes and areas; perimeters and boxes equal the values of terra's polygons.
   found <- rcell_patches(map, connectivity)
   expect_identical(names(found), c("patch", "class", "cells", "area_ha", "perimeter_m", "core_ha", "west", "south", "east", "north"), info = info)
   expect_identical(found$patch, seq_len(max(numbers, na.rm = TRUE)), info = info)
@@ -53,14 +53,14 @@ for (name in names(maps)) for (connectivity in c(4, 8)) {
   expect_equal(as.matrix(found[c("west", "east", "south", "north")]),
     t(sapply(seq_along(shapes), function(at) as.vector(ext(shapes[at])))), check.attributes = FALSE, info = info)
 
-  # Core cells by erosion: all cells of the diamond around them are of the patch.
+  # Core cells equal an erosion: all cells in the diamond around them belong to the patch.
   for (depth in c(1, 3)) {
     core <- rcell_patches(map, connectivity, area = NULL, core_depth = depth)$core_cells
     expect_identical(core, tabulate(numbers[is_core(numbers, depth)], max(numbers, na.rm = TRUE)), info = paste(info, depth))
   }
 }
 
-# Rows that are left out change no number; the zone is where most cells are, the smaller of two.
+# Leaving out rows changes no number. The zone contains most of a patch's cells; ties go to the smaller zone.
 all <- rcell_patches(maps$patchy, 8)
 expect_equal(rcell_patches(maps$patchy, 8, min_cells = 30, classes = c(2, 5)), all[all$cells >= 30 & all$class %in% c(2, 5), ], check.attributes = FALSE)
 zones <- made_map(60, 50, 4, seed = 21)
@@ -69,8 +69,7 @@ counts <- table(as_rows(clumped(maps$patchy, 8)), factor(as_rows(zones), 1:4))
 expect_identical(zoned$zone, as.integer(unname(ifelse(rowSums(counts) == 0, NA, max.col(counts, "first")))))
 expect_identical(nrow(rcell_patches(matrix(NA_real_, 2, 2))), 0L)
 
-# Adjacency: the sides that cells of two classes share, each pair once, as tables of the shifted matrix
-# count them.
+# Count the sides that two classes share, each pair once, with tables of shifted matrices.
 shifted <- function(map) {
   cells <- as_rows(map)
   codes <- sort(unique(as.vector(cells)))
@@ -96,7 +95,7 @@ expect_identical(nrow(rcell_adjacency(maps$cell)), 0L)
 expect_identical(rcell_adjacency(matrix(c(1, 1, NA, 7), 1)), data.frame(class = 1L, neighbour = 1L, sides = 1L, border_m = NA_real_))
 expect_identical(nrow(rcell_adjacency(matrix(NA_real_, 1, 2))), 0L)
 
-# The length of edges between classes is half of what the polygons have, less the outline.
+# The edges between classes are half as long as the polygons' perimeters without the outline.
 map <- classify(maps$patchy, cbind(NA, 9))
 pairs <- rcell_adjacency(map)
 edges <- sum(pairs$border_m[pairs$class != pairs$neighbour])
@@ -107,7 +106,7 @@ frequencies <- freq(maps$noise)
 expect_equivalent(rcell_table("r.stats -cn input=x", x = maps$noise)$cells, as.integer(frequencies[, "count"]))
 expect_identical(rcell_table("r.stats -c input=x", x = maps$noise)$cells[[4]], as.integer(freq(maps$noise, value = NA)[, "count"]))
 
-# The majority of a window, nulls left out, ties to the smallest: as a function of R has it; by counts of classes beyond 9.
+# Majorities (without nulls, ties to the smallest) equal an R function. Windows above 9 are counted by class.
 majority <- function(cells) if (all(is.na(cells))) NA else which.max(tabulate(cells))
 for (name in intersect(c("noise", "patchy", "oblong"), names(maps))) for (size in c(3, 9, 11, 15)) {
   wanted <- as_rows(focal(maps[[name]], size, majority))
@@ -118,7 +117,7 @@ for (name in intersect(c("noise", "patchy", "oblong"), names(maps))) for (size i
 expect_equal(as_rows(rcell_majority(matrix(c(-5, NA, -5, 7, 1e9, 7), 2), 11, fill = TRUE)), matrix(-5, 2, 3))
 expect_identical(refusal(rcell_majority(maps$cell, 4))$text, "size= must be odd, from 3 to 15; got 4")
 
-# Labels, and degrees, in which there is no length.
+# Labels, and maps in degrees, which have no lengths.
 labelled <- maps$patchy
 levels(labelled) <- data.frame(value = 1:5, cover = c("wood", "water", "town", "field", "heath"))
 found <- rcell_patches(labelled)

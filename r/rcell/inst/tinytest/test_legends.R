@@ -1,6 +1,6 @@
 source("helpers.R")
 
-# Legends: what a file may look like, and the error of each that is wrong.
+# Legends: accepted files, and the error of each invalid one.
 room <- tempfile("legends")
 dir.create(room)
 land <- matrix(c(1, 2, 3), 1)
@@ -35,7 +35,7 @@ expect_identical(fault(path), "line 2: a null byte, so this is not text: save it
 writeBin(c(charToRaw("value,label\n1,a"), as.raw(0xe4), charToRaw("b\n")), path)
 expect_true(startsWith(fault(path), "line 2: not in UTF-8: save the file as UTF-8"))
 
-# Styles: XML with quotes of both kinds, references to letters, comments, and no entities.
+# Styles: XML with both kinds of quotes, character references and comments, but no custom entities.
 style <- function(...) written("a.qml", "<!DOCTYPE qgis PUBLIC 'http://mrcc.com/qgis.dtd' 'SYSTEM'>\n<qgis><colorPalette>\n", ..., "</colorPalette></qgis>\n")
 entry <- "<paletteEntry value=\"%s\" color='#00ff00' label=\"%s\"/>"
 expect_identical(labels_by(style(sprintf(entry, "1", "a > b"), "<!-- <paletteEntry value='2' label='x'/> -->", sprintf(entry, "2.0", "w&#246;d &amp; &#x41;"))), c("a > b", "w\u00f6d & A", NA))
@@ -52,7 +52,7 @@ expect_identical(labels_by(style(sub("inf", "2", items))), c("a", "b", NA))
 expect_true(startsWith(refusal(rcell_composition(land, labels = 7))$text, "must be the path of a CSV, TSV or QML file"))
 expect_identical(refusal(rcell_composition(land, labels = list("1" = c("a", "b"))))$text, "each class must have one label")
 
-# Two classes with one label are two rows and two columns.
+# Two classes with the same label have separate rows and columns.
 matrix <- rcell_change(land, matrix(c(2, 2, 1), 1), labels = c("1" = "wood", "2" = "wood", "3" = "2"))$matrix
 expect_identical(names(matrix), c("from", "wood (1)", "wood (2)"))
 expect_identical(matrix$from, c("wood (1)", "wood (2)", "2"))

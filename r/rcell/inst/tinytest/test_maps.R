@@ -6,7 +6,7 @@ file <- function(name) file.path(room, name)
 counts <- function(map) rcell_table("r.stats -c input=x", x = map)
 first <- made_map(4, 5, 3)
 
-# A raster in memory, of a file, of a VRT, south up, of a path with blanks and umlauts: the same.
+# A raster in memory, a file, a VRT, a south-up raster and a path with blanks and umlauts give the same result.
 writeRaster(first, file("a b.tif"), datatype = "INT4S")
 expect_identical(counts(file("a b.tif")), counts(first))
 expect_identical(counts(rast(file("a b.tif"))), counts(first))
@@ -19,13 +19,13 @@ for (type in c("INT1U", "INT2U", "INT2S", "FLT4S", "FLT8S")) {
   expect_identical(counts(file("typed.tif")), counts(first), info = type)
 }
 
-# A raster of a file keeps the type of the file if cells are set in it, and these may be fractions.
+# A raster from a file keeps the file's type if its cells are set, even to fractions.
 writeRaster(first, file("typed.tif"), datatype = "INT1U", overwrite = TRUE)
 changed <- rast(file("typed.tif"))
 changed[2, 3] <- 0.5
 expect_identical(refusal(counts(changed))$text, "not a map of whole numbers: the cell at row 2, column 3 is 0.5")
 
-# Blocks of rows, and a single row or column.
+# Several blocks of rows, and a single row or column.
 many <- made_map(1100, 1000, 9, seed = 4)
 expect_identical(counts(many)$cells, as.integer(table(values(many, mat = FALSE), useNA = "ifany")))
 expect_identical(as_rows(rcell_grid("", "x", x = many)), as_rows(many))
@@ -53,7 +53,7 @@ for (value in c(-2147483648, 4294967295, 1e300, Inf, 0.1)) expect_inherits(bad(v
 scaled <- first
 writeRaster(scaled, file("scaled.tif"), datatype = "INT2S", scale = 0.1)
 expect_true(grepl("^its values are scaled: each cell times 0.1, plus 0", refusal(counts(file("scaled.tif")))$text))
-# Whole numbers of 64 bits are taken, and rejected beyond the range. terra reads signed bytes as 0 to 255, and what a mask covers.
+# 64-bit integers are accepted within the range. Signed bytes and masks are rejected, because terra misreads them.
 writeRaster(first, file("long.tif"), datatype = "INT8S", NAflag = -9999)
 expect_identical(counts(file("long.tif")), counts(first))
 long <- first
@@ -75,25 +75,25 @@ expect_inherits(refusal(counts(file("wide.tif"))), "rcell_bad_map")
 writeRaster(classify(first, cbind(NA, -2147483648)), file("least.tif"), datatype = "INT4S", NAflag = 0)
 expect_inherits(refusal(counts(file("least.tif"))), "rcell_bad_map")
 
-# The cell that is wrong may be in a later block.
+# The wrong cell may be in a later block.
 late <- many
 late[1090, 17] <- 0.5
 expect_identical(refusal(counts(late))[c("row", "column")], list(row = 1090L, column = 17L))
 
-# Floats of 32 bits beyond 2^24 are taken, and warned of.
+# 32-bit floats beyond 2^24 are accepted with a warning.
 writeRaster(first + 16777216, file("float.tif"), datatype = "FLT4S")
 expect_warning(counts(file("float.tif")), "not exact beyond 16777216")
 writeRaster(first, file("float.tif"), datatype = "FLT4S", overwrite = TRUE)
 expect_silent(counts(file("float.tif")))
 
-# Two layers of one name are two maps of a call, and a raster of two layers is rejected.
+# Two layers with the same name can be two maps of a call. A raster with two layers is rejected.
 expect_identical(names(rcell_cross(x = first, y = first)), c("x", "y", "cells", "area_ha", "percent"))
 twice <- c(first, first)
 names(twice) <- c("lc", "lc")
 expect_identical(rcell_table("r.stats -c input=a,b", a = twice[[1]], b = twice[[2]])$cells, counts(first)$cells)
 expect_inherits(refusal(counts(twice)), "rcell_bad_map")
 
-# Layers, no values, a file that is none, a part of a file that is missing.
+# Several layers, no values, a file that is not a raster, and a truncated file.
 expect_identical(refusal(counts(c(first, first)))$text, "has 2 layers: choose one, for example x[[1]]")
 expect_identical(refusal(counts(rast(first)))$text, "a raster without values")
 expect_inherits(refusal(counts(file("nowhere.tif"))), "rcell_read_failed")
@@ -105,13 +105,13 @@ bytes <- readBin(file("whole.tif"), "raw", 1e6)
 writeBin(bytes[seq_len(length(bytes) %/% 2)], file("half.tif"))
 expect_inherits(refusal(suppressWarnings(counts(file("half.tif")))), "rcell_read_failed")
 
-# A rotated raster of a file.
+# A file with a rotated raster is rejected.
 writeLines(c("<VRTDataset rasterXSize=\"5\" rasterYSize=\"4\"><GeoTransform>5, 1, 0.5, 9, 0.5, -1</GeoTransform>",
   "<VRTRasterBand dataType=\"Int32\" band=\"1\"><SimpleSource><SourceFilename relativeToVRT=\"1\">a b.tif</SourceFilename>",
   "<SourceBand>1</SourceBand></SimpleSource></VRTRasterBand></VRTDataset>"), file("turned.vrt"))
 expect_true(grepl("^a rotated transform", refusal(counts(file("turned.vrt")))$text))
 
-# Edges are compared as texts of eight decimals.
+# Edges are compared as texts with eight decimals.
 placed <- function(west, east = 9) rast(matrix(1, 2, 2), extent = ext(west, east, 47, 48), crs = "EPSG:4326")
 first_place <- placed(8.33333333)
 expect_identical(nrow(rcell_table("r.stats -c input=a,b", a = first_place, b = placed(8 + 1 / 3))), 1L)
@@ -126,7 +126,7 @@ expect_true(grepl("^an edge of more", refusal(counts(rast(matrix(1), extent = ex
 expect_true(grepl("^east is not above west", refusal(counts(rast(matrix(1), extent = ext(0, 1e-9, 0, 1), crs = "EPSG:32632")))$text))
 expect_inherits(refusal(counts(rast(nrows = 1, ncols = 65536, vals = 1))), "rcell_bad_map")
 
-# An rcell grid goes to rcell as it is.
+# rcell grids are passed to rcell unchanged.
 writeLines(c("north: 3", "south: 0", "east: 2.000000001", "west: 0", "rows: 1", "cols: 2", "1 *"), file("bad.txt"))
 expect_identical(refusal(counts(file("bad.txt")))[c("source", "line", "text")], list(source = "x", line = 3L, text = "bad number"))
 writeLines(c("north: 3", "south: 0", "east: 2", "west: 0", "rows: 1", "cols: 2", "1 *"), file("good.txt"))

@@ -1,7 +1,7 @@
 source("helpers.R")
 
-# Maps that are made of others: small patches merged, buffers, blocks of cells.
-# As it is defined: the smallest small patch that touches another class gets the class of the neighbour with most common sides.
+# Maps made from others: merged small patches, buffers, blocks of cells.
+# Sieve by its definition: the smallest small patch that touches another class gets the class of the neighbour with most common sides.
 sieved <- function(map, fewest, connectivity) repeat {
   numbers <- flooded(map, connectivity)
   cells <- as_rows(map)
@@ -12,7 +12,7 @@ sieved <- function(map, fewest, connectivity) repeat {
   sides <- rbind(sides, sides[, 2:1, drop = FALSE])
   small <- intersect(which(sizes < fewest), sides[, 1])
   if (!length(small)) return(cells)
-  # In the order of their first cells along rows, patches have their numbers.
+  # Patches are numbered by their first cells, row by row.
   patch <- small[order(sizes[small], small)][[1]]
   shared <- table(sides[sides[, 1] == patch, 2])
   into <- min(as.integer(names(shared))[shared == max(shared)])
@@ -52,7 +52,7 @@ expect_true(startsWith(fault(matrix(1:4, 2), min_ha = 1), "min_ha= needs a coord
 degrees <- rast(matrix(1:4, 2), extent = ext(0, 2, 0, 2), crs = "EPSG:4326")
 expect_true(startsWith(fault(degrees, min_ha = 1), "min_ha= must be for a map in metres or feet"))
 
-# Buffers, between the centres of cells, also of oblong ones, and far.
+# Buffers are measured between cell centres, also of oblong cells and over long distances.
 for (cell in list(c(30, 30), c(20, 50))) {
   map <- made_map(14, 17, 5, seed = 4, cell = cell)
   distances <- c(30, 75, 100.5)
@@ -67,7 +67,7 @@ for (cell in list(c(30, 30), c(20, 50))) {
 expect_identical(levels(found)[[1]]$within, c("inside", "up to 30 m", "30 to 75 m", "75 to 100.5 m"))
 far <- rast(matrix(c(7, rep(1, 299)), 1), extent = ext(0, 3000, 0, 10), crs = "EPSG:32632")
 expect_identical(sum(values(rcell_within(far, 7, 2550)) %in% 1), 255L)
-# Exactly: three and four tenths are less than five tenths apart as decimals, and more as the numbers that a computer has.
+# Distances are exact: with decimal sides 0.3 and 0.4, cells are within 0.5, but not as floating-point numbers.
 expect_identical(rcell:::reaches(0.5, c(0.1, 0.1)), c(4, 4, 4, 3, 2))
 expect_identical(rcell:::reaches(150, c(30, 30)), c(5, 4, 4, 4, 3, 0))
 fault <- function(...) refusal(rcell_within(...))$text
@@ -77,7 +77,7 @@ expect_identical(fault(far, NULL, 20), "classes= must be whole numbers; got none
 expect_identical(fault(degrees, 1, 20), "distances= must be for a map in metres or feet, and this one is in degrees")
 expect_true(startsWith(fault(matrix(1:4, 2), 1, 20), "distances= needs a coordinate reference system"))
 
-# Blocks of cells: the most frequent class, the cells with data, and the shares of classes.
+# Blocks contain the most frequent class, the number of cells with data, and the shares of classes.
 map <- made_map(11, 14, 3, seed = 6)
 levels(map) <- data.frame(value = 1:3, cover = c("wood", "field", "wood"))
 blocks <- rcell_aggregate(map, 4)

@@ -1,11 +1,11 @@
 source("helpers.R")
 
-# Metrics next to their definitions, written out cell by cell, on noise, patches, one class, one row, one cell, oblong cells.
+# Metrics equal their definitions, computed cell by cell, on noise, patches, one class, one row, one cell, oblong cells.
 maps <- list(
   noise = made_map(12, 15, 3, seed = 2), patchy = made_map(20, 25, 4, TRUE, seed = 3), one_class = made_map(6, 7, 1, seed = 5),
   row = made_map(1, 12, 2, seed = 6), cell = made_map(1, 1, 1, seed = 8), oblong = made_map(10, 12, 3, seed = 7, cell = c(20, 50)))
 
-# The sides of a map's cells: from and to (NA for null and for beyond the map), and their lengths.
+# Return the sides of a map's cells: the classes on both sides (NA for null and outside the map), and their lengths.
 sides_of <- function(cells, size) {
   wide <- rbind(NA, cbind(NA, cells, NA), NA)
   centre <- wide[seq_len(nrow(cells)) + 1, seq_len(ncol(cells)) + 1, drop = FALSE]
@@ -28,7 +28,7 @@ for (map in maps[c("noise", "patchy", "oblong")]) {
   expect_identical(rcell_metrics(map)[columns], rcell_composition(map)[columns])
 }
 
-# The most sides that so many cells of a class can share.
+# Return the largest number of sides that this many cells of a class can share.
 most_like <- function(n) {
   side <- floor(sqrt(n))
   rest <- n - side^2
@@ -93,7 +93,7 @@ for (name in names(maps)) for (connectivity in c(4, 8)) {
   for (level in names(wanted)) expect_equal(rcell_metrics(maps[[name]], level, connectivity), wanted[[level]], info = paste(name, level))
 }
 
-# Each zone is a landscape of its own.
+# Each zone is a separate landscape.
 zones <- init(maps$patchy, "col") > 12
 for (level in c("class", "landscape")) {
   found <- rcell_metrics(maps$patchy, level, zones = zones)
@@ -103,7 +103,7 @@ for (level in c("class", "landscape")) {
   }
 }
 
-# In degrees lengths are missing, with one warning, and what needs none is there; without data there is no row.
+# In degrees, only metrics that need a length are missing, with one warning. Without data there are no rows.
 degrees <- rast(as_rows(maps$patchy), extent = ext(10, 10.25, 50, 50.2), crs = "EPSG:4326")
 expect_warning(found <- rcell_metrics(degrees, "landscape"), "lengths are not computed in degrees")
 expect_true(is.na(found$edge_m) && is.na(found$mean_shape_index) && !is.na(found$contagion) && !is.na(found$aggregation_index))
@@ -114,7 +114,7 @@ plain_cells <- rcell_metrics(as_rows(maps$noise))
 expect_true("mean_patch_cells" %in% names(plain_cells) && !any(c("patches_km2", "area_ha") %in% names(plain_cells)) && all(is.na(plain_cells$edge_m)))
 expect_identical(refusal(rcell_metrics(maps$noise, "map"))$text, "level= must be one of class, landscape, patch; got \"map\"")
 
-# The majority and the minority of zones; of equally frequent classes the smallest.
+# The most frequent and the rarest class of zones; ties go to the smallest class.
 land <- matrix(c(1, 1, 2, 5, 3, 2, 1, 1, 2, NA), 2, byrow = TRUE)
 zone <- matrix(c(7, 7, 7, 8, 8, 7, 7, 7, 7, 9), 2, byrow = TRUE)
 found <- rcell_dominant(land, zone, labels = c("1" = "wood", "2" = "field", "3" = "town", "5" = "lake"), zone_labels = c("7" = "north", "8" = "south"))

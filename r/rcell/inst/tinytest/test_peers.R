@@ -1,6 +1,6 @@
 source("helpers.R")
 
-# The calls next to their peers: terra, and the package survey.
+# Compare the calls with terra and the package survey.
 maps <- list(
   noise = made_map(20, 25, 4, seed = 2), patchy = made_map(40, 30, 6, TRUE, seed = 3), one_class = made_map(9, 12, 1, seed = 5),
   row = made_map(1, 30, 3, seed = 6), oblong = made_map(25, 20, 3, seed = 7, cell = c(20, 50)))
@@ -19,7 +19,7 @@ for (name in names(maps)) {
   found <- rcell_adjacency(map)
   expect_equal(found[c("class", "neighbour", "sides")], theirs[c("class", "neighbour", "sides")], info = name)
 
-  # Perimeters and areas of patches, which their polygons have as well.
+  # Perimeters and areas of patches equal the values of their polygons.
   patches <- rcell_clump(map)
   shapes <- as.polygons(patches)
   found <- rcell_metrics(map, "patch")
@@ -44,7 +44,7 @@ for (name in names(maps)) {
   expect_equal(as_rows(rcell_reclass(map, rules)), as_rows(classify(map, as.matrix(rules))), info = name)
 }
 
-# Areas, accuracies and their standard errors, as a stratified survey has them.
+# Areas, accuracies and their standard errors equal the results of a stratified survey.
 if (requireNamespace("survey", quietly = TRUE)) for (seed in 1:4) {
   set.seed(seed)
   count <- seed + 1
@@ -54,7 +54,7 @@ if (requireNamespace("survey", quietly = TRUE)) for (seed in 1:4) {
   found <- rcell_accuracy(NULL, sample, sizes)
   each <- sample[rep(seq_len(nrow(sample)), sample$cells), ]
   each$weight <- sizes[each$map] / tabulate(each$map)[each$map]
-  # The share of cells that are so among others, with its standard error.
+  # Return the share of cells that meet a condition among others, with its standard error.
   share <- function(is_so, among = TRUE) {
     data <- cbind(each, above = as.numeric(is_so & among), below = as.numeric(among))
     survey::svyratio(~above, ~below, survey::svydesign(~1, strata = ~map, weights = ~weight, data = data))

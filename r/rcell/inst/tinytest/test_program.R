@@ -10,14 +10,14 @@ script <- function(name, lines) {
   path
 }
 
-# The error of a call with a program.
+# Return the error of a call with a given program.
 refusal_by <- function(program, call = rcell_program()) {
   before <- options(rcell.program = program)
   on.exit(options(before))
   refusal(call)
 }
 
-# Which program: the option, RCELL, the package's, the path.
+# The program is looked up in the option, RCELL, the package and the path.
 mine <- rcell_program()$path
 expect_true(file.exists(mine))
 expect_null(refusal_by(mine))
@@ -36,7 +36,7 @@ expect_true(grepl("by/environment", conditionMessage(refusal(rcell_program()))))
 if (is.na(old)) Sys.unsetenv("RCELL_PIPE") else Sys.setenv(RCELL_PIPE = old)
 options(before)
 
-# Programs that are killed, use another format, or run out of memory. Each passes the first run, the check of the program.
+# Programs that are killed, use another format, or run out of memory after passing the first test run.
 good <- sprintf("if grep -aq 'after=7,1' /dev/stdin; then exec '%s' < /dev/stdin; fi", mine)
 death <- script("killed", c(good, "kill -9 $$"))
 dead <- refusal_by(death, rcell_run("r.stats input=lc", lc = lc))
@@ -50,7 +50,7 @@ odd <- script("odd", c(good, "echo what >&2; exit 3"))
 expect_inherits(refusal_by(odd, rcell_run("r.stats input=lc", lc = lc)), "rcell_wrong_program")
 short <- script("short", c(good, "echo 1"))
 expect_inherits(refusal_by(short, rcell_grid("", "lc", lc = lc)), "rcell_wrong_program")
-# A response that ends too early, at whatever byte, or has a byte more, is none; of status 4, the disk is full.
+# A response that is truncated at any byte, or has an extra byte, is rejected. With status 4, the disk is full.
 cut <- script("cut", c(good, sprintf("'%s' < /dev/stdin | head -c 157", mine)))
 expect_inherits(refusal_by(cut, rcell_table("r.stats -c input=lc", lc = lc)), "rcell_wrong_program")
 own <- asNamespace("rcell")
@@ -80,7 +80,7 @@ found <- refusal_by(memory, rcell_run("r.stats input=lc", lc = lc))
 expect_identical(found[c("source", "line", "text", "status")], list(source = "script", line = 1L, text = "no memory", status = 3L))
 expect_inherits(found, "rcell_out_of_memory")
 
-# What rcell-explain would write instead ends the message, where a Python has it.
+# If Python is available, the message ends with a suggested correction.
 advisor <- script("advisor", "printf '0\\nr.stats input=%s' \"$9\"")
 before <- options(rcell.python = advisor)
 expect_identical(conditionMessage(refusal(rcell_run("r.stats input=lend", lc = lc))),
@@ -91,7 +91,7 @@ for (python in c(script("failing", "exit 1"), "/nowhere/python3", script("silent
 }
 options(before)
 
-# An interrupt of R alone ends the program, and leaves nothing.
+# An interrupt sent only to R ends the program and leaves no files.
 slow <- script("slow", c(good, sprintf("echo $$ > '%s'; exec sleep 600", file.path(room, "pid"))))
 at_work <- function() {
   unlink(file.path(room, "pid"))
@@ -105,7 +105,7 @@ at_work <- function() {
   Sys.sleep(0.5)
   asked
 }
-# One that has ended may be there until its new parent looks at it.
+# An ended program may remain as a zombie until its new parent collects it.
 is_running <- function() {
   state <- tryCatch(readLines(file.path("/proc", readLines(file.path(room, "pid")), "stat")), error = function(e) "", warning = function(w) "")
   nzchar(state) && !grepl(") Z ", state, fixed = TRUE)
@@ -116,7 +116,7 @@ asked$interrupt()
 expect_identical(said_by(asked), "interrupted 0")
 expect_false(is_running())
 
-# Where R itself is ended, the program ends with it.
+# If R itself is killed, the program ends with it.
 if (nzchar(Sys.which("setpriv"))) {
   asked <- at_work()
   expect_true(is_running())
@@ -127,8 +127,8 @@ if (nzchar(Sys.which("setpriv"))) {
 }
 expect_identical(setdiff(list.files(room, all.files = TRUE), files), c("pid", "run.R"))
 
-# In the C locale, with blanks and umlauts in the temporary folder, in paths and in labels, as the system gives them and as R spells
-# them.
+# The package works in the C locale with blanks and umlauts in the temporary folder, in paths and in labels, encoded by
+# the system or by R.
 strange <- file.path(room, "a b \u00fc")
 dir.create(strange)
 labelled <- lc

@@ -1,6 +1,6 @@
 source("helpers.R")
 
-# Tables with a record, and what verifying it says.
+# Tables with a record, and the results of verifying it.
 room <- tempfile("records")
 dir.create(file.path(room, "maps"), recursive = TRUE)
 file <- function(name) file.path(room, name)
@@ -24,11 +24,11 @@ before <- tools::md5sum(c(file("table.csv"), file("table.csv.json")))
 recorded()
 expect_identical(tools::md5sum(names(before)), before)
 
-# Python records the same sum for these cells.
+# Python records the same checksum for these cells.
 sums <- rcell:::sum_of_cells(rcell:::sources_of(list(m = rast(matrix(c(1, NA, 3, 4), 2, byrow = TRUE), extent = ext(0, 2, 0, 2), crs = "")))$m)
 expect_identical(substr(sums, 1, 12), "92c4ddb19ec7")
 
-# Another type, nodata value and compression are the same cells; so is another folder.
+# A different type, nodata value, compression or folder does not change the checksum.
 writeRaster(land, file("maps/land.tif"), datatype = "INT4S", NAflag = -5, gdal = "COMPRESS=DEFLATE", overwrite = TRUE)
 expect_identical(verified(), character())
 files <- list.files(room, full.names = TRUE)
@@ -36,7 +36,7 @@ dir.create(file("moved"))
 file.copy(files, file("moved"), recursive = TRUE)
 expect_identical(rcell_verify(file("moved/table.csv")), character())
 
-# A cell, a letter of the table, a legend, a map that is gone.
+# Changes to a cell, a letter of the table or a legend, and a deleted map are reported.
 other <- setValues(land, replace(values(land, mat = FALSE), 5, 3))
 writeRaster(other, file("maps/land.tif"), datatype = "INT1U", overwrite = TRUE)
 told <- verified()
@@ -54,7 +54,7 @@ expect_identical(verified()[[1]], "legend.csv differs")
 unlink(file("maps/zones.tif"))
 expect_true(any(startsWith(verified(), "the call fails: zones: cannot open")))
 
-# Calls without named arguments, also with scripts of several lines.
+# Calls without named arguments, including calls that run scripts of several lines.
 for (call in c("rcell_composition", "rcell_metrics", "rcell_patches", "rcell_adjacency")) {
   rcell_record(file("plain.csv"), call, file("maps/land.tif"))
   expect_identical(rcell_verify(file("plain.csv")), character(), info = call)
@@ -62,7 +62,7 @@ for (call in c("rcell_composition", "rcell_metrics", "rcell_patches", "rcell_adj
 rcell_record(file("plain.csv"), rcell_sample, file("maps/land.tif"), 5, seed = "a\tb\\\"")
 expect_identical(rcell_verify(file("plain.csv")), character())
 
-# Calls of several tables, vectors with names, maps of no file.
+# Calls that return several tables, named vectors, and maps that are not files.
 writeRaster(land, file("maps/later.tif"))
 rcell_record(file("change.csv"), "rcell_change", file("maps/land.tif"), file("maps/later.tif"), labels = c("1" = "a", "2" = "b", "3" = "c"), .table = "summary")
 expect_identical(readLines(file("change.csv"))[[1]], "class,label,before_ha,after_ha,gain_ha,loss_ha,net_ha,swap_ha,persistence_ha")

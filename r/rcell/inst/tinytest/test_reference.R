@@ -23,7 +23,7 @@ writeLines(c("value,area", sprintf("%s,%s", names(sizes), sizes)), file("sizes.c
 expect_equal(rcell_accuracy(NULL, file("sample.csv"), file("sizes.csv")), found)
 expect_identical(names(rcell_accuracy(NULL, sample, sizes, area = NULL)$classes), names(found$classes)[1:7])
 
-# A map as the reference; one class; a stratum of one cell.
+# The reference can be a map. Maps may have one class, and a stratum one cell.
 before <- matrix(c(1, 1, 2, 2, NA, 2), 1)
 after <- matrix(c(1, 2, 2, 2, 1, NA), 1)
 whole <- rcell_accuracy(before, after, labels = c("1" = "wood", "2" = "field"))
@@ -35,7 +35,8 @@ single <- rcell_accuracy(NULL, data.frame(map = c(1, 2, 2), reference = c(1, 2, 
 expect_identical(is.nan(single$classes$users_se), c(TRUE, FALSE))
 expect_true(is.nan(single$overall_se))
 
-# Points: a SpatVector and a file. Two in one cell both count; a cell has its northern and western edge.
+# Points come from a SpatVector or a file. Two points in a cell both count. Cells include their northern and western
+# edges.
 land <- rast(matrix(c(1, 1, 2, NA), 1), extent = ext(0, 4, 0, 1), crs = "EPSG:32632")
 places <- cbind(c(0.5, 0.6, 1, 2.5, 3.5, 9, 2.5), c(0.5, 0.6, 1, 0.5, 0.5, 0.5, 0.5))
 points <- vect(places, crs = "EPSG:32632", atts = data.frame(class = c(1, 2, 1, 2, 2, 1, NA), name = letters[1:7]))
@@ -46,7 +47,7 @@ expect_warning(again <- rcell_accuracy(land, file("points.gpkg"), "map"), "3 of 
 expect_equal(again$matrix, found$matrix)
 expect_equal(again$classes$mapped_ha, c(2, 1) / 1e4)
 
-# Points that are no random sample.
+# A warning names points that are not a random sample.
 long <- rast(matrix(c(rep(1, 9), 2), 1), extent = ext(0, 10, 0, 1), crs = "EPSG:32632")
 drawn <- function(common, rare) {
   class <- rep(1:2, c(common, rare))
@@ -57,7 +58,7 @@ expect_silent(rcell_accuracy(long, drawn(80, 80), "map"))
 expect_silent(rcell_accuracy(long, drawn(144, 16)))
 expect_silent(rcell_accuracy(long, drawn(3, 3)))
 
-# What is wrong, with the value met.
+# Invalid input: messages show the value found.
 fault <- function(...) refusal(suppressWarnings(rcell_accuracy(...)))$text
 expect_true(startsWith(fault(NULL, sample, sizes[-1]), "areas= must have an area for each class of the sample; got none for 1"))
 expect_true(startsWith(fault(NULL, sample, c(sizes, "7" = 1)), "no cell of the sample is in the class 7 of the map, which has an area"))
@@ -75,7 +76,7 @@ expect_identical(fault(land, land, field = "x"), "field= is for points, and refe
 points$reference <- 1
 expect_identical(fault(land, points), "has the fields class and reference: name one, for example field = \"reference\"")
 
-# Hashes are those that sha256sum prints, of texts of one block and of several.
+# Hashes equal the output of sha256sum, for texts of one block and of several blocks.
 for (text in c("", "abc", strrep("a", 55), strrep("a", 56), strrep("\u00fc", 100))) {
   known <- c("e3b0c44298fc", "ba7816bf8f01", "9f4390f8d30c", "b35439a4ac6f", "83af2e24c464")
   expect_true(sprintf("%06x%06x", rcell:::numbers_of(text) %/% 2^24, rcell:::numbers_of(text) %% 2^24) %in% known, info = text)
@@ -83,7 +84,7 @@ for (text in c("", "abc", strrep("a", 55), strrep("a", 56), strrep("\u00fc", 100
 expect_identical(rcell:::drawn("7:1", 100, 5), c(60, 63, 64, 67, 73))
 expect_identical(rcell:::drawn("a", 5, 9), c(0, 1, 2, 3, 4))
 
-# A sample has cells of its classes, none twice, and is the same again; each cell has the same chance.
+# A sample contains distinct cells of its classes and is reproducible. Each cell has the same probability.
 noise <- made_map(30, 40, 3, seed = 12)
 found <- rcell_sample(noise, 50, seed = "autumn")
 expect_identical(found, rcell_sample(noise, 50, seed = "autumn"))

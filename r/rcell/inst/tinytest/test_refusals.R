@@ -2,7 +2,7 @@ source("helpers.R")
 
 lc <- made_map(3, 4, 3)
 
-# The words of the program, with the caller's own line and a mark beneath it.
+# Messages of the program are shown with the caller's line and a mark below it.
 found <- refusal(rcell_run("# a note\nr.stats -c input=lc\nr.mapcalc x = lc + 1.5\nr.out.ascii input=x", lc = lc))
 expect_identical(class(found), c("rcell_refused", "rcell_error", "error", "condition"))
 expect_identical(found[c("source", "line", "column", "text", "status")],
@@ -17,7 +17,7 @@ tabs <- refusal(rcell_run("r.mapcalc\tx = \u00fc", lc = lc))
 expect_identical(tabs$column, 15L)
 expect_true(endsWith(conditionMessage(tabs), "\n           \t    ^"))
 
-# Of a long line, the part around the column.
+# Long lines are cut to the part around the column.
 long_line <- refusal(rcell_run(paste0("r.stats -c input=lc ", strrep("x", 2^19)), lc = lc))
 expect_identical(long_line$text, "line too long")
 expect_true(nchar(conditionMessage(long_line)) < 200)
@@ -25,16 +25,16 @@ marked <- refusal(rcell_run(paste0("r.mapcalc x = ", strrep("lc + ", 400), "1.5 
 shown <- strsplit(conditionMessage(marked), "\n")[[1]]
 expect_identical(shown[1:2], c(sprintf("script, line 1: number not whole at column %d", marked$column), "  .. + lc + lc + lc + lc + lc + lc + 1.5 * \u00fc"))
 expect_identical(regexpr("^", shown[[3]], fixed = TRUE)[[1]], regexpr("1.5", shown[[2]], fixed = TRUE)[[1]])
-# R takes bytes that are not text, and so does a comment.
+# Scripts may contain invalid UTF-8 in comments.
 expect_identical(as_rows(rcell_grid(rawToChar(as.raw(c(0x23, 0xed, 0xa0, 0x80))), "lc", lc = lc)), as_rows(lc))
 
-# A script that ends within rules, also where marks and wanted maps are added.
+# A script that ends within rules is rejected, even if the package appends lines for wanted maps.
 expect_identical(refusal(rcell_run("r.stats input=lc\nr.reclass input=lc output=k\n1 = 1", lc = lc))[c("line", "text")],
   list(line = 2L, text = "missing end"))
 expect_identical(refusal(rcell_grid("r.reclass input=lc output=k\n1 = 1", "k", lc = lc))$text, "missing end")
 expect_identical(refusal(rcell_run("r.reclass input=lc output=k\n1 = 1\nr.stats input=k", lc = lc))$line, 3L)
 
-# Names of maps.
+# Map names.
 expect_identical(refusal(rcell_run("r.stats input=lc"))$status, 2L)
 expect_identical(refusal(rcell_run("r.stats input=lc", lc))$status, 2L)
 expect_identical(refusal(rcell_run("r.stats input=lc", lc = lc, maps = list(lc = lc)))$text, "the map lc is given twice")
@@ -48,27 +48,27 @@ expect_identical(refusal(rcell_patches(lc, classes = 3e9))$text, "classes= must 
 expect_identical(refusal(rcell_patches(lc, min_cells = NA))$text, "min_cells= must be a number of cells; got NA")
 expect_identical(refusal(rcell_majority(lc, filename = NA))$text, "filename= must be one path; got NA")
 
-# Paths that are not UTF-8.
+# Paths that are not UTF-8 are rejected.
 odd <- rawToChar(as.raw(c(0xff, utf8ToInt(".tif"))))
 for (found in list(refusal(rcell_table("r.stats input=m", m = odd)), refusal(rcell_grid("", "lc", lc = lc, filename = odd)),
   refusal(rcell_composition(lc, labels = odd)), refusal(rcell_composition(lc, zones = odd)))) {
   expect_identical(found$text, "<ff>.tif: terra only accepts UTF-8 paths: rename the file")
 }
 
-# A script that is too long, also with the line that asks for a map.
+# A script is rejected if it is too long, also with the line for a wanted map.
 long <- paste(c(rep(paste0("#", strrep("x", 60000)), 17), "#", strrep("#", 28536)), collapse = "\n")
 expect_identical(rcell_run(long, lc = lc), structure(list(), names = character()))
 too_long <- list(source = "script", text = "script too long")
 expect_identical(refusal(rcell_grid(long, "lc", lc = lc))[c("source", "text")], too_long)
 expect_identical(refusal(rcell_run(paste0(long, strrep("x", 20)), lc = lc))[c("source", "text")], too_long)
-# Zones that are needed.
+# Required zones.
 for (call in list(rcell_zonal, rcell_dominant)) {
   expect_identical(refusal(call(matrix(1:4, 2), NULL))$text, "zones= must be a map or polygons; got NULL")
 }
 
 expect_identical(leftovers(), character())
 
-# R completes names of arguments: a map may be called `s` or `n`, and a script is never given by name.
+# R matches argument names partially, but maps may be called `s` or `n`, and a script cannot be passed by name.
 expect_identical(rcell_table("r.stats -c input=s,n", s = lc, n = lc)$s, rcell_table("r.stats -c input=lc", lc = lc)$lc)
 expect_identical(as_rows(rcell_grid("", "n", n = lc)), as_rows(lc))
 expect_true(grepl("^pass the script first", refusal(rcell_run(script = "r.stats input=lc", lc = lc))$text))

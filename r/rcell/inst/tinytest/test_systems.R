@@ -14,27 +14,27 @@ expect_identical(names(rcell_patches(plain))[4:5], c("perimeter_m", "core_cells"
 expect_identical(rcell_patches(plain)$perimeter_m, c(NA_real_, NA_real_))
 expect_identical(names(rcell_change(plain, plain)$summary)[[2]], "before_cells")
 
-# Local, geocentric and vertical systems say nothing of areas.
+# Local, geocentric and vertical systems do not define areas.
 site <- map("ENGCRS[\"site\",EDATUM[\"\"],CS[Cartesian,2],AXIS[\"x\",east,LENGTHUNIT[\"foot\",0.3048]],AXIS[\"y\",north,LENGTHUNIT[\"foot\",0.3048]]]")
 for (system in list(site, map("EPSG:4978"))) {
   expect_true(grepl("does not say how much of the earth", refusal(rcell_composition(system))$text))
   expect_identical(rcell_composition(system, area = NULL)$cells, c(2L, 2L))
 }
 
-# Percentages are of areas: in degrees the southern row is larger.
+# Percentages refer to areas: in degrees, the southern row is larger.
 north <- rast(nrows = 2, ncols = 1, xmin = 0, xmax = 10, ymin = 55, ymax = 75, crs = "EPSG:4326", vals = 1:2)
 found <- rcell_composition(north)
 expect_equal(found$percent, 100 * found$area_ha / sum(found$area_ha))
 expect_true(found$percent[[2]] > 55)
 expect_identical(rcell_composition(north, area = NULL)$percent, c(50, 50))
 
-# Rows may reach half a cell beyond a pole.
+# Rows may extend half a cell beyond a pole.
 globe <- rast(nrows = 181, ncols = 4, xmin = -180, xmax = 180, ymin = -90.5, ymax = 90.5, crs = "EPSG:4326", vals = 1)
 expect_equal(rcell_composition(globe, area = "m2")$area_m2, surface(6378137, 298.257223563), tolerance = 1e-12)
 beyond <- rast(nrows = 2, ncols = 2, xmin = 0, xmax = 2, ymin = 88.9, ymax = 90.9, crs = "EPSG:4326", vals = 1)
 expect_identical(refusal(rcell_composition(beyond))$text, "rows beyond the pole: north is 90.9")
 
-# Systems that are one, however they are spelled, and others.
+# Different spellings of a system are equal; different systems are not.
 own <- asNamespace("rcell")
 same <- function(one, other) own$same_crs(crs(one), crs(other))
 kilometres <- "+proj=%s +datum=WGS84 +units=km"
@@ -46,7 +46,7 @@ expect_false(same("EPSG:25832", "EPSG:32632"))
 expect_false(same("EPSG:3035", "+proj=laea +lat_0=52 +lon_0=10 +x_0=4321000 +y_0=3210000 +ellps=GRS80"))
 expect_false(same("EPSG:4326", "EPSG:4978"))
 
-# Values that often mean no data are named if they fill the border.
+# A warning names values that often mean no data if they fill the border.
 for (value in c(255, -9999, -32768)) {
   frame <- matrix(value, 5, 5)
   frame[2:4, 2:4] <- 1
@@ -56,7 +56,7 @@ for (value in c(255, -9999, -32768)) {
   expect_silent(rcell_composition(frame))
 }
 
-# A grid apart from the map: all cells are null.
+# If the target grid does not overlap the map, all cells are null.
 near <- map("EPSG:25832")
 wide <- rast(nrows = 3, ncols = 5, xmin = 10, xmax = 12.5, ymin = 10, ymax = 11.5, crs = "EPSG:25832")
 for (far in list(shift(near, 10, 10), wide, aggregate(shift(near, -10), 2))) {
@@ -65,6 +65,6 @@ for (far in list(shift(near, 10, 10), wide, aggregate(shift(near, -10), 2))) {
   expect_identical(attr(aligned, "aligned")$cells_lost, 4L)
 }
 
-# Quantiles between values far apart.
+# Quantiles are interpolated between distant values.
 expect_identical(rcell_zonal(matrix(c(-1500000000, 1500000000), 1), matrix(1, 1, 2))$q50, 0)
 expect_identical(leftovers(), character())

@@ -18,7 +18,7 @@ expect_identical(wide, matrix(c(3L, 1L, 1L, 2L, 3L, 0L), 3, dimnames = list(lc =
 expect_identical(dim(rcell_table("r.stats -c input=lc,zone", lc = lc, zone = zone, wide = TRUE)), c(4L, 3L))
 expect_identical(rcell_table("r.stats -c -n input=lc,zone", lc = lc, zone = zone, area = "m2", wide = TRUE), wide * 100)
 
-# A table of one row, of no row, and of nulls alone.
+# Tables with one row, no rows, and only nulls.
 one <- rast(matrix(5), extent = ext(0, 1, 0, 1), crs = "EPSG:32632")
 expect_identical(rcell_table("r.stats -c input=one", one = one), data.frame(one = 5L, cells = 1L))
 nothing <- rast(matrix(NA_real_, 1, 3))
@@ -26,7 +26,7 @@ expect_identical(rcell_table("r.stats -c input=x", x = matrix(NA_real_, 1, 3)), 
 expect_identical(nrow(rcell_table("r.stats -cn input=x", x = matrix(NA_real_, 1, 3))), 0L)
 expect_identical(rcell_run("r.stats -cn input=x\nr.stats -c input=x", x = matrix(NA_real_, 1, 3))[[2]]$cells, 3L)
 
-# Several outputs are parted, and named by their maps; several tables are a list.
+# Several outputs are separate and named after their maps; several tables form a list.
 outputs <- rcell_run("r.stats -c input=lc\nr.out.ascii input=lc\nr.stats -1 input=zone\nr.stats -cn input=lc,zone", lc = lc, zone = zone)
 expect_identical(names(outputs), c("lc", "lc", "zone", "lc,zone"))
 expect_identical(outputs[[1]], found)
@@ -36,7 +36,7 @@ expect_identical(sum(outputs[[4]]$cells), 10L)
 expect_identical(length(rcell_table("r.stats -c input=lc\nr.stats -c input=zone", lc = lc, zone = zone)), 2L)
 expect_identical(rcell_run("r.mapcalc x = lc", lc = lc), structure(list(), names = character()))
 
-# Labels are joined by the category: the raster's (terra takes a label `NA` for none), and the rules'.
+# Labels of rasters and of rules are joined by category. (terra treats the label `NA` as missing.)
 odd <- c("wood, wet", "a b  c", "tab\there", "pipe|", "quote\"", "#no", "Wiese \u00fc", "n/a", "*", "null", "back\\slash", "'", " in front")
 labelled <- rast(matrix(seq_along(odd), 1), extent = ext(0, 13, 0, 1), crs = "EPSG:32632")
 levels(labelled) <- data.frame(value = seq_along(odd), cover = odd)
@@ -48,7 +48,7 @@ expect_identical(rcell_table("r.reclass input=lc output=k\n1 = 1 NA\n2 = 2   in 
 expect_identical(rownames(rcell_table("r.stats -cnl input=lc,zone", lc = rcell_grid(sub("r.stats.*", "", rules), "kind", lc = lc),
   zone = zone, wide = TRUE)), c("built \u00fcp, mostly", "water"))
 
-# Errors of the call.
+# Invalid arguments.
 expect_identical(refusal(rcell_table("r.stats input=lc", lc = lc, area = "ha"))$text, "area= needs a table with cells: r.stats -c")
 expect_identical(refusal(rcell_table("r.stats -c input=lc", lc = lc, area = "acre"))$text, "area= must be one of m2, ha, km2; got \"acre\"")
 expect_identical(refusal(rcell_table("r.stats -c input=lc", lc = lc, wide = TRUE))$line, 1L)
@@ -57,7 +57,7 @@ degrees <- rast(nrows = 2, ncols = 2, vals = 1)
 expect_true(grepl("in degrees", refusal(rcell_table("r.stats -c input=x", x = degrees, area = "ha"))$text))
 feet <- rast(nrows = 1, ncols = 1, xmin = 0, xmax = 100, ymin = 0, ymax = 100, crs = "EPSG:2263", vals = 1)
 expect_equal(rcell_table("r.stats -c input=x", x = feet, area = "m2")$area_m2, (100 * 1200 / 3937)^2, tolerance = 1e-9)
-# Sequences of classes over any number of years, more than a table has columns, next to a count in plain R.
+# Sequences of classes over more years than a table has columns equal a count in plain R.
 for (count in c(2, 3, 20)) {
   series <- lapply(seq_len(count), function(year) made_map(5, 6, 2, seed = 30 + year))
   if (count == 20) series <- lapply(series, function(map) ifel(is.na(map), 1, map))
@@ -89,7 +89,7 @@ expect_identical(refusal(rcell_trajectories(many, 1:100))$text, "maps= must be a
 
 expect_identical(leftovers(), character())
 
-# Rules give labels to all categories, whether a map has them or not.
+# Rules label all their categories, even categories that the map does not contain.
 rules <- c(" r.reclass input=lc output=k", "# 5 = 77 a note", "1 = 1 early", "1 3 thru 5 = 1 low = \u00fc | 5", "-7 thru -2 = 3", "2147483647 = 4 last", "* = 2 high",
   "end")
 expect_identical(levels(rcell_grid(rules, "k", lc = lc))[[1]], data.frame(value = c(1L, 2L, 4L), k = c("low = \u00fc | 5", "high", "last")))

@@ -1,6 +1,7 @@
 source("helpers.R")
 
-# What is written: never half, never through a mask or labels of an older file, never onto what is no file or is an input.
+# Files are never written in part, combined with an older file's mask or labels, or written over an input or a special
+# file.
 room <- tempfile("writing \u00fc ")
 dir.create(room)
 file <- function(name) file.path(room, name)
@@ -9,7 +10,7 @@ write <- function(name, ..., overwrite = TRUE) rcell_grid("r.mapcalc x = lc + 1"
 files <- function() sort(list.files(room, all.files = TRUE, no.. = TRUE))
 is_kind <- function(test, name) system2("test", c(test, shQuote(file(name)))) == 0L
 
-# Masks, labels and overviews of the file that is replaced go with it.
+# Replacing a file removes its masks, labels and overviews.
 labelled <- lc
 levels(labelled) <- data.frame(value = 1:3, cover = c("wood", "water", "town"))
 rcell_grid("", "lc", lc = labelled, filename = file("a.tif"))
@@ -19,7 +20,7 @@ write("a.tif")
 expect_identical(files(), "a.tif")
 expect_equal(as_rows(rast(file("a.tif"))), as_rows(lc) + 1)
 
-# The rights of the file that is replaced stay; a new one has the rights of any new file.
+# Replacing a file keeps its permissions; a new file has default permissions.
 Sys.chmod(file("a.tif"), "600")
 write("a.tif")
 expect_identical(format(file.mode(file("a.tif"))), "600")
@@ -27,7 +28,7 @@ write("new.tif")
 invisible(file.create(file("usual")))
 expect_identical(file.mode(file("new.tif")), file.mode(file("usual")))
 
-# Links are followed, also one whose file is not there yet.
+# Links are followed, even to a file that does not exist yet.
 dir.create(file("far"))
 for (name in c("a.tif", "b.tif")) {
   unlink(file(name))
@@ -38,7 +39,7 @@ for (name in c("a.tif", "b.tif")) {
   expect_equal(as_rows(rast(file(file.path("far", name)))), as_rows(lc) + 1, info = name)
 }
 
-# What exists and is no regular file is written to, and never replaced.
+# Special files are written to, and never replaced.
 if (nzchar(Sys.which("mkfifo"))) {
   system2("mkfifo", shQuote(file("pipe")))
   reader <- processx::process$new("cat", file("pipe"), stdout = file("read.tif"))
@@ -54,7 +55,7 @@ if (system2("mknod", c(shQuote(file("null")), "c", "1", "3"), stderr = FALSE) ==
 }
 expect_inherits(refusal(write("far")), "rcell_write_failed")
 
-# An input is never the output: by its own name, by a link, as a raster of its file.
+# An input is never the output, whether it is named by path, by a link, or as a raster.
 write("in.tif")
 before <- tools::md5sum(file("in.tif"))
 invisible(file.symlink("in.tif", file("link.tif")))
@@ -67,26 +68,26 @@ writeLines(c("north: 2", "south: 0", "east: 2", "west: 0", "rows: 2", "cols: 2",
 expect_inherits(refusal(rcell_majority(file("g.txt"), filename = file("g.txt"), overwrite = TRUE)), "rcell_refused")
 expect_identical(tools::md5sum(file("in.tif")), before)
 
-# Nothing is left when R is ended while it writes, whatever ends it, and the old file is whole.
+# If any signal kills R while it writes, no new file is left and the old file is complete.
 slow <- c("trace <- get('check_whole', asNamespace('rcell'))", sprintf("stop_here <- function(...) { writeLines('', '%s'); Sys.sleep(600) }", file("begun")),
   "assignInNamespace('check_whole', stop_here, 'rcell')",
   sprintf("rcell_grid('', 'x', x = matrix(1:4, 2), filename = '%s', overwrite = TRUE)", file("in.tif")))
 for (signal in c(1L, 2L, 9L, 15L)) {
   unlink(file("begun"))
-  # Under nohup, a test inherits signals that are ignored.
+  # Under nohup, a test inherits ignored signals.
   asked <- run_apart(room, slow, command = c("env", "--default-signal"))
   begun <- Sys.time()
   while (!file.exists(file("begun")) && asked$is_alive() && Sys.time() < begun + 600) Sys.sleep(0.05)
   expect_true(any(grepl("^[.]rcell-", files())), info = signal)
   asked$signal(signal)
   said_by(asked)
-  # The process that removes what is left hears of the end a moment later.
+  # The guard process notices the end of R a moment later.
   for (turn in 1:600) if (any(grepl("^[.]rcell-", files()))) Sys.sleep(0.1)
   expect_false(any(grepl("^[.]rcell-", files())), info = signal)
   expect_identical(tools::md5sum(file("in.tif")), before, info = signal)
 }
 
-# Closed standard streams end a run as open ones do.
+# Runs also work with closed standard streams.
 lines <- c("found <- rcell_table('r.stats -c input=x', x = matrix(c(1, 1, 2), 1))",
   sprintf("saveRDS(found, '%s')", file("found.rds")))
 for (closed in c("<&-", ">&-", "2>&-", "<&- >&- 2>&-")) {

@@ -1,6 +1,6 @@
 source("helpers.R")
 
-# Zones as polygons. Of each rule one test; fronts/cases has them for files of several formats.
+# Polygons as zones, with one test per rule. fronts/cases tests the rules for files of several formats.
 room <- tempfile("zones")
 dir.create(room)
 file <- function(name) file.path(room, name)
@@ -20,7 +20,7 @@ cells_of <- function(...) {
   stats::setNames(table$cells, if (is.null(table$zone_label)) table$zone else table$zone_label)
 }
 
-# A missing value is no zone and takes no cell from another; terra would read a missing number as 0.
+# A polygon with a missing value has no zone and takes no cells from others. terra would read the missing number as 0.
 corners <- function(east) sprintf("[[[0,0],[%1$d,0],[%1$d,4],[0,4],[0,0]]]", east)
 feature <- "{\"type\":\"Feature\",\"properties\":{\"number\":%s,\"name\":%s},\"geometry\":{\"type\":\"Polygon\",\"coordinates\":%s}}"
 features <- sprintf(feature, c("5", "null"), c("\"west\"", "\"\""), corners(c(4L, 8L)))
@@ -33,14 +33,14 @@ expect_identical(cells_of(zones = path, zone_field = "name"), c(west = 16L))
 expect_identical(cells_of(zones = shapes, zone_field = "number"), c("5" = 16L))
 expect_identical(refusal(rcell_composition(land, zones = path, zone_field = "x"))$text, "no field x: the fields are number, name")
 
-# Decimals and long numbers are labels, each with all its digits.
+# Decimals and long numbers become labels with all their digits.
 shapes <- polygons(c(box(0, 4), box(4, 8)), share = c(0.1 + 0.2, 0.3), code = c(5, 3e9), half = c(1, 2.5))
 path <- stored(shapes, "decimals.gpkg")
 expect_identical(cells_of(zones = path, zone_field = "share"), c("0.30000000000000004" = 16L, "0.3" = 16L))
 expect_identical(cells_of(zones = shapes, zone_field = "code"), c("5.0" = 16L, "3000000000.0" = 16L))
 expect_identical(cells_of(zones = path, zone_field = "half"), c("1.0" = 16L, "2.5" = 16L))
 
-# Without a field a zone has the number of its feature: the fid of a layer, the row of a SpatVector.
+# Without a field, a zone has its feature's number: the fid in a layer, or the row in a SpatVector.
 expect_identical(cells_of(zones = path), c("1" = 16L, "2" = 16L))
 shapes$FID <- 7:8
 path <- stored(shapes, "zones.shp")
@@ -58,7 +58,7 @@ expect_identical(cells_of(zones = two, layer = "second"), c("1" = 16L))
 expect_identical(cells_of(zones = paste0(two, "|layername=second")), c("1" = 16L))
 expect_identical(refusal(rcell_composition(land, zones = two, layer = "x"))$text, "no layer x: the layers are first, second")
 
-# Polygons below others: the later one has the cells, and the warning names each feature that loses some.
+# If polygons overlap, the last one wins, and the warning names each feature that loses cells.
 stack <- polygons(c(box(0, 4), box(0, 4), box(2, 8), box(0.1, 0.2)), name = c("a", "b", "c", "d"))
 hidden <- polygons(rep(box(0, 4), 3), name = c("a", "b", "c"))
 expect_warning(rcell_composition(land, zones = hidden), "features 1, 2 lose cells")
@@ -67,7 +67,7 @@ expect_warning(rcell_composition(land, zones = stack), "zones: 1 of 4 polygons c
 expect_warning(rcell_composition(land, zones = stack, zone_field = "name"), "and feature 1 [(]a[)] loses cells")
 expect_identical(cells_of(zones = stack, zone_field = "name"), c(b = 8L, c = 24L))
 
-# One polygon after another: none loses a cell, in all calls that have zones.
+# With each = TRUE, no polygon loses cells, in all calls with zones.
 expect_identical(suppressWarnings(cells_of(zones = stack, zone_field = "name", each = TRUE)), c(a = 16L, b = 16L, c = 24L))
 expect_identical(suppressWarnings(rcell_zonal(land, stack, each = TRUE))$cells, c(16L, 16L, 24L))
 found <- suppressWarnings(rcell_dominant(land, stack, zone_field = "name", each = TRUE))
@@ -75,7 +75,7 @@ expect_identical(found$zone_label, c("a", "b", "c"))
 expect_identical(found$cells, c(16L, 16L, 24L))
 expect_identical(refusal(rcell_composition(land, zones = land, each = TRUE))$text, "each= is for polygons, and zones= is a raster")
 
-# Decimals by an explicit scale, and no others.
+# Decimals are accepted only with an explicit scale.
 slope <- setValues(land, c(0.125, 0.5, 1.25, NA, rep(2.5, 28)))
 expect_warning(found <- rcell_zonal(slope, land, quantiles = 0.5, scale = 100), "values: rounded to 1/100")
 expect_equal(found$minimum, 0.12)
@@ -86,7 +86,8 @@ expect_identical(fault(), "not a map of whole numbers: the cell at row 1, column
 expect_identical(fault(scale = 2e9), "scale= does not fit: the cell at row 1, column 3 is 1.25, and 2000000000 times that is beyond 2147483647")
 expect_identical(fault(scale = 0.5), "scale= must be a whole number from 1 to 2147483647; got 0.5")
 
-# terra reads a missing number as 0: a SpatVector of a file that has some is an error, and one of which that is not known a warning.
+# terra reads a missing number as 0. A SpatVector whose file contains missing numbers is an error; if its file is
+# unknown, a warning.
 counted <- polygons(c(box(0, 4), box(4, 8)), number = c(0L, 5L))
 known <- stored(counted, "known.gpkg")
 expect_silent(found <- rcell_composition(land, zones = vect(known), zone_field = "number"))
@@ -101,7 +102,7 @@ if (!anyNA(vect(lacking)$number)) {
   expect_identical(refusal(rcell_composition(land, zones = vect(lacking), zone_field = "number"))$text, text)
 }
 
-# What is no layer of polygons.
+# Files that are not layers of polygons.
 expect_identical(refusal(rcell_composition(land, zones = vect("POINT (1 1)", crs = "EPSG:32632")))$text, "not polygons, but points")
 expect_identical(refusal(rcell_composition(land, zones = file("none.gpkg")))$text,
   sprintf("cannot open: %s: No such file or directory", file("none.gpkg")))
@@ -110,7 +111,7 @@ expect_true(grepl("neither polygons nor a raster", refusal(rcell_composition(lan
 expect_identical(refusal(rcell_composition(land, zones = land, zone_field = "x"))$text, "zone_field= names a field of polygons, and zones= is a raster")
 expect_identical(refusal(rcell_composition(land, zone_field = "x"))$text, "zone_field=, layer= and each= require zones=")
 
-# An output is no file that the call reads: a raster, its sidecars, the sources of a VRT, a crosswalk.
+# The output file cannot be a file that the call reads: a raster, its sidecars, the sources of a VRT, a crosswalk.
 labelled <- land
 levels(labelled) <- data.frame(value = 1, cover = "wood")
 writeRaster(labelled, file("in.tif"), datatype = "INT1U")
