@@ -1,4 +1,5 @@
-"""The cases of the repository as texts in memory, what the model gives for them, and a report of what passed."""
+"""The cases of the repository as texts in memory, the model's results for them, and a report of
+what passed."""
 from __future__ import annotations
 
 import os
@@ -14,7 +15,8 @@ LONGEST_WHOLE = 5000  # a longer text is tried at places chosen at random, and n
 
 
 def made_of(case, folder) -> Made | None:
-    """A case, laid out in a folder, as it is compared with the model; None where its words or its files are the point."""
+    """Return a case, laid out in a folder, for comparison with the model, or None if the case is
+    about its arguments or files."""
     words = read(f"{case}/args").decode(errors="surrogateescape").splitlines()
     named = [word.partition("=") for word in words[1:]]
     paths = [*words[:1], *(path for _, _, path in named)]
@@ -28,8 +30,8 @@ def made_of(case, folder) -> Made | None:
 
 @dataclass
 class Cases:
-    """The cases and examples whose output is read, by their names: those that are made at will, and those whose words or files are
-    the point, each laid out in a folder."""
+    """The cases and examples, by name: those that can be made in memory, and those that are about
+    their arguments or files, each laid out in a folder."""
 
     made: dict[str, Made]
     others: dict[str, tuple[str, list[bytes], model.Answer]]
@@ -59,7 +61,8 @@ def with_text(made: Made, path: str, text: bytes) -> Made:
 
 
 def answer_of_stopped(made: Made, place: int, stopped) -> model.Answer:
-    """What the model gives if the file at a place, the script being 0, gives what `stopped` makes of its text."""
+    """Return the model's result if the file at index `place` (0 for the script) returns what
+    `stopped` makes of its text."""
 
     def given(at, path):
         text = made.files[path]
@@ -70,17 +73,18 @@ def answer_of_stopped(made: Made, place: int, stopped) -> model.Answer:
 
 
 def answer_of_failing(made: Made, place: int, taken: int) -> model.Answer:
-    """What the model gives if reading a file fails after a number of bytes."""
+    """Return the model's result if reading a file fails after `taken` bytes."""
     return answer_of_stopped(made, place, lambda text: Failing(text[:taken]))
 
 
 def answer_of_ending(made: Made, place: int, taken: int) -> model.Answer:
-    """What the model gives if a file ends after a number of bytes."""
+    """Return the model's result if a file ends after `taken` bytes."""
     return answer_of_stopped(made, place, lambda text: text[:taken])
 
 
 class Report:
-    """Counts checks and the runs that they took, and keeps what failed in a folder that can be put under cases/."""
+    """Counts checks and their runs, and writes failed runs to a folder that can be put under
+    cases/."""
 
     def __init__(self, folder):
         self.folder, self.passed, self.failed, self.runs = folder, 0, 0, 0
@@ -92,7 +96,7 @@ class Report:
         return not wrong
 
     def differs(self, what: str, made: Made, expected: model.Answer, got: model.Answer) -> None:
-        """Notes a run that ended otherwise than the model."""
+        """Record a run that ended differently from the model."""
         folder = f"{self.folder}/{what.replace('/', '-').replace(' ', '-')}"
         keep(folder, made, expected, got)
         told = f"status {got.status}, told {got.told!r} after {len(got.output)} bytes"

@@ -1,17 +1,21 @@
 #!/usr/bin/env python3
-r"""Runs the proved program on each folder of cases/ and examples/, and again with each growth and each write denied in turn.
+r"""Run the proved program on each folder of cases/ and examples/, and again with each growth and
+each write denied in turn.
 
 A case is a folder with the files that the program reads and
-    args     its words, one a line
-    stdout   what it must write; no file: nothing
-    stderr   its message; no file: nothing
-    status   its exit status; no file: 0
-    output   where its standard output goes in place of a pipe that is read: a path, or `closed` for a closed pipe
-    more     lines FILE COUNT TEXT: so many times the text, in which \n, \r and \x20 are bytes, follows what the file has
-    refused  lines SOURCE LINE BYTES: what is reported if growths are denied, and how many bytes are out then; each such
-             line has to come, and no other; no file: those that the model allows
-A run whose growth is denied has written just what the statements before the line that it reports write, of which
-tools/model/model.py says what it is. The last line is 'N passed, M failed'.
+    args     its arguments, one per line
+    stdout   its expected output; without this file: nothing
+    stderr   its expected message; without this file: nothing
+    status   its exit status; without this file: 0
+    output   the destination of standard output instead of a pipe that is read: a path, or `closed`
+             for a closed pipe
+    more     lines FILE COUNT TEXT: the text, in which \n, \r and \x20 are bytes, is appended to the
+             file COUNT times
+    refused  lines SOURCE LINE BYTES: the error reported and the bytes written if growths are
+    denied;
+             exactly these lines must occur; without this file: those that the model allows
+If a growth is denied, the output must be exactly that of the statements before the reported line,
+as computed by tools/model/model.py. The last line is 'N passed, M failed'.
 """
 import glob
 import os
@@ -40,13 +44,13 @@ def read(path, otherwise=b""):
 
 
 def more_of(case):
-    """What follows the contents of files of the case: names of files, each with bytes."""
+    """Yield what is appended to files of the case: names of files, each with bytes."""
     for name, count, text in (line.split() for line in read(f"{case}/more").decode().splitlines()):
         yield name, text.encode().decode("unicode_escape").encode("latin-1") * int(count)
 
 
 def lay_out(case, folder):
-    """Puts the files of the case into a new folder."""
+    """Write the files of the case to a new folder."""
     shutil.copytree(case, folder, ignore=shutil.ignore_patterns(*OUR_OWN))
     for name, text in more_of(case):
         with open(f"{folder}/{name}", "ab") as file:
@@ -54,7 +58,7 @@ def lay_out(case, folder):
 
 
 def output_to(place):
-    """The file that standard output goes to, or a pipe that is read."""
+    """Return the file to which standard output is written, or a pipe that is read."""
     if not place:
         return subprocess.PIPE
     if place == "closed":
@@ -65,7 +69,7 @@ def output_to(place):
 
 
 def folders():
-    """The folders of cases: all of cases/, and those in examples/ that have the words of a run."""
+    """Return the folders of cases: all of cases/, and those in examples/ that contain arguments."""
     return sorted(
         glob.glob(f"{ROOT}/cases/*")
         + [os.path.dirname(it) for it in glob.glob(f"{ROOT}/examples/*/args")]
@@ -83,7 +87,8 @@ def expected_of_case(case):
 
 
 def run_to(output, case, folder, restore_signals=True, **more):
-    """Runs the program in the folder with the words of the case and its standard output to a file or a pipe."""
+    """Run the program in the folder with the arguments of the case, and with a file or pipe as
+    standard output."""
     environment = {"PATH": "/usr/bin:/bin", **more}
     ran = subprocess.run(
         [PROGRAM.encode(), *words_of(case)],
@@ -99,7 +104,7 @@ def run_to(output, case, folder, restore_signals=True, **more):
 
 
 def run(case, folder, **more):
-    """Run the program with the words of the case and return its result."""
+    """Run the program with the arguments of the case and return its result."""
     output = output_to(read(f"{case}/output").decode().strip())
     answer = run_to(output, case, folder, **more)
     if output is not subprocess.PIPE:
@@ -108,9 +113,10 @@ def run(case, folder, **more):
 
 
 def refusal(wanted, got):
-    """The source, line and number of bytes out where memory ran out; None if that is not reported, if no such source is
-    in the run, or if what is out is not the whole output of the statements before the line. `wanted` is what
-    the run gives with enough memory."""
+    """Return the source and line where memory ran out, and the number of bytes written by then.
+    Return None if this is not reported, if the run has no such source, or if the output is not
+    exactly that of the statements before the line. `wanted` is the result of the run with enough
+    memory."""
     told = NO_MEMORY.fullmatch(got.told)
     if got.status != 3 or not told:
         return None
@@ -125,10 +131,10 @@ def refusal(wanted, got):
 
 
 def refused_in_turn(case, folder, shim, room, wanted):
-    """Deny growth 1, 2, .. until a run asks for fewer. Return how many there were, and what went wrong, or ''.
+    """Deny growth 1, 2, .. until a run requests fewer. Return their number, and the error, or ''.
 
-    If the standard library asks again for a denied growth, or the growth only saves time (the numbers by which the combinations of many
-    maps are sorted first), the run does all its work.
+    If the standard library requests a denied growth again, or the growth only saves time (the
+    numbers with which the combinations of many maps are first sorted), the run does all its work.
     """
     count, found = f"{room}/count", set()
     for at in range(1, 100000):
@@ -150,7 +156,7 @@ def refused_in_turn(case, folder, shim, room, wanted):
 
 
 def wrong_refusals(case, found):
-    """What is wrong with where growths were denied, if the case says where that is."""
+    """Return the error in where growths were denied, if the case states where."""
     lines = (line.split() for line in read(f"{case}/refused").decode().splitlines())
     wanted = {(source, int(line), int(count)) for source, line, count in lines}
     return (
@@ -161,7 +167,8 @@ def wrong_refusals(case, found):
 
 
 def run_limited(case, folder, size):
-    """Run the program with a file of limited size as standard output, and the signal of a full file ignored."""
+    """Run the program with a file of limited size as standard output, and the signal of a full file
+    ignored."""
     soft, hard = resource.getrlimit(resource.RLIMIT_FSIZE)
     with tempfile.TemporaryFile() as output:
         resource.setrlimit(resource.RLIMIT_FSIZE, (size, hard))
@@ -174,7 +181,8 @@ def run_limited(case, folder, size):
 
 
 def limited_in_turn(case, folder, wanted):
-    """Run the case with an output that takes 0, 1, .. bytes. Return how many sizes there were, and what went wrong, or ''."""
+    """Run the case with an output that accepts 0, 1, .. bytes. Return the number of sizes, and the
+    error, or ''."""
     sizes = range(len(wanted.output) if len(wanted.output) <= LONGEST_LIMITED else 0)
     for size in sizes:
         got = run_limited(case, folder, size)
@@ -186,7 +194,8 @@ def limited_in_turn(case, folder, wanted):
 
 
 def judge(case, room, shim):
-    """What is wrong with a case, or '', and how many growths and how many writes were denied in turn."""
+    """Return the error of a case, or '', and the numbers of growths and writes that were denied in
+    turn."""
     folder = f"{room}/folder"
     shutil.rmtree(folder, ignore_errors=True)
     lay_out(case, folder)
@@ -204,7 +213,7 @@ def judge(case, room, shim):
 
 
 class Count:
-    """How many checks passed and failed so far; what is wrong is printed."""
+    """Counts passed and failed checks, and prints the errors."""
 
     def __init__(self):
         self.passed = self.failed = 0

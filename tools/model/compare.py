@@ -1,17 +1,22 @@
 #!/usr/bin/env python3
-"""Compares the model of tools/model/model.py with the cases of the repository, or with the built program.
+"""Compare the model in tools/model/model.py with the cases of the repository, or with the built
+program.
 
     compare.py --cases
-    compare.py --runs N --seed S --program PATH [--first F] [--keep FOLDER] [--maps KIND] [--pieces CLANG] [--refuse CLANG]
+    compare.py --runs N --seed S --program PATH [--first F] [--keep FOLDER] [--maps KIND]
+               [--pieces CLANG] [--refuse CLANG]
 
-With --cases the model runs each folder of cases/ and examples/ (as tools/model/cases.py describes them), apart from the ones
-whose standard output goes elsewhere. With --runs random grids and scripts go to both, and output, standard error and
-exit status must agree byte for byte. Run F of seed S is the same wherever it is made. KIND is `any`, small grids in many
-spellings, or `stretches`, long runs (tools/model/made_stretches.py). With --pieces two runs of three are made again with reads
-that move few bytes, so that blocks end anywhere within words. With --refuse each run is made
-again with one of its growths denied: it must report that, and have written just what the statements before that line
-write. Each difference is written to FOLDER as a case whose expected files are the model's, with the program's result in
-a folder next to it. The last line is 'N runs, M differences'.
+With --cases, the model runs each folder of cases/ and examples/ (see tools/model/cases.py), except
+those whose standard output goes elsewhere. With --runs, both get random grids and scripts, and
+their output, standard error and exit status must agree byte for byte. Run F of seed S is the same
+everywhere. KIND is `any`, small grids in many spellings, or `stretches`, long runs
+(tools/model/made_stretches.py).
+
+With --pieces, two of three runs are repeated with reads that return few bytes, so that blocks end
+anywhere within words. With --refuse, each run is repeated with one of its growths denied: it must
+report this, and its output must be exactly that of the statements before the reported line. Each
+difference is written to FOLDER as a case whose expected files are the model's, next to a folder
+with the program's result. The last line is 'N runs, M differences'.
 """
 import argparse
 import collections
@@ -90,7 +95,7 @@ def compare_cases():
 
 
 class Program:
-    """The built program, run in the folder that is the current one; `room` is where its output goes."""
+    """Runs the built program in the current folder. Its output is written to `room`."""
 
     def __init__(self, path, room):
         self.path, self.room = os.path.abspath(path), room
@@ -119,13 +124,15 @@ class Program:
         return model.Answer(status, read(self.output), read(self.told))
 
     def answer_refused(self, words, shim: str, at: int) -> tuple[model.Answer, int]:
-        """The result with growth number `at` denied (0: none), and how many were asked for."""
+        """Return the result with growth number `at` denied (0: none), and the number of growths
+        requested."""
         got = self.answer(words, LD_PRELOAD=shim, REFUSE_AT=str(at), REFUSE_COUNT=self.count)
         return got, int(read(self.count, b"0"))
 
 
 def is_told_refusal(expected, got):
-    """Whether the result reports that memory ran out, with what was written by the statements before that line."""
+    """Return whether the result reports that memory ran out, with the output of the statements
+    before that line."""
     return cases.refusal(expected, got) is not None
 
 
@@ -134,7 +141,7 @@ def answer_of_model(made: Made) -> model.Answer:
 
 
 def keep(folder, made: Made, expected, got):
-    """Writes a run as a case, and next to it, in FOLDER.got, the program's result."""
+    """Write a run as a case, and the program's result next to it, in FOLDER.got."""
     for place in (folder, f"{folder}.got"):
         os.makedirs(place, exist_ok=True)
     for name, content in made.files.items():
@@ -147,7 +154,7 @@ def keep(folder, made: Made, expected, got):
 
 
 def kind_of(answer):
-    """How a run ended, without its numbers: good runs, and each error by its words."""
+    """Return how a run ended, without numbers: success, or the words of the error."""
     if not answer.told:
         return "done, with output" if answer.output else "done, without output"
     words = answer.told.decode(errors="replace").rstrip("\n").split(": ", 2)
@@ -156,7 +163,7 @@ def kind_of(answer):
 
 
 def wrong_answer(program, made, expected, shims, choice):
-    """A result of the program that is not as it must be, or None."""
+    """Return a wrong result of the program, or None."""
     program.put(made)
     got = program.answer(made.words)
     if got == expected and shims["devices"] and choice.random() < 2 / 3:

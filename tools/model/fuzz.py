@@ -1,12 +1,14 @@
 #!/usr/bin/env python3
-"""Random grids, scripts, rules, expressions and words: the program against the plain model of tools/model/model.py.
+"""Compare the program with the plain model in tools/model/model.py on random grids, scripts, rules,
+expressions and arguments.
 
     fuzz.py [--seconds N] [--seed S] [--first F] [--program PATH] [--keep FOLDER]
 
-Most runs are good and a few a little bad. Output, standard error and status must agree byte for byte. What differs is
-made smaller and written to FOLDER as a case that can be put under cases/, with the program's result in a folder next to
-it. Run number F of seed S is the same wherever it is made. At the end are the rate and how often each command was run
-and each error was reported; the last line is 'N runs, M differences'.
+Most runs are valid, and a few have small errors. Output, standard error and status must agree byte
+for byte. A run that differs is made smaller and written to FOLDER as a case that can be put under
+cases/, next to a folder with the program's result. Run F of seed S is the same everywhere. At the
+end, the rate is printed, and how often each command was run and each error was reported. The last
+line is 'N runs, M differences'.
 """
 from __future__ import annotations
 
@@ -69,7 +71,7 @@ WORDS = [
 
 
 def damaged_bytes(choice: random.Random, text: bytes) -> bytes:
-    """The text with a few of its bytes turned, left out, doubled, put in or cut off."""
+    """Return the text with a few of its bytes changed, left out, doubled, inserted or cut off."""
     for _ in range(choice.randint(1, 3)):
         at, length = choice.randint(0, len(text)), choice.choice((1, 1, 2, 5))
         piece = choice.choice(
@@ -98,7 +100,7 @@ def damaged(choice: random.Random, cases: list[Made]) -> Made:
 
 
 def of_cases(choice: random.Random, cases: list[Made]) -> Made:
-    """The script of a case over the grids of another, under the names of the first."""
+    """Return the script of a case over the grids of another, with the names of the first."""
     first, second = choice.choice(cases), choice.choice(cases)
     grids = [(name, choice.choice(second.grids)[1]) for name, _ in first.grids]
     files = {"script": first.files["script"], **{path: second.files[path] for _, path in grids}}
@@ -111,7 +113,8 @@ def of_cases(choice: random.Random, cases: list[Made]) -> Made:
 def with_script(
     choice: random.Random, lines: Callable[[ScriptMaker, list[bytes]], list[bytes]]
 ) -> Made:
-    """Good grids and a script of one kind of line; some of these lines are a little bad."""
+    """Return valid grids and a script with one kind of line. Some of these lines have small
+    errors."""
     maker = ScriptMaker(choice)
     names = maker.random.sample([b"a", b"b", b"g"], maker.number(1, 2))
     grids = [(name, f"grid{at}") for at, name in enumerate(names)]
@@ -182,7 +185,7 @@ def made_at(seed: int, number: int, cases: list[Made]) -> Made:
 
 
 def answers(program: Program, made: Made) -> tuple[model.Answer, model.Answer]:
-    """What the model and the program give."""
+    """Return the results of the model and the program."""
     for name in os.listdir("."):
         if name not in made.files and name.startswith("grid"):
             os.unlink(name)
@@ -192,7 +195,8 @@ def answers(program: Program, made: Made) -> tuple[model.Answer, model.Answer]:
 
 
 def without_pieces(pieces: Sequence, is_wrong: Callable[[Sequence], bool]) -> Sequence:
-    """As few of the pieces as still go wrong: halves are left out, then quarters, and so on."""
+    """Return as few of the pieces as still go wrong. First halves are left out, then quarters, and
+    so on."""
     size = max(1, len(pieces) // 2)
     while pieces:
         at = 0
@@ -209,7 +213,7 @@ def without_pieces(pieces: Sequence, is_wrong: Callable[[Sequence], bool]) -> Se
 
 
 class Shrinking:
-    """Makes a run that differs smaller while it differs."""
+    """Makes a run that differs smaller, as long as it still differs."""
 
     def __init__(self, program: Program, made: Made):
         self.program, self.made, self.trials = program, made, 0
@@ -257,7 +261,7 @@ class Shrinking:
 
 
 class Counts:
-    """How often each command was run and each error was reported."""
+    """Counts how often each command was run and each error was reported."""
 
     def __init__(self):
         self.commands, self.ends = collections.Counter(), collections.Counter()

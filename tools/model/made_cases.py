@@ -1,4 +1,5 @@
-"""Grids and scripts made at random for tools/model/compare.py: mostly good ones, small, over few names and categories."""
+"""Make random grids and scripts for tools/model/compare.py: mostly valid, small, with few names and
+categories."""
 from __future__ import annotations
 
 import random
@@ -24,7 +25,7 @@ LABELS = [
     b"end",
 ]
 
-# What is put into texts to spoil them.
+# Bytes that are inserted into texts to damage them.
 ODD_BYTES = b": * - + = , . # 0 9 a \x00 \xff & | [ ) ( ? 1 65536".split()
 ODD_BYTES += [b" ", b"\t", b"\r", b"\n", b"\r\n", b"\n\n", b"\x0b", b"end\n", b" thru "]
 ODD_COORDINATES = [b"", b"1 2", *b"1e5 . 12345678901 1.123456789 - 3N 0:0:1 00000000000".split()]
@@ -143,7 +144,7 @@ class Made:
 
 
 class Maker:
-    """Choices of one run; `badness` is how likely each choice is a bad one."""
+    """Draws the choices of a run. `badness` is the probability that a choice is invalid."""
 
     def __init__(self, random_source: random.Random):
         self.random = random_source
@@ -168,7 +169,7 @@ class Maker:
         return self.badness > 0 and self.chance(self.badness)
 
     def spelled(self, number: int, plain: float = 0.8) -> bytes:
-        """A whole number in one of its spellings."""
+        """Return an integer in one of its spellings."""
         if self.chance(plain):
             return b"%d" % number
         zeros = b"0" * self.number(0, 3)
@@ -176,7 +177,7 @@ class Maker:
         return sign + zeros + b"%d" % abs(number)
 
     def damaged(self, text: bytes) -> bytes:
-        """The text with a few bytes put in, left out, or cut off at the end."""
+        """Return the text with a few bytes inserted, left out, or cut off at the end."""
         for _ in range(self.number(1, 2)):
             at = self.number(0, len(text))
             kind = self.number(0, 9)
@@ -192,7 +193,7 @@ class Maker:
 
 
 class GridMaker(Maker):
-    """Grids of one region, in many spellings."""
+    """Makes grids of one region, in many spellings."""
 
     def __init__(self, random_source: random.Random):
         super().__init__(random_source)
@@ -311,7 +312,7 @@ class GridMaker(Maker):
 
 
 class ExpressionMaker(Maker):
-    """Expressions as lists of tokens over the known maps."""
+    """Makes expressions as lists of tokens over the known maps."""
 
     def expression(self, depth: int, known: list[bytes]) -> list[bytes]:
         kind = self.number(0, 19)
@@ -408,7 +409,7 @@ class ExpressionMaker(Maker):
 
 
 class ScriptMaker(GridMaker, ExpressionMaker):
-    """Scripts over all five commands."""
+    """Makes scripts with all five commands."""
 
     def known_name(self, known: list[bytes]) -> bytes:
         return self.one(WRONG_NAMES + MADE_NAMES) if self.slips() else self.one(known)
@@ -419,7 +420,7 @@ class ScriptMaker(GridMaker, ExpressionMaker):
         return self.one([name for name in MADE_NAMES if name not in known])
 
     def joined(self, command: bytes, words: list[bytes]) -> bytes:
-        """A command with its flags and options in some order."""
+        """Return a command with its flags and options in some order."""
         if self.slips():
             words = words + [self.one(ODD_OPTIONS)]
         if words and self.slips():
@@ -555,7 +556,7 @@ class ScriptMaker(GridMaker, ExpressionMaker):
         return self.one(makers)(known)
 
     def damaged_statement(self, known: list[bytes]) -> list[bytes]:
-        """A statement that most likely has an error, deep inside as often as not."""
+        """Return a statement that probably has an error, half of the time deep inside."""
         kind = self.number(0, 3)
         self.badness = 0.05
         if kind > 0:
@@ -591,7 +592,8 @@ class ScriptMaker(GridMaker, ExpressionMaker):
         return self.damaged(text) if self.slips() else text
 
     def made(self) -> Made:
-        """Half of the runs are all good, some have bad grids, more have bad scripts."""
+        """Make a run. Half of the runs are valid, some have invalid grids, and more have invalid
+        scripts."""
         grid_badness, script_badness = self.one(
             [(0, 0)] * 5 + [(0.005, 0), (0.03, 0), (0, 0.02), (0, 0.05), (0, 0.15)]
         )

@@ -1,5 +1,6 @@
-"""Grids of long runs made at random for tools/model/compare.py: stretches of one word that end within rows, with them or after them, words
-that are alike in all bytes but one, and texts whose blocks, as the program reads them, end within words."""
+"""Make random grids of long runs for tools/model/compare.py: runs of one word that end within rows,
+with them or after them, words that differ in only one byte, and texts whose blocks, as the program
+reads them, end within words."""
 from __future__ import annotations
 
 import random
@@ -90,7 +91,8 @@ BAD_BYTES = [
 
 
 class StretchMaker(ScriptMaker):
-    """Grids of one region whose rows are stretches of equal words, and scripts that print each cell."""
+    """Makes grids of one region whose rows are runs of equal words, and scripts that print each
+    cell."""
 
     def __init__(self, random_source: random.Random):
         super().__init__(random_source)
@@ -110,7 +112,7 @@ class StretchMaker(ScriptMaker):
         self.has_fault = False
 
     def break_places(self) -> set[int]:
-        """Cells that begin a stretch: the maps of a run have most of them in common."""
+        """Return cells that start a run. The maps of a script share most of them."""
         found, at = set(), 0
         while at < self.rows * self.cols:
             found.add(at)
@@ -120,7 +122,7 @@ class StretchMaker(ScriptMaker):
         return found
 
     def cell_words(self, null_text: bytes) -> list[bytes]:
-        """The word of each cell; within a stretch one here and there has another spelling."""
+        """Return the word of each cell. Within a run, some words are spelled differently."""
         words, word = [], b""
         part_of_others = self.one([0, 0, 0, 0.01, 0.1])
         for at in range(self.rows * self.cols):
@@ -137,7 +139,7 @@ class StretchMaker(ScriptMaker):
         return words
 
     def spelled_word(self, word: bytes) -> bytes:
-        """The same number in another spelling, where the word is a number."""
+        """Return the same number in another spelling, if the word is a number."""
         digits = word.lstrip(b"-")
         if not digits.isdigit():
             return word
@@ -149,7 +151,8 @@ class StretchMaker(ScriptMaker):
         )
 
     def separators(self, count: int) -> list[bytes]:
-        """What is after each cell: one separator for all of the map, or now and then another, and the ends of the rows."""
+        """Return the text after each cell: usually one separator for the full map, sometimes
+        another, and the row ends."""
         usual, row_end = self.one(SEPARATORS), self.one(ROW_ENDS)
         part_of_others = self.one([0, 0, 0, 0.005, 0.1])
         found = [
@@ -195,7 +198,8 @@ class StretchMaker(ScriptMaker):
         return text
 
     def padded(self, header: bytes, cells: bytes) -> bytes:
-        """Header and cells; in one grid of four so many blanks between them that a block ends within the cells."""
+        """Return header and cells. In one of four grids, blanks are inserted so that a block ends
+        within the cells."""
         if len(header) >= BLOCK or not self.chance(0.25):
             return header + cells
         place = self.number(0, min(len(cells), BLOCK - len(header)))
@@ -203,7 +207,8 @@ class StretchMaker(ScriptMaker):
         return header + self.one([b" ", b"\n", b"\t", b"\r"]) * blanks + cells
 
     def whole_script(self, names: list[bytes]) -> bytes:
-        """All that prints the cells: areas, tables over all maps, and the maps themselves."""
+        """Return a script that prints the cells: clumps, tables over all maps, and the maps
+        themselves."""
         lines = (
             [b"r.clump %sinput=%s output=areas" % (self.one([b"", b"-d "]), self.one(names))]
             if self.chance(0.5)
@@ -247,5 +252,5 @@ class StretchMaker(ScriptMaker):
 
 
 def make_stretches(random_source: random.Random) -> Made:
-    """A run over grids of long runs."""
+    """Make a run over grids of long runs."""
     return StretchMaker(random_source).made()

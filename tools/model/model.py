@@ -1,8 +1,9 @@
 #!/usr/bin/env python3
-"""rcell SCRIPT NAME=PATH...: what the program must write and report, straight from its definitions, plain and slow.
+"""A plain, slow model of rcell SCRIPT NAME=PATH..., which follows its definitions directly.
 
-It shares no code with the program and keeps to whole lists: a grid's errors are all gathered and the first place
-wins, areas are found by walking from each first cell, a table by asking each cell. `tools/model/compare.py` runs both.
+The model shares no code with the program, and uses only simple lists: all errors of a grid are
+collected and the first position wins, clumps are found by walking from each first cell, and tables
+by examining each cell. `tools/model/compare.py` runs both.
 """
 from __future__ import annotations
 
@@ -61,7 +62,7 @@ def rule_number(text: bytes) -> int:
 
 
 def left_items(tokens: list[bytes]) -> Optional[list[tuple[bytes, bytes]]]:
-    """The ends of each item as they are spelled; None for the one token `*`."""
+    """Return the ends of each item as they are spelled, or None for the single token `*`."""
     if tokens == [b"*"]:
         return None
     items, at = [], 0
@@ -290,7 +291,7 @@ def is_skipped(line: bytes) -> bool:
 
 
 def is_wrong_value(command: bytes, key: bytes, value: bytes) -> bool:
-    """Whether the value of an option is one that the option never has."""
+    """Return whether the value of an option is never valid."""
     if key == b"separator":
         return value not in SEPARATORS and not (len(value) == 1 and 33 <= value[0] <= 126)
     if key == b"null_value":
@@ -303,7 +304,8 @@ def input_names(command: bytes, value: bytes) -> list[bytes]:
 
 
 class ScriptReader:
-    """Reads a script over the names of the grids: its statements, or the first error from the top."""
+    """Reads a script over the names of the grids: its statements, or its first error from the
+    top."""
 
     def __init__(self, text: bytes, names: list[bytes]):
         self.lines = script_lines(text)
@@ -318,7 +320,7 @@ class ScriptReader:
         return line
 
     def read(self) -> list[tuple[int, Statement]]:
-        """The statements with their lines."""
+        """Return the statements with their lines."""
         statements = []
         while self.at < len(self.lines):
             line = self.next_line()
@@ -440,7 +442,7 @@ Given = bytes | Failing  # what a file gives
 
 
 def read_script(given: Given) -> bytes:
-    """The text of a script; of one that cannot be read on, its size is judged by what it gave."""
+    """Return the text of a script. If reading fails, the size is checked for the bytes read."""
     text = given.text if isinstance(given, Failing) else given
     if len(text) > LONGEST_SCRIPT:
         raise Refused(b"script", 0, "script too long")
@@ -450,7 +452,7 @@ def read_script(given: Given) -> bytes:
 
 
 def run(grids: list[tuple[bytes, Given]], script: Given) -> Answer:
-    """A run over named grid texts and a script."""
+    """Run a script over named grid texts."""
     maps: Maps = {}
     region = None
     names = tuple(name for name, _ in grids)
@@ -489,7 +491,7 @@ def contents(folder: bytes, path: bytes, source: bytes) -> Given:
 
 
 def program(words: list[bytes], folder: bytes = b"") -> Answer:
-    """Return the result of the program for its words; paths are in the folder."""
+    """Return the result of the program for its arguments. Paths are relative to the folder."""
     try:
         if len(words) < 2 or any(word.startswith(b"-") or not is_utf8(word) for word in words):
             raise Refused(b"arguments", 0, "usage: rcell SCRIPT NAME=PATH...", 2)

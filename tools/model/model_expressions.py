@@ -1,4 +1,5 @@
-"""Expressions of r.mapcalc for the model in tools/model/model.py: their tokens, their grammar, and their value at a cell."""
+"""The r.mapcalc expressions of the model in tools/model/model.py: tokens, grammar, and values at
+cells."""
 from __future__ import annotations
 
 import re
@@ -224,7 +225,7 @@ def word_token(text: bytes, column: int) -> CalcToken:
 
 
 def calc_tokens(text: bytes) -> list[CalcToken]:
-    """The tokens of an assignment, and the end after them."""
+    """Return the tokens of an assignment, followed by an end token."""
     tokens, at = [], 0
     while at < len(text):
         if text[at] in BLANKS:
@@ -245,7 +246,7 @@ def calc_tokens(text: bytes) -> list[CalcToken]:
     return tokens + [CalcToken("end", b"", len(text) + 1)]
 
 
-# Operators that group from the left, from the loosest to the tightest level.
+# Left-associative operators, from the loosest to the tightest level.
 LEVELS = (
     (b"||", b"|||"),
     (b"&&", b"&&&"),
@@ -257,7 +258,7 @@ LEVELS = (
 
 
 class Parser:
-    """Reads an assignment from the left and reports the first error that can be seen."""
+    """Reads an assignment from the left, and reports the first detectable error."""
 
     def __init__(self, text: bytes):
         self.tokens = calc_tokens(text)

@@ -1,4 +1,5 @@
-"""Cells, maps and grid texts of the model in tools/model/model.py: what a text denotes, or which error is its first."""
+"""The cells, maps and grid texts of the model in tools/model/model.py: what a text denotes, or its
+first error."""
 from __future__ import annotations
 
 import re
@@ -36,7 +37,7 @@ class Answer:
 
 
 class Refused(Exception):
-    """An error that ends the run: who is named, at which line, in which words, with which status."""
+    """An error that ends the run: its source, line, text and status."""
 
     def __init__(self, source: bytes, line: int, text: str, status: int = 1):
         super().__init__(text)
@@ -57,7 +58,7 @@ def is_in_range(number: int) -> bool:
 
 
 def whole_number(text: bytes) -> Optional[int]:
-    """The whole number in range that the text spells, or None."""
+    """Return the integer in range that the text spells, or None."""
     if WHOLE_NUMBER.fullmatch(text) and is_in_range(int(text)):
         return int(text)
     return None
@@ -85,7 +86,7 @@ class Region:
         )
 
     def places(self) -> Iterator[tuple[int, int]]:
-        """All cells in row order."""
+        """Return all cells in row order."""
         return ((row, col) for row in range(self.rows) for col in range(self.cols))
 
 
@@ -108,13 +109,14 @@ def map_of(region: Region, cell_at: Callable[[int, int], Cell]) -> CellMap:
 
 
 def order(cell: Cell) -> tuple[bool, int]:
-    """Ascending, null last."""
+    """Return a key for ascending order, with null last."""
     return (cell is None, cell or 0)
 
 
 # Grid texts
 
-# What a place of a grid text is judged by, in this order where several meet at one place.
+# The checks at a position of a grid text, in the order in which errors at one position are
+# reported.
 (
     LONG_TOKEN,
     STUCK,
@@ -172,13 +174,13 @@ def coordinate(text: bytes) -> Optional[int]:
 
 @dataclass(frozen=True)
 class Failing:
-    """A file that opens, gives these bytes, and then cannot be read on."""
+    """A file that opens, returns these bytes, and then cannot be read further."""
 
     text: bytes
 
 
 class GridText:
-    """A grid text with all that its places say; `read` returns its map or its first error."""
+    """A grid text with all errors at its positions. `read` returns its map or its first error."""
 
     def __init__(self, given: bytes | Failing):
         self.ends = not isinstance(given, Failing)
@@ -205,7 +207,7 @@ class GridText:
         return min(self.faults) if self.faults else self.map()
 
     def judge_failure(self) -> None:
-        """A text that fails has no end, so nothing that an end shows is reported there."""
+        """Drop the errors at the end of a text that fails, because such a text has no end."""
         end = len(self.text)
         self.faults = [
             told for told in self.faults if told.place < end or told.rank not in TOLD_AT_AN_END
@@ -249,7 +251,7 @@ class GridText:
             self.tell(len(self.text) if line_feed < 0 else line_feed, LINE_END, first.line, fault)
 
     def line_fault(self, key: bytes, value: bytes) -> str:
-        """What is wrong with a header line, or ''; a good value is kept."""
+        """Return the error in a header line, or ''. A valid value is stored."""
         if key not in KEYS or not value or (key == b"null" and b":" in value):
             return "bad header line"
         if key in self.values:
@@ -264,7 +266,7 @@ class GridText:
         return "bad number" if self.values[key] is None else ""
 
     def judge_region(self) -> bool:
-        """Whether the header has all that the cells are judged by."""
+        """Return whether the header is complete enough to check the cells."""
         if any(told.rank == LINE_END for told in self.faults):
             return False
         place = self.data[0].end if self.data else len(self.text)

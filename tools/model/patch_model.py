@@ -1,4 +1,4 @@
-"""The patches of a map, as docs/pipe.md defines them, counted cell by cell."""
+"""Count the patches of a map cell by cell, as docs/pipe.md defines them."""
 from __future__ import annotations
 
 from collections import Counter
@@ -14,7 +14,7 @@ CORNERS = ((-1, -1), (-1, 1), (1, -1), (1, 1))
 
 @dataclass(frozen=True)
 class Patch:
-    """The fields of a patch in a frame, in their order."""
+    """The fields of a patch in a frame, in order."""
 
     category: int
     cells: int
@@ -28,12 +28,12 @@ class Patch:
 
 
 def cell_at(cells: Cells, row: int, col: int) -> Optional[int]:
-    """Return a cell, null off the map."""
+    """Return a cell, or null outside the map."""
     return cells[row][col] if 0 <= row < len(cells) and 0 <= col < len(cells[0]) else None
 
 
 def places_of_patch(cells: Cells, first: Place, connectivity: int) -> set[Place]:
-    """Return the places of the cells that are connected with a cell."""
+    """Return the positions of the cells that are connected to a cell."""
     steps = EDGES if connectivity == 4 else EDGES + CORNERS
     found, to_visit = {first}, [first]
     while to_visit:
@@ -47,7 +47,7 @@ def places_of_patch(cells: Cells, first: Place, connectivity: int) -> set[Place]
 
 
 def near(place: Place, depth: int) -> Iterator[Place]:
-    """Yield all places within some steps across edges."""
+    """Yield all positions within `depth` steps across edges."""
     for down in range(-depth, depth + 1):
         left = depth - abs(down)
         for right in range(-left, left + 1):
@@ -62,7 +62,8 @@ def measured(cells: Cells, places: set[Place], depth: int) -> Patch:
         for row, col in places
         for down, right in EDGES
     ]
-    # Off the map no place is of a patch, so a depth beyond the map is as good as one at its edge.
+    # Outside the map, no position is in a patch, so a depth beyond the map is equivalent to one at
+    # its edge.
     depth = min(depth, len(cells) + len(cells[0]))
     return Patch(
         category=cells[rows[0]][cols[0]] or 0,
@@ -78,7 +79,7 @@ def measured(cells: Cells, places: set[Place], depth: int) -> Patch:
 
 
 def places_of_patches(cells: Cells, connectivity: int) -> list[set[Place]]:
-    """Return the places of each patch of a map, in the order of their first cells, row by row."""
+    """Return the positions of each patch of a map, in the order of first cells, row by row."""
     found: list[set[Place]] = []
     seen: set[Place] = set()
     for row, line in enumerate(cells):
@@ -95,7 +96,8 @@ def patches(cells: Cells, connectivity: int, depth: int) -> list[Patch]:
 
 
 def main_zone(places: set[Place], zones: Cells) -> Optional[int]:
-    """Return the zone of most cells of a patch: of several, the smallest; null if no cell has a zone."""
+    """Return the zone with most cells of a patch, or the smallest of several, or null if no cell
+    has a zone."""
     counts = Counter(zones[row][col] for row, col in places)
     del counts[None]
     return min(counts, key=lambda zone: (-counts[zone], zone or 0), default=None)

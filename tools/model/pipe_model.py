@@ -1,4 +1,5 @@
-"""The bytes of `rcell-pipe`, as docs/pipe.md defines them: requests, written and read, and responses, read and printed as `rcell` does."""
+"""The bytes of `rcell-pipe`, as docs/pipe.md defines them: writes and reads requests, reads
+responses, and prints them as `rcell` does."""
 from __future__ import annotations
 
 import re
@@ -9,7 +10,7 @@ from typing import Any, Callable, Iterable, Optional, Sequence
 from patch_model import Patch
 
 NULL = -(2**31)
-# The letter of `struct`, the smallest and the largest number, by the code of the type.
+# The letter of `struct`, and the smallest and largest number, by type code.
 TYPES = {
     1: ("B", 0, 255),
     2: ("b", -128, 127),
@@ -31,7 +32,7 @@ Edges = tuple[bytes, bytes, bytes, bytes]
 
 @dataclass
 class Raster:
-    """A map of a request: its numbers and its mask row by row."""
+    """A map of a request: its numbers and its mask, row by row."""
 
     name: bytes
     edges: Edges
@@ -52,7 +53,7 @@ class Raster:
 
 @dataclass(frozen=True)
 class Question:
-    """A question for the patches of a map."""
+    """A question about the patches of a map."""
 
     map: bytes
     connectivity: int = 4
@@ -90,7 +91,8 @@ def request(maps: list[Raster], script: bytes, questions: Sequence[Question] = (
 
 
 class Rejected(Exception):
-    """The first error of a request: its text, the number of complete maps before it, and its row or question, 0 outside of these."""
+    """The first error of a request: its text, the number of complete maps before it, and its row or
+    question, or 0 if it is in neither."""
 
     def __init__(self, text: str, maps: int = 0, row: int = 0):
         super().__init__(text, maps, row)
@@ -98,7 +100,7 @@ class Rejected(Exception):
 
 
 def units(text: bytes) -> Optional[int]:
-    """Return a coordinate in units of 8 decimals; None if the text is no coordinate."""
+    """Return a coordinate in units of 8 decimals, or None if the text is not a coordinate."""
     found = COORDINATE.fullmatch(text)
     if found is None or not (found[2] or found[3]):
         return None
@@ -107,7 +109,7 @@ def units(text: bytes) -> Optional[int]:
 
 
 class Reader:
-    """A request, read from left to right to its first error."""
+    """Reads a request from left to right, up to its first error."""
 
     def __init__(self, data: bytes):
         self.data, self.at, self.maps, self.row = data, 0, 0, 0
@@ -218,7 +220,8 @@ Frame = dict[str, Any]
 
 
 class Response:
-    """The bytes of a response, read from left to right; a ValueError if they are none."""
+    """Reads the bytes of a response from left to right. Raises ValueError if they are not a
+    response."""
 
     def __init__(self, data: bytes):
         self.data, self.at = data, 0
@@ -284,7 +287,7 @@ class Response:
         }
 
     def frames(self) -> list[Frame]:
-        """Return the frames, of which the last is DONE."""
+        """Return the frames, the last of which is DONE."""
         if self.take(8) != b"RCELLA1\n":
             raise ValueError("another magic")
         kinds: dict[bytes, Callable[[], Frame]] = {
@@ -310,7 +313,7 @@ def cell_text(cell: Optional[int], null: bytes) -> bytes:
 
 
 def header(edges: Iterable[bytes], rows: int, cols: int) -> bytes:
-    """Return the lines of a region."""
+    """Return the lines that describe a region."""
     return b"".join(b"%s: %s\n" % pair for pair in zip(SIDES, edges)) + b"rows: %d\ncols: %d\n" % (
         rows,
         cols,
@@ -318,7 +321,7 @@ def header(edges: Iterable[bytes], rows: int, cols: int) -> bytes:
 
 
 def printed(frame: Frame) -> bytes:
-    """Return the text that `rcell` prints for a frame, nothing for a question."""
+    """Return the text that `rcell` prints for a frame, or nothing for a question."""
     if frame["kind"] == b"PTCH":
         return b""
     if frame["kind"] == b"GRID":

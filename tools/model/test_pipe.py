@@ -1,13 +1,17 @@
 #!/usr/bin/env python3
-"""Runs rcell-pipe against rcell over the same maps as text, and against a plain reader of requests.
+"""Compare rcell-pipe with rcell on the same maps as text, and with a plain reader of requests.
 
     test_pipe.py [CLANG] [--program PROGRAM] [--rcell PROGRAM] [--runs N] [--seed N]
 
-- N random requests of all types, with nodata, masks, labels and scripts of tools/model/fuzz.py: the printed frames must be the output of
-  rcell, and the errors of scripts the errors of rcell; as text, the response must be that output, or the same rejection;
-- the request of the crate rcell_pipe: a right request, and the response that the gate compares with the proved program's;
-- each error of a request by name, each truncation of ten requests, and random damage: the first error must be the plain reader's;
-- a caller that stops reading, a request that announces a large map, and, with CLANG, each growth, read and write that fails.
+- N random requests of all types, with nodata, masks, labels and scripts of tools/model/fuzz.py: the
+  printed frames must be the output of rcell, and errors of scripts the errors of rcell; as text,
+  the response must be that output, or the same rejection
+- the request of the crate rcell_pipe, and the response that the gate compares with the proved
+  program's
+- each error of a request by name, each truncation of ten requests, and random damage: the first
+  error must be the plain reader's
+- a caller that stops reading, a request that announces a large map, and, with CLANG, each growth,
+  read and write that fails
 
 The last line is 'N passed, M failed'.
 """
@@ -63,7 +67,7 @@ SECONDS = 120
 
 
 class Programs:
-    """rcell-pipe and rcell, run in a folder."""
+    """Runs rcell-pipe and rcell in a folder."""
 
     def __init__(self, pipe: str, rcell: str, room: str):
         self.pipe, self.rcell, self.room = pipe, rcell, room
@@ -79,7 +83,7 @@ class Programs:
         return ran.returncode, ran.stdout
 
     def frames(self, data: bytes, **more: str) -> list[Frame]:
-        """The frames of a response, which has the status of the process."""
+        """Return the frames of a response, which contains the exit status of the process."""
         status, output = self.run(data, **more)
         frames = Response(output).frames()
         if frames[-1]["status"] != status:
@@ -87,7 +91,8 @@ class Programs:
         return frames
 
     def over_text(self, maps: list[Raster], script: bytes) -> tuple[int, bytes, bytes, int]:
-        """What rcell says of the same maps as grids, and by how many lines its script is longer: labels come by r.reclass."""
+        """Return rcell's result for the same maps as grids, and the number of lines added to its
+        script to set labels with r.reclass."""
         words, before = [b"script"], b""
         for place, it in enumerate(maps):
             rows = (b" ".join(cell_text(cell, b"*") for cell in row) + b"\n" for row in it.cells())
@@ -145,7 +150,7 @@ def random_raster(choice: random.Random, name: bytes, edges: Edges, rows: int, c
 
 
 def random_edges(choice: random.Random) -> Edges:
-    """North, south, east and west as texts, not always as rcell prints them."""
+    """Return north, south, east and west as texts, which may differ from rcell's spelling."""
     south, west = (
         choice.choice([0, 1, -1, -99999999, 5 * 10**7, choice.randint(-(10**17), 10**17)])
         for _ in range(2)
@@ -157,7 +162,7 @@ def random_edges(choice: random.Random) -> Edges:
 
 
 def coordinate(choice: random.Random, units: int) -> bytes:
-    """A number of units as a text of its many, with or without zeros that mean nothing."""
+    """Return one of the texts for a number of units, with or without insignificant zeros."""
     sign = "-" if units < 0 else choice.choice(["", "", "+"])
     whole, part = divmod(abs(units), UNITS)
     digits = f"{part:08}"
@@ -166,7 +171,7 @@ def coordinate(choice: random.Random, units: int) -> bytes:
 
 
 def known_names(names: list[bytes], script: bytes) -> set[bytes]:
-    """The names of all maps at the end of a script, or up to its first error."""
+    """Return the names of all maps at the end of a script, or up to its first error."""
     reader = ScriptReader(script, names)
     try:
         reader.read()
@@ -209,12 +214,12 @@ def random_request(choice: random.Random) -> tuple[list[Raster], bytes, list[Que
 
 
 def as_text(data: bytes) -> bytes:
-    """The same request for text."""
+    """Return the same request for text."""
     return b"RCELLT1\n" + data[8:] if data.startswith(b"RCELLQ1\n") else data
 
 
 def rejected_question(maps: list[Raster], script: bytes, questions: list[Question]) -> int:
-    """The number of the first question about a map that is not there, or with such zones, or 0."""
+    """Return the number of the first question about a map or zones that do not exist, or 0."""
     known = known_names([it.name for it in maps], script)
     return next(
         (at for at, it in enumerate(questions, 1) if not {it.map, it.zones or it.map} <= known), 0
@@ -222,7 +227,7 @@ def rejected_question(maps: list[Raster], script: bytes, questions: list[Questio
 
 
 def wrong_rejection(end: Frame, frames: list[Frame], number: int, text: bytes) -> str:
-    """Whether a question is rejected by a response."""
+    """Return the error in a response that must reject a question, or ''."""
     got = [end[key] for key in ("status", "source", "maps", "line", "column", "text")]
     wanted = [STATUS_REJECTED, 3, 0, number, 0, text]
     return "" if got == wanted and not frames else f"{got} is not {wanted}"
@@ -235,7 +240,8 @@ def wrong_answers(
     questions: list[Question],
     answers: list[Frame],
 ) -> str:
-    """Whether frames of questions equal the plain model, over the maps that the program prints."""
+    """Return the error in the frames of questions, compared with the plain model over the maps that
+    the program prints."""
     names = sorted({name for it in questions for name in (it.map, it.zones) if name})
     printing = b"".join(b"\nr.out.ascii input=%s\n" % name for name in names)
     shown = programs.frames(request(maps, script + printing))[-len(names) - 1 : -1]
@@ -259,7 +265,7 @@ def wrong_answers(
 def wrong_questions(
     programs: Programs, maps: list[Raster], script: bytes, questions: list[Question]
 ) -> str:
-    """Whether questions get their frames or are rejected after a script that is accepted."""
+    """Return the error in the frames or the rejection of questions after an accepted script."""
     data = request(maps, script, questions)
     *frames, end = programs.frames(data)
     *of_text, end_of_text = programs.frames(as_text(data))
@@ -279,7 +285,7 @@ def wrong_questions(
 def wrong_run(
     programs: Programs, maps: list[Raster], script: bytes, questions: list[Question]
 ) -> str:
-    """Whether an accepted request gives what rcell gives."""
+    """Return the error in the response to an accepted request, compared with rcell."""
     data = request(maps, script)
     *frames, end = programs.frames(data)
     status, output, message, before = programs.over_text(maps, script)
@@ -314,13 +320,14 @@ def wrong_run(
 def wrong_script(
     programs: Programs, maps: list[Raster], script: bytes, questions: list[Question]
 ) -> str:
-    """Whether an error of the script is reported before an error of a question."""
+    """Return the error if an error of the script is not reported before an error of a question."""
     found, wanted = (programs.run(request(maps, script, asked)) for asked in (questions, ()))
     return "" if found == wanted else f"{script!r} with {questions}: {found} is not {wanted}"
 
 
 def wrong_reading(programs: Programs, data: bytes) -> str:
-    """Whether any bytes are read as the plain reader does, to the same first error."""
+    """Return the error if bytes are not read as the plain reader does, up to the same first
+    error."""
     if data.startswith((b"RCELLP1\n", b"RCELLT1\n")):
         return ""  # damage made another form of it
     try:
@@ -346,12 +353,12 @@ def wrong_reading(programs: Programs, data: bytes) -> str:
 
 
 def is_plain(raster: Raster) -> bool:
-    """Whether a map can be given to rcell as text: its labels as rules."""
+    """Return whether a map can be passed to rcell as text, with its labels as rules."""
     return all(text in LABELS for _, text in raster.labels) and not TAKEN.match(raster.name)
 
 
 def named_errors() -> Iterator[tuple[str, bytes]]:
-    """A request for each error of docs/pipe.md, by its text."""
+    """Yield a request for each error in docs/pipe.md, with the error's text."""
     land = Raster(b"land", (b"2", b"0", b"3", b"0"), 1, [[1, 1, 2], [2, 2, 255]], 255)
     zone, script = replace(land, name=b"zone"), b"r.stats -c input=land\n"
     good = request([land, zone], script)
@@ -402,7 +409,7 @@ def named_errors() -> Iterator[tuple[str, bytes]]:
 
 
 def named_errors_of_questions(maps: list[Raster], script: bytes) -> Iterator[tuple[str, bytes]]:
-    """A request for each error of a question."""
+    """Yield a request for each error of a question."""
     first = Question(b"land")
     yield "bad question", request(maps, script, [replace(first, kind=0)])
     yield "bad question", request(maps, script, [first, replace(first, kind=2)])
@@ -422,7 +429,7 @@ def named_errors_of_questions(maps: list[Raster], script: bytes) -> Iterator[tup
 
 
 def wrong_crate(programs: Programs) -> str:
-    """What is wrong with the request and the response in the folder of the crate, or the empty text."""
+    """Return the error in the request and response in the crate's folder, or ''."""
     with open(f"{ROOT}/crates/rcell_pipe/stdin", "rb") as file:
         data = file.read()
     with open(f"{ROOT}/crates/rcell_pipe/stdout", "rb") as file:
@@ -440,7 +447,7 @@ def check_errors(programs: Programs, count: cases.Count) -> None:
 
 
 def check_damage(programs: Programs, count: cases.Count, choice: random.Random, runs: int) -> None:
-    """Each truncation of ten requests, and some random ones with a few bytes changed."""
+    """Check each truncation of ten requests, and some random requests with a few changed bytes."""
     for number in range(10):
         data = request(*random_request(choice))
         places = (
@@ -466,7 +473,7 @@ def check_random(programs: Programs, count: cases.Count, choice: random.Random, 
 
 
 def wide_request() -> bytes:
-    """A request whose response fills a pipe several times."""
+    """Return a request whose response fills a pipe several times."""
     rows = [[column % 250 for column in range(1000)]] * 400
     return request(
         [Raster(b"land", (b"400", b"0", b"1000", b"0"), 1, rows)], b"r.out.ascii input=land\n" * 3
@@ -474,7 +481,8 @@ def wide_request() -> bytes:
 
 
 def wrong_stop(programs: Programs, data: bytes, taken: int) -> str:
-    """The program ends if its caller stops reading after some bytes of a long response."""
+    """Return the error if the program does not end when its caller stops reading a long
+    response."""
     with subprocess.Popen(
         [programs.pipe], stdin=subprocess.PIPE, stdout=subprocess.PIPE, stderr=subprocess.PIPE
     ) as ran:
@@ -492,7 +500,8 @@ def limit_memory() -> None:
 
 
 def wrong_announcement(programs: Programs, rows: int, cols: int, labels: int) -> str:
-    """A header that announces cells or labels and gives none, in little memory."""
+    """Return the error for a header that announces cells or labels but provides none, with little
+    memory."""
     data = (
         b"RCELLQ1\n"
         + struct.pack("<I", 1)
@@ -515,7 +524,7 @@ def wrong_announcement(programs: Programs, rows: int, cols: int, labels: int) ->
 
 
 def wrong_order(programs: Programs) -> str:
-    """Half of a request: nothing comes back before the rest of it."""
+    """Return the error if a response begins before the request is complete."""
     data = few_bytes()
     with subprocess.Popen([programs.pipe], stdin=subprocess.PIPE, stdout=subprocess.PIPE) as ran:
         assert ran.stdin and ran.stdout
@@ -540,7 +549,7 @@ def few_bytes() -> bytes:
 
 
 def text_bytes() -> bytes:
-    """The same for text, without questions."""
+    """Return a request for text, without questions."""
     return as_text(request(*few_maps()))
 
 
@@ -560,7 +569,8 @@ def few_maps() -> tuple[list[Raster], bytes]:
 
 
 def wrong_growths(programs: Programs, shim: str) -> str:
-    """Each growth of memory denied in turn: all is done, or the last frame says that memory ran out after whole frames."""
+    """Deny each growth of memory in turn. Either all is done, or the last frame reports, after
+    complete frames, that memory ran out."""
     data, counter = few_bytes(), os.path.join(programs.room, "count")
     wanted, at, asked = programs.frames(data), 0, 1
     while at < asked:
@@ -581,7 +591,8 @@ def wrong_growths(programs: Programs, shim: str) -> str:
 
 
 def wrong_text_growths(programs: Programs, shim: str) -> str:
-    """Each growth of memory denied in turn: the text is whole, or the text of the first statements, or the request is rejected."""
+    """Deny each growth of memory in turn. The text must be complete, or the text of the first
+    statements, or the request is rejected."""
     data, counter = text_bytes(), os.path.join(programs.room, "count")
     texts = [printed(frame) for frame in programs.frames(few_bytes())[:-1]]
     starts = [b"".join(texts[:count]) for count in range(len(texts) + 1)]
@@ -607,12 +618,13 @@ def wrong_text_growths(programs: Programs, shim: str) -> str:
 
 
 def wrong_devices(programs: Programs, shim: str) -> str:
-    """The system fails for a request of either form."""
+    """Return the error when the system fails, for a request of either form."""
     return wrong_device(programs, shim, few_bytes()) or wrong_device(programs, shim, text_bytes())
 
 
 def wrong_device(programs: Programs, shim: str, data: bytes) -> str:
-    """Each read that fails or ends once, reads and writes that move little, and each write that fails."""
+    """Make each read fail or end once, limit reads and writes to few bytes, and make each write
+    fail."""
     wanted = programs.run(data)
     for piece in (1, 7, 64):
         if (

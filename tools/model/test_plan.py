@@ -1,11 +1,12 @@
 #!/usr/bin/env python3
-"""Sends plan requests to rcell-pipe, and compares each response with a plain model of docs/pipe.md, field by field.
+"""Send plan requests to rcell-pipe, and compare each response with a plain model of docs/pipe.md,
+field by field.
 
     test_plan.py [--program PROGRAM] [--runs N] [--seed N]
 
-- worked examples: maps made of made maps, r.clump between, a position, labels;
-- each error of a plan request by name, and each truncation of a request;
-- N random scripts of tools/model/fuzz.py, most of them good, some requests damaged.
+- worked examples: maps made from made maps, r.clump in between, a position, labels
+- each error of a plan request by name, and each truncation of a request
+- N random scripts of tools/model/fuzz.py, most of them valid; some requests are damaged
 
 The last line is 'N passed, M failed'.
 """
@@ -35,7 +36,8 @@ POSITIONS = (b"row", b"col", b"nrows", b"ncols")
 
 
 class Need(NamedTuple):
-    """How far a map is needed around a cell: rows above and below, columns to the left and right, or all of it."""
+    """How far a map is needed around a cell: rows above and below, columns to the left and right,
+    or the full map."""
 
     up: int = 0
     down: int = 0
@@ -82,7 +84,7 @@ Response = tuple[list[Frame], Done]
 
 
 def within(expression: Expression) -> Iterator[Expression]:
-    """The expression and all of its parts."""
+    """Yield the expression and all of its parts."""
     yield expression
     if isinstance(expression, (Negated, Not)):
         yield from within(expression.operand)
@@ -95,7 +97,7 @@ def within(expression: Expression) -> Iterator[Expression]:
 
 
 def reads_of(statement: model.Statement) -> list[tuple[bytes, Need]]:
-    """The maps that a statement reads; a map may come several times."""
+    """Return the maps that a statement reads. A map may occur several times."""
     if isinstance(statement, model.Mapcalc):
         return [
             (
@@ -111,7 +113,7 @@ def reads_of(statement: model.Statement) -> list[tuple[bytes, Need]]:
 
 
 def inputs_of(statement: model.Statement) -> list[bytes]:
-    """The maps of `input=`."""
+    """Return the maps of `input=`."""
     if isinstance(statement, model.Mapcalc):
         return []
     return statement.inputs if isinstance(statement, model.Stats) else [statement.input]
@@ -133,7 +135,8 @@ def after_of(statement: model.Statement) -> tuple[int, ...]:
 
 
 def calls_of(statement: model.Statement) -> tuple[tuple[int, int, int], ...]:
-    """The columns of the first and the last byte of each call, and the number of its function."""
+    """Return the columns of the first and last byte of each call, and the number of its
+    function."""
     calls = getattr(statement, "calls", [])
     return tuple(
         (first, last, POSITIONS.index(name) + 1) for name, first, last in calls if name in POSITIONS
@@ -141,7 +144,7 @@ def calls_of(statement: model.Statement) -> tuple[tuple[int, int, int], ...]:
 
 
 def labels_of(statement: model.Statement) -> tuple[tuple[int, bytes], ...]:
-    """The labels of rules, in their order."""
+    """Return the labels of rules, in order."""
     return tuple(
         (rule.output, rule.label)
         for rule in getattr(statement, "rules", [])
@@ -158,7 +161,7 @@ def flags_of(statement: model.Statement) -> int:
 
 
 def joined(found: list[tuple[bytes, Need]], order: list[bytes]) -> Needs:
-    """Each map once, with the largest need in each direction, in the order of the names."""
+    """Return each map once, with the largest need in each direction, in the order of the names."""
     most: Needs = {}
     for name, need in found:
         most[name] = Need(*map(max, most.get(name, need), need))
@@ -211,7 +214,7 @@ class BadRequest(Exception):
 
 
 class Reader:
-    """Bytes read from left to right."""
+    """Reads bytes from left to right."""
 
     def __init__(self, data: bytes):
         self.data, self.at = data, 0
@@ -261,7 +264,7 @@ def read_request(data: bytes, names: list[bytes]) -> bytes:
 
 
 def expected(data: bytes) -> Response:
-    """What the response to the bytes of a request must say."""
+    """Return the expected response to the bytes of a request."""
     names: list[bytes] = []
     try:
         script = read_request(data, names)
@@ -355,7 +358,7 @@ EXAMPLES = {
 
 
 def named_errors() -> Iterator[tuple[str, bytes]]:
-    """A request for each error, with its text."""
+    """Yield a request for each error, with the error's text."""
     good = request([b"g", b"h"], b"r.stats input=g\n")
     yield "bad magic", b"RCELLP2" + good[7:]
     yield "bad magic", b"RCELLA1" + good[7:]
@@ -383,7 +386,7 @@ def random_request(chance: random.Random) -> bytes:
 
 
 class Tests:
-    """What was tried, and what went wrong."""
+    """Counts the tests, and prints the errors."""
 
     def __init__(self, program: str):
         self.program, self.passed, self.failed = program, 0, 0
@@ -395,7 +398,7 @@ class Tests:
             print(f"{name}: {wrong}")
 
     def wrong(self, data: bytes) -> str:
-        """What is wrong with the response to a request, or nothing."""
+        """Return the error in the response to a request, or nothing."""
         if data.startswith(b"RCELLQ1\n"):
             return ""  # damage made a run of it
         run = subprocess.run([self.program], input=data, stdout=subprocess.PIPE, check=False)

@@ -1,12 +1,15 @@
 #!/usr/bin/env python3
-"""Runs rcell over random maps of many columns or of many rows, and compares its tables and grids with numpy.
+"""Run rcell over random maps with many columns or many rows, and compare its tables and grids with
+numpy.
 
-    /usr/bin/python3 tools/model/wide_maps.py [--maps N] [--seed S] [--first F] [--program PATH] [--pieces CLANG]
+    /usr/bin/python3 tools/model/wide_maps.py [--maps N] [--seed S] [--first F] [--program PATH]
+    [--pieces CLANG]
 
-Four of five maps have up to 3 rows of up to 20,000 columns, the others up to 20,000 rows of up to 20 columns, in stretches of
-different kinds: masks, small numbers, heights, long and negative numbers, null, each in a spelling of its own. Map F of seed S is the
-same wherever it is made. With --pieces half of the maps are read a few bytes at a time, as by compare.py. The last line is 'N maps, M
-differences'.
+Four of five maps have up to 3 rows of up to 20,000 columns, and the others up to 20,000 rows of up
+to 20 columns. They consist of runs of different kinds: masks, small numbers, heights, long and
+negative numbers, and null, each in its own spelling. Map F of seed S is the same everywhere. With
+--pieces, half of the maps are read a few bytes at a time, as in compare.py. The last line is 'N
+maps, M differences'.
 """
 import argparse
 import tempfile
@@ -22,7 +25,7 @@ MOST_LENGTH = 20_000
 FEW_ROWS, FEW_COLS = 3, 20
 WIDE_SHARE = 0.8
 LENGTHS = (1, 3, 64, 65, 300, 5000)  # the most cells of a stretch
-# The smallest and the largest number of a stretch.
+# The smallest and the largest number of a run.
 RANGES = (
     (0, 1),
     (7, 7),
@@ -53,7 +56,7 @@ r.stats -c input=c
 
 
 def random_map(random, shape):
-    """Cells, and their text."""
+    """Return cells, and their text."""
     cells, words = np.empty(shape[0] * shape[1], np.int64), []
     longest, few = random.choice(LENGTHS), random.choice(len(RANGES), random.integers(1, 4))
     while len(words) < cells.size:
@@ -76,7 +79,7 @@ def words_of(cells):
 
 
 def table(*maps):
-    """The text of r.stats -c of one or two maps, which has null after all numbers."""
+    """Return the text of r.stats -c for one or two maps, in which null follows all numbers."""
     keys = np.zeros(maps[0].size, np.uint64)
     for cells in maps:
         last = np.where(cells == NULL, MOST + 1, cells).ravel()
@@ -107,7 +110,7 @@ def expected(g, h):
 
 
 def random_shape(random):
-    """Rows and columns: few of the one, up to 20,000 of the other."""
+    """Return numbers of rows and columns: few of one, and up to 20,000 of the other."""
     most = int(random.choice([200, 3000, MOST_LENGTH]))
     if random.random() < WIDE_SHARE:
         return int(random.integers(1, FEW_ROWS + 1)), int(random.integers(1, most))
