@@ -1,12 +1,13 @@
 # SPDX-License-Identifier: Apache-2.0 OR GPL-2.0-or-later
-"""Random maps and cuts through all ways that a call can work, compared with one run.
+"""Compare all processing modes of calls with one run, on random maps and tiles.
 
     /usr/bin/python3 tests/any_way.py [--count N] [--seed N] [WAY ...]
 
-Each case is a call over two random maps in metres or degrees, some with polygons, some in files. The ways take turns: `threads`,
-`processes` (workers of Dask on this machine), `cluster` (workers in two network namespaces), `arrays` (of Dask, computed at once) and
-`later` (compute=False). Tables and maps must be equal, and so must errors. A case is made again by --seed and --from. The last line is
-'N passed, M failed, K skipped'.
+Each case is a call over two random maps in metres or degrees, some with polygons, some in files.
+The modes alternate: `threads`, `processes` (Dask workers on this machine), `cluster` (workers in
+two network namespaces), `arrays` (Dask arrays, computed immediately) and `later` (compute=False).
+Tables, maps and errors must be equal. Repeat a case with --seed and --from. The last line is 'N
+passed, M failed, K skipped'.
 """
 
 from __future__ import annotations
@@ -44,18 +45,18 @@ from tests.test_xarray import MAPS, TABLES  # noqa: E402
 WAYS = ("threads", "processes", "cluster", "arrays", "later")
 MOST_SIDE = 24
 VALUES = [1, 1, 1, 1, 2, 3, 300, NO_CELL]
-# These look into the arrays of Rasters themselves.
+# These cases access the arrays of Rasters directly.
 OF_RASTERS = ("zonal of decimals", "sample")
 
 
 class Case:
-    """Two random maps, polygons, and a cut.
+    """Two random maps, polygons, and a tile size.
 
     Parameters
     ----------
     seed, number : int
     folder : path
-        For maps in files.
+        The folder for maps in files.
     """
 
     def __init__(self, seed: int, number: int, folder: pathlib.Path) -> None:
@@ -79,7 +80,7 @@ class Case:
         return rcell.Raster(cells, nodata=NO_CELL, labels={1: "wood", 300: "lake"}, **self.place)
 
     def lazy(self) -> list[Any]:
-        """Return the maps as DataArrays of Dask, in chunks of the cut."""
+        """Return the maps as Dask DataArrays, with the tiles as chunks."""
         chunks = dict(zip("yx", self.size))
         return [raster.to_xarray().chunk(chunks) for raster in self.rasters]
 
@@ -106,7 +107,7 @@ def compare(found: Any, expected: Any) -> None:
 
 
 def run_case(case: Case, way: str, client: Any) -> str:
-    """Run a case in some way and in one run, and return the name of its call."""
+    """Run a case in a mode and in one run, and return the name of its call."""
     if way == "later":
         return run_later(case)
     name = str(case.random.choice([*ANSWERS]))
@@ -122,7 +123,7 @@ def run_case(case: Case, way: str, client: Any) -> str:
 
 
 def run_later(case: Case) -> str:
-    """Leave the result of a call to Dask, and compute it."""
+    """Run a call with compute=False, and compute its result."""
     name = str(case.random.choice([*TABLES, *MAPS]))
     call, count = {**TABLES, **MAPS}[name], 2 if name in TABLES else 1
     scheduler = str(case.random.choice(["threads", "sync"]))
@@ -135,7 +136,7 @@ def run_later(case: Case) -> str:
 
 
 def clients_of(ways: list[str], opened: ExitStack, folder: pathlib.Path) -> dict[str, Any]:
-    """Return the clients of the ways that need one; a way that is not possible here is left out of the list."""
+    """Return the clients for modes; modes that are impossible here are removed from `ways`."""
     distributed: Any = __import__("distributed")
     logging.getLogger("distributed").setLevel(logging.ERROR)
     clients = {}

@@ -1,4 +1,4 @@
-"""What several tests need."""
+"""Provide fixtures for several tests."""
 
 from __future__ import annotations
 
@@ -14,7 +14,10 @@ LAND = np.array([[1, 1, 2, 0], [1, 2, 2, 2], [3, 3, 1, 1]], np.uint8)
 
 @pytest.fixture
 def raster(tmp_path: pathlib.Path) -> Callable[..., str]:
-    """Writes an array as a GeoTIFF, and returns its path; `edit` is called with the open dataset."""
+    """Return a function that writes an array as a GeoTIFF and returns its path.
+
+    `edit` is called with the open dataset.
+    """
     rasterio = pytest.importorskip("rasterio")
     affine = pytest.importorskip("affine")
 

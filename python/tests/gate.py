@@ -1,6 +1,6 @@
-"""Runs tests, and ends with 'N passed, M failed, K skipped'.
+"""Run tests, and print 'N passed, M failed, K skipped' on the last line.
 
-python3 tests/gate.py               the tests that need numpy alone, without pytest
+python3 tests/gate.py               the tests that need only numpy, without pytest
 python3 tests/gate.py WORDS..       the tests that pytest finds with these words
 """
 
@@ -15,14 +15,14 @@ HERE = pathlib.Path(__file__).resolve().parent
 
 
 class Counts:
-    """A plugin of pytest that counts what passed, failed and was skipped."""
+    """A pytest plugin that counts passed, failed and skipped tests."""
 
     def __init__(self) -> None:
         self.passed, self.failed = 0, 0
         self.skipped: list[str] = []
 
     def pytest_collectreport(self, report: Any) -> None:
-        """Count a file that cannot be imported, or is skipped whole."""
+        """Count a file that cannot be imported, or is skipped completely."""
         self._count(report)
 
     def pytest_runtest_logreport(self, report: Any) -> None:
@@ -48,7 +48,7 @@ def by_pytest(words: list[str]) -> Counts:
 
 
 def by_unittest() -> Counts:
-    """Run the tests that need numpy alone."""
+    """Run the tests that need only numpy."""
     names = sorted(path.stem for path in HERE.glob("test_numpy_*.py"))
     suite = unittest.TestLoader().loadTestsFromNames([f"tests.{name}" for name in names])
     result = unittest.TextTestRunner(stream=sys.stdout, verbosity=0).run(suite)

@@ -1,4 +1,4 @@
-"""The definitions of calls that return maps, written out cell by cell: nothing here is shared with the package."""
+"""Define the calls that return maps cell by cell, without code from the package."""
 
 from __future__ import annotations
 
@@ -33,7 +33,7 @@ def random_map(
     return np.ma.MaskedArray(cells, mask=random.random((rows, cols)) < null)
 
 
-# Maps at the edges of what there is.
+# Maps with extreme shapes and values.
 MAPS = {
     "one cell": masked([[7]]),
     "one row": masked([[1, 1, 2, 2, 2, None, 1, 3]]),
@@ -52,7 +52,7 @@ MAPS = {
 
 
 def at(rows: Rows, place: Place) -> Optional[int]:
-    """Return the cell of a place, None for null and outside the map."""
+    """Return the cell at a place; None for null and outside the map."""
     row, col = place
     return rows[row][col] if 0 <= row < len(rows) and 0 <= col < len(rows[0]) else None
 
@@ -87,7 +87,7 @@ def patches(rows: Rows, connectivity: int) -> list[list[Place]]:
 
 
 def sieve(rows: Rows, fewest: int, connectivity: int) -> Rows:
-    """Return the map without small patches: after each step, all patches are found again."""
+    """Return the map without small patches, finding all patches again after each step."""
     rows = [list(row) for row in rows]
     while True:
         found = patches(rows, connectivity)
@@ -110,7 +110,7 @@ def sieve(rows: Rows, fewest: int, connectivity: int) -> Rows:
 
 
 def drop(rows: Rows, fewest: int, connectivity: int) -> Rows:
-    """Return the map with null in place of small patches."""
+    """Return the map with small patches set to null."""
     rows = [list(row) for row in rows]
     for patch in patches(rows, connectivity):
         for row, col in patch if len(patch) < fewest else []:
@@ -121,7 +121,7 @@ def drop(rows: Rows, fewest: int, connectivity: int) -> Rows:
 def within(
     rows: Rows, classes: Sequence[int], distances: Sequence[float], width: float, height: float
 ) -> Rows:
-    """Return the number of the first distance within which each cell has a cell of the classes."""
+    """Return, for each cell, the index of the smallest distance that reaches the classes."""
     inside = [place for place in places(rows) if at(rows, place) in classes]
     limits = [Fraction(distance) ** 2 for distance in (0, *distances)]
     found: Rows = [[None] * len(rows[0]) for _ in rows]
@@ -140,7 +140,7 @@ def within(
 def aggregate(
     rows: Rows, factor: int, min_percent: float = 0
 ) -> tuple[Rows, dict[tuple[int, int, int], float]]:
-    """Return the most frequent class of each block, and the percentage of a class by class, row and column."""
+    """Return the most frequent class of each block, and class percentages by block."""
     high, wide = -(-len(rows) // factor), -(-len(rows[0]) // factor)
     majority: Rows = [[None] * wide for _ in range(high)]
     shares = {}

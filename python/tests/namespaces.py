@@ -1,5 +1,5 @@
 # SPDX-License-Identifier: Apache-2.0 OR GPL-2.0-or-later
-"""A cluster of Dask in two network namespaces of this machine."""
+"""Start a Dask cluster in two network namespaces of this machine."""
 
 from __future__ import annotations
 
@@ -37,27 +37,29 @@ asyncio.run(main())
 
 
 class NotPossible(Exception):
-    """Network namespaces cannot be made here; the argument says why."""
+    """Raised if network namespaces cannot be created here; the argument is the reason."""
 
 
 class Namespaces:
-    """Two network namespaces: a scheduler is in the first, which this process sees, and a worker is in each.
+    """Two network namespaces with a worker each.
+
+    The scheduler is in the first namespace, which this process can reach.
 
     Parameters
     ----------
     opened : ExitStack
-        Ends all processes, and removes the namespaces.
+        Stops all processes, and removes the namespaces.
     folder : path
-        For the workers.
+        The folder for the workers.
 
     Attributes
     ----------
     address : str
-        Of the scheduler.
+        The address of the scheduler.
     places : list of str
-        The addresses of the machines that the workers are on.
+        The addresses of the workers' machines.
     workers : list of int
-        Their processes.
+        The process ids of the workers.
     """
 
     def __init__(self, opened: ExitStack, folder: pathlib.Path) -> None:
@@ -65,7 +67,7 @@ class Namespaces:
             raise NotPossible("network namespaces need root, and ip of Debian's package iproute2")
         self._opened = opened
         self._link = f"rc{os.getpid()}-{next(_NUMBERS)}"[:15]
-        # Other processes may do the same.
+        # Other processes may create namespaces at the same time.
         outer, inner = (f"10.77.{os.getpid() % 100 * 2 + at}" for at in range(2))
         self.address = f"tcp://{outer}.2:8786"
         self.places = [f"{inner}.1", f"{inner}.2"]
@@ -83,7 +85,7 @@ class Namespaces:
         ]
 
     def _connect(self, first: str, second: str, outer: str, inner: str) -> None:
-        """Connect this namespace with the first, and the first with the second."""
+        """Connect this namespace to the first, and the first to the second."""
         for name in self.names:
             self._ip("netns", "add", name)
             self._opened.callback(self._ip, "netns", "delete", name)
@@ -109,7 +111,7 @@ class Namespaces:
         self._ip(*where, "link", "set", link, "up")
 
     def _start(self, name: str, code: str, *words: str) -> int:
-        """Start a program in a namespace, and return the number of its process."""
+        """Start a program in a namespace, and return its process id."""
         command = ["ip", "netns", "exec", name, sys.executable, "-c", code, *words]
         process = subprocess.Popen(command, stdout=subprocess.PIPE, stderr=subprocess.DEVNULL)
         self._opened.callback(process.wait)

@@ -1,4 +1,4 @@
-"""Rows of tables, for tests."""
+"""Extract the rows of tables for tests."""
 
 from __future__ import annotations
 

@@ -1,4 +1,4 @@
-"""The definitions of calls that return tables, written out cell by cell: nothing here is shared with the package."""
+"""Define the calls that return tables cell by cell, without code from the package."""
 
 from __future__ import annotations
 
@@ -29,7 +29,7 @@ def perimeter(patch: Sequence[Place], width: float, height: float) -> float:
 
 
 def adjacency(rows: Rows, width: float, height: float) -> Sides:
-    """Return the pairs of classes, the smaller first, with the number of their sides and their length."""
+    """Return the number and length of sides by pair of classes, the smaller class first."""
     found: Any = defaultdict(lambda: (0, 0.0))
     for place in places(rows):
         for step in ((0, 1), (1, 0)):
@@ -42,7 +42,7 @@ def adjacency(rows: Rows, width: float, height: float) -> Sides:
 
 
 def most_like(cells: int) -> int:
-    """Return the most sides that some cells can share with each other (He et al. 2000)."""
+    """Return the largest number of sides that cells can share with each other (He et al. 2000)."""
     root = math.isqrt(cells)
     rest = cells - root * root
     more = 0 if rest == 0 else 2 * rest - 1 if rest <= root else 2 * rest - 2
@@ -52,7 +52,10 @@ def most_like(cells: int) -> int:
 def of_patches(
     chosen: Sequence[Sequence[Place]], whole: int, width: float, height: float
 ) -> dict[str, float]:
-    """Return the measures that classes and landscapes have in common; `whole` is the number of all cells."""
+    """Return the measures that classes and landscapes have in common.
+
+    `whole` is the total number of cells.
+    """
     cell = width * height
     areas = [len(patch) * cell for patch in chosen]
     around = [perimeter(patch, width, height) for patch in chosen]
@@ -77,14 +80,14 @@ def of_patches(
 
 
 def entropy(parts: Sequence[float]) -> float:
-    """Return the entropy of shares of a sum."""
+    """Return the entropy of the shares of a sum."""
     return sum(-it / sum(parts) * math.log(it / sum(parts)) for it in parts)
 
 
 def metrics(
     rows: Rows, connectivity: int, width: float, height: float
 ) -> tuple[dict[int, dict[str, float]], dict[str, float]]:
-    """Return the metrics of each class, and of the landscape, of a map in metres."""
+    """Return the class and landscape metrics of a map in metres."""
     found = patches(rows, connectivity)
     of_class: dict[int, list[list[Place]]] = defaultdict(list)
     for patch in found:
@@ -124,7 +127,7 @@ def metrics(
 
 
 def of_borders(borders: Sequence[float], kinds: int, classes: int, area: float) -> dict[str, float]:
-    """Return the measures of the borders of a class, or of all classes."""
+    """Return the border measures of a class, or of all classes."""
     mixed = math.nan
     if classes >= 3 and borders:
         mixed = 100 * entropy(borders) / math.log(kinds)
@@ -133,7 +136,7 @@ def of_borders(borders: Sequence[float], kinds: int, classes: int, area: float) 
 
 
 def diversity(shares: dict[int, float], pairs: Sides) -> dict[str, float]:
-    """Return the diversity of shares of classes, and the contagion of their sides."""
+    """Return the diversity of class shares, and the contagion of class adjacencies."""
     found = {
         "classes": len(shares),
         "shannon_diversity": entropy(list(shares.values())),
@@ -155,7 +158,10 @@ def diversity(shares: dict[int, float], pairs: Sides) -> dict[str, float]:
 
 
 def olofsson(matrix: Sequence[Sequence[int]], sizes: Sequence[float]) -> dict[str, Any]:
-    """Return equations 1 to 11 of Olofsson et al. 2014 as they are printed; `sizes` has the area of each class of the map."""
+    """Evaluate equations 1 to 11 of Olofsson et al. 2014 as printed.
+
+    `sizes` contains the area of each map class.
+    """
     every = range(len(matrix))
     weight = [size / sum(sizes) for size in sizes]
     n = [sum(row) for row in matrix]
@@ -192,5 +198,5 @@ def olofsson(matrix: Sequence[Sequence[int]], sizes: Sequence[float]) -> dict[st
 
 
 def ratio(above: float, below: float) -> float:
-    """Return a quotient, NaN if the divisor is not above 0."""
+    """Return the quotient, or NaN if the divisor is not positive."""
     return above / below if below > 0 else math.nan

@@ -1,4 +1,4 @@
-"""Accuracies, next to the equations of Olofsson et al. 2014 as printed; and the samples for them."""
+"""Test accuracies with the printed equations of Olofsson et al. 2014, and test samples."""
 
 from __future__ import annotations
 
@@ -37,7 +37,7 @@ def areas_of(sizes: Any) -> dict[int, float]:
 
 
 def points(rows: Any) -> dict[str, Any]:
-    """Points as GeoJSON: x, y and the class."""
+    """Return rows of x, y and class as GeoJSON points."""
     features = [
         {
             "type": "Feature",
@@ -75,7 +75,7 @@ def test_all_measures_are_as_printed(data: Any, size: int) -> None:
     assert found.overall_se == pytest.approx(expected["overall_se"], abs=1e-9, nan_ok=True)
     assert found.overall + found.quantity + found.allocation == pytest.approx(1)
     for title in found.classes.columns[3:]:
-        # The variance of an area is printed as a difference, which rounds.
+        # The printed variance of an area is a difference, which loses digits.
         largest = sum(sizes) * 1e-7 if title == "area_se_ha" else 1e-9
         if title in expected:
             wanted = pytest.approx(expected[title], rel=1e-9, abs=largest, nan_ok=True)
@@ -89,7 +89,7 @@ def test_a_reference_map_is_counted_cell_by_cell() -> None:
     matrix = np.array([[counts[i, j] for j in range(1, 5)] for i in range(1, 5)])
     found = rcell.accuracy(placed(land), placed(reference))
     assert found.matrix.to_numpy().tolist() == matrix.tolist()
-    # Kappa as Cohen 1960 has it, of numbers of cells.
+    # Kappa as defined by Cohen 1960, from numbers of cells.
     chance = (matrix.sum(axis=0) * matrix.sum(axis=1)).sum() / both.sum() ** 2
     right = np.trace(matrix) / both.sum()
     assert found.overall == pytest.approx(right)

@@ -1,4 +1,4 @@
-"""Results as objects of pandas, xarray, matplotlib and GDAL."""
+"""Test results as objects of pandas, xarray, matplotlib and GDAL."""
 
 from __future__ import annotations
 
@@ -103,8 +103,10 @@ def test_labels_of_rules_and_of_maps() -> None:
 
 def test_without_xarray_and_matplotlib() -> None:
     code = (
-        "import sys\nfor name in ('matplotlib', 'xarray'): sys.modules[name] = None\nimport numpy as np, rcell\n"
-        "import importlib.util as u\nfind = u.find_spec\nu.find_spec = lambda name: None if name in ('matplotlib', 'xarray') else find(name)\n"
+        "import sys\nfor name in ('matplotlib', 'xarray'): sys.modules[name] = None\nimport "
+        "numpy as np, rcell\n"
+        "import importlib.util as u\nfind = u.find_spec\nu.find_spec = lambda name: None if name "
+        "in ('matplotlib', 'xarray') else find(name)\n"
         "lc = rcell.Raster(np.array([[1, 2]]), labels={1: '<b>'})\nprint('pandas' in sys.modules)\n"
         "print(rcell.grid('', 'lc', lc=lc)._repr_html_())\n"
         "for call in (rcell.grid('', 'lc', lc=lc).to_xarray, rcell.grid('', 'lc', lc=lc).plot):\n"
@@ -233,8 +235,10 @@ def test_no_half_written_geotiff(tmp_path: pathlib.Path, monkeypatch: pytest.Mon
 
 def test_a_full_disk(tmp_path: pathlib.Path) -> None:
     code = (
-        "import resource, signal, sys, rcell, numpy as np\nsignal.signal(signal.SIGXFSZ, signal.SIG_IGN)\n"
-        "g = rcell.grid('', 'x', x=np.random.default_rng(1).integers(0, 250, (300, 300)))\nresource.setrlimit(resource.RLIMIT_FSIZE, (1000, 1000))\n"
+        "import resource, signal, sys, rcell, numpy as np\nsignal.signal(signal.SIGXFSZ, "
+        "signal.SIG_IGN)\n"
+        "g = rcell.grid('', 'x', x=np.random.default_rng(1).integers(0, 250, (300, "
+        "300)))\nresource.setrlimit(resource.RLIMIT_FSIZE, (1000, 1000))\n"
         "try: g.write(sys.argv[1])\nexcept rcell.WriteFailed as e: print(e)"
     )
     ran = subprocess.run(

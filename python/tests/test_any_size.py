@@ -1,5 +1,5 @@
 # SPDX-License-Identifier: Apache-2.0 OR GPL-2.0-or-later
-"""Tiles of a map give what one run over the map gives: the same tables, the same cells, the same errors and warnings."""
+"""Test that tiles have the same tables, cells, errors and warnings as one run."""
 
 from __future__ import annotations
 
@@ -46,7 +46,7 @@ def as_tiles(call: Callable[[], Any], size: tuple[int, int], workers: int = 2) -
 
 
 def check_equal(found: Any, expected: Any) -> None:
-    """Compare DataFrames, Rasters, and lists of them."""
+    """Assert that DataFrames, Rasters, or lists of them are equal."""
     if isinstance(expected, rcell.Raster):
         assert found.array.dtype == expected.array.dtype
         assert np.array_equal(np.ma.getmaskarray(found.array), np.ma.getmaskarray(expected.array))
@@ -70,7 +70,7 @@ def check_equal(found: Any, expected: Any) -> None:
 
 @st.composite
 def cut_maps(draw: st.DrawFn, most: int = 8) -> tuple[Any, Any, tuple[int, int]]:
-    """Two maps of one shape, and the size of tiles."""
+    """Draw two maps with the same shape, and a tile size."""
     shape = draw(st.tuples(st.integers(1, most), st.integers(1, most)))
     elements = st.sampled_from([1, 1, 2, 3, 300, NO_CELL])
     first, second = (draw(arrays(np.int16, shape, elements=elements)) for _ in range(2))
@@ -111,22 +111,24 @@ EXPRESSIONS = st.recursive(
 def test_scripts(
     case: Any, expression: str, flags: str, after: str, inputs: str, diagonal: str
 ) -> None:
-    """With offsets, positions, rules, patches of what was made, and expressions over their numbers."""
+    """Test offsets, positions, rules, patches of computed maps, and patch numbers."""
     first, second, size = case
     maps = {
         "a": rcell.Raster(first, nodata=NO_CELL),
         "b": rcell.Raster(second, nodata=NO_CELL),
     }
     script = (
-        f"r.mapcalc x = {expression}\nr.reclass input=x output=y\n1 thru 3 = 1 few\n4 thru 9 = 2\n* = 3 many\nend\n"
+        f"r.mapcalc x = {expression}\nr.reclass input=x output=y\n1 thru 3 = 1 few\n4 thru 9 = "
+        "2\n* = 3 many\nend\n"
         f"r.clump {diagonal}input=y output=p\nr.mapcalc k = p[0,1] - p\n"
-        f"r.stats {flags} input={inputs}{after}\nr.out.ascii input=k\nr.out.ascii input=x\nr.stats -c input=p,a"
+        f"r.stats {flags} input={inputs}{after}\nr.out.ascii input=k\nr.out.ascii "
+        "input=x\nr.stats -c input=p,a"
     )
     check_equal(as_tiles(lambda: rcell.run(script, maps), size), rcell.run(script, maps))
 
 
 def _polygons(rows: int, cols: int, place: dict[str, Any]) -> Any:
-    """Three polygons over the map; two overlap."""
+    """Return three polygons on the map, of which two overlap."""
     geopandas = pytest.importorskip("geopandas")
     from shapely.geometry import Polygon
 
@@ -258,14 +260,14 @@ def test_more_patches_than_32_bits_have(
 
 
 def comb(rows: int, cols: int) -> Any:
-    """Teeth that meet in the last row alone: one patch, which is many until the last row of tiles."""
+    """Return a comb, whose teeth are separate patches until the last row of tiles joins them."""
     cells = np.full((rows, cols), 1, np.int32)
     cells[:-1, 1::2] = 2
     return cells
 
 
 def spiral(side: int) -> Any:
-    """A way from the corner to the middle, one cell wide."""
+    """Return a path from the corner to the centre, one cell wide."""
     cells = np.full((side, side), 2, np.int32)
     for ring in range(0, side // 2, 2):
         end = side - 1 - ring
@@ -413,7 +415,7 @@ def test_a_map_is_aligned_by_parts(
         assert found.aligned.cells_used > 100
 
 
-# What goes wrong
+# Errors
 
 
 def test_the_first_bad_cell_has_its_place_in_the_full_map() -> None:
@@ -468,7 +470,7 @@ def test_the_number_of_workers_is_checked() -> None:
 
 def test_a_host_ends_the_programs_of_all_tiles() -> None:
     class Cancelled(Exception):
-        """What the host raises."""
+        """Raised by the host."""
 
     shares: list[float] = []
 
@@ -561,7 +563,7 @@ def test_too_little_room_for_such_a_file(monkeypatch: pytest.MonkeyPatch) -> Non
         as_tiles(lambda: rcell.majority(np.ones((40, 30))), (7, 11))
 
 
-# Work that continues
+# Resuming
 
 
 def test_finished_tiles_are_kept_and_taken_again(raster: Write, tmp_path: pathlib.Path) -> None:
@@ -578,7 +580,7 @@ def test_finished_tiles_are_kept_and_taken_again(raster: Write, tmp_path: pathli
             found = as_tiles(lambda: rcell.composition(path, resume=folder), (20, 30))
         check_equal(found, expected)
         assert len(starts) == 2 * script_runs
-    # Another script, or another file, is not the same work.
+    # Another script or another file does not reuse the results.
     as_tiles(lambda: rcell.majority(path, resume=folder), (20, 30))
     assert len(list(folder.iterdir())) == 4
     raster(cells[::-1])
@@ -635,7 +637,7 @@ def test_a_file_that_changes_while_it_is_read(raster: Write) -> None:
             as_tiles(lambda: rcell.composition(path), (10, 10))
 
 
-# Files that are written
+# Output files
 
 
 @pytest.mark.parametrize("memory_cells", [0, 1 << 20])
@@ -682,7 +684,7 @@ def test_a_file_that_was_not_written_whole_leaves_the_old_one(
 def _cut(
     raster: Write, cells: Any, places: list[tuple[int, int, int, int]], **words: Any
 ) -> list[str]:
-    """Write parts of a map as files."""
+    """Write parts of a map to files."""
     a, _, c, _, e, f = (10.0, 0.0, 500.0, 0.0, -20.0, 900.0)
     return [
         raster(
@@ -770,7 +772,7 @@ def test_patterns_without_a_file_and_texts_in_lists(raster: Write, tmp_path: pat
     assert rcell.composition(named).cells.tolist() == [4]
 
 
-# Tables that are added up
+# Sums of tables
 
 
 @settings(max_examples=60, deadline=None)

@@ -1,4 +1,4 @@
-"""Areas, percentages and lengths: when they are given, and what they are of."""
+"""Test when areas, percentages and lengths are computed, and their bases."""
 
 from __future__ import annotations
 
@@ -16,7 +16,7 @@ rcell = pytest.importorskip("rcell")
 METRES = (100.0, 0.0, 0.0, 0.0, -100.0, 200.0)
 DEGREES = (1.0, 0.0, 10.0, 0.0, -7.0, 69.0)
 LAND = np.array([[1, 1, 2], [3, 2, 2]])
-# The first row is further from the equator: more cells of class 1, and less area.
+# The first row is further from the equator, so class 1 has more cells but less area.
 NORTH = np.array([[1] * 8 + [2] * 2, [1] * 2 + [2] * 7 + [3]])
 
 Write = Callable[..., str]
@@ -37,7 +37,7 @@ def test_percent_is_of_the_area_in_degrees() -> None:
     assert found["cells"].tolist() == [10, 9, 1]
     assert found["percent"].to_numpy() == pytest.approx(
         expected, rel=1e-3
-    )  # geodesics are no parallels
+    )  # geodesics are not parallels
     assert found["percent"].sum() == pytest.approx(100)
     assert found["percent"][1] > found["percent"][0]
     share = found["area_ha"] / found["area_ha"].sum() * 100
@@ -165,7 +165,10 @@ def test_no_false_alarm_of_proj(tmp_path: pathlib.Path) -> None:
     import subprocess
     import sys
 
-    script = "import rcell; print(rcell.composition(rcell.Raster([[1]], (1, 0, 0, 0, -1, 1), crs='EPSG:4326')))"
+    script = (
+        "import rcell; print(rcell.composition(rcell.Raster([[1]], (1, 0, 0, 0, -1, 1), "
+        "crs='EPSG:4326')))"
+    )
     subprocess.run(
         [sys.executable, "-m", "venv", "--system-site-packages", "--without-pip", str(tmp_path)],
         check=True,

@@ -1,4 +1,4 @@
-"""Buffers of classes, next to the definition written out cell by cell."""
+"""Test buffers with a cell-by-cell definition."""
 
 from __future__ import annotations
 

@@ -1,5 +1,5 @@
 # SPDX-License-Identifier: Apache-2.0 OR GPL-2.0-or-later
-"""A cluster of Dask gives what this machine gives: workers in other network namespaces, and lost ones."""
+"""Test that Dask clusters have the same results, with remote and lost workers."""
 
 from __future__ import annotations
 
@@ -32,7 +32,7 @@ SIZE = (17, 23)
 
 @pytest.fixture
 def namespaces(tmp_path: pathlib.Path) -> Iterator[tuple[Any, Namespaces]]:
-    """A client of a cluster of two namespaces, which is not the current one."""
+    """Return a client for a cluster in two namespaces, which is not the current client."""
     with ExitStack() as opened:
         try:
             made = Namespaces(opened, tmp_path)
@@ -44,7 +44,7 @@ def namespaces(tmp_path: pathlib.Path) -> Iterator[tuple[Any, Namespaces]]:
 
 
 def maps_of(random: Any) -> tuple[Any, Any]:
-    """Two maps with labels, in metres."""
+    """Return two labelled maps in metres."""
     a, b = (
         rcell.Raster(
             random.choice([1, 1, 1, 2, 3, 300, NO_CELL], (40, 50)).astype(np.int16),
@@ -75,7 +75,7 @@ def test_workers_in_other_namespaces(
         with tiling.working(workers=client, size=(13, 18)):
             found = call(a, b, zones)
         check_equal(found, call(a, b, zones))
-    # Files are opened on the workers, from any folder.
+    # Workers open files from any current folder.
     path = raster(np.where(CELLS == NO_CELL, 0, CELLS).astype(np.uint8), nodata=0)
     monkeypatch.chdir(os.path.dirname(path))
     expected = rcell.majority(path)
@@ -101,7 +101,7 @@ def test_a_lost_worker_is_replaced(namespaces: tuple[Any, Namespaces]) -> None:
 
 @pytest.fixture(scope="module")
 def current(tmp_path_factory: pytest.TempPathFactory) -> Iterator[Any]:
-    """The current client, whose workers are threads of this process."""
+    """Return the current client, whose workers are threads of this process."""
     words: dict[str, Any] = {"n_workers": 2, "threads_per_worker": 1, "processes": False}
     words["dashboard_address"] = None
     words["local_directory"] = str(tmp_path_factory.mktemp("workers"))
@@ -201,7 +201,7 @@ def test_files_that_differ_on_a_worker(raster: Write) -> None:
 
 def test_what_a_cluster_does_is_said() -> None:
     class KilledWorker(Exception):
-        """As distributed has it."""
+        """A stand-in for distributed's exception."""
 
     told = (
         (KilledWorker("tile"), rcell.RcellError, "workers of the cluster died one after another"),

@@ -1,4 +1,4 @@
-"""Coarser maps and shares of classes, next to the definition written out cell by cell."""
+"""Test coarser maps and class shares with a cell-by-cell definition."""
 
 from __future__ import annotations
 

@@ -1,4 +1,4 @@
-"""What is at the edge of the package: a cell is read exactly or rejected, and what goes wrong is one error that says so."""
+"""Test that cells are read exactly or rejected, and that each problem raises a clear error."""
 
 from __future__ import annotations
 
@@ -119,7 +119,10 @@ def test_cells_of_another_type_than_dask_was_told_are_refused(told: str, found: 
     given = dask.zeros((4, 3), chunks=(2, 3), dtype="uint8").map_blocks(
         lambda part: part.astype(found), dtype=told
     )
-    text = f"m: its cells are of the type {found}, but Dask expected {told}: state it, as in map_blocks(.., dtype='{found}')"
+    text = (
+        f"m: its cells are of the type {found}, but Dask expected {told}: state it, as in "
+        f"map_blocks(.., dtype='{found}')"
+    )
     assert str(refusal(data_array(values=given, attrs={"_FillValue": 0}))) == text
     turned = dask.zeros((2, 3), chunks=(2, 3), dtype="uint8").map_blocks(
         lambda part: part.reshape(3, 2), dtype="uint8"
@@ -129,9 +132,9 @@ def test_cells_of_another_type_than_dask_was_told_are_refused(told: str, found: 
 
 def test_a_scaled_data_array_is_refused() -> None:
     told = str(refusal(data_array(attrs={"scale_factor": 0.5})))
-    assert (
-        told
-        == "m: its values are scaled: each cell times 0.5, plus 0; write them out as whole numbers first"
+    assert told == (
+        "m: its values are scaled: each cell times 0.5, plus 0; write them out as whole "
+        "numbers first"
     )
     assert "plus 3" in str(refusal(data_array(attrs={"add_offset": 3})))
     decoded = data_array()
@@ -327,7 +330,7 @@ def test_what_is_no_map_is_refused(tmp_path: pathlib.Path, raster: Write) -> Non
 
 
 def test_thousands_of_bands_are_refused_at_once(tmp_path: pathlib.Path) -> None:
-    """A TIFF of 518 bytes may declare 65,535 bands; each was asked how all others are interpreted."""
+    """A TIFF of 518 bytes may declare 65,535 bands, which must not be examined for each band."""
     bands = "".join(f'<VRTRasterBand dataType="Byte" band="{band}"/>' for band in range(1, 20001))
     path = tmp_path / "many.vrt"
     path.write_text(f'<VRTDataset rasterXSize="1" rasterYSize="1">{bands}</VRTDataset>')
@@ -340,7 +343,8 @@ def test_thousands_of_bands_are_refused_at_once(tmp_path: pathlib.Path) -> None:
 def test_edges_of_a_grid_are_exact(tmp_path: pathlib.Path) -> None:
     path, copy = tmp_path / "m.txt", tmp_path / "copy.txt"
     path.write_text(
-        "north: 9999999999.12345678\nsouth: 9999999998.12345678\neast: 1\nwest: 0\nrows: 1\ncols: 1\n7\n"
+        "north: 9999999999.12345678\nsouth: 9999999998.12345678\neast: 1\nwest: 0\nrows: "
+        "1\ncols: 1\n7\n"
     )
     rcell.grid("", "m", m=path).write(copy)
     assert copy.read_text().startswith("north: 9999999999.12345678\nsouth: 9999999998.12345678\n")
@@ -374,10 +378,14 @@ def test_labels_keep_the_blanks_of_unicode(blank: str) -> None:
 
 UTM, GAUSS = "EPSG:25832", "EPSG:31467"
 OTHER = (
-    "its coordinate reference system is EPSG:31467 (DHDN / 3-degree Gauss-Kruger zone 3), and that of `a` is EPSG:25832 "
+    "its coordinate reference system is EPSG:31467 (DHDN / 3-degree Gauss-Kruger zone 3), and "
+    "that of `a` is EPSG:25832 "
     "(ETRS89 / UTM zone 32N): reproject one of them first, as with gdalwarp -t_srs EPSG:25832"
 )
-NONE = 'it has no coordinate reference system, and `a` has EPSG:25832 (ETRS89 / UTM zone 32N): state it with crs="EPSG:25832"'
+NONE = (
+    "it has no coordinate reference system, and `a` has EPSG:25832 (ETRS89 / UTM zone 32N): "
+    'state it with crs="EPSG:25832"'
+)
 
 
 def crossed(a: Any, b: Any, **words: Any) -> Any:
@@ -390,7 +398,7 @@ def test_maps_of_two_reference_systems_are_refused(raster: Write) -> None:
         crossed(*maps)
     assert (refused.value.source, refused.value.text) == ("b", OTHER)
     shifted = raster(LAND[:2], "c.tif", crs=GAUSS)
-    with pytest.raises(rcell.OtherCrs):  # before the region is looked at
+    with pytest.raises(rcell.OtherCrs):  # before regions are compared
         crossed(maps[0], shifted)
     with pytest.raises(rcell.OtherCrs, match="and crs= is EPSG:31467"):
         crossed(maps[0], maps[0], crs=GAUSS)
@@ -482,7 +490,7 @@ def test_systems_without_a_plane_have_no_areas(library: str, crs: str, kind: str
 def test_cells_centred_on_the_poles_have_the_area_of_the_ellipsoid() -> None:
     ones = np.ones((721, 1440), int)
     globe = rcell.Raster(ones, (0.25, 0, -180.125, 0, -0.25, 90.125), "EPSG:4326")
-    # Of WGS 84: 4 pi times the square of its authalic radius, 6,371,007.1809 m.
+    # The surface of WGS 84: 4 pi times the square of its authalic radius, 6,371,007.1809 m.
     area = rcell.composition(globe, area="km2")["area_km2"][0]
     assert area == pytest.approx(510_065_621.724, rel=1e-11)
     beyond = rcell.Raster(ones, (0.25, 0, -180.125, 0, -0.25, 90.25), "EPSG:4326")
@@ -495,7 +503,7 @@ def test_areas_are_the_nearest_floats() -> None:
     assert rows_of(rcell.table(SCRIPT, m=land, area="ha", crs=UTM)) == [(1, 5, 0.45)]
 
 
-# Errors that say what to do
+# Errors with advice
 
 
 @pytest.mark.parametrize(

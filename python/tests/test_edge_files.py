@@ -1,4 +1,4 @@
-"""Files and programs at the edge: devices, links, modes, old masks, closed streams, signals, forks, full disks."""
+"""Test devices, links, modes, old masks, closed streams, signals, forks and full disks."""
 
 from __future__ import annotations
 
@@ -37,7 +37,7 @@ TIF = f"{shlex.quote(sys.executable)} -m rcell run <(echo) m=in.txt --out m="
 
 @pytest.fixture
 def room(tmp_path: pathlib.Path) -> pathlib.Path:
-    """A folder with a grid."""
+    """Return a folder with a grid."""
     (tmp_path / "in.txt").write_text(GRID)
     return tmp_path
 
@@ -73,7 +73,8 @@ def test_what_is_no_file_is_written_and_never_replaced(room: pathlib.Path) -> No
             (room / f"null.{end}").unlink()
         shell(
             room,
-            f"rm -f fifo.{end} link.{end} real got; mkfifo fifo.{end}; ln -s real link.{end}; ln -sf /proc/self/fd/1 stdout.{end}",
+            f"rm -f fifo.{end} link.{end} real got; mkfifo fifo.{end}; ln -s real link.{end}; ln "
+            f"-sf /proc/self/fd/1 stdout.{end}",
         )
         assert (
             shell(
@@ -166,7 +167,7 @@ def test_an_input_is_no_output(room: pathlib.Path) -> None:
 
 
 def test_paths_that_are_not_utf8(room: pathlib.Path, raster: Write) -> None:
-    """A grid may have one, and so may what is written; rasterio opens none."""
+    """Grids and outputs may have such paths; rasterio cannot open them."""
     odd = str(room / os.fsdecode(b"\xff"))
     grid = rcell.grid("r.reclass input=m output=n\n* = 1 wood\nend", "n", m=raster(LAND))
     for ending in (".txt", ".tif"):
@@ -190,7 +191,7 @@ def test_paths_that_are_not_utf8(room: pathlib.Path, raster: Write) -> None:
 
 
 def test_a_script_that_comes_late_is_read_whole(monkeypatch: pytest.MonkeyPatch) -> None:
-    """Standard input is a pipe that does not wait."""
+    """Standard input is a non-blocking pipe."""
     reads, writes = os.pipe()
     os.set_blocking(reads, False)
     os.write(writes, b"r.stats -c input=m\n")
@@ -228,7 +229,10 @@ def test_closed_and_full_standard_output(room: pathlib.Path) -> None:
 
 
 def test_a_library_with_closed_streams(room: pathlib.Path) -> None:
-    code = "import os, sys, rcell; t = rcell.run('r.stats -c input=m', m=sys.argv[1])[0]; open(sys.argv[2], 'w').write(str(t.values.tolist()))"
+    code = (
+        "import os, sys, rcell; t = rcell.run('r.stats -c input=m', m=sys.argv[1])[0]; "
+        "open(sys.argv[2], 'w').write(str(t.values.tolist()))"
+    )
     for closed in ("<&-", ">&-", "2>&-", "<&- >&- 2>&-"):
         ran = shell(room, f"{sys.executable} -c {shlex.quote(code)} in.txt out {closed}")
         assert (ran.returncode, (room / "out").read_text()) == (0, "[[7, 3], [8, 3]]"), closed
@@ -237,7 +241,7 @@ def test_a_library_with_closed_streams(room: pathlib.Path) -> None:
 @pytest.mark.parametrize("name", ["SIGHUP", "SIGINT", "SIGTERM", "SIGQUIT", "SIGXCPU"])
 def test_signals_leave_nothing(room: pathlib.Path, name: str) -> None:
     os.mkfifo(room / "fifo")
-    # Under nohup, a test inherits signals that are ignored.
+    # Under nohup, tests inherit ignored signals.
     command = [
         "env",
         "--default-signal",
@@ -264,9 +268,10 @@ def test_signals_leave_nothing(room: pathlib.Path, name: str) -> None:
 
 
 def test_what_a_killed_process_left_goes_when_the_file_is_written(room: pathlib.Path) -> None:
-    """It stays while the process runs, and when another file is written."""
+    """The folder stays while its process runs, and when another file is written."""
     code = (
-        "import sys, time\nfrom rcell.core.files import Output\nwith Output(sys.argv[1]) as output:\n"
+        "import sys, time\nfrom rcell.core.files import Output\nwith Output(sys.argv[1]) as "
+        "output:\n"
         "    open(output.path(), 'w').write('half')\n    print(flush=True)\n    time.sleep(600)"
     )
     out, other = str(room / "out"), str(room / "out-2")
@@ -292,7 +297,7 @@ def test_a_folder_without_a_lock_stays(room: pathlib.Path) -> None:
 
 
 def running(room: pathlib.Path) -> list[str]:
-    """Processes with the mark of a folder, a moment given to those that are ending."""
+    """Return the processes that use a folder, after waiting for ending processes."""
     found: list[str] = []
     for _ in range(50):
         found = []
@@ -312,7 +317,7 @@ def test_a_run_does_not_wait_for_forked_processes() -> None:
     children = []
 
     class Forking(rcell.Raster):
-        """A map that forks while it is read."""
+        """A map that forks the process while it is read."""
 
     cells_of = np.ones((300, 300), np.uint8)
     source = Forking(cells_of).source("m")
@@ -344,7 +349,10 @@ def test_programs_are_not_found_through_relative_folders(room: pathlib.Path) -> 
     stranger = room / "rcell"
     stranger.write_text("#!/bin/sh\necho stranger\n")
     stranger.chmod(0o755)
-    code = "import os, rcell.core.programs as p; print([it for it in p.candidates('rcell') if os.path.realpath(os.path.dirname(it)) == os.getcwd()])"
+    code = (
+        "import os, rcell.core.programs as p; print([it for it in p.candidates('rcell') if "
+        "os.path.realpath(os.path.dirname(it)) == os.getcwd()])"
+    )
     for path in (".:/nowhere", ":/nowhere", "/nowhere:"):
         assert shell(room, f"PATH={path} {sys.executable} -c {shlex.quote(code)}").stdout == "[]\n"
     ran = shell(room, TABLE, RCELL="rcell", RCELL_PIPE=programs.find_pipe())
@@ -367,8 +375,11 @@ def test_a_program_that_does_not_end_is_told(
 
 def test_too_many_open_files_are_told() -> None:
     code = (
-        "import resource, rcell\nfrom rcell.core.programs import find_program\nfind_program()\nresource.setrlimit(resource.RLIMIT_NOFILE, (12, 12))\nheld = [open('/dev/null') for _ in range(7)]\n"
-        "try: rcell.run('r.stats -c input=m', m=[[1]])\nexcept rcell.MissingProgram as error: print(error)\n"
+        "import resource, rcell\nfrom rcell.core.programs import "
+        "find_program\nfind_program()\nresource.setrlimit(resource.RLIMIT_NOFILE, (12, "
+        "12))\nheld = [open('/dev/null') for _ in range(7)]\n"
+        "try: rcell.run('r.stats -c input=m', m=[[1]])\nexcept rcell.MissingProgram as error: "
+        "print(error)\n"
     )
     ran = subprocess.run(
         [sys.executable, "-c", code], capture_output=True, text=True, env=environment(), check=False

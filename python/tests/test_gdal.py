@@ -1,4 +1,4 @@
-"""Rasters and polygons that GDAL's own Python reads, as QGIS does: types, nulls, places, and what is rejected."""
+"""Test rasters and polygons with GDAL's Python bindings: types, nulls, positions and errors."""
 
 from __future__ import annotations
 
@@ -183,7 +183,7 @@ def test_files_that_are_not_there_or_broken(made: Made, tmp_path: pathlib.Path) 
 def test_files_are_read_without_rasterio_fiona_and_pyproj(
     tmp_path: pathlib.Path, monkeypatch: pytest.MonkeyPatch
 ) -> None:
-    """A machine that has GDAL's Python alone."""
+    """Simulate a machine that has only GDAL's Python bindings."""
     lc, zones = str(tmp_path / "lc.tif"), str(tmp_path / "zones.geojson")
     dataset = gdal.GetDriverByName("GTiff").Create(lc, 2, 2, 1, gdal.GDT_Byte)
     dataset.SetGeoTransform((10.0, 0.1, 0.0, 50.0, 0.0, -0.1))

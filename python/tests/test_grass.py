@@ -1,4 +1,4 @@
-"""The calls compared with modules of GRASS: r.stats, r.univar, r.neighbors, r.buffer, r.kappa, r.mode, r.resamp.stats, r.li and others."""
+"""Compare calls with modules of GRASS, such as r.stats, r.univar, r.neighbors and r.li."""
 
 from __future__ import annotations
 
@@ -19,7 +19,8 @@ Session = Callable[..., str]
 SIZE = (40, 50)
 METRES, UTM = (30.0, 0, 500_000.0, 0, -30.0, 5_500_000.0), "EPSG:32632"
 PRINTED = "r.out.ascii input={} null_value=-1 --quiet | tail -n +7\n"
-# Indices of r.li, and what they are called here; r.li.edgedensity counts the sides to null and to the edge of the map too.
+# Indices of r.li and their names in rcell. r.li.edgedensity also counts sides to null and along the
+# map's edge.
 INDICES = {
     "shannon": "shannon_diversity",
     "simpson": "simpson_diversity",
@@ -34,7 +35,10 @@ INDICES = {
 
 @pytest.fixture(scope="module")
 def grass(tmp_path_factory: pytest.TempPathFactory) -> Any:
-    """Return a call that runs lines of the shell in a location, over maps that it imports; the first has the region."""
+    """Return a function that runs shell lines in a location over imported maps.
+
+    The first map sets the region.
+    """
     if shutil.which("grass") is None:
         pytest.skip("GRASS is not installed")
     room = tmp_path_factory.mktemp("grass")
@@ -48,12 +52,13 @@ def grass(tmp_path_factory: pytest.TempPathFactory) -> Any:
         )
         script = room / "script"
         script.write_text(
-            f"set -e\nexport GRASS_OVERWRITE=1\n{imports}\ng.region raster={next(iter(maps))}\n{lines}\n"
+            f"set -e\nexport GRASS_OVERWRITE=1\n{imports}\ng.region "
+            f"raster={next(iter(maps))}\n{lines}\n"
         )
         where = room / f"location-{crs[5:]}"
         if not where.exists():
             subprocess.run(["grass", "-e", "-c", crs, str(where)], check=True, capture_output=True)
-        # r.li keeps files in the home of its user.
+        # r.li writes files to the user's home folder.
         ran = subprocess.run(
             ["grass", str(where / "PERMANENT"), "--exec", "sh", str(script)],
             capture_output=True,
@@ -115,23 +120,25 @@ def test_statistics_by_zone(grass: Session) -> None:
     assert len(rows) == len(frame)
     text = grass(
         crs,
-        "r.stats.zonal base=zone cover=values method=average output=means --quiet\nr.univar -t map=means zones=zone --quiet",
+        "r.stats.zonal base=zone cover=values method=average output=means --quiet\nr.univar -t "
+        "map=means zones=zone --quiet",
         values=values,
         zone=zone,
     )
     means = [float(line.split("|")[at["mean"]]) for line in text.strip().splitlines()[1:]]
     assert means == pytest.approx(
         frame["mean"].tolist(), rel=1e-6
-    )  # GRASS writes floats of 32 bits here
+    )  # GRASS writes 32-bit floats here
 
 
 def test_the_majority_of_nine(grass: Session) -> None:
-    """Cells in which two classes are most frequent are left out: GRASS takes another one of them."""
+    """Cells with ties are left out, because GRASS chooses another class in a tie."""
     transform, crs = (30.0, 0, 500_000.0, 0, -30.0, 5_500_000.0), "EPSG:32632"
     land = made(5, transform, crs)
     text = grass(
         crs,
-        "r.neighbors input=land selection=land output=mode method=mode size=3 --quiet\nr.out.ascii input=mode null_value=0 --quiet",
+        "r.neighbors input=land selection=land output=mode method=mode size=3 "
+        "--quiet\nr.out.ascii input=mode null_value=0 --quiet",
         land=land,
     )
     theirs = np.array(
@@ -154,7 +161,7 @@ def test_the_majority_of_nine(grass: Session) -> None:
 
 
 def test_buffers(grass: Session) -> None:
-    """r.buffer has 1 for its source and 2, 3, .. for distances."""
+    """r.buffer writes 1 for the source cells and 2, 3, .. for the distances."""
     land = made(5, (30.0, 0, 500_000.0, 0, -30.0, 5_500_000.0), "EPSG:32632", 12)
     text = grass(
         "EPSG:32632",
@@ -212,7 +219,7 @@ def test_metrics_are_those_of_r_li(grass: Session) -> None:
 
 
 def test_maps_of_classes(grass: Session) -> None:
-    """r.mode and r.resamp.stats take the smallest of classes that are as frequent; r.grow takes cells nearer than its radius."""
+    """r.mode and r.resamp.stats choose the smallest class in a tie; r.grow excludes its radius."""
     land, zone = made(9, METRES, UTM), made(10, METRES, UTM, 9)
     lines = "r.mode base=zone cover=land output=mode --quiet\nr.stats -n input=zone,mode --quiet"
     modes = cells_of(grass(UTM, lines, land=land, zone=zone))
@@ -228,7 +235,7 @@ def test_maps_of_classes(grass: Session) -> None:
 
 
 def test_small_areas(grass: Session) -> None:
-    """r.reclass.area merges in another order, and gives null areas below the size a class, from which others follow."""
+    """r.reclass.area merges in another order, and fills small null areas with classes."""
     land = made(11, METRES, UTM, 9)
     lines = "r.reclass.area input=land output=cut value=0.4 mode=lesser method=rmarea --quiet\n"
     theirs = cells_of(grass(UTM, lines + PRINTED.format("cut"), land=land))

@@ -1,4 +1,4 @@
-"""No output is written over a file that the call has read, over a part of one, or over another output."""
+"""Test that no output overwrites an input, a part of an input, or another output."""
 
 from __future__ import annotations
 
@@ -24,7 +24,7 @@ LEGEND = "value,label\n1,wood\n2,field\n3,town\n"
 
 @pytest.fixture
 def room(raster: Write, tmp_path: pathlib.Path, monkeypatch: pytest.MonkeyPatch) -> pathlib.Path:
-    """A folder with a map in two files, a map of maps, a legend, a script, and polygons in two formats."""
+    """Return a folder with a map in two files, a VRT, a legend, a script and polygons."""
     monkeypatch.chdir(tmp_path)
     raster(LAND, "m.tif", nodata=0)
     raster(LAND[::-1].copy(), "b.tif", nodata=0)
@@ -97,9 +97,9 @@ def test_a_table_has_the_ending_of_one(room: pathlib.Path, capsys: Any) -> None:
     before = files_of(room)
     for name in ("t.xlsx", "s.dbf", "t.tif", "t.gpkg", "t.csv.gz"):
         assert main(["composition", "m.tif", "--out", name]) == 2
-        assert (
-            capsys.readouterr().err
-            == f"rcell-gis: {name}: the name of a table must end in .csv, .tsv, .txt, .md or .json\n"
+        assert capsys.readouterr().err == (
+            f"rcell-gis: {name}: the name of a table must end in .csv, .tsv, .txt, .md or "
+            ".json\n"
         )
     assert files_of(room) == before
 

@@ -1,4 +1,4 @@
-"""Metrics and dominant classes, next to their definitions written out cell by cell."""
+"""Test metrics and dominant classes with cell-by-cell definitions."""
 
 from __future__ import annotations
 

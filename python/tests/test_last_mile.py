@@ -1,4 +1,4 @@
-"""The seven calls compared with numpy, scipy, pyproj and GDAL: composition, cross, change, patches, zonal, majority and align."""
+"""Compare seven calls, such as composition, patches and align, with numpy, scipy and GDAL."""
 
 from __future__ import annotations
 
@@ -30,7 +30,7 @@ def land(**words: Any) -> rcell.Raster:
 
 
 def random_maps(seed: int, count: int, most: int = 12, classes: int = 4) -> list[Any]:
-    """Masked arrays of one shape."""
+    """Return random masked arrays with the same shape."""
     random = np.random.default_rng(seed)
     shape = random.integers(2, most, 2)
     return [
@@ -308,7 +308,7 @@ def test_majority_keeps_labels_and_checks_its_size() -> None:
 
 
 def surface(axis: float, flattening: float) -> float:
-    """The area of an ellipsoid of revolution."""
+    """Return the area of an ellipsoid of revolution."""
     e = math.sqrt(flattening * (2 - flattening))
     return (
         4 * math.pi * axis**2
@@ -409,7 +409,7 @@ def write_polygons(
 
 
 def box(left: float, bottom: float, right: float, top: float) -> dict[str, Any]:
-    """A rectangle, in columns from the west and rows from the south of the map of the tests."""
+    """Return a rectangle, in columns from the west and rows from the south of the test map."""
     (a, _, c, _, e, f), height = TRANSFORM, LAND.shape[0]
     x, y = (lambda col: c + a * col), (lambda row: f + e * (height - row))
     return {
@@ -468,7 +468,10 @@ def test_polygons_that_are_refused(tmp_path: pathlib.Path) -> None:
     )
     with pytest.warns(
         UserWarning,
-        match="3 cells are in more than one polygon, the first at row 1, column 2: the later polygon has them, and feature 1 lost them",
+        match=(
+            "3 cells are in more than one polygon, the first at row 1, column 2: the later "
+            "polygon has them, and feature 1 lost them"
+        ),
     ):
         assert (
             rcell.composition(LAND, path, crs=UTM)["zone"].max() == 2
@@ -642,7 +645,10 @@ def test_legends_of_all_kinds(tmp_path: pathlib.Path, raster: Write) -> None:
     with pytest.warns(UserWarning, match="labels: no label for 0, 3 of map"):
         found = rcell.composition(LAND, labels={1: "a", 2: "b"})["label"]
     assert found.tolist() == [pandas.NA, "a", "b", pandas.NA]
-    style = '<qgis><pipe><rasterrenderer><colorPalette><paletteEntry value="{}" label="wood" color="#00aa00" alpha="255"/></colorPalette></rasterrenderer></pipe></qgis>'
+    style = (
+        '<qgis><pipe><rasterrenderer><colorPalette><paletteEntry value="{}" label="wood" '
+        'color="#00aa00" alpha="255"/></colorPalette></rasterrenderer></pipe></qgis>'
+    )
     path = raster(LAND)
     (tmp_path / "map.qml").write_text(style.format(1))
     assert rcell.composition(path)["label"].tolist() == [pandas.NA, "wood", pandas.NA, pandas.NA]

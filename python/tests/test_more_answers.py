@@ -1,4 +1,4 @@
-"""reclass, clump and adjacency, next to numpy and scipy; Raster and the accessor."""
+"""Compare reclass, clump and adjacency with numpy and scipy; test Raster and the accessor."""
 
 from __future__ import annotations
 
@@ -186,7 +186,10 @@ print([name for name in ("dask", "distributed", "psutil", "tqdm") if name in sys
 
 
 def test_the_accessor_has_the_answers_without_dask() -> None:
-    blocked = "import sys\nfor name in ('dask', 'distributed', 'psutil', 'tqdm'):\n    sys.modules[name] = None\n"
+    blocked = (
+        "import sys\nfor name in ('dask', 'distributed', 'psutil', 'tqdm'):\n    "
+        "sys.modules[name] = None\n"
+    )
     ran = subprocess.run(
         [
             sys.executable,

@@ -1,4 +1,4 @@
-"""The notebook of the examples, run from top to bottom."""
+"""Run the example notebook from top to bottom."""
 
 from __future__ import annotations
 

@@ -1,4 +1,4 @@
-"""Runs over arrays and grids, held against numpy and against the program by files; needs numpy alone."""
+"""Compare runs over arrays and grids with numpy and with the program; needs only numpy."""
 
 from __future__ import annotations
 
@@ -22,7 +22,7 @@ from tests.rows import rows_of
 
 
 def by_files(script: str, **grids: bytes) -> tuple[int, bytes, str]:
-    """Status, output and message of the program itself, on files."""
+    """Run the program on files, and return its status, output and message."""
     with tempfile.TemporaryDirectory() as folder:
         paths = []
         for name, text in grids.items():
@@ -54,7 +54,7 @@ LAND = np.array([[1, 1, 2, 0], [1, 2, 2, 2], [3, 3, 1, 1]], np.uint8)
 
 
 def header_of(region: Any) -> str:
-    """The header of a grid."""
+    """Return the header of a grid."""
     edges = dict(zip(("north", "south", "east", "west"), region.edges))
     lines = {**edges, "rows": region.rows, "cols": region.cols}
     return "".join(f"{name}: {value}\n" for name, value in lines.items())
@@ -84,8 +84,10 @@ class Runs(unittest.TestCase):
     def test_the_numbers_are_those_of_the_program_by_files(self) -> None:
         random = np.random.default_rng(4)
         script = (
-            "r.mapcalc s = nmode(a[-1,0], a[0,-1], a, a[0,1], a[1,0]) + b * 1000000\nr.clump -d input=a output=k\n"
-            "r.stats -c input=s,k\nr.stats -cn input=a,b after=2,*\nr.out.ascii input=s null_value=x\nr.stats -1 input=k,a\nr.stats input=k\n"
+            "r.mapcalc s = nmode(a[-1,0], a[0,-1], a, a[0,1], a[1,0]) + b * 1000000\nr.clump -d "
+            "input=a output=k\n"
+            "r.stats -c input=s,k\nr.stats -cn input=a,b after=2,*\nr.out.ascii input=s "
+            "null_value=x\nr.stats -1 input=k,a\nr.stats input=k\n"
         )
         for _ in range(10):
             a, b = (random_map(random, 7, 9, 4, 0.2) for _ in "ab")
@@ -131,7 +133,8 @@ class Runs(unittest.TestCase):
 
     def test_an_output_of_each_kind(self) -> None:
         result = rcell.run(
-            "r.out.ascii input=lc null_value=-1\nr.stats -1 input=lc\nr.stats -1n input=lc\nr.stats input=lc",
+            "r.out.ascii input=lc null_value=-1\nr.stats -1 input=lc\nr.stats -1n "
+            "input=lc\nr.stats input=lc",
             lc=rcell.Raster(LAND, nodata=0),
         )
         self.assertEqual(
@@ -180,7 +183,8 @@ class Runs(unittest.TestCase):
     def test_large_maps_come_in_pieces(self) -> None:
         cells = np.arange(900 * 1_100, dtype=np.int32).reshape(900, 1_100) * 1_540 - 900_000_000
         result = rcell.run(
-            "r.stats -c input=lc after=600000000\nr.out.ascii input=lc\nr.stats -c input=lc after=640000000\nr.out.ascii input=lc",
+            "r.stats -c input=lc after=600000000\nr.out.ascii input=lc\nr.stats -c input=lc "
+            "after=640000000\nr.out.ascii input=lc",
             lc=cells,
         )
         self.assertTrue((result[1].array == cells).all() and (result[3].array == cells).all())
@@ -192,7 +196,8 @@ class Runs(unittest.TestCase):
     def test_an_empty_table_behind_a_map_of_long_numbers(self) -> None:
         cells = np.full((3, 4), 1_234_567_890)
         result = rcell.run(
-            "r.out.ascii input=lc\nr.stats -c input=lc after=2000000000\nr.stats -c input=lc\nr.out.ascii input=lc",
+            "r.out.ascii input=lc\nr.stats -c input=lc after=2000000000\nr.stats -c "
+            "input=lc\nr.out.ascii input=lc",
             lc=cells,
         )
         self.assertEqual([rows_of(table) for table in result.tables], [[], [(1_234_567_890, 12)]])
@@ -269,7 +274,7 @@ class Patches(unittest.TestCase):
 
 
 def measured(inside: Any) -> tuple[float, ...]:
-    """The core of one step and the extent of some cells of side 1."""
+    """Return the core at depth 1 and the extent of a patch of unit cells."""
     wide = np.pad(inside, 1)
     sides = [
         wide[1:-1, 1:-1] & ~np.roll(wide, step, axis)[1:-1, 1:-1]
@@ -338,7 +343,8 @@ class Refusals(unittest.TestCase):
         for given, told in (
             (
                 np.zeros((2, 2, 2), int),
-                "an array of 3 dimensions (2 x 2 x 2), and a map has two; pass one band of a raster, for example read(1)",
+                "an array of 3 dimensions (2 x 2 x 2), and a map has two; pass one band of a "
+                "raster, for example read(1)",
             ),
             (np.zeros((0, 2), int), "an array without cells (0 x 2)"),
             (
@@ -347,19 +353,23 @@ class Refusals(unittest.TestCase):
             ),
             (
                 np.array([[1], [np.inf]]),
-                "not a map of whole numbers: the cell at row 2, column 1 is inf, outside -2147483647 to 2147483647",
+                "not a map of whole numbers: the cell at row 2, column 1 is inf, outside "
+                "-2147483647 to 2147483647",
             ),
             (
                 np.array([[3 * 10**9]]),
-                "not a map of whole numbers: the cell at row 1, column 1 is 3000000000, outside -2147483647 to 2147483647",
+                "not a map of whole numbers: the cell at row 1, column 1 is 3000000000, outside "
+                "-2147483647 to 2147483647",
             ),
             (
                 np.array([[2**64 - 1]], np.uint64),
-                "not a map of whole numbers: the cell at row 1, column 1 is 18446744073709551615, outside -2147483647 to 2147483647",
+                "not a map of whole numbers: the cell at row 1, column 1 is "
+                "18446744073709551615, outside -2147483647 to 2147483647",
             ),
             (
                 np.array([[-(2**31)]], np.int32),
-                "not a map of whole numbers: the cell at row 1, column 1 is -2147483648, outside -2147483647 to 2147483647",
+                "not a map of whole numbers: the cell at row 1, column 1 is -2147483648, outside "
+                "-2147483647 to 2147483647",
             ),
             (np.array([["a"]]), "not a map of whole numbers: its cells are of the type <U1"),
             (np.array([[1j]]), "not a map of whole numbers: its cells are of the type complex128"),
@@ -367,7 +377,8 @@ class Refusals(unittest.TestCase):
             ((LAND, rcell.Region.of_cells(4, 4)), "an array of 3 x 4 cells, and a region of 4 x 4"),
             (
                 (LAND, (1, 0.5, 0, 0, -1, 0)),
-                "a rotated transform (1.0, 0.5, 0.0, 0.0, -1.0, 0.0): warp the map to a north-up grid first",
+                "a rotated transform (1.0, 0.5, 0.0, 0.0, -1.0, 0.0): warp the map to a north-up "
+                "grid first",
             ),
         ):
             with self.subTest(told=told), self.assertRaises(rcell.BadMap) as caught:
@@ -382,7 +393,8 @@ class Refusals(unittest.TestCase):
         self.assertEqual(
             str(caught.exception).splitlines(),
             [
-                "b: its grid differs from `a`, and rcell does not resample: east is 600.5, not 600 (0.5 more); west is 500.5, not 500 (0.5 more)",
+                "b: its grid differs from `a`, and rcell does not resample: east is 600.5, not "
+                "600 (0.5 more); west is 500.5, not 500 (0.5 more)",
                 "  a: north 1000, south 925, east 600, west 500, 3 rows, 4 columns",
                 "  b: north 1000, south 925, east 600.5, west 500.5, 3 rows, 4 columns",
                 '  try: b=rcell.align(b, to=a, resample="nearest")',
@@ -453,7 +465,8 @@ class Refusals(unittest.TestCase):
             ),
             (
                 ("r.out.ascii input=lc", {}),
-                "expected one table, but the script has 0 tables and 1 maps: rcell.run returns all outputs",
+                "expected one table, but the script has 0 tables and 1 maps: rcell.run returns "
+                "all outputs",
             ),
             (
                 ("# nothing", {}),
@@ -565,7 +578,7 @@ class Scripts(unittest.TestCase):
 
 
 def done(*fields: Any) -> str:
-    """A response without a table, for printf: status, source, map, line, column and text."""
+    """Return a response without a table, for printf, with its status fields."""
     *numbers, told = fields
     text = str(told)
     return (
@@ -589,7 +602,7 @@ class Programs(unittest.TestCase):
             os.waitpid(-1, os.WNOHANG)
 
     def program(self, body: str, name: str = "rcell") -> Any:
-        """A shell script in the place of rcell or rcell-pipe."""
+        """Write a shell script that replaces rcell or rcell-pipe."""
         folder = tempfile.TemporaryDirectory()
         self.addCleanup(folder.cleanup)
         path = f"{folder.name}/{name}"
@@ -599,7 +612,7 @@ class Programs(unittest.TestCase):
         return path
 
     def run_with(self, body: str, script: str = "r.stats -c input=lc", given: Any = LAND) -> Any:
-        """Run a script with a script in the place of rcell-pipe."""
+        """Run a script with a shell script in place of rcell-pipe."""
         from rcell.core import programs
 
         path = self.program(body, "rcell-pipe")
@@ -617,7 +630,10 @@ class Programs(unittest.TestCase):
             "numpy.typing",
             "difflib",
         )
-        code = f"import sys, rcell; print([name for name in {names} if name in sys.modules], rcell.__version__ != '')"
+        code = (
+            f"import sys, rcell; print([name for name in {names} if name in sys.modules], "
+            "rcell.__version__ != '')"
+        )
         ran = subprocess.run([sys.executable, "-c", code], capture_output=True, text=True)
         self.assertEqual((ran.stdout, ran.stderr), ("[] True\n", ""))
 
@@ -636,7 +652,10 @@ class Programs(unittest.TestCase):
     def test_rcell_pipe_needs_no_rcell(self) -> None:
         with tempfile.TemporaryDirectory() as folder:
             os.symlink(find_pipe(), f"{folder}/rcell-pipe")
-            code = "import rcell; print(rcell.run('r.stats -c input=a', a=[[1, 1]])[0].values.tolist())"
+            code = (
+                "import rcell; print(rcell.run('r.stats -c input=a', a=[[1, "
+                "1]])[0].values.tolist())"
+            )
             ran = subprocess.run(
                 [sys.executable, "-c", code],
                 env={"PATH": folder, "PYTHONPATH": os.pathsep.join(sys.path)},
@@ -662,8 +681,14 @@ class Programs(unittest.TestCase):
         self.assertEqual(found, [(1, 1), (None, 1)])
 
     def test_nowhere(self) -> None:
-        code = "import os, rcell.core.programs as p\np.sysconfig.get_path = lambda *_: '/nowhere'\np.sys.executable = '/nowhere/python'\n"
-        tried = "for find in (p.find_program, p.find_pipe):\n    try: find()\n    except p.MissingProgram as e: print(e)"
+        code = (
+            "import os, rcell.core.programs as p\np.sysconfig.get_path = lambda *_: "
+            "'/nowhere'\np.sys.executable = '/nowhere/python'\n"
+        )
+        tried = (
+            "for find in (p.find_program, p.find_pipe):\n    try: find()\n    except "
+            "p.MissingProgram as e: print(e)"
+        )
         environment = {"PATH": "/nowhere", "PYTHONPATH": os.pathsep.join(sys.path)}
         ran = subprocess.run(
             [sys.executable, "-c", code + tried], env=environment, capture_output=True, text=True
@@ -671,8 +696,10 @@ class Programs(unittest.TestCase):
         self.assertEqual(
             ran.stdout.splitlines(),
             [
-                "the program rcell was not found: neither in the environment variable RCELL, nor next to this Python, nor on the path",
-                "the program rcell-pipe was not found: neither in the environment variable RCELL_PIPE, nor next to this Python, nor on the path",
+                "the program rcell was not found: neither in the environment variable RCELL, nor "
+                "next to this Python, nor on the path",
+                "the program rcell-pipe was not found: neither in the environment variable "
+                "RCELL_PIPE, nor next to this Python, nor on the path",
             ],
             ran.stderr,
         )
@@ -769,7 +796,10 @@ class Texts(unittest.TestCase):
         return f"{folder.name}/g"
 
     def test_a_grid_goes_as_it_is(self) -> None:
-        text = b"rows: 1\ncols: 3\nnorth: 10.50\nsouth: -.25\neast: 4.\nwest: +0\nnull: -9\nmultiplier: 3\n-9 9 -2\n"
+        text = (
+            b"rows: 1\ncols: 3\nnorth: 10.50\nsouth: -.25\neast: 4.\nwest: +0\nnull: "
+            b"-9\nmultiplier: 3\n-9 9 -2\n"
+        )
         path = self.file(text)
         grid = rcell.grid("r.clump input=g output=k", "g", g=path)
         self.assertEqual(
@@ -865,7 +895,8 @@ class Files(unittest.TestCase):
 
     def test_a_full_disk(self) -> None:
         code = (
-            "import resource, signal, sys, rcell, numpy as np\nsignal.signal(signal.SIGXFSZ, signal.SIG_IGN)\nresource.setrlimit(resource.RLIMIT_FSIZE, (1000, 1000))\n"
+            "import resource, signal, sys, rcell, numpy as np\nsignal.signal(signal.SIGXFSZ, "
+            "signal.SIG_IGN)\nresource.setrlimit(resource.RLIMIT_FSIZE, (1000, 1000))\n"
             "try: rcell.Raster(np.ones((99, 99), int)).write(sys.argv[1])\n"
             "except rcell.WriteFailed as e: print('full', end='')"
         )

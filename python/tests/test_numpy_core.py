@@ -1,4 +1,4 @@
-"""The core needs numpy and the standard library alone, of Python 3.9 as well."""
+"""Test that the core needs only numpy and Python 3.9's standard library."""
 
 from __future__ import annotations
 
@@ -15,7 +15,7 @@ CORE = pathlib.Path(rcell.__file__).parent / "core"
 OTHERS = (
     "affine, dask, fiona, geopandas, osgeo, pandas, pyproj, rasterio, rioxarray, shapely, xarray"
 )
-# Names of the standard library that Python 3.9 does not have.
+# Names in the standard library that are newer than Python 3.9.
 LATER = re.compile(
     r"\b(ParamSpec|TypeAlias|TypeGuard|Concatenate|Self|StrEnum|ExceptionGroup|pairwise|get_default_scheme"
     r"|get_preferred_scheme|aclosing|bit_count|add_note|tomllib|file_digest)\b|\b(strict|slots|kw_only)=True"
@@ -83,7 +83,7 @@ class Core(unittest.TestCase):
 
 
 def _of_others(tree: ast.Module) -> list[str]:
-    """Return the libraries that a module imports when it is imported itself."""
+    """Return the libraries that a module imports when it is imported."""
     named = [node for node in tree.body if isinstance(node, (ast.Import, ast.ImportFrom))]
     roots: list[str] = []
     for node in named:
@@ -96,7 +96,7 @@ def _of_others(tree: ast.Module) -> list[str]:
 
 
 def _unions_when_run(tree: ast.Module) -> list[str]:
-    """Return the unions of types outside of annotations, which Python 3.9 cannot compute."""
+    """Return type unions outside annotations, which Python 3.9 cannot evaluate."""
     annotations: set[int] = set()
     for node in ast.walk(tree):
         for part in (getattr(node, "annotation", None), getattr(node, "returns", None)):

@@ -1,4 +1,4 @@
-"""The examples of the docstrings: the ones that need more than numpy if that is installed."""
+"""Run the examples in docstrings, except examples whose libraries are not installed."""
 
 from __future__ import annotations
 
@@ -15,7 +15,7 @@ import numpy as np
 import rcell
 from rcell.core.libraries import has
 
-# What an example says by which it needs a library.
+# Words in an example that show that it needs a library.
 NEEDS = {
     "pandas": ("rcell.table(", "rcell.run(", "frame_of("),
     "xarray": (".to_xarray()", "xarray."),
@@ -82,7 +82,8 @@ class Examples(unittest.TestCase):
         self.assertGreater(count, 50)
         if left_out:
             print(
-                f"python: {left_out} examples need libraries that are not installed, and were left out"
+                f"python: {left_out} examples need libraries that are not installed, and were "
+                "left out"
             )
 
     def test_each_public_name_has_a_docstring_with_an_example(self) -> None:

@@ -1,4 +1,4 @@
-"""The proved joiner compared with numpy's and with the full map; it needs numpy alone."""
+"""Compare the proved joiner with numpy and with the full map; needs only numpy."""
 
 from __future__ import annotations
 
@@ -27,7 +27,7 @@ TILINGS = 60
 
 
 def cuts(random: np.random.Generator, total: int) -> list[tuple[int, int]]:
-    """Where a side of a map is cut, at random: begin and end of each part."""
+    """Cut a side of a map at random, and return the begin and end of each part."""
     inner = (
         sorted(
             random.choice(
@@ -41,7 +41,7 @@ def cuts(random: np.random.Generator, total: int) -> list[tuple[int, int]]:
 
 
 def clumped(cells: Any, diagonal: bool) -> Any:
-    """The numbers of the clumps of a map, 0 for null."""
+    """Return the clump numbers of a map, with 0 for null."""
     maps = {"a": ArrayMap("a", cells, Region.of_cells(*cells.shape), nodata_value=NULL_CELL)}
     script = f"r.clump {'-d ' if diagonal else ''}input=a output=k"
     numbers = execute_once(script, maps, wanted=("k",))[-1].values
@@ -50,7 +50,7 @@ def clumped(cells: Any, diagonal: bool) -> Any:
 
 
 def border(cells: Any, diagonal: bool, top: int = 0, left: int = 0) -> bytes:
-    """The border of a tile of a map whose cells have sides of 1."""
+    """Return the border of a tile in a map of unit cells."""
     own = np.where(cells == NULL_CELL, NULL, cells.astype(np.int32))
     place = Rectangle(top, left, *cells.shape)
     return border_text(place, own, clumped(cells, diagonal), diagonal)
@@ -85,7 +85,7 @@ class Tiles(unittest.TestCase):
         self.assertEqual(found.tolist(), clumped(cells, diagonal).tolist())
 
     def renumbered(self, numbering: Any, tiles: list[Any]) -> list[Any]:
-        """The numbers of tiles replaced by the numbers of the full map."""
+        """Replace the tiles' numbers with the full map's numbers."""
         found = [np.zeros(tile.max() + 1, np.int64) for tile in tiles]
         for tile, first, last, number in numbering.tolist():
             found[tile - 1][first : last + 1] = np.arange(number, number + last - first + 1)
@@ -107,7 +107,7 @@ class Tiles(unittest.TestCase):
 
 
 def program(test: unittest.TestCase, body: str) -> str:
-    """A script in the place of rcell-join."""
+    """Write a shell script that replaces rcell-join."""
     folder = tempfile.TemporaryDirectory()
     test.addCleanup(folder.cleanup)
     path = f"{folder.name}/rcell-join"
@@ -118,7 +118,7 @@ def program(test: unittest.TestCase, body: str) -> str:
 
 
 def known_program(test: unittest.TestCase, body: str) -> str:
-    """One that is taken for right, without being tried."""
+    """Write a shell script that is accepted as rcell-join without a test run."""
     from rcell.core import programs
 
     path = program(test, body)
@@ -128,7 +128,7 @@ def known_program(test: unittest.TestCase, body: str) -> str:
 
 
 class Programs(unittest.TestCase):
-    """Programs that do not respond as they should: scripts in the place of rcell-join."""
+    """Shell scripts that replace rcell-join and respond incorrectly."""
 
     def join_with(self, body: str) -> Any:
         return numbering_of([border(ONE, False)], program=known_program(self, body))
@@ -141,7 +141,8 @@ class Programs(unittest.TestCase):
 
     def test_nowhere(self) -> None:
         code = (
-            "import rcell.core.programs as p, rcell.core.joiner as j\np.sysconfig.get_path = lambda *_: '/nowhere'\np.sys.executable = '/nowhere/python'\n"
+            "import rcell.core.programs as p, rcell.core.joiner as j\np.sysconfig.get_path = "
+            "lambda *_: '/nowhere'\np.sys.executable = '/nowhere/python'\n"
             "try: j.find_joiner()\nexcept p.MissingProgram as e: print(e)"
         )
         ran = subprocess.run(
@@ -150,7 +151,10 @@ class Programs(unittest.TestCase):
             capture_output=True,
             text=True,
         )
-        told = "the program rcell-join was not found: neither in the environment variable RCELL_JOIN, nor next to this Python, nor on the path\n"
+        told = (
+            "the program rcell-join was not found: neither in the environment variable "
+            "RCELL_JOIN, nor next to this Python, nor on the path\n"
+        )
         self.assertEqual(ran.stdout, told, ran.stderr)
 
     def test_missing_and_wrong(self) -> None:

@@ -1,4 +1,4 @@
-"""The bytes of rcell-pipe, held against docs/pipe.md and against the program; needs numpy alone."""
+"""Compare rcell-pipe's bytes with docs/pipe.md and with the program; needs only numpy."""
 
 from __future__ import annotations
 
@@ -96,7 +96,7 @@ PLAN = (
 
 
 class Asked(unittest.TestCase):
-    """A folder with scripts in the place of the program."""
+    """A folder with shell scripts that replace the program."""
 
     def setUp(self) -> None:
         folder = tempfile.TemporaryDirectory()
@@ -117,13 +117,13 @@ class Asked(unittest.TestCase):
         return path
 
     def answering(self, answer: bytes, after: str = "") -> str:
-        """A program that keeps the request, and gives a response."""
+        """Write a program that stores the request and prints a response."""
         with open(f"{self.folder}/answer", "wb") as file:
             file.write(answer)
         return self.program(f"cat > {self.folder}/request\ncat {self.folder}/answer\n{after}")
 
     def asked(self, *maps: protocol.Map, script: bytes = b"") -> bytes:
-        """The request of a run."""
+        """Return the request of a run."""
         protocol.run(self.answering(MAGIC + DONE), maps, script)
         with open(f"{self.folder}/request", "rb") as file:
             return file.read()
@@ -378,7 +378,10 @@ class Texts(Asked):
                     [protocol.Block(cells.data)],
                     null,
                 )
-                wanted = f"north: {rows}.5\nsouth: 0.5\neast: {cols}\nwest: 0\nrows: {rows}\ncols: {cols}\n"
+                wanted = (
+                    f"north: {rows}.5\nsouth: 0.5\neast: {cols}\nwest: 0\nrows: {rows}\ncols: "
+                    f"{cols}\n"
+                )
                 wanted += "".join(
                     " ".join("*" if cell == null else str(cell) for cell in row) + "\n"
                     for row in cells.tolist()
@@ -428,7 +431,10 @@ class Runs(unittest.TestCase):
                 ["c", "cl", "l", "cn", "cN", "n", "1", "1l", "1n", "1N"]
             ), chance.choice(["", " separator=comma null_value=NA", " separator=tab", " after=1,*"])
             more = "" if "1" in flags and "after" in more else more
-            script = f"r.reclass input=a output=k\n1 = 1 wood\n* = *\nend\nr.stats -{flags} input=k,b{more}\n".encode()
+            script = (
+                f"r.reclass input=a output=k\n1 = 1 wood\n* = *\nend\nr.stats -{flags} "
+                f"input=k,b{more}\n"
+            ).encode()
             with tempfile.TemporaryDirectory() as folder:
                 words = []
                 for name, part in (("a", cells), ("b", cells[::-1])):

@@ -1,4 +1,4 @@
-"""Regions; needs numpy alone."""
+"""Test regions; needs only numpy."""
 
 from __future__ import annotations
 

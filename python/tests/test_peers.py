@@ -1,4 +1,4 @@
-"""The calls next to their peers: scikit-learn, GDAL and scipy. GRASS is in test_grass.py."""
+"""Compare calls with scikit-learn, GDAL and scipy. GRASS is in test_grass.py."""
 
 from __future__ import annotations
 
@@ -61,7 +61,7 @@ def test_blocks_are_those_of_gdal_unless_classes_are_as_frequent(name: str, fact
 
 
 def test_gdal_leaves_small_patches_that_are_merged_here(tmp_path: pathlib.Path) -> None:
-    """GDAL merges into the largest neighbour, and never into one that is small itself."""
+    """GDAL merges into the largest neighbour, and never into a small neighbour."""
     land = rcell.Raster(random_map(3, 60, 60, 9, 0, 1), SQUARE, crs="EPSG:32632")
     source, target = str(tmp_path / "land.tif"), str(tmp_path / "gdal.tif")
     land.write(source)

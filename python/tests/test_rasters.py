@@ -1,4 +1,4 @@
-"""Rasters in: what rasterio opens."""
+"""Test input rasters that rasterio opens."""
 
 from __future__ import annotations
 

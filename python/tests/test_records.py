@@ -1,4 +1,4 @@
-"""Records of tables: nothing differs if nothing changed, and each change is named."""
+"""Test that records verify unchanged inputs and name each change."""
 
 from __future__ import annotations
 
@@ -26,7 +26,7 @@ def write(path: pathlib.Path, cells: Any, labels: Any = None) -> None:
 
 @pytest.fixture
 def folder(tmp_path: pathlib.Path) -> pathlib.Path:
-    """Returns a folder with a map, zones and a legend."""
+    """Return a folder with a map, zones and a legend."""
     write(tmp_path / "lc.tif", random_map(1, 40, 50, 3), LABELS)
     write(tmp_path / "zones.tif", random_map(2, 40, 50, 2, 0, 10))
     (tmp_path / "legend.csv").write_text("value,label\n1,a\n2,b\n3,c\n")
@@ -60,7 +60,7 @@ def test_the_same_maps_and_call_give_the_same_bytes(folder: pathlib.Path) -> Non
 def test_sums_are_of_cells_whatever_their_file(
     folder: pathlib.Path, tmp_path: pathlib.Path
 ) -> None:
-    """A copy in another folder, with another type, nodata value and compression, is the same map."""
+    """A copy with another folder, type, nodata value and compression has the same checksum."""
     path, other = recorded(folder), tmp_path / "other"
     other.mkdir()
     for name in ("t.csv", "t.csv.json", "lc.tif.aux.xml", "zones.tif"):

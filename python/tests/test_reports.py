@@ -1,4 +1,4 @@
-"""Reports: one page for people, which loads nothing from elsewhere."""
+"""Test reports, which are single pages that load nothing from other sites."""
 
 from __future__ import annotations
 
@@ -23,7 +23,7 @@ LABELS = {1: "wood & <b>water</b>", 2: "town"}
 
 @pytest.fixture
 def table(tmp_path: pathlib.Path) -> pathlib.Path:
-    """Returns a recorded table of a map."""
+    """Return a recorded table of a map."""
     land = rcell.Raster(random_map(1, 40, 50, 3), PLACE, "EPSG:32633", labels=LABELS)
     land.write(tmp_path / "lc.tif")
     rcell.record(tmp_path / "t.csv", rcell.composition, tmp_path / "lc.tif")
@@ -37,7 +37,7 @@ def page_of(*tables: pathlib.Path, title: str = "Report") -> str:
 
 
 class _Elements(html.parser.HTMLParser):
-    """Collects the elements of a page and their texts, and sees that they are closed."""
+    """Collects the elements and texts of a page, and checks that elements are closed."""
 
     def __init__(self, page: str) -> None:
         super().__init__()

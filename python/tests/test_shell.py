@@ -1,4 +1,4 @@
-"""The command line rcell-gis."""
+"""Test the command line of rcell-gis."""
 
 from __future__ import annotations
 

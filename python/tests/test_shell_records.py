@@ -1,4 +1,4 @@
-"""The commands of rcell-gis that write several maps, and that record, verify and report tables."""
+"""Test rcell-gis commands that write several maps, or record, verify and report tables."""
 
 from __future__ import annotations
 

@@ -1,4 +1,4 @@
-"""rcell-gis on texts: conversions, explanations, folders of outputs, messages; as a user runs it."""
+"""Run rcell-gis on texts: conversions, explanations, folders of outputs, and messages."""
 
 from __future__ import annotations
 
@@ -26,7 +26,7 @@ PROGRAM = str(ROOT / "helpers/rcell-gis")
 GRID = "north: 3\nsouth: 0\neast: 4\nwest: 0\nrows: 3\ncols: 4\n1 1 2 *\n1 2 2 2\n3 3 1 1\n"
 ESRI = "ncols 4\nnrows 3\nxllcorner 0\nyllcorner 0\ncellsize 1.0\nNODATA_value {}\n{}\n"
 CELLS = "1 1 2 {0}\n1 2 2 2\n3 3 1 1"
-# The command line in a Python that has no libraries.
+# The command line in a Python without libraries.
 BARE = (
     "import sys; sys.modules.update(dict.fromkeys(['numpy', 'rasterio', 'osgeo', 'pandas', 'pyproj']))\n"
     "from rcell.shell import main; sys.exit(main())"
@@ -368,7 +368,7 @@ def test_an_interrupt_is_silent_at_any_moment(raster: Write) -> None:
         program.send_signal(signal.SIGINT)
         out, told = program.communicate()
         assert told == b"" and (program.returncode == 0 or out == b"")
-        # Before Python is there, the system ends the process.
+        # Until Python has started, the system ends the process.
         assert program.returncode in (0, 130, -signal.SIGINT)
 
 

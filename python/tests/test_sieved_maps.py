@@ -1,4 +1,4 @@
-"""Sieved maps, next to the definition written out cell by cell."""
+"""Test sieved maps with a cell-by-cell definition."""
 
 from __future__ import annotations
 
@@ -19,7 +19,7 @@ def placed(cells: Any, crs: Any = "EPSG:32632") -> Any:
 
 
 def account_of(before: Any, after: Any, fewest: int, connectivity: int) -> tuple[int, ...]:
-    """Return the numbers that `sieved` must have."""
+    """Return the expected values of `sieved`."""
     sizes = [len(patch) for patch in patches(after, connectivity)]
     changed = sum(one != other for one, other in zip(sum(before, []), sum(after, [])))
     below = sum(size < fewest for size in sizes)

@@ -1,4 +1,4 @@
-"""Trajectories of classes, next to a plain count of sequences."""
+"""Compare trajectories of classes with a simple count of sequences."""
 
 from __future__ import annotations
 
@@ -17,7 +17,7 @@ DEGREES = (0.1, 0.0, 5.0, 0.0, -0.1, 50.0)
 
 
 def series(count: int) -> list[Any]:
-    """Return maps of so many years, each with some other cells than the one before."""
+    """Return maps of `count` years, in which some cells change each year."""
     random = np.random.default_rng(count)
     maps = [random_map(20, 12, 13, 4, 0.05, 3)]
     for _ in range(count - 1):

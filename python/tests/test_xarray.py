@@ -1,5 +1,5 @@
 # SPDX-License-Identifier: Apache-2.0 OR GPL-2.0-or-later
-"""DataArrays whose cells Dask holds, and stores of Zarr, compared with the same cells in memory."""
+"""Compare Dask arrays and Zarr stores with the same cells in memory."""
 
 from __future__ import annotations
 
@@ -25,7 +25,7 @@ NULL = -2147483648
 
 
 def array_of(cells: Any, chunks: Any, name: str = "lc", nodata: Any = NO_CELL) -> Any:
-    """A DataArray of Dask, on a grid of cells of 25 x 50."""
+    """Return a Dask DataArray on a grid with cells of 25 x 50."""
     rows, cols = cells.shape
     place = xarray.Variable((), 0, {"GeoTransform": "1000 25 0 5000 0 -50"})
     centres = {"y": 5000 - 50 * (np.arange(rows) + 0.5), "x": 1000 + 25 * (np.arange(cols) + 0.5)}

@@ -1,4 +1,4 @@
-"""Zones that are polygons: which zone each feature is, and what the warnings name."""
+"""Test polygons as zones: the zone of each feature, and the warnings."""
 
 from __future__ import annotations
 
@@ -17,7 +17,7 @@ ogr = pytest.importorskip("osgeo.ogr")
 osr = pytest.importorskip("osgeo.osr")
 rcell = pytest.importorskip("rcell")
 
-# A map of 4 x 4 cells of 10 m with one class, and polygons over its parts.
+# A map of 4 x 4 cells of 10 m with one class, and polygons on parts of it.
 MAP = rcell.Raster(np.ones((4, 4), int), (10, 0, 0, 0, -10, 40), crs="EPSG:32632")
 LEFT = "POLYGON ((0 0, 20 0, 20 40, 0 40, 0 0))"
 RIGHT = "POLYGON ((20 0, 40 0, 40 40, 20 40, 20 0))"

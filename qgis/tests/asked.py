@@ -1,4 +1,4 @@
-"""A table of some rasters, as a script asks for it."""
+"""Compute a table of rasters with a script."""
 
 from __future__ import annotations
 
@@ -13,7 +13,7 @@ from rcell.core.rasters import Raster
 def table(
     program: str, rasters: Sequence[Raster], nulls: bool, watch: Watch | None = None
 ) -> answers.Table:
-    """How many cells each combination of categories has; columns of labels if a map has labels."""
+    """Count the cells of each combination of categories, with labels if a map has labels."""
     maps = {f"map_{place}": raster for place, raster in enumerate(rasters, 1)}
     found = answers.run(
         program, f"r.stats -c{'' if nulls else 'n'} input={','.join(maps)}", maps, watch=watch

@@ -1,4 +1,7 @@
-"""Writes a map and two tables where a file may have a few hundred bytes, and prints what is said of each: full_disk.py RASTER FOLDER."""
+"""Write a map and two tables with a limit of a few hundred bytes per file.
+
+Usage: full_disk.py RASTER FOLDER. It prints the message for each output.
+"""
 
 from __future__ import annotations
 
@@ -22,7 +25,7 @@ def main() -> None:
     table = Table(
         [Column("lc", "class", np.arange(5000)), Column("cells", "count", np.arange(5000))]
     )
-    # Python sees an error and no signal.
+    # Python then gets an error instead of a signal.
     signal.signal(signal.SIGXFSZ, signal.SIG_IGN)
     resource.setrlimit(resource.RLIMIT_FSIZE, (9000, 9000))
     for write in (

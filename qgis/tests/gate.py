@@ -1,4 +1,7 @@
-"""Runs some files of tests, by their patterns, without pytest; the last line is 'N passed, M failed, K skipped'."""
+"""Run test files that match patterns, without pytest.
+
+The last line is 'N passed, M failed, K skipped'.
+"""
 
 from __future__ import annotations
 

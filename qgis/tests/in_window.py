@@ -1,6 +1,10 @@
-"""What is done inside the window of QGIS: installs the zip as Install from ZIP does, runs algorithms as the toolbox does, and prints what came of it.
+"""Test the plugin inside the window of QGIS.
 
-QGIS runs this file (`--code`); the environment names the zip, a room with the raster cover.tif, and the file for the result.
+The script installs the zip like Install from ZIP, runs algorithms like the toolbox, and writes the
+results.
+
+QGIS runs this file (`--code`). The environment names the zip, a folder with the raster cover.tif,
+and the file for the results.
 """
 
 from __future__ import annotations
@@ -29,7 +33,7 @@ ZIP, ROOM, TOLD = (
 
 
 def installed() -> dict[str, Any]:
-    """Installs the plugin."""
+    """Install the plugin."""
     import pyplugin_installer
     from qgis.utils import active_plugins, home_plugin_path
 
@@ -49,7 +53,7 @@ def installed() -> dict[str, Any]:
 
 
 def dialog_of(name: str, parameters: dict[str, Any]) -> Any:
-    """The dialog of an algorithm, filled in."""
+    """Return the dialog of an algorithm with parameters filled in."""
     from processing.gui.AlgorithmDialog import AlgorithmDialog
 
     dialog = AlgorithmDialog(
@@ -61,7 +65,7 @@ def dialog_of(name: str, parameters: dict[str, Any]) -> Any:
 
 
 def wait_for(done: Any, seconds: float = 30) -> bool:
-    """Lets QGIS work until something is so."""
+    """Let QGIS process events until a condition is true."""
     ends = time.monotonic() + seconds
     while not done() and time.monotonic() < ends:
         QApplication.processEvents()
@@ -70,7 +74,7 @@ def wait_for(done: Any, seconds: float = 30) -> bool:
 
 
 def run_in_dialog() -> dict[str, Any]:
-    """Presses Run in the dialog, and looks at the layer that QGIS loads."""
+    """Press Run in the dialog, and check the layer that QGIS loads."""
     cover = QgsRasterLayer(os.path.join(ROOM, "cover.tif"), "cover")
     QgsProject.instance().addMapLayer(cover)
     dialog = dialog_of(
@@ -91,7 +95,7 @@ def run_in_dialog() -> dict[str, Any]:
 
 
 def marked_in_log() -> dict[str, Any]:
-    """A line of a script that is rejected: what the log of the dialog shows."""
+    """Run a script with an invalid line, and return the log of the dialog."""
     cover = QgsProject.instance().mapLayersByName("cover")[0]
     dialog = dialog_of(
         "rcell:script", {"INPUT": [cover.id()], "NAMES": "lc", "SCRIPT": "r.mapcalc x = lc + 1.5"}
@@ -108,7 +112,7 @@ def marked_in_log() -> dict[str, Any]:
 
 
 def refused_in_dialog() -> dict[str, Any]:
-    """Two rasters that do not fit: the dialog stays open and says why."""
+    """Run the dialog with two rasters on different grids; it must stay open with a message."""
     shifted = QgsRasterLayer(os.path.join(ROOM, "shifted.tif"), "shifted")
     QgsProject.instance().addMapLayer(shifted)
     cover = QgsProject.instance().mapLayersByName("cover")[0]
@@ -126,7 +130,7 @@ def _context() -> QgsProcessingContext:
 
 
 def cancelled_in_dialog() -> dict[str, Any]:
-    """Cancels while a large map is worked on in a thread of its own, as the dialog does."""
+    """Cancel a run over a large map in a separate thread, like the dialog."""
     large = os.path.join(ROOM, "large.tif")
     target = os.path.join(ROOM, "never.tif")
     parameters = {
@@ -137,7 +141,7 @@ def cancelled_in_dialog() -> dict[str, Any]:
     }
     from qgis.core import QgsProcessingAlgRunnerTask, QgsProcessingFeedback
 
-    # The task keeps no hold of what it is given.
+    # Keep references, because the task does not.
     feedback, context, ended = QgsProcessingFeedback(), _context(), []
     algorithm = QgsApplication.processingRegistry().createAlgorithmById("rcell:patches")
     task = QgsProcessingAlgRunnerTask(algorithm, parameters, context, feedback)
@@ -175,7 +179,7 @@ def main() -> None:
 
 
 def tell(told: dict[str, Any]) -> None:
-    """Writes what has been found so far: QGIS may end before it is asked to."""
+    """Write the results so far, because QGIS may end unexpectedly."""
     with open(TOLD, "w", encoding="utf-8") as file:
         json.dump(told, file)
 

@@ -1,4 +1,4 @@
-"""Rasters that the tests make, and a plain model of what is asked of them."""
+"""Create rasters for tests, and define the expected results with simple code."""
 
 from __future__ import annotations
 
@@ -26,7 +26,7 @@ def write(
     driver: str = "GTiff",
     bands: int = 1,
 ) -> str:
-    """Writes cells as a raster, and returns its path."""
+    """Write cells as a raster, and return its path."""
     array = np.atleast_2d(np.asarray(cells))
     memory = gdal.GetDriverByName("MEM").Create("", array.shape[1], array.shape[0], bands, dtype)
     if transform is not None:
@@ -48,7 +48,7 @@ def write(
 
 
 def noise(seed: int, rows: int, cols: int, most: int = 12, null: float = 0.05) -> NDArray[np.int32]:
-    """Categories 1 to `most` at random; 0 is null."""
+    """Return random categories from 1 to `most`; 0 is null."""
     generator = np.random.default_rng(seed)
     cells = generator.integers(1, most + 1, (rows, cols), np.int32)
     cells[generator.random((rows, cols)) < null] = 0
@@ -56,7 +56,7 @@ def noise(seed: int, rows: int, cols: int, most: int = 12, null: float = 0.05) -
 
 
 def patchy(seed: int, rows: int, cols: int, most: int = 9) -> NDArray[np.int32]:
-    """Patches: blocks of several sizes laid over one another; 0 is null."""
+    """Return patches made of overlapping blocks of several sizes; 0 is null."""
     generator = np.random.default_rng(seed)
     cells = np.full((rows, cols), 1, np.int32)
     for _ in range(rows * cols // 40):
@@ -67,7 +67,7 @@ def patchy(seed: int, rows: int, cols: int, most: int = 9) -> NDArray[np.int32]:
 
 
 def counts(*maps: NDArray[Any], nulls: bool = False) -> dict[tuple[Any, ...], int]:
-    """How many cells each combination has, by a loop; 0 is null."""
+    """Count the cells of each combination with a loop; 0 is null."""
     found: dict[tuple[Any, ...], int] = {}
     for key in zip(*(cells.reshape(-1).tolist() for cells in maps)):
         if nulls or 0 not in key:
@@ -76,7 +76,7 @@ def counts(*maps: NDArray[Any], nulls: bool = False) -> dict[tuple[Any, ...], in
 
 
 def areas(cells: NDArray[Any], diagonal: bool) -> NDArray[np.int32]:
-    """The numbers of connected areas by a plain search; 0 where a cell is null."""
+    """Number the patches with a simple search; 0 is null."""
     rows, cols = cells.shape
     numbers = np.zeros((rows, cols), np.int32)
     count = 0
@@ -108,7 +108,7 @@ def _around(at: tuple[int, ...], diagonal: bool) -> Iterator[tuple[int, int]]:
 
 
 def commonest(cells: NDArray[Any], size: int) -> NDArray[np.int32]:
-    """The commonest category of the square around each cell, the smallest if there are several; 0 is null."""
+    """Return the most frequent category of each cell's square, the smallest in a tie; 0 is null."""
     rows, cols = cells.shape
     reach = size // 2
     made = np.zeros((rows, cols), np.int32)
@@ -123,7 +123,7 @@ def commonest(cells: NDArray[Any], size: int) -> NDArray[np.int32]:
 
 
 def running(path: str) -> list[str]:
-    """The processes that a program has."""
+    """Return the running processes of a program."""
     found = []
     for number in filter(str.isdigit, os.listdir("/proc")):
         with contextlib.suppress(OSError), open(f"/proc/{number}/cmdline", "rb") as file:
@@ -133,5 +133,5 @@ def running(path: str) -> list[str]:
 
 
 def left_in(folder: str) -> list[str]:
-    """What is in a folder that no one asked for."""
+    """Return the unexpected files in a folder."""
     return sorted(name for name in os.listdir(folder) if ".part" in name)

@@ -1,4 +1,4 @@
-"""A QGIS without a screen, with the plugin in it: one for all tests of a process."""
+"""Start QGIS without a screen and with the plugin, once for all tests of a process."""
 
 from __future__ import annotations
 
@@ -22,7 +22,7 @@ _kept: list[Any] = []
 
 
 def start() -> None:
-    """Starts QGIS, once."""
+    """Start QGIS, once."""
     if _kept:
         return
     application = QgsApplication([], False)
@@ -39,38 +39,38 @@ def start() -> None:
 
 
 def has(algorithm: str) -> bool:
-    """Whether QGIS has an algorithm."""
+    """Return whether QGIS has an algorithm."""
     return QgsApplication.processingRegistry().algorithmById(algorithm) is not None
 
 
 class Log(QgsProcessingFeedback):
-    """The messages of a run."""
+    """Collects the messages of a run."""
 
     def __init__(self) -> None:
         super().__init__(False)
         self.told: list[str] = []
 
     def pushCommandInfo(self, text: str) -> None:
-        """What is run."""
+        """Store a command."""
         self.told.append(f"command: {text}")
 
     def pushInfo(self, text: str) -> None:
-        """What is said by the way."""
+        """Store an information message."""
         self.told.append(f"info: {text}")
 
     def pushWarning(self, text: str) -> None:
-        """What is warned of."""
+        """Store a warning."""
         self.told.append(f"warning: {text}")
 
     def reportError(self, text: str, fatalError: bool = False) -> None:
-        """What went wrong."""
+        """Store an error."""
         self.told.append(f"error: {text}")
 
 
 def run(
     algorithm: Any, log: QgsProcessingFeedback | None = None, **parameters: Any
 ) -> dict[str, Any]:
-    """Runs an algorithm, by its name or a model, and returns its results."""
+    """Run an algorithm, given by name or as a model, and return its results."""
     import processing
 
     found: dict[str, Any] = processing.run(algorithm, parameters, feedback=log or Log())
@@ -78,7 +78,7 @@ def run(
 
 
 def districts() -> Any:
-    """Two polygons over the left part of the maps that are made, with a name and a number."""
+    """Return two polygons with names and numbers, over the left part of the test maps."""
     from qgis.core import QgsFeature, QgsGeometry, QgsVectorLayer
 
     layer = QgsVectorLayer(
@@ -101,7 +101,7 @@ def districts() -> Any:
 
 
 def rows(layer: Any) -> tuple[list[str], list[list[Any]]]:
-    """The titles and the rows of a table, None for null."""
+    """Return the titles and rows of a table, with None for null."""
     from qgis.core import NULL, QgsVectorLayer
 
     table = QgsVectorLayer(layer, "table", "ogr") if isinstance(layer, str) else layer

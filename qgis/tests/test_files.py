@@ -1,4 +1,4 @@
-"""Rasters and tables that are written: completely or not at all, with labels, types and places."""
+"""Test that rasters and tables are written completely or not at all, with all metadata."""
 
 from __future__ import annotations
 
@@ -88,7 +88,10 @@ class FilesTest(unittest.TestCase):
             )
 
     def test_a_limit_on_files_leaves_what_stood_there(self) -> None:
-        """A full disk, by a limit on the size of files in a child of this process, since a limit cannot be raised again."""
+        """Simulate a full disk with a limit on file sizes in a child process.
+
+        A child is needed because a process cannot raise its limit again.
+        """
         self.old("kept.tif", "kept.gpkg", "kept.csv")
         child = os.path.join(os.path.dirname(__file__), "full_disk.py")
         words = [sys.executable, child, self.path("lc.tif"), self.room]
@@ -148,7 +151,7 @@ class FilesTest(unittest.TestCase):
             "with partly(sys.argv[1]) as part:\n open(part, 'w').write('half'); print(flush=True); time.sleep(600)"
         )
         for number in (signal.SIGTERM, signal.SIGHUP, signal.SIGINT):
-            # Under nohup, a test inherits signals that are ignored.
+            # Under nohup, tests inherit ignored signals.
             words = ["env", "--default-signal", sys.executable, "-c", text, self.path("old.tif")]
             with subprocess.Popen(
                 [*words, *sys.path], stdout=subprocess.PIPE, stderr=subprocess.DEVNULL

@@ -1,4 +1,4 @@
-"""The programs: their search path, and what becomes of a run that is cancelled, killed or not understood."""
+"""Test the search for programs, and runs that are cancelled, killed or not understood."""
 
 from __future__ import annotations
 
@@ -21,7 +21,7 @@ UNSET = {"RCELL": "", "RCELL_PIPE": "", "RCELL_JOIN": ""}
 
 
 class Feedback:
-    """What QGIS gives to a run."""
+    """A stand-in for the feedback that QGIS passes to a run."""
 
     def __init__(self) -> None:
         self.told: list[str] = []
@@ -100,7 +100,7 @@ class HostTest(unittest.TestCase):
                 host.find_program(self.script(text))
 
     def run_of(self, text: str, feedback: Feedback, raster: RasterMap | None = None) -> None:
-        """Counts a map with a shell script in the place of the program."""
+        """Count a map with a shell script in place of the program."""
         path, given = self.script(text), raster or self.raster()
         found = host.host_of("", feedback)
         with mock.patch.object(host, "find_program", lambda *_: path), serving(found):
@@ -120,7 +120,8 @@ class HostTest(unittest.TestCase):
             self.run_of("echo Unsinn >&2; exit 7", Feedback())
 
     def test_a_cancel_ends_the_program_within_half_a_second(self) -> None:
-        # One that reads nothing, one that has read all and works, one that writes without end; and a map that is larger than a pipe.
+        # A program that reads nothing, one that has read everything and works, and one that writes
+        # without end; the map is larger than a pipe.
         for text, rows in (
             ("exec sleep 60", 50),
             ("cat > /dev/null; exec sleep 60", 50),

@@ -1,6 +1,6 @@
-"""A raster that is cut into tiles, in QGIS and with rcell-gis: the same results, progress, and nothing left after a cancel.
+"""Compare tiles in QGIS and in rcell-gis, and test progress and cancelling.
 
-RCELL_LARGE may name a larger raster than the one that is made here.
+RCELL_LARGE may name a raster that is larger than the test raster.
 """
 
 from __future__ import annotations
@@ -25,11 +25,11 @@ from qgis.core import QgsProcessingException
 from rcell.host import find_program
 
 SOURCES = pathlib.Path(__file__).resolve().parents[2] / "python/src"
-SIDE = 3300  # more cells than one run takes
+SIDE = 3300  # more cells than one run accepts
 BLOCK = 12
 PROGRAMS = {"RCELL_PIPE": "rcell-pipe", "RCELL_JOIN": "rcell-join"}
 ALGORITHMS = {"composition": ".csv", "majority": ".tif", "clump": ".tif"}
-# QGIS shows the work of the program as the first half of its progress.
+# QGIS shows the program's work as the first half of its progress.
 HALF = 50
 SECONDS = 10
 
@@ -42,7 +42,7 @@ class LargeTest(unittest.TestCase):
         cls.addClassCleanup(cls.folder.cleanup)
         cls.room = os.path.join(cls.folder.name, "maps")
         os.mkdir(cls.room)
-        # Programs of its own: other tests may run meanwhile.
+        # Use separate copies of the programs, because other tests may run at the same time.
         copies = {
             variable: shutil.copy(find_program("", name), cls.folder.name)
             for variable, name in PROGRAMS.items()
@@ -63,7 +63,7 @@ class LargeTest(unittest.TestCase):
         return os.path.join(cls.room, name)
 
     def left(self) -> list[str]:
-        """What is in the folder of maps besides the raster, and programs that run, a moment given to those that are ending."""
+        """Return leftover files and running programs, after waiting for ending programs."""
         ends = time.monotonic() + SECONDS
         while made.running(find_program()) and time.monotonic() < ends:
             time.sleep(0.05)
@@ -71,7 +71,7 @@ class LargeTest(unittest.TestCase):
         return names + made.running(find_program())
 
     def qgis(self, name: str, out: str, most: float = 100) -> list[float]:
-        """Runs an algorithm, cancels it at some progress, and returns the progress."""
+        """Run an algorithm, cancel it at a progress, and return all progress values."""
         log, seen = session.Log(), list[float]()
 
         def note(progress: float) -> None:
@@ -117,7 +117,7 @@ class LargeTest(unittest.TestCase):
 
 
 def _are_equal(path: str, other: str) -> bool:
-    """Whether two tables have the same bytes, or two maps the same cells."""
+    """Return whether two tables have the same bytes, or two maps the same cells."""
     if path.endswith(".csv"):
         return pathlib.Path(path).read_bytes() == pathlib.Path(other).read_bytes()
     one, two = gdal.Open(path), gdal.Open(other)

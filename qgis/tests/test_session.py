@@ -1,4 +1,4 @@
-"""A short session of QGIS: each algorithm once, what the dialog rejects, legends, labels, names of fields."""
+"""Test each algorithm in a QGIS session, and errors, legends, labels and field names."""
 
 from __future__ import annotations
 
@@ -147,7 +147,7 @@ class TableTest(InSession):
 
 
 class RefusalsTest(InSession):
-    """What the dialog rejects before the run; the same words come from qgis_process."""
+    """Errors that the dialog shows before the run, and that qgis_process prints."""
 
     def test_maps(self) -> None:
         shifted = made.write(
@@ -492,7 +492,7 @@ class MapsTest(InSession):
         band = dataset.GetRasterBand(1)
         band.GetNoDataValue()
         self.assertEqual(band.GetRasterCategoryNames()[1], "green, all of it")
-        # What it leaves passes to the next algorithm: the label, and not the count of the legend.
+        # The next algorithm gets the label, but not the legend's count.
         rows = session.rows(
             self.run_(
                 "cross", INPUT=[QgsRasterLayer(found["OUTPUT"], "r")], OUTPUT="TEMPORARY_OUTPUT"
@@ -712,9 +712,9 @@ class MapsTest(InSession):
             )
         )
         for child in model.childAlgorithms():
-            # The designer shows a box in red if it lacks a parameter that is not optional.
+            # The designer marks a box in red if a required parameter is missing.
             self.assertEqual(model.validateChildAlgorithm(child), (True, []))
-        # QGIS leaves statistics next to a raster that it opens.
+        # QGIS writes statistics next to rasters that it opens.
         shutil.copytree(
             os.path.join(os.path.dirname(results.__file__), "../../examples/rasters"),
             self.path("islands"),

@@ -1,4 +1,4 @@
-"""Results equal to QGIS's own algorithms and of GRASS, on random, patchy and one real map."""
+"""Compare results with QGIS's own algorithms and with GRASS, on random, patchy and real maps."""
 
 from __future__ import annotations
 
@@ -19,11 +19,11 @@ ISLANDS = os.path.join(os.path.dirname(os.path.abspath(__file__)), "../../exampl
 
 
 class AnswersTest(InSession):
-    """Each map by three ways: the plugin, native:rasterlayeruniquevaluesreport, grass7:r.stats."""
+    """Compares the plugin, native:rasterlayeruniquevaluesreport and grass7:r.stats for each map."""
 
     def setUp(self) -> None:
         super().setUp()
-        # QGIS leaves statistics next to a raster that it opens.
+        # QGIS writes statistics next to rasters that it opens.
         shutil.copytree(ISLANDS, self.path("islands"))
 
     def maps(self) -> dict[str, str]:
@@ -38,7 +38,7 @@ class AnswersTest(InSession):
         }
 
     def counted(self, path: str) -> dict[tuple[int, ...], tuple[int, float]]:
-        """Cells and square metres of each category by the plugin."""
+        """Return the cells and square metres of each category, counted with the plugin."""
         titles, rows = session.rows(
             self.run_("composition", INPUT=path, AREA="m2", OUTPUT="TEMPORARY_OUTPUT")["OUTPUT"]
         )
@@ -65,7 +65,7 @@ class AnswersTest(InSession):
                     self.assertAlmostEqual(area / native[key][1], 1.0, 9)
 
     def grass(self, *paths: str) -> dict[tuple[int, ...], int]:
-        """Cells of each combination by r.stats."""
+        """Return the cells of each combination, counted with r.stats."""
         target = self.path("stats.html")
         session.run(
             "grass7:r.stats",
@@ -143,7 +143,7 @@ class AnswersTest(InSession):
                     )
 
     def assert_one_to_one(self, mine: NDArray[np.int32], dataset: gdal.Dataset, count: int) -> None:
-        """The same patches under other numbers."""
+        """Assert that the patches are the same, apart from their numbers."""
         theirs = dataset.ReadAsArray().astype(np.int64)
         nodata = dataset.GetRasterBand(1).GetNoDataValue()
         theirs[theirs == nodata] = 0

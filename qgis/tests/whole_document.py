@@ -1,4 +1,7 @@
-"""The commands of docs/qgis.md, in a profile of its own that has the zip: what the page shows is what comes out. RCELL_QGIS_ZIP names the zip."""
+"""Run the commands of docs/qgis.md in a separate profile, and compare their output.
+
+RCELL_QGIS_ZIP names the zip with the plugin.
+"""
 
 from __future__ import annotations
 
@@ -15,7 +18,7 @@ REPOSITORY = pathlib.Path(__file__).resolve().parent.parent.parent
 
 
 def sessions() -> list[tuple[str, str]]:
-    """The commands of all blocks `console`, each with what is shown below it."""
+    """Return the commands in all `console` blocks, each with its expected output."""
     text = (REPOSITORY / "docs/qgis.md").read_text(encoding="utf-8")
     found = []
     for block in re.findall(r"(?ms)^```console\n(.*?)^```", text):

@@ -1,6 +1,6 @@
-"""The zip in a profile of its own, used from the command line by qgis_process, as a user without a screen would.
+"""Test the zip in a separate profile with qgis_process, from the command line.
 
-The program comes out of the zip without the right to be executed, as QGIS leaves it. RCELL_QGIS_ZIP names the zip.
+The program is extracted without execute permission, as QGIS does it. RCELL_QGIS_ZIP names the zip.
 """
 
 from __future__ import annotations
@@ -22,7 +22,7 @@ import numpy as np
 from osgeo import gdal, ogr
 
 ZIP = os.environ["RCELL_QGIS_ZIP"]
-# Debian's qgis_process gives it the options of the desktop program, and it then fails.
+# Debian's qgis_process passes options of the desktop program, with which it fails.
 PROGRAM = shutil.which("qgis_process.bin") or "qgis_process"
 
 

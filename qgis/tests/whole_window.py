@@ -1,4 +1,8 @@
-"""The window of QGIS on a screen that is not there: Install from ZIP in an empty profile, the dialog, a cancel. RCELL_QGIS_ZIP names the zip."""
+"""Test the window of QGIS on a virtual screen.
+
+The tests use Install from ZIP in an empty profile, run a dialog, and cancel a run. RCELL_QGIS_ZIP
+names the zip.
+"""
 
 from __future__ import annotations
 
