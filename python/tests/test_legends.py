@@ -12,10 +12,7 @@ pandas = pytest.importorskip("pandas")
 rcell = pytest.importorskip("rcell")
 
 MAP = np.array([[1, 1, 2]])
-QML = (
-    "<!DOCTYPE qgis PUBLIC 'http://mrcc.com/qgis.dtd' "
-    "'SYSTEM'>\n<qgis><rasterrenderer>{}</rasterrenderer></qgis>"
-)
+QML = "<!DOCTYPE qgis PUBLIC 'http://mrcc.com/qgis.dtd' 'SYSTEM'>\n<qgis><rasterrenderer>{}</rasterrenderer></qgis>"
 
 
 def labels(legend: Any) -> list[Any]:
@@ -48,15 +45,13 @@ def written(folder: pathlib.Path, name: str, text: str | bytes) -> str:
         (
             "l.qml",
             QML.format(
-                '<paletteEntry value="1" label="wood" color="#00ff00"/><paletteEntry\n '
-                'value="2.0" label="water"/>'
+                '<paletteEntry value="1" label="wood" color="#00ff00"/><paletteEntry\n value="2.0" label="water"/>'
             ),
         ),
         (
             "l.qml",
             QML.format(
-                "<colorrampshader><item label='wood' value='1'/><item label='water' "
-                "value='2'/></colorrampshader>"
+                "<colorrampshader><item label='wood' value='1'/><item label='water' value='2'/></colorrampshader>"
             ),
         ),
     ],
@@ -77,20 +72,20 @@ def test_characters_of_a_style_are_read_by_a_parser(tmp_path: pathlib.Path) -> N
         ("l.csv", "", "is empty"),
         ("l.csv", "1,wood\n2,water\n", r"no header with value and label: line 1 is '1,wood'"),
         ("l.csv", "value;label\n1;wood\n", r"separated by ';': save it with commas"),
-        ("l.csv", "value,label\n1,wood\n1.0,water\n", ("line 3: value 1 occurs twice, first "         "in line 2")),
+        ("l.csv", "value,label\n1,wood\n1.0,water\n", "line 3: value 1 occurs twice, first in line 2"),
         ("l.csv", "value,label\n1.5,wood\n", "line 2: 1.5 is not a whole number"),
         ("l.csv", "value,label\n\n,wood\n", "line 3: a label without a value"),
-        ("l.csv", "value,label\n99999999999,wood\n", ("line 2: 99999999999 is outside -2147483647 to "         "2147483647")),
-        ("l.csv", "value,label\n1,wood, dry\n", ("line 2: 3 fields under a header of 2: put a label with a comma "         "in quotes")),
-        ("l.csv", "value,label,colour\n1,wood,green\n", ("line 2: green is not a colour such as "         "#00ff00")),
+        ("l.csv", "value,label\n99999999999,wood\n", "line 2: 99999999999 is outside -2147483647 to 2147483647"),
+        ("l.csv", "value,label\n1,wood, dry\n", "line 2: 3 fields under a header of 2: put a label with a comma in quotes"),
+        ("l.csv", "value,label,colour\n1,wood,green\n", "line 2: green is not a colour such as #00ff00"),
         ("l.csv", "value,label\n1,wo\0od\n", "line 2: a label with the character NUL"),
         ("l.csv", "value,label\n1,w\u00f6d\n".encode("latin-1"), "line 2 is not UTF-8: save it as UTF-8"),
         ("l.csv", "value,label\n1,w\u00f6d\n".encode("utf-16"), "is UTF-16: save it as UTF-8"),
-        ("l.qml", QML.format(('<paletteEntry value="inf" '         'label="wood"/>')), "inf is not a whole number"),
-        ("l.qml", QML.format(('<paletteEntry value="0.5" '         'label="wood"/>')), "0.5 is not a whole number"),
+        ("l.qml", QML.format('<paletteEntry value="inf" label="wood"/>'), "inf is not a whole number"),
+        ("l.qml", QML.format('<paletteEntry value="0.5" label="wood"/>'), "0.5 is not a whole number"),
         ("l.qml", QML.format(""), "has no classes"),
         ("l.qml", "<qgis>", "line 1"),
-        ("l.qml", ('<!DOCTYPE q [<!ENTITY a "b">]><q><paletteEntry value="1" '         'label="&a;"/></q>'), "entities"),
+        ("l.qml", '<!DOCTYPE q [<!ENTITY a "b">]><q><paletteEntry value="1" label="&a;"/></q>', "entities"),
     ],
 )  # fmt: skip
 def test_legends_that_are_refused(tmp_path: pathlib.Path, name: str, text: Any, told: str) -> None:
