@@ -80,11 +80,8 @@ def patches(seed: int, rows: int, cols: int, classes: int) -> NDArray[np.uint8]:
 def maps(room: str, short: bool) -> list[Map]:
     """Write the maps, and return them."""
     found = []
-    sizes = {
-        "patches": (400, 500) if short else (4000, 5000),
-        "noise": (300, 300) if short else (2000, 2000),
-    }
-    for name, (rows, cols) in sizes.items():
+    rows, cols = (300, 300) if short else (3000, 3000)
+    for name in ("patches", "noise"):
         cells = patches(1, rows, cols, 15) if name == "patches" else made.noise(2, rows, cols)
         zones = patches(3, rows, cols, 8) if name == "patches" else made.noise(4, rows, cols, 5)
         paths = [

@@ -1,7 +1,7 @@
 # Times the package for R and terra: nanoseconds of the processor (user and system, children included) a cell, by turns in one run, the
 # smallest of the rounds.
 #
-#     RCELL=bin/rcell Rscript bench/r.R [--short]      maps of 2000 x 2000 cells, or of 300 x 300
+#     RCELL=bin/rcell Rscript bench/r.R [--short]      maps of 3000 x 3000 cells, or of 300 x 300
 #
 # The package rcell must be installed, and the reference for all ratios is what is in the same line.
 
@@ -11,7 +11,7 @@ suppressMessages({
 })
 terraOptions(progress = 0)
 SHORT <- "--short" %in% commandArgs(TRUE)
-SIDE <- if (SHORT) 300L else 2000L
+SIDE <- if (SHORT) 300L else 3000L
 # terra's time for patches of noise grows with the square of the cells.
 SMALL <- 200L
 ROUNDS <- if (SHORT) 3L else 2L
