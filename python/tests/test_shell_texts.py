@@ -318,6 +318,10 @@ def test_misspelt_words(capfd: Any) -> None:
             "--lables is not expected: did you mean --labels?",
         ),
         (["patches", "a.tif", "--min", "2"], "--min is not expected"),
+        (
+            ["sieve", "a.tif", "--out", "b.tif"],
+            "--out is not expected: name the file to write after MAP, without an option",
+        ),
     ):
         with pytest.raises(SystemExit) as ended:
             main(words)

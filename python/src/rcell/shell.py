@@ -61,6 +61,9 @@ _WITHOUT_WORK = ("convert", "explain", "report")
 _SYNOPSIS = 30  # the width of the help's first column
 BAD_INPUT, COMMAND_LINE, MEMORY, FILES, INTERRUPTED = 1, 2, 3, 4, 130
 LONGEST_NAME = 255  # the longest file name in bytes
+# The options that other tools have for the file to write.
+OUT_OPTIONS = ("--out", "--output", "-o")
+OUT_IS_LAST = "name the file to write after MAP, without an option"
 RECORD_IS_AN_OPTION = "add --record and --out FILE.csv to the command that makes the table"
 
 
@@ -119,7 +122,10 @@ def _parsed(words: list[str]) -> argparse.Namespace:
     if rest:
         parser = commands[settings.command]
         known = [option for action in parser._actions for option in action.option_strings]
-        close = [f"did you mean {name}?" for name in near(rest[0].partition("=")[0], known)]
+        unknown = rest[0].partition("=")[0]
+        close = [f"did you mean {name}?" for name in near(unknown, known)]
+        if unknown in OUT_OPTIONS and any(action.metavar == "OUT" for action in parser._actions):
+            close = [OUT_IS_LAST]
         parser.error(": ".join([f"{rest[0]} is not expected", *close]))
     return settings
 
