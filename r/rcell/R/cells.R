@@ -1,4 +1,5 @@
-# SPDX-License-Identifier: Apache-2.0 OR GPL-2.0-or-later Read the cells of sources, block by block.
+# SPDX-License-Identifier: Apache-2.0 OR GPL-2.0-or-later
+# Read the cells of sources, block by block.
 
 BLOCK_CELLS <- 131072L
 EXACT_FLOAT <- 16777216

@@ -1,5 +1,5 @@
-# SPDX-License-Identifier: Apache-2.0 OR GPL-2.0-or-later Read the features of a layer of polygons
-# or points, with the values of one field.
+# SPDX-License-Identifier: Apache-2.0 OR GPL-2.0-or-later
+# Read the features of a layer of polygons or points, with the values of one field.
 
 LAYER_MARK <- "|layername="
 # The roles of a layer: its name in messages, and the required kind of features.

@@ -1,5 +1,5 @@
-# SPDX-License-Identifier: Apache-2.0 OR GPL-2.0-or-later Write files to a private folder, and
-# rename them only when they are complete.
+# SPDX-License-Identifier: Apache-2.0 OR GPL-2.0-or-later
+# Write files to a private folder, and rename them only when they are complete.
 
 PIECE_BYTES <- 4194304L
 

@@ -1,5 +1,5 @@
-# SPDX-License-Identifier: Apache-2.0 OR GPL-2.0-or-later Polygons as zones: a cell belongs to the
-# polygon that contains its centre.
+# SPDX-License-Identifier: Apache-2.0 OR GPL-2.0-or-later
+# Polygons as zones: a cell belongs to the polygon that contains its centre.
 
 # Return the source of zones: a map, or polygons drawn on the grid of the map.
 zones_source <- function(zones, field, layer, source, each = FALSE) {

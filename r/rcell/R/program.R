@@ -1,5 +1,5 @@
-# SPDX-License-Identifier: Apache-2.0 OR GPL-2.0-or-later Find the programs, and run them in
-# temporary folders.
+# SPDX-License-Identifier: Apache-2.0 OR GPL-2.0-or-later
+# Find the programs, and run them in temporary folders.
 
 known_programs <- new.env(parent = emptyenv())
 

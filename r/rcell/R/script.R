@@ -1,5 +1,5 @@
-# SPDX-License-Identifier: Apache-2.0 OR GPL-2.0-or-later Plan a script: the program reports its
-# statements before any map is opened.
+# SPDX-License-Identifier: Apache-2.0 OR GPL-2.0-or-later
+# Plan a script: the program reports its statements before any map is opened.
 
 MAPS_LIMIT <- 16L
 NAME <- "[A-Za-z_][A-Za-z0-9_.]{0,63}"

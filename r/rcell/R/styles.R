@@ -1,5 +1,6 @@
-# SPDX-License-Identifier: Apache-2.0 OR GPL-2.0-or-later Read the classes of a paletted renderer or
-# colour ramp from a QGIS style. Custom XML entities are rejected.
+# SPDX-License-Identifier: Apache-2.0 OR GPL-2.0-or-later
+# Read the classes of a paletted renderer or colour ramp from a QGIS style. Custom XML entities are
+# rejected.
 
 XML_NAME <- "[A-Za-z_:][-A-Za-z0-9_:.]*+"
 XML_ATTRIBUTE <- sprintf("\\s++(%s)\\s*+=\\s*+(?:\"([^\"<]*+)\"|'([^'<]*+)')", XML_NAME)

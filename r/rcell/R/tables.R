@@ -1,5 +1,5 @@
-# SPDX-License-Identifier: Apache-2.0 OR GPL-2.0-or-later Finish a script's table: add areas and
-# percentages, or convert it to a matrix.
+# SPDX-License-Identifier: Apache-2.0 OR GPL-2.0-or-later
+# Finish a script's table: add areas and percentages, or convert it to a matrix.
 
 # Return a table with the requested columns, or as a matrix.
 finished <- function(table, answer, statement, area, percent, wide) {

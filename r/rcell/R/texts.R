@@ -1,5 +1,5 @@
-# SPDX-License-Identifier: Apache-2.0 OR GPL-2.0-or-later Read text files, and the rows of CSV and
-# TSV files.
+# SPDX-License-Identifier: Apache-2.0 OR GPL-2.0-or-later
+# Read text files, and the rows of CSV and TSV files.
 
 BYTE_ORDER_MARK <- as.raw(c(0xef, 0xbb, 0xbf))
 # A field of separated values, with or without quotation marks, and its separator or line end.
