@@ -16,8 +16,8 @@ map; otherwise a vector with the classes as names, or a data frame or CSV file w
 \item{area}{the unit of areas, as in \code{\link{rcell_composition}}; given areas are in hectares.}
 \item{field}{the field that contains the class of each point; by default \code{class} or \code{reference}.}
 \item{layer}{the layer to read if a file of points has several.}
-\item{labels}{as in \code{\link{rcell_composition}}.}
-\item{crs}{as in \code{\link{rcell_run}}.}
+\item{labels}{see \code{\link{rcell_composition}}.}
+\item{crs}{see \code{\link{rcell_run}}.}
 }
 \details{
 Accuracies, areas and their standard errors follow Olofsson et al. (2014), equations 1 to 11. All points are used, even

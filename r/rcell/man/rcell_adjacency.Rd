@@ -6,9 +6,9 @@
 rcell_adjacency(x, labels = NULL, crs = NULL)
 }
 \arguments{
-\item{x}{a map: a \code{SpatRaster}, a path or a matrix; see \code{\link{rcell-package}}.}
-\item{labels}{as in \code{\link{rcell_composition}}.}
-\item{crs}{as in \code{\link{rcell_run}}.}
+\item{x}{a map (a \code{SpatRaster}, a path or a matrix); see \code{\link{rcell-package}}.}
+\item{labels}{see \code{\link{rcell_composition}}.}
+\item{crs}{see \code{\link{rcell_run}}.}
 }
 \value{
 A data frame with \code{class}, \code{label}, \code{neighbour}, \code{neighbour_label} (if there are labels),

@@ -7,13 +7,13 @@ rcell_aggregate(x, factor, min_percent = 0, filename = "", overwrite = FALSE,
                 crs = NULL)
 }
 \arguments{
-\item{x}{a map: a \code{SpatRaster}, a path or a matrix; see \code{\link{rcell-package}}.}
+\item{x}{a map (a \code{SpatRaster}, a path or a matrix); see \code{\link{rcell-package}}.}
 \item{factor}{the number of rows and columns of a block. Blocks begin at the north-western corner, and may extend beyond
 the southern and eastern edges of the map.}
 \item{min_percent}{the percentage of a block's cells that must be in the map and have data; blocks below it, and blocks
 without data, are null.}
-\item{filename, overwrite}{as in \code{\link{rcell_grid}}; the file has the cell type FLT8S.}
-\item{crs}{as in \code{\link{rcell_run}}.}
+\item{filename, overwrite}{see \code{\link{rcell_grid}}; the file has the cell type FLT8S.}
+\item{crs}{see \code{\link{rcell_run}}.}
 }
 \value{
 A \code{SpatRaster} with the layers \code{majority} (the most frequent class, ties going to the smallest, with the

@@ -6,13 +6,13 @@
 rcell_align(x, to, resample = NULL, filename = "", overwrite = FALSE, crs = NULL)
 }
 \arguments{
-\item{x}{the map to move: a \code{SpatRaster}, a path or a matrix; see \code{\link{rcell-package}}.}
+\item{x}{the map to move (a \code{SpatRaster}, a path or a matrix); see \code{\link{rcell-package}}.}
 \item{to}{the map with the target grid; it needs no values.}
 \item{resample}{\code{NULL}: crop and extend by whole cells only; a shift by part of a cell, a different cell size or a
 different coordinate reference system is an error. \code{"nearest"}: each new cell gets the value of the cell that
 contains its centre, or on a border of the southern or eastern cell.}
-\item{filename, overwrite}{as in \code{\link{rcell_grid}}.}
-\item{crs}{as in \code{\link{rcell_run}}.}
+\item{filename, overwrite}{see \code{\link{rcell_grid}}.}
+\item{crs}{see \code{\link{rcell_run}}.}
 }
 \value{
 A \code{SpatRaster} with the labels of \code{x}. Its attribute \code{"aligned"} is a data frame with one row:

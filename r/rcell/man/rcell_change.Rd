@@ -10,10 +10,10 @@ rcell_change(before, after = NULL, years = NULL, area, labels = NULL, crs = NULL
 \item{before, after}{two maps; or a list of maps in chronological order as \code{before}; see
 \code{\link{rcell-package}}.}
 \item{years}{the years of the maps, as whole numbers; required for more than two maps.}
-\item{area}{as in \code{\link{rcell_composition}}; with \code{NULL}, matrix and summary count cells.}
+\item{area}{see \code{\link{rcell_composition}}; with \code{NULL}, matrix and summary count cells.}
 \item{labels}{a legend for all maps, as in \code{\link{rcell_composition}}. By default, maps without labels get the
 labels of the first map that has labels.}
-\item{crs}{as in \code{\link{rcell_run}}.}
+\item{crs}{see \code{\link{rcell_run}}.}
 }
 \value{
 A list of three data frames, computed from the cells with data in both years:

@@ -7,10 +7,10 @@ rcell_clump(x, connectivity = 4, classes = NULL, min_cells = NULL, filename = ""
             overwrite = FALSE, crs = NULL)
 }
 \arguments{
-\item{x}{a map: a \code{SpatRaster}, a path or a matrix; see \code{\link{rcell-package}}.}
-\item{connectivity, classes, min_cells}{as in \code{\link{rcell_patches}}. Patches that are not selected become null.}
-\item{filename, overwrite}{as in \code{\link{rcell_grid}}.}
-\item{crs}{as in \code{\link{rcell_run}}.}
+\item{x}{a map (a \code{SpatRaster}, a path or a matrix); see \code{\link{rcell-package}}.}
+\item{connectivity, classes, min_cells}{see \code{\link{rcell_patches}}. Patches that are not selected become null.}
+\item{filename, overwrite}{see \code{\link{rcell_grid}}.}
+\item{crs}{see \code{\link{rcell_run}}.}
 }
 \value{A \code{SpatRaster} of patch numbers, as listed by \code{\link{rcell_patches}}.}
 \examples{

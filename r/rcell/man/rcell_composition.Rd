@@ -8,7 +8,7 @@ rcell_composition(x, zones = NULL, area, labels = NULL, zone_labels = NULL,
                   crs = NULL)
 }
 \arguments{
-\item{x}{a map: a \code{SpatRaster}, a path or a matrix; see \code{\link{rcell-package}}.}
+\item{x}{a map (a \code{SpatRaster}, a path or a matrix); see \code{\link{rcell-package}}.}
 \item{zones}{a map of zones; or polygons, as a \code{SpatVector} or the path of a file, which can name a layer:
 \code{"FILE|layername=NAME"}. See below.}
 \item{area}{the unit of areas: \code{"ha"}, \code{"km2"} or \code{"m2"}; \code{NULL} for no area column. By default,
@@ -22,7 +22,7 @@ or TSV file in UTF-8 with the columns \code{value} and \code{label}, in any case
 \item{layer}{the layer to read if a file of polygons has several.}
 \item{each}{whether to count each polygon separately, so that overlapping polygons lose no cells to each other.}
 \item{include_null}{whether to add a row for cells without data at the end of each zone.}
-\item{crs}{as in \code{\link{rcell_run}}.}
+\item{crs}{see \code{\link{rcell_run}}.}
 }
 \details{
 \code{terra::rasterize} draws polygons on the grid of \code{x}: a cell belongs to the polygon that contains its centre.

@@ -8,11 +8,11 @@ rcell_cross(..., area, labels = NULL, include_null = FALSE, crs = NULL, maps = l
 \arguments{
 \item{...}{maps by name, for example \code{lc = "landcover.tif"}; see \code{\link{rcell-package}}. At most 16, or 15
 with areas in degrees.}
-\item{area}{as in \code{\link{rcell_composition}}.}
+\item{area}{see \code{\link{rcell_composition}}.}
 \item{labels}{a list of legends, named after the maps, for example \code{list(lc = "legend.csv")}; each as in
 \code{\link{rcell_composition}}.}
 \item{include_null}{whether to list combinations with null.}
-\item{crs, maps}{as in \code{\link{rcell_run}}.}
+\item{crs, maps}{see \code{\link{rcell_run}}.}
 }
 \value{
 A data frame with a column for each map, followed by \code{NAME_label} if the map has labels; then \code{cells},

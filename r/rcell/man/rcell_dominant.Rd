@@ -7,9 +7,9 @@ rcell_dominant(x, zones, area, labels = NULL, zone_labels = NULL, zone_field = N
                layer = NULL, each = FALSE, crs = NULL)
 }
 \arguments{
-\item{x}{a map: a \code{SpatRaster}, a path or a matrix; see \code{\link{rcell-package}}.}
-\item{zones, area, labels, zone_labels, zone_field, layer, each}{as in \code{\link{rcell_composition}}.}
-\item{crs}{as in \code{\link{rcell_run}}.}
+\item{x}{a map (a \code{SpatRaster}, a path or a matrix); see \code{\link{rcell-package}}.}
+\item{zones, area, labels, zone_labels, zone_field, layer, each}{see \code{\link{rcell_composition}}.}
+\item{crs}{see \code{\link{rcell_run}}.}
 }
 \value{
 A data frame with a row for each zone that has data: \code{zone}, \code{zone_label}, \code{cells}, \code{area_ha},

@@ -16,7 +16,7 @@ followed. A device or pipe is written to, not replaced. The file cannot be one t
 next to it, or the source of a virtual raster.}
 \item{overwrite}{whether an existing file may be replaced. The new file keeps its permissions; masks, labels and
 overviews next to the old file (\code{.msk}, \code{.aux.xml}, \code{.ovr}) are removed.}
-\item{crs, maps}{as in \code{\link{rcell_run}}.}
+\item{crs, maps}{see \code{\link{rcell_run}}.}
 }
 \value{
 A \code{SpatRaster} with the extent and reference system of the first map. Its levels are the labels of the rules that

@@ -7,11 +7,11 @@ rcell_majority(x, size = 3, fill = FALSE, filename = "", overwrite = FALSE,
                crs = NULL)
 }
 \arguments{
-\item{x}{a map: a \code{SpatRaster}, a path or a matrix; see \code{\link{rcell-package}}.}
+\item{x}{a map (a \code{SpatRaster}, a path or a matrix); see \code{\link{rcell-package}}.}
 \item{size}{the side of the square in cells; must be odd, from 3 to 15.}
 \item{fill}{whether cells without data get the class of their neighbours; otherwise they stay without data.}
-\item{filename, overwrite}{as in \code{\link{rcell_grid}}.}
-\item{crs}{as in \code{\link{rcell_run}}.}
+\item{filename, overwrite}{see \code{\link{rcell_grid}}.}
+\item{crs}{see \code{\link{rcell_run}}.}
 }
 \details{
 Cells without data and cells outside the map are not counted. If several classes are equally frequent, the smallest is

@@ -8,13 +8,13 @@ rcell_metrics(x, level = "class", connectivity = 4, area, zones = NULL, labels =
               crs = NULL)
 }
 \arguments{
-\item{x}{a map: a \code{SpatRaster}, a path or a matrix; see \code{\link{rcell-package}}.}
+\item{x}{a map (a \code{SpatRaster}, a path or a matrix); see \code{\link{rcell-package}}.}
 \item{level}{\code{"class"}, \code{"landscape"} or \code{"patch"}.}
 \item{connectivity}{4 connects cells that share an edge; 8 also connects cells that share a corner.}
-\item{zones}{as in \code{\link{rcell_composition}}. Each zone is a separate landscape: patches end at its border, and
+\item{zones}{see \code{\link{rcell_composition}}. Each zone is a separate landscape: patches end at its border, and
 sides across the border are not edges.}
-\item{area, labels, zone_labels, zone_field, layer, each}{as in \code{\link{rcell_composition}}.}
-\item{crs}{as in \code{\link{rcell_run}}.}
+\item{area, labels, zone_labels, zone_field, layer, each}{see \code{\link{rcell_composition}}.}
+\item{crs}{see \code{\link{rcell_run}}.}
 }
 \details{
 Metrics are defined as in FRAGSTATS 4, without a border. The landscape consists of all cells of the map or zone with

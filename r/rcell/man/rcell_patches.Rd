@@ -8,14 +8,14 @@ rcell_patches(x, connectivity = 4, area, zones = NULL, classes = NULL,
               zone_field = NULL, layer = NULL, each = FALSE, crs = NULL)
 }
 \arguments{
-\item{x}{a map: a \code{SpatRaster}, a path or a matrix; see \code{\link{rcell-package}}.}
+\item{x}{a map (a \code{SpatRaster}, a path or a matrix); see \code{\link{rcell-package}}.}
 \item{connectivity}{4: cells are connected by edges; 8: by edges and corners.}
-\item{area}{as in \code{\link{rcell_composition}}; with \code{NULL}, the core is in \code{core_cells}.}
+\item{area}{see \code{\link{rcell_composition}}; with \code{NULL}, the core is in \code{core_cells}.}
 \item{classes}{the classes to list; by default all.}
 \item{min_cells}{the smallest number of cells of a listed patch.}
 \item{core_depth}{how many steps from other patches the core begins, from 1 to 20.}
-\item{zones, labels, zone_labels, zone_field, layer, each}{as in \code{\link{rcell_composition}}.}
-\item{crs}{as in \code{\link{rcell_run}}.}
+\item{zones, labels, zone_labels, zone_field, layer, each}{see \code{\link{rcell_composition}}.}
+\item{crs}{see \code{\link{rcell_run}}.}
 }
 \details{
 A patch has its r.clump number in the full map, even if other patches are not listed. \code{\link{rcell_clump}} returns

@@ -6,14 +6,14 @@
 rcell_reclass(x, rules, other = NULL, filename = "", overwrite = FALSE, crs = NULL)
 }
 \arguments{
-\item{x}{a map: a \code{SpatRaster}, a path or a matrix; see \code{\link{rcell-package}}.}
+\item{x}{a map (a \code{SpatRaster}, a path or a matrix); see \code{\link{rcell-package}}.}
 \item{rules}{the path of a CSV or TSV file, or a data frame, with the columns \code{value}, \code{new} and optionally
 \code{label}; or a vector of new classes with the old classes as names. A value is a class, or a range such as
 \code{31-39}. An empty \code{new} means null.}
 \item{other}{what to do with classes that have no rule: \code{"keep"} or \code{"null"}. By default, an error names
 them.}
-\item{filename, overwrite}{as in \code{\link{rcell_grid}}.}
-\item{crs}{as in \code{\link{rcell_run}}.}
+\item{filename, overwrite}{see \code{\link{rcell_grid}}.}
+\item{crs}{see \code{\link{rcell_run}}.}
 }
 \value{
 A \code{SpatRaster} with the labels of the rules, or with the labels of \code{x} if the rules have none and \code{other}

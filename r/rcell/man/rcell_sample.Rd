@@ -6,13 +6,13 @@
 rcell_sample(x, n, seed, allocation = "equal", labels = NULL, crs = NULL)
 }
 \arguments{
-\item{x}{a map: a \code{SpatRaster}, a path or a matrix; see \code{\link{rcell-package}}. Its classes are the strata.}
+\item{x}{a map (a \code{SpatRaster}, a path or a matrix); see \code{\link{rcell-package}}. Its classes are the strata.}
 \item{n}{the total number of cells, or a vector of numbers with the classes as names.}
 \item{seed}{a whole number or a text.}
 \item{allocation}{how to divide a total number of cells: \code{"equal"}, or \code{"proportional"} to the cells of each
 class. The remainder goes to the first classes, or to the largest fractions.}
-\item{labels}{as in \code{\link{rcell_composition}}.}
-\item{crs}{as in \code{\link{rcell_run}}.}
+\item{labels}{see \code{\link{rcell_composition}}.}
+\item{crs}{see \code{\link{rcell_run}}.}
 }
 \details{
 The sample depends only on the cells, \code{n}, \code{allocation} and \code{seed}, because its random numbers are

@@ -7,13 +7,13 @@ rcell_sieve(x, min_cells = NULL, min_ha = NULL, connectivity = 4, drop = FALSE,
             filename = "", overwrite = FALSE, crs = NULL)
 }
 \arguments{
-\item{x}{a map: a \code{SpatRaster}, a path or a matrix; see \code{\link{rcell-package}}.}
+\item{x}{a map (a \code{SpatRaster}, a path or a matrix); see \code{\link{rcell-package}}.}
 \item{min_cells}{the smallest number of cells of a patch.}
 \item{min_ha}{the smallest area of a patch in hectares, instead of \code{min_cells}; not for maps in degrees.}
-\item{connectivity}{as in \code{\link{rcell_patches}}.}
+\item{connectivity}{see \code{\link{rcell_patches}}.}
 \item{drop}{whether small patches become null instead of being merged.}
-\item{filename, overwrite}{as in \code{\link{rcell_grid}}.}
-\item{crs}{as in \code{\link{rcell_run}}.}
+\item{filename, overwrite}{see \code{\link{rcell_grid}}.}
+\item{crs}{see \code{\link{rcell_run}}.}
 }
 \details{
 As long as a patch below the size shares a side with another class, the smallest of these patches gets the class of the

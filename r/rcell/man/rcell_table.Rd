@@ -16,7 +16,7 @@ system it is an error unless \code{crs} states one.}
 \item{percent}{whether to add a column of percentages of all cells in the table.}
 \item{wide}{whether to return a table of two maps as a matrix: of percentages or areas if requested, otherwise of
 cells.}
-\item{crs, maps}{as in \code{\link{rcell_run}}.}
+\item{crs, maps}{see \code{\link{rcell_run}}.}
 }
 \value{
 A data frame as in \code{\link{rcell_run}}, with the requested columns, or a list of data frames if the script contains

@@ -10,9 +10,9 @@ rcell_trajectories(maps, years = NULL, area, labels = NULL, include_maps = FALSE
 \item{maps}{a list of two or more maps in chronological order; see \code{\link{rcell-package}}. More than 16 maps, or 15
 in degrees, must have few classes.}
 \item{years}{the year of each map, in ascending order.}
-\item{area, labels}{as in \code{\link{rcell_change}}.}
+\item{area, labels}{see \code{\link{rcell_change}}.}
 \item{include_maps}{whether to also make maps.}
-\item{crs}{as in \code{\link{rcell_run}}.}
+\item{crs}{see \code{\link{rcell_run}}.}
 }
 \value{
 A list of data frames:

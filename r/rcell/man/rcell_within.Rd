@@ -6,11 +6,11 @@
 rcell_within(x, classes, distances, filename = "", overwrite = FALSE, crs = NULL)
 }
 \arguments{
-\item{x}{a map in metres or feet: a \code{SpatRaster}, a path or a matrix; see \code{\link{rcell-package}}.}
+\item{x}{a map in metres or feet (a \code{SpatRaster}, a path or a matrix); see \code{\link{rcell-package}}.}
 \item{classes}{the classes from which distances are measured.}
 \item{distances}{distances in metres, in ascending order, of at most 255 cells.}
-\item{filename, overwrite}{as in \code{\link{rcell_grid}}.}
-\item{crs}{as in \code{\link{rcell_run}}.}
+\item{filename, overwrite}{see \code{\link{rcell_grid}}.}
+\item{crs}{see \code{\link{rcell_run}}.}
 }
 \value{
 A \code{SpatRaster} with 0 for cells of the classes, 1 for cells up to the first distance, 2 for cells beyond it and up

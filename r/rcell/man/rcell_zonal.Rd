@@ -8,11 +8,11 @@ rcell_zonal(values, zones, quantiles = 0.5, scale = NULL, zone_labels = NULL,
 }
 \arguments{
 \item{values}{a map of whole numbers; see \code{\link{rcell-package}}.}
-\item{zones, zone_labels, zone_field, layer, each}{as in \code{\link{rcell_composition}}.}
+\item{zones, zone_labels, zone_field, layer, each}{see \code{\link{rcell_composition}}.}
 \item{quantiles}{the quantiles to compute, from 0 to 1, interpolated as in \code{quantile(type = 7)}.}
 \item{scale}{for a map of decimals: values are rounded to 1 / \code{scale}, with a warning; 100 keeps two decimals.
 Without \code{scale}, decimals are an error.}
-\item{crs}{as in \code{\link{rcell_run}}.}
+\item{crs}{see \code{\link{rcell_run}}.}
 }
 \value{
 A data frame with a row for each zone with data: \code{zone}, \code{zone_label}, \code{cells}, \code{sum}, \code{mean},
