@@ -112,7 +112,7 @@ def test_points_in_one_cell_count_and_points_elsewhere_do_not() -> None:
 def test_points_that_are_no_random_sample_have_a_warning() -> None:
     land = rcell.Raster(masked([[1] * 9 + [2]]), METRES, crs="EPSG:4326")
     common, rare = (1005, 4995, 1), (1005 + 9 * METRES[0], 4995, 2)
-    told = 'the map\'s classes have other shares .* drawn class by class, give areas="map"'
+    told = 'the map\'s classes have different shares .* drawn class by class, give areas="map"'
     with pytest.warns(UserWarning, match=told):
         rcell.accuracy(land, points([common] * 80 + [rare] * 80))
     with warnings.catch_warnings():

@@ -746,8 +746,8 @@ def test_of_files_that_overlap_the_later_has_the_cells(raster: Write) -> None:
             "differ: shifted by 0 rows and -0.3",
         ),
         ({"crs": "EPSG:32633"}, rcell.OtherCrs, "EPSG:32633"),
-        ({"nodata": 9}, rcell.BadMap, "the nodata value is 9 in the one, and 0 in the other"),
-        ({"dtype": np.int16}, rcell.BadMap, "the type of cells is int16 in the one, and uint8"),
+        ({"nodata": 9}, rcell.BadMap, "the nodata value is 9 in the first and 0 in the second"),
+        ({"dtype": np.int16}, rcell.BadMap, "the type of cells is int16 in the first and uint8"),
     ],
 )
 def test_files_that_differ_are_named(
@@ -766,7 +766,9 @@ def test_patterns_without_a_file_and_texts_in_lists(raster: Write, tmp_path: pat
     with pytest.raises(rcell.ReadFailed, match=r"cannot open: no\*.tif: no file matches it"):
         rcell.composition("no*.tif")
     text = rcell.Raster([[1, 2]]).write(tmp_path / "a.txt")
-    with pytest.raises(rcell.BadMap, match="a.txt is a text, and only rasters can be joined"):
+    with pytest.raises(
+        rcell.BadMap, match="a.txt is a text grid, and only rasters can be combined"
+    ):
         rcell.composition([text, text])
     named = raster(np.ones((2, 2), np.uint8), "a[1].tif")
     assert rcell.composition(named).cells.tolist() == [4]

@@ -553,7 +553,7 @@ def test_the_program_judges_the_script_before_a_map_is_missed() -> None:
         (
             "r.stats -c -1 input=lc",
             None,
-            "one of the two: `-1` goes neither with `-c` nor with `after=`",
+            "one of the two: `-1` cannot be used with `-c` or `after=`",
         ),
         ("r.stat input=lc", None, "r.stats input=lc"),
         ("r.reclass input=lc output=k\n1 = 1 a", None, "a line `end` after the last rule"),

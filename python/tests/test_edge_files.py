@@ -356,9 +356,9 @@ def test_programs_are_not_found_through_relative_folders(room: pathlib.Path) -> 
     for path in (".:/nowhere", ":/nowhere", "/nowhere:"):
         assert shell(room, f"PATH={path} {sys.executable} -c {shlex.quote(code)}").stdout == "[]\n"
     ran = shell(room, TABLE, RCELL="rcell", RCELL_PIPE=programs.find_pipe())
-    assert (
-        ran.stderr
-        == f"rcell-gis: {stranger} is not a program rcell of a version that this package knows\n"
+    assert ran.stderr == (
+        f"rcell-gis: {stranger} is not the program rcell in a version that this package "
+        "supports\n"
     )
 
 

@@ -96,7 +96,9 @@ class HostTest(unittest.TestCase):
 
     def test_another_program(self) -> None:
         for text in ("exit 0", "echo 12 2 1; exit 1", "echo nonsense >&2; exit 7", "kill -9 $$"):
-            with self.subTest(text=text), self.assertRaisesRegex(WrongProgram, "is not a program"):
+            with self.subTest(text=text), self.assertRaisesRegex(
+                WrongProgram, "is not the program"
+            ):
                 host.find_program(self.script(text))
 
     def run_of(self, text: str, feedback: Feedback, raster: RasterMap | None = None) -> None:

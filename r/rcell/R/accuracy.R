@@ -228,7 +228,7 @@ warn_of_strata <- function(map, counts) {
   limit <- freedom * (1 - spread + DEVIATE * sqrt(spread))^3
   if (sum((sums[[1]] - sums[[2]])^2 / sums[[2]]) <= limit) return(invisible())
   text <- paste(
-    "reference: the map's classes have other shares in the sample than in the map:",
+    "reference: the map's classes have different shares in the sample and in the map:",
     "if it was drawn class by class, give areas = \"map\""
   )
   warning(text, call. = FALSE)

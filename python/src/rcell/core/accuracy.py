@@ -315,7 +315,7 @@ def _warn_of_strata(pairs: Integers, counts: Integers) -> None:
     spread = 2 / (9 * freedom)
     limit = freedom * (1 - spread + _DEVIATE * math.sqrt(spread)) ** 3
     if ((drawn - expected) ** 2 / expected).sum() > limit:
-        problem = "the map's classes have other shares in the sample than in the map"
+        problem = "the map's classes have different shares in the sample and in the map"
         remedy = f"if it was drawn class by class, give {option('areas', 'map')}"
         warn(f"reference: {problem}: {remedy}")
 

@@ -187,7 +187,7 @@ def run_on_worker(
         problem = (
             f"rcell {_version()} is installed{_where()}, and rcell {version} where the call is"
         )
-        raise WrongProgram(f"{problem}: install the same")
+        raise WrongProgram(f"{problem}: install the same version")
     maps = dict(work.maps)
     for name, computed in (cells or {}).items():
         maps[name] = filled(maps[name], computed)

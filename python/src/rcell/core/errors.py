@@ -259,7 +259,7 @@ class WrongProgram(RcellError):
     ...     find_program("/bin/true")
     ... except rcell.WrongProgram as error:
     ...     print(error)
-    /bin/true is not a program rcell of a version that this package knows
+    /bin/true is not the program rcell in a version that this package supports
     """
 
 

@@ -66,7 +66,7 @@ def _probe(path: str) -> None:
         ) from None
     if not is_known:
         raise WrongProgram(
-            f"{path} is not a program rcell-join of a version that this package knows"
+            f"{path} is not the program rcell-join in a version that this package supports"
         )
 
 
@@ -106,7 +106,7 @@ def check_files(count: int) -> None:
     if most != resource.RLIM_INFINITY and most < needed:
         raise WriteFailed(
             f"to join {count:,} tiles, {needed:,} files are open at once, and this system allows "
-            f"{most:,}: raise its limit, as ulimit -Hn shows it"
+            f"{most:,}: raise its limit, which ulimit -Hn shows"
         )
 
 

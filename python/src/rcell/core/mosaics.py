@@ -70,7 +70,9 @@ def open_files(name: str, paths: Sequence[Any]) -> Source:
     for path in map(os.fsdecode, paths):
         source: Any = open_path(path, path)
         if not hasattr(source, "window"):
-            raise BadMap(name, f"{path} is a text, and only rasters can be joined: convert it")
+            raise BadMap(
+                name, f"{path} is a text grid, and only rasters can be combined: convert it"
+            )
         sources.append(source)
     if len(sources) == 1:
         only: Source = replace(sources[0], name=name)
@@ -111,9 +113,9 @@ def _shift_of(name: str, first: Any, source: Any) -> tuple[int, int]:
         ("nodata value", source.nodata, first.nodata),
     ):
         if its != own:
-            difference = f"{both} differ: the {what} is {its} in the one, and {own} in the other"
+            difference = f"{both} differ: the {what} is {its} in the first and {own} in the second"
             raise BadMap(
-                name, f"{difference}; write them alike first, for example with gdal_translate"
+                name, f"{difference}; convert one of them first, for example with gdal_translate"
             )
     return int(shift.rows), int(shift.cols)
 

@@ -152,7 +152,9 @@ def check_files_are(states: Mapping[str, State]) -> None:
             raise ReadFailed(path, "cannot open: No such file")
         if own != state:
             difference = f"{_state_text(own)}, and {_state_text(state)}"
-            raise ReadFailed(path, f"is another file than where the call is: {difference}")
+            raise ReadFailed(
+                path, f"differs from the file on the machine of the call: {difference}"
+            )
 
 
 def _state_text(state: State) -> str:

@@ -146,7 +146,7 @@ for (case in if (has_code) list(c("r.stats -cn lc", "lc", 13, "r.stats -cn input
 if (has_code) {
   both <- refusal(rcell_run("r.stats -c -1 input=lc", lc = plain))
   expect_identical(both$column, NA_integer_)
-  expect_identical(conditionMessage(both), "script, line 1: bad option\n  r.stats -c -1 input=lc\n  try: one of the two: `-1` goes neither with `-c` nor with `after=`")
+  expect_identical(conditionMessage(both), "script, line 1: bad option\n  r.stats -c -1 input=lc\n  try: one of the two: `-1` cannot be used with `-c` or `after=`")
 }
 options(rcell.python = "")
 for (name in c("a=b", "a-b", "1a", strrep("x", 65))) {
