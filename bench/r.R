@@ -1,9 +1,8 @@
-# Times the package for R and terra: nanoseconds of the processor (user and system, children included) a cell, by turns in one run, the
-# smallest of the rounds.
+# Time the R package and terra: processor time in nanoseconds per cell (user and system, including children). Both take
+# turns in one run, and the smallest time of all rounds counts.
 #
-#     RCELL=bin/rcell Rscript bench/r.R [--short]      maps of 3000 x 3000 cells, or of 300 x 300
-#
-# The package rcell must be installed, and the reference for all ratios is what is in the same line.
+#     RCELL=bin/rcell Rscript bench/r.R [--short] maps of 3000 x 3000 cells, or of 300 x 300 The package rcell must be
+# installed. Compare only figures in the same row.
 
 suppressMessages({
   library(terra)
@@ -12,7 +11,7 @@ suppressMessages({
 terraOptions(progress = 0)
 SHORT <- "--short" %in% commandArgs(TRUE)
 SIDE <- if (SHORT) 300L else 3000L
-# terra's time for patches of noise grows with the square of the cells.
+# terra's time for patches of noise grows with the square of the number of cells.
 SMALL <- 200L
 ROUNDS <- if (SHORT) 3L else 2L
 CLASSES <- 15L
@@ -21,7 +20,7 @@ dir.create(room)
 
 spent <- function() sum(proc.time()[c(1, 2, 4, 5)])
 
-# Runs each way in turn, and returns the fewest nanoseconds a cell of each.
+# Run each method in turn, and return the smallest time of each in nanoseconds per cell.
 by_turns <- function(ways, cells) {
   least <- rep(Inf, length(ways))
   for (round in seq_len(ROUNDS)) for (place in seq_along(ways)) {
@@ -33,10 +32,10 @@ by_turns <- function(ways, cells) {
   least
 }
 
-# A row of a table: what is measured, and the nanoseconds of each way.
+# Print a table row: the task, and the nanoseconds of each method.
 show <- function(title, least) cat(sprintf("| %s | %s |\n", title, paste(sprintf("%.0f", least), collapse = " | ")))
 
-# Patches as smooth as land cover, or noise; 3 cells of 100 are null.
+# Make a map of patches like land cover, or of noise. Of 100 cells, 3 are null.
 made <- function(side, is_patchy, classes = CLASSES) {
   set.seed(1)
   block <- if (is_patchy) 12L else 1L
@@ -53,7 +52,7 @@ made <- function(side, is_patchy, classes = CLASSES) {
   path
 }
 
-# Counts of pairs of classes, the fastest way in R.
+# Count pairs of classes with the fastest method in R.
 pairs_of <- function(one, other) matrix(tabulate(one + CLASSES * (other - 1L), CLASSES^2), CLASSES)
 
 cells_of <- function(path) matrix(values(rast(path), mat = FALSE), SIDE, byrow = TRUE)

@@ -1,10 +1,11 @@
-# Runs the table of cases on the package for R: prints `case NAME`, and below it what came out, each line after a blank.
+# Run the table of cases with the R package. Print `case NAME`, and below it the lines of the result, each after a
+# blank.
 
 suppressMessages(library(rcell))
 here <- normalizePath(Sys.getenv("RCELL_CASES"))
 kinds <- c(rcell_other_crs = "other crs", rcell_other_region = "other region", rcell_read_failed = "read failed", rcell_bad_map = "bad map", rcell_refused = "refused")
 
-# The lines of each key: that after its colon, or those that are indented below it.
+# Return the lines of each key: the line after its colon, or the indented lines below it.
 blocks_of <- function(path) {
   found <- list()
   key <- ""
@@ -35,7 +36,7 @@ of_table <- function(table) {
   c(paste(names(table), collapse = "|"), do.call(paste, c(unname(lapply(table, plain)), sep = "|")))
 }
 
-# A map that was written over another raster, as it is read again.
+# Write a map over another raster, and return the table of the raster that is read back.
 written <- function(case, name, maps) {
   room <- tempfile("written")
   dir.create(room)
@@ -46,7 +47,7 @@ written <- function(case, name, maps) {
   of_table(rcell_table("r.stats -c -l input=x", x = path))
 }
 
-# Copies of all inputs, over which a case may try to write.
+# A folder with copies of all inputs, for cases that may overwrite them.
 scratch <- NULL
 folder <- function() if (is.null(scratch)) file.path(here, "rasters") else scratch
 
@@ -58,7 +59,7 @@ of_grid <- function(grid) {
   apply(cells, 1, paste, collapse = " ")
 }
 
-# The name of each layer, and below it its cells.
+# Return the name of each layer, followed by its cells.
 of_shares <- function(layers) {
   unlist(lapply(seq_len(terra::nlyr(layers)), function(number) {
     cells <- matrix(plain(terra::values(layers[[number]], mat = FALSE)), terra::nrow(layers), byrow = TRUE)
@@ -66,23 +67,23 @@ of_shares <- function(layers) {
   }))
 }
 
-# Calls that return maps, and the attribute with an account of how each was made.
+# Calls that return maps, and the attributes with their counts.
 map_calls <- c("majority", "align", "reclass", "clump", "sieve", "within", "aggregate")
 accounts <- c(align = "aligned", sieve = "sieved")
-# Calls that return several tables, and the table that is shown if the case names none.
+# Calls that return several tables, and the table to show by default.
 parts <- c(change = "table", accuracy = "classes", trajectories = "table")
 flags <- c("include_null", "fill", "each", "drop")
 texts <- c("zone_field", "field", "layer", "resample", "crs", "other", "level", "allocation", "seed")
 files <- c("labels", "zone_labels", "rules", "areas")
 
-# Numbers by classes, as `1:50`.
+# Parse numbers by class, for example `1:50`.
 by_class <- function(words) {
   numbers <- as.numeric(sub(".*:", "", words))
   names(numbers) <- sub(":.*", "", words)
   numbers
 }
 
-# The parameters of a call, by their names in the package.
+# Return the parameters of a call by their names in the package.
 options_of <- function(words, maps) {
   values <- sub("^[^=]*=", "", words)
   options <- Map(function(key, value) {
@@ -97,7 +98,7 @@ options_of <- function(words, maps) {
   options
 }
 
-# The ready calls; a case has the names of their parameters.
+# Run a call other than a script. Cases use the parameter names of the package.
 answered <- function(kind, words, maps, out) {
   is_option <- grepl("=", words)
   is_part <- grepl("^(table|map)=", words)
@@ -150,7 +151,7 @@ refusal <- function(e) {
   paste0(names(found), ": ", unlist(found))
 }
 
-# What came out of a case, with the types and the warnings if it looks at them.
+# Return the result of a case, with types and warnings if the case checks them.
 tried <- function(case) {
   told <- character()
   types <<- ""
@@ -163,7 +164,7 @@ tried <- function(case) {
   c(lines, if (!is.null(case$types)) paste("types:", types), if (!is.null(case$warned) && length(told)) paste("warned:", told))
 }
 
-# What came out of a case over copies of all inputs, and which of them changed.
+# Run a case on copies of all inputs. Return its result and the names of changed copies.
 tried_in_scratch <- function(case) {
   scratch <<- tempfile("cases")
   dir.create(scratch)

@@ -1,4 +1,5 @@
-# Reads lines, each the maps of one call, and prints for each a line and the cells of each map in turn; see random_rasters.py.
+# Read lines that each list the maps of a call. Print for each a line and the cells of its maps in turn (see
+# random_rasters.py).
 
 suppressMessages(library(rcell))
 options(warn = -1)
