@@ -1,8 +1,9 @@
 # Time the R package and terra: processor time in nanoseconds per cell (user and system, including children). Both take
 # turns in one run, and the smallest time of all rounds counts.
 #
-#     RCELL=bin/rcell Rscript bench/r.R [--short] maps of 3000 x 3000 cells, or of 300 x 300 The package rcell must be
-# installed. Compare only figures in the same row.
+#     RCELL=bin/rcell Rscript bench/r.R [--short]      maps of 3000 x 3000 cells, or of 300 x 300
+#
+# The package rcell must be installed. Compare only figures in the same row.
 
 suppressMessages({
   library(terra)
