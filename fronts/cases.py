@@ -46,34 +46,34 @@ class Case:
     ----------
     name : str
     maps : dict of str to str
-        Paths of rasters by the names of the maps.
+        The rasters' paths, by map name.
     call : str
-        `table`, `grid NAME`, `write NAME`, or one of the seven functions.
+        `table`, `grid NAME`, `write NAME`, or one of the ready-made calls.
     words : list of str
         The maps of a function, in order.
     options : dict of str to str
         The parameters of a function.
     digits : int
-        To how many digits numbers are compared.
+        The number of digits to which numbers are compared.
     script : str
     area : str
-        The unit of areas that is asked for, or nothing.
+        The requested unit of areas, or nothing.
     percent : bool
     crs : str
-        The reference system that is stated for maps that have none, or nothing.
+        The reference system stated for maps without one, or nothing.
     over : str
-        The path of the raster over which `write` writes.
+        The path of the raster that `write` replaces.
     outs : dict of str to str
-        The files to which a result is written, by `out`, `matrix` and `summary`.
+        The files to which results are written, by `out`, `matrix` and `summary`.
     warned : list of str or None
-        The warnings, as parts of their texts divided by ` .. `; None if they are not looked at.
+        The warnings, as parts of their texts separated by ` .. `; None if they are not checked.
     types : str
         The types of the columns of a table, or nothing.
     expected : dict of str to (list of str, bool)
-        The lines that must come out, or the lines of an error, and whether it is one: under the name of a package if
-        its result differs, and else under no name.
+        The expected lines of the result or error, and whether it is an error. The key is a
+        package whose result differs, or '' for all others.
     left_out : dict of str to str
-        Why a package does not run the case, by its name.
+        Why a package does not run the case, by package name.
     """
 
     name: str

@@ -53,21 +53,21 @@ Lines = list[str]
 
 @dataclass
 class Trial:
-    """A call, and what must come out.
+    """A call, and its expected result.
 
     Attributes
     ----------
     maps : dict of str to Made
     words : list of str
-        The words of the call.
+        The arguments of the call.
     answer : list of str or None
         None if the call must be rejected.
     reason : str
-        Why it must be.
+        Why the call must be rejected.
     refused : dict of str to str
-        Why a package rejects it.
+        Why a package rejects the call.
     answer_in_r : list of str or None
-        If R returns another table: its ids of zones have 32 bits.
+        The table in R, if it differs because R's zone ids have 32 bits.
     """
 
     name: str

@@ -77,11 +77,11 @@ class Made:
     ----------
     file : str
     held : Raster or None
-        What the product must find in it; None if it must reject it.
+        The contents that the product must find; None if it must reject the file.
     zone_field : str
-        The field of polygons, or nothing.
+        The polygons' field of zones, or nothing.
     refused : dict of str to str
-        Why a package rejects it, as its documents say.
+        Why a package rejects the file, as documented.
     system : System
     """
 

@@ -20,16 +20,16 @@ Lines = list[str]
 
 @dataclass(frozen=True)
 class Plant:
-    """A mistake.
+    """A bug.
 
     Attributes
     ----------
     told : str
-        What the mistake does.
+        The effect of the bug.
     spoil : function of a folder and a call
-        Changes the files of the call; returns whether it changed something.
+        Changes the files of the call, and returns whether it changed something.
     tamper : function of lines
-        Changes what comes out.
+        Changes the result.
     """
 
     told: str

@@ -6,7 +6,7 @@ The rasters vary in type, nodata, alpha, masks, blocks, transforms, reference sy
 Sixteen rasters of one location go through one call of a package, which returns their cells and the
 labels of one of them. A raster that is not a map must be rejected, with row and column if a cell is
 bad, and so must maps of two locations. For r.rcell, only its own part is tested, from the numbers
-that GRASS returns to the text of a grid. `shell` is `rcell-gis convert` followed by rcell; `tiles`
+that GRASS returns to the text of a grid. `shell` is `rcell-gis convert` and then rcell; `tiles`
 is Python with tiles.
 
 Progress is printed every 5,000 rasters. Repeat a group with --seed and --from. The last line is 'N

@@ -29,13 +29,13 @@ class System:
     Attributes
     ----------
     text : str
-        As GDAL reads it, or nothing.
+        The system as GDAL reads it, or nothing.
     metres : float or None
-        The length of its unit; None if it is not known, or an angle.
+        The length of the unit in metres; None if the unit is unknown or an angle.
     angle : float or None
-        Its unit of angles in radians.
+        The unit of angles in radians, or None.
     ellipsoid : tuple of float
-        Semi-major axis and flattening.
+        The semi-major axis and the flattening.
     """
 
     text: str

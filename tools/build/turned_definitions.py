@@ -110,8 +110,7 @@ def lay_out(law, home, pairs, room):
 
 
 def crate_with(law, home, root):
-    """Return the crate of laws with its own libraries and those of the definition's crate, which
-    the copied modules name."""
+    """Return the crate of laws with the libraries of both crates, which the copied modules name."""
     crates = {it.name: it for it in build.crates_of([law, home[0]], root)}
     used = dict.fromkeys(it for name in (law, home[0]) for it in build.uses()[name] if it != law)
     return build.Crate(law, list(used), crates, root)

@@ -418,8 +418,8 @@ def has_man():
 
 
 def check_pages():
-    """Check that man has no warnings about the manual pages, including those of the helpers, if man
-    is installed."""
+    """Check that man has no warnings about the manual pages and the pages of the helpers, if man is
+    installed."""
     if not has_man():
         print(
             "skipped  documents: man or groff is not installed, for the manual pages; install: apt-get install man-db groff"

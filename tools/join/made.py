@@ -266,8 +266,8 @@ def in_region(draw: random.Random, rows: Rows) -> CellMap:
 
 @dataclass(frozen=True)
 class Cut:
-    """A map, and where it is cut: the row after each row of tiles, and the column after each column
-    of tiles."""
+    """A map and its cuts: the row after each row of tiles, and the column after each column of
+    tiles."""
 
     whole: CellMap
     ends: list[int]

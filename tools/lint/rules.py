@@ -247,7 +247,7 @@ def uncited():
 
 
 def dead_lemmas():
-    """Definitions and lemmas of proofs that nothing proved uses, but for worked examples (Worked.antt)."""
+    """Definitions and lemmas that nothing proved uses, except worked examples (Worked.antt)."""
     seen = reached_from(citations(("specs", "proofs")), [None])
     return [
         f"{it.path} {it.name}"

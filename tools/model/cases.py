@@ -14,8 +14,8 @@ A case is a folder with the files that the program reads and
     refused  lines SOURCE LINE BYTES: the error reported and the bytes written if growths are
     denied;
              exactly these lines must occur; without this file: those that the model allows
-If a growth is denied, the output must be exactly that of the statements before the reported line,
-as computed by tools/model/model.py. The last line is 'N passed, M failed'.
+If a growth is denied, the output must be exactly the output of the statements before the reported
+line, as computed by tools/model/model.py. The last line is 'N passed, M failed'.
 """
 import glob
 import os
@@ -115,8 +115,8 @@ def run(case, folder, **more):
 def refusal(wanted, got):
     """Return the source and line where memory ran out, and the number of bytes written by then.
     Return None if this is not reported, if the run has no such source, or if the output is not
-    exactly that of the statements before the line. `wanted` is the result of the run with enough
-    memory."""
+    exactly the output of the statements before the line. `wanted` is the result of the run with
+    enough memory."""
     told = NO_MEMORY.fullmatch(got.told)
     if got.status != 3 or not told:
         return None

@@ -14,7 +14,7 @@ everywhere. KIND is `any`, small grids in many spellings, or `stretches`, long r
 
 With --pieces, two of three runs are repeated with reads that return few bytes, so that blocks end
 anywhere within words. With --refuse, each run is repeated with one of its growths denied: it must
-report this, and its output must be exactly that of the statements before the reported line. Each
+report this, and write exactly what the statements before the reported line write. Each
 difference is written to FOLDER as a case whose expected files are the model's, next to a folder
 with the program's result. The last line is 'N runs, M differences'.
 """
