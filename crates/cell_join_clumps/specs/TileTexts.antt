@@ -38,7 +38,7 @@ abbrev pub FitsBeside : Option RegionValue → RegionValue → Type 0
 FitsBeside None tile = Unit {0}
 FitsBeside (Some left) tile = IsBeside left tile
 
--- each tile is right of the previous tile; the first is right of `left`, if there is such a tile
+-- each tile is right of the previous tile; the first is right of `left`, if this tile is given
 abbrev pub LieBeside : Option RegionValue → List RegionValue → Type 0
 LieBeside left [] = Unit {0}
 LieBeside left (tile ∷ tiles) = FitsBeside left tile × LieBeside (Some tile) tiles

@@ -42,7 +42,7 @@ IsFirstLine old (Ok true) new = option_map first_line old ≡ option_map (λ res
 IsFirstLine old (Ok false) new = option_map first_line old ≡ option_map (λ rest. Ok None) (lines_coming new)
 IsFirstLine old (Err kind) new = kind ≢ Memory → IfSome old (λ coming. first_line coming ≡ Err kind)
 
--- bytes are moved from the buffer to the line: those before the first line feed, which is skipped, or all of them
+-- bytes are moved from the buffer to the line: the bytes before the first line feed, which is skipped, or all bytes
 abbrev pub IsPassed : LinesValue → Bool → LinesValue → Type 0
 IsPassed old true new = (position_or_len is_newline old.held ≢ length old.held) × (new.line ≡ old.line ++ before_first is_newline old.held) × (new.held ≡ after_first is_newline old.held)
 IsPassed old false new = (position_or_len is_newline old.held ≡ length old.held) × (new.line ≡ old.line ++ old.held) × (new.held ≡ [])

@@ -34,10 +34,10 @@ pub record AreLabelled (j : Joining) (m : Grid) (starts : List Position) (label_
   pub meet : (p q : Position) (v : ℤ) → AreAdjacent j p q → cell_at_position m p ≡ Some v → cell_at_position m q ≡ Some v → (label_of p ≡ label_of q) ⊎ (Contains pairs (label_of p, label_of q) ⊎ Contains pairs (label_of q, label_of p))
   pub only : (a b : ℕ) → Contains pairs (a, b) → IsMeeting j m label_of a b
 
--- a number for each label: in every map with such labels, each cell has the number of its label
+-- a number for each label: in every map that is labelled like this, each cell has the number of its label
 abbrev pub NumberLabels : ℕ → List (ℕ × ℕ) → (ℕ → ℕ) → Type 0
 NumberLabels labels pairs number = (j : Joining) (m : Grid) (starts : List Position) (label_of : Position → ℕ) → AreLabelled j m starts label_of pairs → length starts ≡ labels → (p : Position) → IsSome (cell_at_position m p) → HasNumber j m p (number (label_of p))
 
--- every map with such labels has `n` clumps
+-- every map that is labelled like this has `n` clumps
 abbrev pub CountLabels : ℕ → List (ℕ × ℕ) → ℕ → Type 0
 CountLabels labels pairs n = (j : Joining) (m : Grid) (starts : List Position) (label_of : Position → ℕ) → AreLabelled j m starts label_of pairs → length starts ≡ labels → HasAreas j m n

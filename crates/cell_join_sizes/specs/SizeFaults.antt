@@ -152,7 +152,7 @@ IsFaultAt place Write = ⊥
 
 -- ---- the first error
 
--- there is no error before this point, and this error is here
+-- no error occurs before this point, and this error occurs here
 pub record IsFirstSizesFault (areas : AreasReading) (tables : List TableReading) (fault : SizesFault) : Type 0 where
   pub place : ReadingPlace
   pub read : AreReadTo areas tables place

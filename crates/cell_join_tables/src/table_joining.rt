@@ -219,7 +219,7 @@ pub fn join_texts<R: Source + Drop, W: Sink>(
         → result.fault ≡ None
         → AreJoinedLabels format.now texts (W.taken out.old) (W.taken out.new) result.written }
     // If the error is in a text, it is the text's first error. Among the errors of all texts, it occurs before any
-    // entry or after the smallest combination; if there are several such errors, it is in the first of these texts.
+    // entry or after the smallest combination; if several errors do, the error of the first text is reported.
     // Otherwise there are too many counts or entries in the merge, or two texts have different labels for a
     // combination, and no error occurs after a smaller combination.
     ensures fault { (texts : List Coming) → Give R.coming sources.items texts

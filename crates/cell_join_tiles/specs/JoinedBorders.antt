@@ -56,6 +56,6 @@ side_pairs j grid r = flat_map (λ c. line_meetings j (right_line grid r c) (lef
 abbrev pub border_pairs : Joining → List (List BorderValue) → List (ℕ × ℕ)
 border_pairs j grid = flat_map (side_pairs j grid) (range_with_len 0 (length grid)) ++ flat_map (λ r. line_meetings j (last_line grid r) (first_seam_line grid (suc r))) (range_with_len 0 (length grid - 1))
 
--- the borders alone label the full map's cells so that they satisfy the conditions for joining by pairs of labels
+-- only the borders are needed to label the full map's cells so that the conditions for joining by pairs of labels hold
 abbrev pub GridsAreLabelled : Type 0
 GridsAreLabelled = (j : Joining) (whole : Grid) (heights widths : List ℕ) (map_of numbers_of : ℕ → ℕ → Grid) (grid : List (List BorderValue)) → IsCutIntoTiles whole heights widths map_of → HaveBorders j heights widths map_of numbers_of grid → (starts : List Position) × (length starts ≡ clumps_in_grid (begun_in grid)) × AreLabelled j whole starts (cell_label heights widths numbers_of (begun_in grid)) (border_pairs j grid)

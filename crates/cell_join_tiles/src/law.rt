@@ -38,7 +38,7 @@ pub fn borders_count_the_whole()
     ensures { BordersCountTheWhole }
 {}
 
-/// The lines of cells on both sides of each seam give exactly the pairs at the seams.
+/// The lines of cells on both sides of each seam determine exactly the pairs at the seams.
 pub fn seam_lines_pair()
     ensures { SeamLinesPair }
 {}
@@ -68,7 +68,7 @@ pub fn label_lines_pass()
     ensures { LabelLinesPass }
 {}
 
-/// The borders of tiles alone label the full map's cells so that they can be joined by pairs of labels.
+/// Only the borders of tiles are needed to label the full map's cells so that they can be joined by pairs of labels.
 pub fn grids_are_labelled()
     ensures { GridsAreLabelled }
 {}

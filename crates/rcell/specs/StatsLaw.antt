@@ -14,7 +14,7 @@ abbrev pub IsTableOf : ShelfValue → List ℕ → StatsOptions → Pairs → Ty
 IsTableOf shelf places options pairs = IsTable options.skip (combinations_of shelf places) pairs
 
 -- without `-1`, r.stats writes the printed form of every list that is a table of its maps, or of the rest of the table
--- after a combination; at least one such list exists
+-- after a combination; there is at least one of these lists
 abbrev pub TablesAreAppended : Type 0
 TablesAreAppended = (shelf : ShelfValue) (places : List ℕ) (options : StatsOptions) → options.cells ≡ false
     → ((pairs : Pairs) × IsTableOf shelf places options pairs)

@@ -14,7 +14,7 @@ use std::fmt::Display;
 /// The words of a command line, files by their paths, and standard error. Standard input is a `Source`, and standard
 /// output is a `Sink`.
 ///
-/// The ghost members may be unknown, for example those for the running process. For a process in memory, all are known.
+/// The ghost members may be unknown, for example for the running process. For a process in memory, all are known.
 pub trait Process {
     ghost use Rattle.cell_core_devices.specs.Device.{Coming};
     ghost use Rattle.cell_core_devices.specs.declared.source.Asked.{Asked};

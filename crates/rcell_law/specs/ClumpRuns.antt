@@ -49,13 +49,13 @@ IsRenumbered numbered tiles counts numbers =
     → cell_at_position numbered (moved_position (tile_place (tile_heights tiles) (tile_widths tiles) r c) p)
     ≡ number_in_whole numbers (clumps_before counts r c) (cell_at_position tile.numbers p)
 
--- the numbering is the full map's, and it gives the number in `numbered` for each cell of each tile
+-- the numbering is the full map's, and its number for each cell of each tile is the cell's number in `numbered`
 pub record HasNumbersOf (numbered : Grid) (joining : Joining) (whole : Grid) (tiles : List (List NumberedTile))
     (text : List ℕ) : Type 0 where
   pub is : IsNumberingOfGrid joining whole tiles text
   pub same : IsRenumbered numbered tiles is.counts is.numbers
 
--- the output of the script over the full map contains, at each cell, the number that the numbering gives for the cell's
+-- the output of the script over the full map contains, at each cell, the number that the numbering lists for the cell's
 -- number in the tile's output
 abbrev pub OneRunHasTheseNumbers : Type 0
 OneRunHasTheseNumbers =

@@ -13,7 +13,7 @@ use Rattle.rcell_script_commands.specs.declared.command.Command.TheVariants.{Sta
 use Rattle.rcell_script_commands.specs.declared.command.StatsOptions.{StatsOptions}
 use Rattle.rcell.specs.Output.{IsOutput, format_of}
 
--- the statement is r.stats of the maps at these indexes and prints a full table: neither a line per cell nor the rest
+-- the statement is r.stats of the maps at these indices and prints a full table: neither a line per cell nor the rest
 -- after a combination
 pub record PrintsWholeTable (statement : Statement) (places : List ℕ) (options : StatsOptions) : Type 0 where
   pub command : statement.command ≡ Stats places options

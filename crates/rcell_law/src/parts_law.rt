@@ -61,7 +61,7 @@ pub fn scripts_of_tiles_number()
     one_script();
 }
 
-/// If the script was also run over the full map, the numbering gives its clump numbers there.
+/// If the script was also run over the full map, its clump numbers there are the numbers in the numbering.
 pub fn one_run_has_these_numbers()
     ensures { OneRunHasTheseNumbers }
 {

@@ -54,8 +54,8 @@ abbrev pub AsksOnce : Result Unit ErrorKind → FeedValue → FeedValue → Type
 AsksOnce (Ok done) old new = AsksTo Going old new
 AsksOnce (Err kind) old new = AsksTo (asked_at kind) old new
 
--- for any content of the source: the reading returns `y` for the bytes still to come before the call, and leaves those
--- after it
+-- for any content of the source: applied to the bytes still to come before the call, the reading returns `y` and leaves
+-- the bytes still to come after it
 abbrev pub ReadsAs : {Y E : Type 0} → FeedValue → Y → FeedValue → (Coming → Result (Y × Coming) E) → Type 0
 ReadsAs old y new reading =
     (c : Coming) → fits c new ≡ true → (fits c old ≡ true) × (reading (left c old) ≡ Ok (y, left c new))

@@ -34,7 +34,7 @@ raw_cell kind nodata mask bytes place = if is_hiding (slice_get mask place) then
 abbrev pub is_raw_outside : CellType → Option ℤ → List ℕ → List ℕ → ℕ → Bool
 is_raw_outside kind nodata mask bytes place = not (is_hiding (slice_get mask place)) && is_outside nodata (raw_number kind bytes place)
 
--- the indexes of a row of `cols` cells
+-- the indices of a row of `cols` cells
 abbrev pub places : ℕ → List ℕ
 places cols = range_with_len 0 cols
 

@@ -64,7 +64,7 @@ fn read_zones<R: Read>(alloc: Global, feed: &mut Feed<R>) -> Result<Option<Name>
     }
 }
 
-// Reads a question and gives it its number.
+// Reads a question, and assigns its number.
 #[tactic(auto, unfolding(crate::specs::Questions::question_at))]
 fn read_question<R: Read>(
     alloc: Global,

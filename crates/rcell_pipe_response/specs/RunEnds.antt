@@ -147,7 +147,7 @@ pub record IsScriptRejected (read : Result RunRequestValue RequestError) (respon
   pub first : IsScriptFault shelf.names script error
   pub bytes : response ≡ response_bytes [] (script_end error)
 
--- a question is rejected: the response is only the end with the first such question
+-- a question is rejected: the response is only the end, which names the first rejected question
 pub record IsQuestionRejected (form : RunForm) (read : Result RunRequestValue RequestError) (response : List ℕ)
     (error : QuestionError) : Type 0 where
   pub shelf : ShelfValue
@@ -225,7 +225,7 @@ abbrev pub IsTaken : List ℕ → (before now : Option (List ℕ)) → Option Pi
 IsTaken text before now (Some errors.Write) written = IsCut before now text written
 IsTaken text before now error written = (now ≡ append_known before text) × (written ≡ capped_count (length text))
 
--- what has been written of a response that reports the error `reported`, for a run that ended with `error`
+-- the bytes written of a response that reports the error `reported`, for a run that ended with `error`
 pub record HasResponded (says : List ℕ → Option PipeError → Type 0) (before now : Option (List ℕ))
     (reported error : Option PipeError) (written : ℕ) : Type 0 where
   pub response : List ℕ

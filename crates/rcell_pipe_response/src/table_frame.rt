@@ -186,7 +186,7 @@ fn push_asked_labels<W: Sink>(
     }
 }
 
-/// Writes the frame of a table over the maps at these indexes.
+/// Writes the frame of a table over the maps at these indices.
 pub(crate) fn push_table<W: Sink>(
     out: &mut W,
     block: &mut OutputBlock,

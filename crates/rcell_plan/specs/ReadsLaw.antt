@@ -19,17 +19,17 @@ reach_at f i = record { up = up_of i f; down = down_of i f; left = left_of i f; 
 abbrev pub ReadsAreReach : Type 0
 ReadsAreReach = (f : Formula) → All (λ n. n.margin ≡ reach_at f n.place) (expression_reads f)
 
--- map indexes ascend, and are all above `place`
+-- map indices ascend, and are all above `place`
 abbrev pub AscendPast : ℕ → List Need → Type 0
 AscendPast place [] = Unit {0}
 AscendPast place (n ∷ ns) = (place < n.place) × AscendPast n.place ns
 
--- map indexes ascend, so each map occurs once
+-- map indices ascend, so each map occurs once
 abbrev pub Ascend : List Need → Type 0
 Ascend [] = Unit {0}
 Ascend (n ∷ ns) = AscendPast n.place ns
 
--- each plan lists its maps once each, in the order of their indexes
+-- each plan lists its maps once each, in the order of their indices
 abbrev pub PlansAscend : Type 0
 PlansAscend = (count : ℕ) (statements : List Statement)
     → All (λ p. Ascend p.reads × Ascend p.needs) (plans_of (given_needs count) statements)

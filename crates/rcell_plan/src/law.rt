@@ -15,7 +15,7 @@ pub fn reads_are_reach()
     ensures { ReadsAreReach }
 {}
 
-/// Each plan lists its maps once each, in the order of their indexes.
+/// Each plan lists its maps once each, in the order of their indices.
 pub fn plans_ascend()
     ensures { PlansAscend }
 {}

@@ -21,7 +21,7 @@ pub struct Plan {
     pub flags: u8,
     /// The index of the map that the statement makes, if it makes one.
     pub made: Option<usize>,
-    /// The maps that the statement reads, by their indexes on the shelf before it.
+    /// The maps that the statement reads, by their indices on the shelf before it.
     pub reads: Needs,
     /// The given maps that the statement depends on, directly or through maps made earlier.
     pub needs: Needs,

@@ -36,7 +36,7 @@ fn refuse<P: Process>(process: &mut P, refusal: Refusal, names: &[Name]) -> u8
 /// Executes the request in the process's arguments, and returns the exit status. Opens the files that the words name,
 /// runs the script over the grids, writes the output to `out`, and reports the error, if any.
 pub fn work<P: Process, W: Sink>(alloc: Global, process: &mut P, out: &mut W) -> u8
-    // The words are those given to the process. The files that they name were opened, in order. `out` has accepted
+    // The words are the process's arguments. The files that they name were opened, in order. `out` has accepted
     // exactly what a run over these files writes. Standard error contains exactly the line for the error, and the exit
     // status is the error's.
     ensures work { IsWork P.words P.files P.opened P.errors P.failed process.old process.new

@@ -28,7 +28,7 @@ input_place known given = do
   input ← ok_or given.input MissingOption
   ok_or (place_of input known) UnknownMap
 
--- the indexes of the input maps of r.stats: they must be given, then flags must not exclude each other, then the maps
+-- the indices of the input maps of r.stats: they must be given, then flags must not exclude each other, then the maps
 -- must be known
 abbrev pub input_places : List (List ℕ) → Given → Result (List ℕ) OptionFault
 input_places known given = do

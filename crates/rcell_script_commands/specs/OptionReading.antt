@@ -72,7 +72,7 @@ table_null_text_of value = if is_table_null_text value then Ok value else Err Ba
 
 -- ---- what was read
 
--- the options given by words
+-- the options in a command's words
 pub record Given : Type 0 where
   pub flags : Flags
   pub input : Option (List ℕ)

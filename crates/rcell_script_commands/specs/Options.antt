@@ -33,12 +33,12 @@ has_flag flag words = is_one_of (flat_map letters_in words) (byte flag)
 abbrev pub values_of : List ℕ → List (List ℕ) → List (List ℕ)
 values_of key words = filter_map (value_in key) words
 
--- there is no value, or exactly one value, which spells this
+-- without a result there is no value; otherwise there is exactly one value, which spells the result
 abbrev pub IsOptional : {X : Type 0} → (List ℕ → X → Type 0) → List (List ℕ) → Option X → Type 0
 IsOptional Spells values None = values ≡ []
 IsOptional Spells values (Some x) = (value : List ℕ) × (values ≡ value ∷ []) × Spells value x
 
--- there is no value, and this is the default; or there is exactly one value, which spells this
+-- the result is the default if there is no value; otherwise there is exactly one value, which spells the result
 abbrev pub IsOr : {X : Type 0} → X → (List ℕ → X → Type 0) → List (List ℕ) → X → Type 0
 IsOr {X} usual Spells values x = (given : Option X) × IsOptional Spells values given × (unwrap_or given usual ≡ x)
 

@@ -2,7 +2,7 @@
 //! r.reclass, r.clump, r.stats, r.out.ascii). Options may be given in any order.
 //!
 //! - `heads`: `head_of` reads a line, given the known names. Returns a `Head` or a `ScriptKind`
-//! - `command`: `Command`, what a statement does, with the indexes of its maps on the shelf
+//! - `command`: `Command`, what a statement does, with the indices of its maps on the shelf
 //! - `script_fault`: `ScriptKind`, an error; `ScriptFault`, an error and its line
 //! - one private module per command: `r_mapcalc`, `r_reclass`, `r_clump`, `r_stats`, `r_out_ascii`
 //! - `options`: `options_of` reads words as `Options`; `maps`: the maps that options name; `null_text`: the null texts

@@ -28,7 +28,7 @@ impl Model for Places {
 }
 
 impl Places {
-    /// Returns the indexes as a slice.
+    /// Returns the indices as a slice.
     pub fn as_slice(&self) -> &[usize]
         ensures { result.now ≡ self.now }
     {
@@ -78,7 +78,7 @@ pub fn input_place(known: &Names, options: &Options) -> Result<usize, OptionFaul
     }
 }
 
-// Returns the indexes of names among the known names.
+// Returns the indices of names among the known names.
 fn map_places(alloc: Global, known: &Names, names: &[Name]) -> Result<Places, OptionFault>
     ensures places { GivesOption result
         (ok_or (places_of known.now names.now) OptionFault.UnknownMap) }
@@ -102,7 +102,7 @@ fn is_torn(options: &Options) -> bool
     options.flags.cells && (options.flags.counts || options.after.is_some())
 }
 
-/// Returns the indexes of the 1 to 16 input maps.
+/// Returns the indices of the 1 to 16 input maps.
 ///
 /// # Errors
 ///

@@ -23,7 +23,7 @@ held_from_head held (Some s) = Some (record { stretches = s ∷ held.left; fault
 abbrev pub held_from : HeldValue → Option AreasReading
 held_from held = held_from_head held held.head
 
--- each run may follow the previous run; the first may follow `before`, if there is such a run
+-- each run may follow the previous run; the first may follow `before`, if this run is given
 abbrev pub AreInSequence : Option Stretch → List Stretch → Type 0
 AreInSequence before [] = Unit {0}
 AreInSequence before (s ∷ stretches) = (in_sequence before s ≡ Ok s) × AreInSequence (Some s) stretches

@@ -1,4 +1,4 @@
--- What a response says about a feed and its source.
+-- What a response implies about a feed and its source.
 use Rattle.std.specs.Prelude.{ℕ, ◌≡◌, true, List, Option}
 use Rattle.cell_core_devices.specs.Device.{Coming}
 use Rattle.cell_core_devices.specs.declared.source.Asked.{Asked}
