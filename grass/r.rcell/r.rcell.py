@@ -6,7 +6,7 @@
 # MODULE:    r.rcell
 # AUTHOR(S): Nibzoqel authors
 # PURPOSE:   Runs an rcell script on raster maps of the current region
-#            and imports the maps that it makes
+#            and imports the maps that it creates
 # COPYRIGHT: (C) 2026 by the Nibzoqel authors
 #
 #            This program is free software under the GNU General Public

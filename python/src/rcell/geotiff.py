@@ -180,7 +180,7 @@ def _range_of(grid: Raster) -> tuple[int, int]:
 
 
 def _ends_of(cells: Any) -> tuple[int, ...]:
-    """Return the smallest and the largest category of some rows, or nothing if all cells are null."""
+    """Return the smallest and the largest category of rows; empty if all cells are null."""
     if isinstance(cells, np.ma.MaskedArray):
         return (int(cells.min()), int(cells.max())) if np.ma.count(cells) else ()
     smallest = int(cells.min())
@@ -191,7 +191,7 @@ def _ends_of(cells: Any) -> tuple[int, ...]:
 def _rows_of(grid: Raster) -> Iterator[tuple[int, Any]]:
     """Yield the rows of a map in blocks, each with the index of its first row.
 
-    They are masked arrays, or bytes with 255 for null if the map keeps its cells so.
+    Blocks are masked arrays, or bytes with 255 for null if the map stores bytes.
     """
     rows, cols = grid.region.shape
     step = max(_BLOCK_CELLS // cols // TILE, 1) * TILE
@@ -205,5 +205,5 @@ def _rows_of(grid: Raster) -> Iterator[tuple[int, Any]]:
 
 
 def _filled(cells: Any, dtype: str, nodata: float) -> Any:
-    """Return rows as the file stores them; bytes already have the type and the nodata value of the file."""
+    """Convert rows to the type and nodata value of the file, which bytes already have."""
     return cells.filled(nodata).astype(dtype) if isinstance(cells, np.ma.MaskedArray) else cells

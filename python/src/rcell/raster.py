@@ -139,7 +139,10 @@ class Raster:
         return self.array[first:end] if "array" in vars(self) else self._masked(first, end)
 
     def _bytes(self, first: int, end: int) -> Any:
-        """Return consecutive rows as bytes, with 255 for null, or None if the map does not keep its cells as bytes."""
+        """Return consecutive rows as bytes, with 255 for null, or None.
+
+        The result is None if the map does not store bytes.
+        """
         source = self._source
         is_kept = source.is_narrow and source.null is None and source.nodata_value == NULL_BYTE
         return source.array[first:end] if is_kept and "array" not in vars(self) else None

@@ -1,5 +1,5 @@
 # SPDX-License-Identifier: Apache-2.0 OR GPL-2.0-or-later
-"""Record how a table was made, and verify it later."""
+"""Record how a table was created, and verify it later."""
 
 from __future__ import annotations
 

@@ -525,7 +525,7 @@ NO_ARGUMENTS = {
     *("band", "format", "legends", "out", "part", "record", "shares", "table"),
     *("maps_of_years", "of_trajectories"),
 }
-# Commands that take several maps one after another.
+# Commands that process several maps one after another.
 MANY = ("composition", "patches", "zonal", "adjacency", "dominant", "metrics")
 _ZONES = "zones zone_field zone_labels layer"
 _TABLE = "band crs format out record"

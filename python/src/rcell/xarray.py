@@ -212,8 +212,8 @@ class _Method(NamedTuple):
     argument_of: Callable[[Accessor], Any] = _only
     convert: Callable[[Accessor, Any], Any] = _unchanged
     returns: str = ""
-    # Whether the resulting map can stay in Dask, as a function of the arguments; None if the result
-    # is not such a map.
+    # Whether the resulting map can stay in Dask, as a function of the arguments; None for calls
+    # whose result never stays in Dask.
     is_local: Optional[Callable[[Mapping[str, Any]], bool]] = None
 
 

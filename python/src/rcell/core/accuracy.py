@@ -103,7 +103,7 @@ def accuracy(
     field : str, optional
         The field with the class of each point; by default `class`, or `reference`.
     layer : str, optional
-        The layer, if the file of points has several.
+        The layer, if the file of points has several layers.
     labels : path, dict, Series or DataFrame, optional
         A legend, as in `composition`.
     crs : any, optional

@@ -1,5 +1,5 @@
 # SPDX-License-Identifier: Apache-2.0 OR GPL-2.0-or-later
-"""Align maps with the grid of another map, on request, and report what was done."""
+"""Align maps with the grid of another map on request, and count the cells used and lost."""
 
 from __future__ import annotations
 

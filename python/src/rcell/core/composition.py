@@ -48,7 +48,7 @@ def composition(
         The field of the polygons with the ids or names of the zones; by default the zone is the
         feature's own id (the index of a GeoDataFrame).
     layer : str, optional
-        The layer, if the file of polygons has several.
+        The layer, if the file of polygons has several layers.
     each : bool
         Whether to process overlapping polygons one after another. By default, the later polygon
         gets the cells, with a warning.

@@ -30,7 +30,7 @@ LONGEST_LINE = 1 << 20  # the longest line that is examined, in bytes
 def explain(script: str, words: Sequence[str]) -> int:
     """Run rcell on a script, print advice after its message, and return its status.
 
-    Its output goes to standard output unchanged.
+    The output of rcell is written to standard output unchanged.
     """
     ran = subprocess.run([find_program(), script, *words], stderr=subprocess.PIPE, check=False)
     message = ran.stderr.decode("utf-8", "backslashreplace")

@@ -1,5 +1,5 @@
 # SPDX-License-Identifier: Apache-2.0 OR GPL-2.0-or-later
-"""Summarize the patches of each class without a table of all patches."""
+"""Summarise the patches of each class without a table of all patches."""
 
 from __future__ import annotations
 

@@ -49,7 +49,7 @@ class Piece:
         return cls(source.name, source.dtype, source.nodata, source.is_masked, scale, block)
 
     def window(self, row: int, col: int, rows: int, cols: int) -> Block:
-        """Return all cells, which are those asked for."""
+        """Return all cells; the requested window must have their shape."""
         assert self.block.cells.shape == (rows, cols)
         return self.block
 
@@ -87,7 +87,7 @@ class Chunks:
         return nodata_of(self.announced, self.nodata_value)
 
     def window(self, row: int, col: int, rows: int, cols: int) -> Block:
-        """Return all cells, which are those asked for."""
+        """Return all cells; the requested window must have their shape."""
         cells, null = unmasked(self.cells)
         check_computed(self.name, cells, self.announced, (rows, cols))
         if self.is_masked and null is None:

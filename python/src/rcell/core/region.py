@@ -340,12 +340,12 @@ class Shift:
     ----------
     rows, cols : float
         The row and column of the other grid, from 0, at which the first cell begins; integers if
-        whole numbers of cells.
+        the grids are shifted by whole cells.
     height, width : float
         The size of a cell, in cells of the other grid.
     shape : tuple of int
     sizes : tuple of tuple of float
-        The height and width of a cell of the other grid, and of this one.
+        The heights and widths of cells in both grids, beginning with the other grid.
     """
 
     rows: float
@@ -357,7 +357,7 @@ class Shift:
 
     @classmethod
     def between(cls, other: Transform, grid: Transform, shape: tuple[int, int]) -> Shift:
-        """Return the position of a grid in another one.
+        """Return the position of a grid in another grid.
 
         Examples
         --------

@@ -235,7 +235,7 @@ def table(
     Parameters
     ----------
     script : str
-        A line `r.stats ..`, or a script that contains one such line.
+        A line `r.stats ..`, or a script that contains one r.stats.
     maps : mapping, optional
         See `run`.
     area : {"m2", "ha", "km2"}, optional

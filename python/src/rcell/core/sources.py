@@ -387,7 +387,7 @@ class Scaled:
             yield block
 
     def window(self, row: int, col: int, rows: int, cols: int) -> Block:
-        """Return some of the cells, counted from the north-west corner."""
+        """Return a window of cells; rows and columns are counted from the north-west."""
         source: Any = self.source
         token = _scale.set(self.scale)
         try:
@@ -464,7 +464,7 @@ class ArrayMap:
 
     @property
     def dtype(self) -> np.dtype[Any]:
-        """The type of its blocks."""
+        """The data type of its blocks."""
         return type_of(self.array.dtype)
 
     @property
@@ -491,7 +491,7 @@ class ArrayMap:
             yield self.window(row, 0, min(step, rows - row), cols)
 
     def window(self, row: int, col: int, rows: int, cols: int) -> Block:
-        """Return some of the cells, counted from the north-west corner."""
+        """Return a window of cells; rows and columns are counted from the north-west."""
         part = np.s_[row : row + rows, col : col + cols]
         null = None if self.null is None else self.null[part]
         return checked(self.name, self.array[part], null, self.nodata_value, row, col)

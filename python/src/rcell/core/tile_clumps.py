@@ -78,7 +78,7 @@ def border_text(
     cells : ndarray of integers, rows x cols
         The cells of the tile, with `NULL` for null.
     numbers : ndarray of integers, rows x cols
-        The numbers that r.clump gives in the tile, 0 for null.
+        The clump numbers of the tile from r.clump, with 0 for null.
     diagonal : bool
         Whether cells that touch at a corner are connected.
 
@@ -159,7 +159,7 @@ def renumber(numbers: Integers, tile: TileNumbers, out: Optional[Integers] = Non
     Parameters
     ----------
     numbers : ndarray of integers, any shape
-        Numbers that r.clump gives in the tile, 0 for null.
+        The clump numbers of the tile from r.clump, with 0 for null.
     tile : TileNumbers
         The result of `join` for the tile.
     out : ndarray of integers, the same shape, optional

@@ -174,7 +174,7 @@ def _first_bad_cell(maps: Mapping[str, Source]) -> Iterator[None]:
 
 
 def _is_map_of(output: Statement, names: set[str]) -> bool:
-    """Return whether an output is one of some maps, unchanged."""
+    """Return whether an output is one of the named maps, unchanged."""
     return output.command == "r.out.ascii" and output.inputs[0] in names
 
 

@@ -282,7 +282,9 @@ def _multiple(side: int, block: int) -> int:
 
 
 def _even_side(length: int, most: int, block: int) -> int:
-    """Return the side of tiles of about equal size: a narrow last tile costs the program as much per row as a wide one.
+    """Return the side of tiles of about equal size.
+
+    A narrow last tile would cost the program as much per row as a wide tile.
 
     Examples
     --------
