@@ -206,7 +206,7 @@ def refusal(message: str) -> list[str]:
     if re.match("There were errors executing the algorithm|.*Algorithm .* not found", first):
         return [f"error: {message}"]
     place, _, text = first.partition(": ")
-    if re.match("[A-Z_]+ ", place):  # a parameter that is wrong
+    if re.match("[A-Z_]+ ", place):  # a wrong parameter
         place, text = "arguments", first
     if not text:  # an error of QGIS itself
         place, text = "", place

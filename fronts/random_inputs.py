@@ -113,7 +113,7 @@ def frame_of(random: Any) -> Frame:
     system = one_of(random, SYSTEMS)
     most = one_of(random, (3, 6, 12, 12, 40))
     rows, cols = (int(size) for size in random.integers(1, most + 1, 2))
-    if random.random() < 0.06:  # rows from the south at the corner, and others from the north
+    if random.random() < 0.06:  # at the corner, rows from the south or from the north
         return Frame(rows, cols, 0.0, float(rows), 1.0, 1.0, METRES)
     if system.angle is None:
         width, height = (float(it) for it in random.choice([0.5, 1, 10, 25, 30, 1 / 3, 100], 2))
@@ -349,13 +349,13 @@ def zones_of(random: Any, folder: pathlib.Path, name: str, frame: Frame) -> Made
     kind = one_of(random, [it for it in ("", *KINDS) if it != "bool" or ending not in ("shp",)])
     count = int(random.integers(1, 6))
     values = values_of(random, kind, count) if kind else [None] * count
-    if ending in ("shp", "geojson"):  # files of fewer digits
+    if ending in ("shp", "geojson"):  # formats with fewer digits
         values = [round(it, 6) if isinstance(it, float) else it for it in values]
     features = []
     for place, value in enumerate(values):
         parts = None if random.random() < 0.1 else [[ring_of(random, frame)]]
         features.append(Feature(place + (ending == "gpkg"), parts, value))
-    if ending == "fgb":  # GDAL leaves features without geometry out
+    if ending == "fgb":  # GDAL leaves out features without geometry
         features = [it for it in features if it.parts is not None]
         for place, it in enumerate(features):
             it.fid = place

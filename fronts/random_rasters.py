@@ -35,11 +35,11 @@ from run import MISSING, PACKAGES, REPOSITORY, environment
 HERE = pathlib.Path(__file__).resolve().parent
 FRONTS = ("python", "shell", "r", "qgis", "grass")
 GROUP = 16
-SHORT = 400  # rasters of the gate
+SHORT = 400  # rasters in the gate's run
 LARGE = 100_000  # cells
 PROGRESS = 5000
 MOST_CATEGORY = 2147483647
-NULL = -2147483648  # among cells that come back
+NULL = -2147483648  # null among the returned cells
 EXACT_FLOAT = 2**53
 TYPES = {
     gdal.GDT_Byte: np.uint8,

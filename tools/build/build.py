@@ -31,7 +31,7 @@ LINES_OF_A_LOG = 40
 SECONDS_BETWEEN_NEWS = 60
 # The fixed cost of a check and the cost of a line of proofs, in lines of source.
 LINES_OF_A_START, LINES_OF_A_PROOF = 150, 0.2
-LEAST_SHARE = 0.1  # of the work, before what is left is estimated
+LEAST_SHARE = 0.1  # of the work, done before the rest is estimated
 DONE = re.compile(r"rt: (\w+) (proved|NOT PROVED|is kept)")
 HERE = "proved on this machine"
 

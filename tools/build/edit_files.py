@@ -16,7 +16,7 @@ HEAD = re.compile(r"^( *)(?:pub(?:\([\w:]+\))? )?(?:const )?fn (\w+)", re.MULTIL
 IMPL = re.compile(
     r"^impl(?:<.*?>)? (?:(?:\w+::)*(\w+)(?:<.*>)? for )?&?(?:'\w+ )?(\w+)", re.MULTILINE
 )
-SPREAD = re.compile(r"\{\n((?:  [^\n]*,\n)+)\}")  # names of an import, each on a line
+SPREAD = re.compile(r"\{\n((?:  [^\n]*,\n)+)\}")  # an import's names, one per line
 CITED = re.compile(r"(\w+/(?:must-fail|edits))/([\w-]+(?:, [\w-]+-[\w-]+)*)")
 
 

@@ -51,7 +51,7 @@ NO_FUNCTION = re.compile(r"error: `\w+` has no function `\w+::([^`]+)`")
 KINDS = ("values", "goal", "written", "elsewhere")
 BYTES_OF_A_CHECK = 4 << 30  # at most
 ROUNDS_IN_COMPANY = 2
-MOST_IN_COMPANY = 24  # a larger check waits for more callees that are not proved
+MOST_IN_COMPANY = 24  # in a larger check, more callees are unproved
 
 
 @dataclass

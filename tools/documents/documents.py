@@ -91,7 +91,7 @@ READING_SENTENCE = re.compile(
 )
 # The sentence in README.md about the sizes of code and proofs, in thousands of lines.
 SIZES_SENTENCE = re.compile(r"(?<=cover )(\d+)(,000 lines of code, and take )(\d+)(?=,000 lines)")
-SIZES_DIFFER_BY = 0.05  # more needs new numbers
+SIZES_DIFFER_BY = 0.05  # a larger difference requires new numbers
 LANGUAGES = {"console", "pycon", "text", "python", "sh", "antt", "rust"}
 PACKAGES = {
     "gdal_retile.py": "python3-gdal",
@@ -102,7 +102,7 @@ PACKAGES = {
 }
 PYTHON_PACKAGES = "/usr/lib/python3/dist-packages"
 SESSION = "import sys; sys.path.insert(0, sys.argv[1]); import documents; print(documents.by_session(sys.stdin.read(), {}), end='')"
-SECONDS = 600  # only what hangs takes longer, also on a machine with much other work
+SECONDS = 600  # only hanging commands take longer, even on a busy machine
 END_OF_COMMAND = "==== a command of a document has ended ===="
 
 

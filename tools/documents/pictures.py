@@ -18,7 +18,7 @@ import subprocess
 import matplotlib
 
 matplotlib.use("Agg")
-import matplotlib.pyplot as plt  # the back end is chosen first
+import matplotlib.pyplot as plt  # after the back end is chosen
 import numpy as np
 from matplotlib.colors import ListedColormap
 
@@ -41,7 +41,7 @@ CLASSES = {
 }
 PATCHES = "r.reclass input=landcover output=wood\n31 thru 39 = 1\nend\nr.clump -d input=wood output=patches\n"
 SEA = (0.87, 0.93, 0.97)
-LABELLED = 100  # cells of a country that gets its name
+LABELLED = 100  # minimum cells of a country with a label
 # Moves names that would overlap, in rows and columns from the median of the cells.
 MOVED = {"Viet Nam": (-8, 18), "Cambodia": (3, -3), "Malaysia": (10, -22), "Thailand": (-2, -4)}
 SHORT = {"Lao People's Democratic Republic": "Laos"}

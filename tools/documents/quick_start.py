@@ -27,7 +27,7 @@ import documents
 SECTION = re.compile(r"^## Install\n.*?^## ", re.MULTILINE | re.DOTALL)
 HIDDEN = re.compile(r"python|pypy|pydoc|rt$|rt-|rattle|rcell")
 FOLDERS = ("/usr/bin", "/bin")
-SECONDS = 600  # only what hangs takes longer, also on a machine with much other work
+SECONDS = 600  # only hanging commands take longer, even on a busy machine
 UNPACKED = "unpacked"
 
 

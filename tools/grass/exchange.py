@@ -63,7 +63,7 @@ REGIONS = [
 
 RANDOM_RUNS = 100
 TASK_ROWS, TASK_COLS = 4000, 5000
-DEVIATION = 1e-6  # of areas, as a part of them
+DEVIATION = 1e-6  # relative, of areas
 OWN_MAP = f"{ROOT}/examples/land-cover/landuse.txt"
 LABELS = '1\tforest, old\n2\tmeadow: wet\n4\t"town" | grün\n'
 WRITES, WRITES_NUMBER = b"r.out.ascii input=g\n", b"r.out.ascii input=g null_value=-9999\n"

@@ -19,7 +19,7 @@ from compare import Program, answer_of_model, read
 from case_texts import LONGEST_WHOLE, Made, Report, answer_of_ending, answer_of_failing
 
 PIECES = range(1, 71)
-SECONDS = 60  # the most that a run may take
+SECONDS = 60  # maximum time of a run
 
 
 class Devices:
@@ -466,7 +466,7 @@ def inputs(report: Report, devices: Devices, cases: dict[str, Made], settings) -
 # Terminals
 
 MOST_TYPED = 2000  # a terminal takes about 4,000 bytes at a time
-END_OF_INPUT = b"\x04"  # at the start of a line it is an end that is reported once
+END_OF_INPUT = b"\x04"  # at the start of a line, reported once as an end
 LOCAL_MODES = 3
 
 

@@ -15,16 +15,16 @@ import model
 from compare import ROOT, Program, answer_of_model, is_told_refusal, read
 from case_texts import Cases, Made, Report
 
-SECONDS = 120  # the most that a test may take
-MOST_GROWTHS = 2000  # of a test that grows more often, some are chosen
-SECONDS_OF_CHOICE = 60  # and as many as so much time allows
-PASSED, FAILED = 0, 101  # how a test ends that returned
-ASSERTED = -signal.SIGABRT  # how one ends in which an assertion did not hold, and says so
-FIRST_REFUSED = b"rcell: arguments:0: no memory\n"  # the first growth is for the words
+SECONDS = 120  # maximum time of a test
+MOST_GROWTHS = 2000  # if a test grows more often, some growths are selected
+SECONDS_OF_CHOICE = 60  # time for the selected growths
+PASSED, FAILED = 0, 101  # statuses of a test that returned
+ASSERTED = -signal.SIGABRT  # status of a test with a failed assertion
+FIRST_REFUSED = b"rcell: arguments:0: no memory\n"  # the first growth is for the arguments
 TEST = re.compile(r"^(\S+): test$", re.M)
-AGAIN = "_again"  # ends the name of a test that makes a failed call once more, over an object that is as before
-TOLD_AGAIN = b"made again"  # what such a test prints if it does so
-CALLS_AGAIN = 8  # the calls that leave their object unchanged, and a run over a sink whose flush works or fails
+AGAIN = "_again"  # suffix of tests that repeat a failed call on an unchanged object
+TOLD_AGAIN = b"made again"  # printed by a test that repeats a call
+CALLS_AGAIN = 8  # calls that leave their object unchanged, and runs whose flush works or fails
 
 
 # The program

@@ -20,8 +20,8 @@ LEAST_STACK_KIB, STACK_STEP_KIB = 16, 1
 MOST_FILES = min(resource.getrlimit(resource.RLIMIT_NOFILE)[1], 200000)
 SPARE_FILES = 16
 OUT_OF_TIME = -signal.SIGKILL
-MOST_SECONDS = 30  # of a processor
-MOST_WORDS_KIB = 65536  # the kernel gives a quarter of the stack to the words
+MOST_SECONDS = 30  # processor seconds
+MOST_WORDS_KIB = 65536  # the kernel reserves a quarter of the stack for arguments
 SIZES = (1000, 10000, 100000)
 STEEPEST = 1.5  # the largest power of the number of things that a time may grow by, once it is longer than this
 SLOW = 0.5
@@ -45,7 +45,7 @@ def over(text: bytes, script: bytes) -> Made:
 class Spent:
     status: int
     seconds: float  # of a processor
-    kib: int  # the most memory that was held at one time
+    kib: int  # peak memory
     told: bytes
     output: bytes
 

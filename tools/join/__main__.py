@@ -38,7 +38,7 @@ from made import Cut, Named
 from model_grids import CellMap, Failing, grid_text, read_map
 
 PIECES = [1, 2, 3, 5, 7, 8, 13, 16, 31, 64, 255, 4095]
-READS = [0, 7]  # bytes that a read moves where reads are stopped; 0: as many as are asked for
+READS = [0, 7]  # bytes per read when reads are stopped; 0: as many as requested
 FIRST_FILE = 3  # the descriptor of the first file that the program opens
 LONG_IN = 200  # one run in this many has long texts
 LABELS_IN = 4  # one map in this many also has tables with labels

@@ -25,7 +25,7 @@ from model_grids import (
     read_map,
 )
 
-Given = bytes | Failing | None  # what a file gives; None: it cannot be opened
+Given = bytes | Failing | None  # a file's contents; None: it cannot be opened
 Reply = tuple[int, bytes, bytes]  # the status, the output and the message
 
 MOST_BYTES, GREATEST_COUNT, GREATEST_CATEGORY = 4096, 2**64 - 1, 2**31 - 1
@@ -59,8 +59,8 @@ class Fault(Exception):
 
 Entry = tuple[
     tuple[tuple[bool, int], ...], int
-]  # cells, each with whether it is null first, and their count
-Labels = tuple[bytes, ...]  # one after each cell
+]  # cells, each preceded by whether it is null, and their count
+Labels = tuple[bytes, ...]  # one label per cell
 
 
 @dataclass(frozen=True)
@@ -330,9 +330,9 @@ def sizes(form: Format, names: list[bytes], given: list[bytes | Failing]) -> byt
 # Borders and clumps
 
 ROWS, SIZE_ROW, COUNTS_ROW, SIZE_CELLS = 10, 8, 9, 4
-JOININGS = {4: False, 8: True}  # whether cells that touch at a corner are joined
+JOININGS = {4: False, 8: True}  # whether cells that touch at a corner are connected
 
-Side = tuple[list[Cell], list[Cell]]  # cells, and the numbers of their clumps
+Side = tuple[list[Cell], list[Cell]]  # cells, and their clump numbers
 Place = tuple[
     int, int, int, int
 ]  # row of tiles, row of the tile in which the clump begins, column of tiles, number: in order of first cells

@@ -10,9 +10,9 @@ from join_model import NULL_LABEL, Format, Labels
 from model_grids import COORDINATE_UNIT, Cell, CellMap, Region
 
 Rows = list[list[Cell]]
-Named = list[tuple[bytes, bytes]]  # names of files with their texts
-Span = tuple[int, int, int, int]  # rows and columns: the first, and the one after the last
-Cells = tuple[tuple[bool, int], ...]  # each with whether it is null first
+Named = list[tuple[bytes, bytes]]  # file names and texts
+Span = tuple[int, int, int, int]  # first row or column, and the one after the last
+Cells = tuple[tuple[bool, int], ...]  # each preceded by whether it is null
 
 LARGEST_SIDE, MOST_TILES = 24, 5
 FORMATS = [

@@ -10,7 +10,7 @@ from model_grids import Failing
 Files = Mapping[bytes, bytes | Failing]
 Case = tuple[str, list[bytes], Files, Reply]
 
-FOLDER = Failing(b"")  # a file that opens and cannot be read
+FOLDER = Failing(b"")  # a file that can be opened but not read
 
 
 def told(source: bytes, line: int, text: bytes, status: int = 1, output: bytes = b"") -> Reply:

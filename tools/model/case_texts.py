@@ -11,7 +11,7 @@ from compare import ROOT, answer_to_case, keep, read
 from made_cases import Made
 from model_grids import Failing, is_name
 
-LONGEST_WHOLE = 5000  # a longer text is tried at places chosen at random, and not at each
+LONGEST_WHOLE = 5000  # a longer text is tested at random positions
 
 
 def made_of(case, folder) -> Made | None:

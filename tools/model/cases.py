@@ -32,7 +32,7 @@ ROOT = os.path.abspath(f"{__file__}/../../..")
 BIN = os.environ.get("RCELL_BIN", f"{ROOT}/bin")
 PROGRAM = f"{BIN}/rcell"
 OUR_OWN = ("args", "stdout", "stderr", "status", "output", "more", "refused")
-LONGEST_LIMITED = 256  # a case that writes more is not tried with outputs of each size
+LONGEST_LIMITED = 256  # a longer output is not tested with each size
 NO_MEMORY = re.compile(rb"rcell: ([^:]+):([0-9]+): no memory\n")
 
 

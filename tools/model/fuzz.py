@@ -29,7 +29,7 @@ from made_cases import ODD_BYTES, Made, ScriptMaker, make
 from made_stretches import make_stretches
 
 COMMANDS = (b"r.mapcalc", b"r.reclass", b"r.clump", b"r.stats", b"r.out.ascii")
-MOST_TRIALS = 3000  # how often a run that differs is made again to make it smaller
+MOST_TRIALS = 3000  # maximum number of runs to make a difference smaller
 WORDS = [
     b"",
     b"-",

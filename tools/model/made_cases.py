@@ -133,8 +133,8 @@ ODD_TOKENS = (
 @dataclass
 class Made:
     files: dict[str, bytes]
-    grids: list[tuple[bytes, str]]  # names with their files
-    other_words: list[bytes] | None = None  # in place of those that the files ask for
+    grids: list[tuple[bytes, str]]  # names and files
+    other_words: list[bytes] | None = None  # instead of the arguments for the files
 
     @property
     def words(self) -> list[bytes]:

@@ -7,7 +7,7 @@ import random
 
 from made_cases import ODD_CELLS, Made, ScriptMaker
 
-BLOCK = 65536  # what the program reads at a time
+BLOCK = 65536  # bytes that the program reads at a time
 
 LENGTHS = [
     1,
@@ -117,7 +117,7 @@ class StretchMaker(ScriptMaker):
         while at < self.rows * self.cols:
             found.add(at)
             at += self.one(self.lengths)
-            if self.chance(0.2):  # a stretch that ends with its row
+            if self.chance(0.2):  # a run that ends with its row
                 at = (at + self.cols - 1) // self.cols * self.cols
         return found
 

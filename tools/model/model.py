@@ -42,7 +42,7 @@ VISIBLE = re.compile(rb"[!-~]{1,64}")
 
 @dataclass(frozen=True)
 class Rule:
-    ranges: Optional[list[tuple[int, int]]]  # None: the rule is for all other categories
+    ranges: Optional[list[tuple[int, int]]]  # None: the rule covers all other categories
     output: Cell | str  # null, a category, or "same"
     label: bytes
 
@@ -159,7 +159,7 @@ class Mapcalc:
     expression: Expression
     calls: Sequence[
         tuple[bytes, int, int]
-    ] = ()  # functions with the columns of their first and last bytes
+    ] = ()  # functions, with the columns of their first and last bytes
 
     def run(self, maps: Maps, region: Region) -> bytes:
         maps[self.target] = map_of(
@@ -310,7 +310,7 @@ class ScriptReader:
     def __init__(self, text: bytes, names: list[bytes]):
         self.lines = script_lines(text)
         self.known = set(names)
-        self.at = 0  # the number of lines read, and so the number of the last of them
+        self.at = 0  # the number of lines read, which is the number of the last line
 
     def next_line(self) -> bytes:
         self.at += 1
@@ -438,7 +438,7 @@ class ScriptReader:
 # Runs and the program
 
 
-Given = bytes | Failing  # what a file gives
+Given = bytes | Failing  # a file's contents
 
 
 def read_script(given: Given) -> bytes:

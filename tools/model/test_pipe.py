@@ -59,10 +59,10 @@ LABELS = [b"wood", b"a b", b"x", b"l\xc3\xa4nge"]
 STATUS_DONE, STATUS_REJECTED, STATUS_MEMORY, STATUS_FAILED = 0, 1, 3, 4
 TAKEN = re.compile(rb"q[0-9]")  # names of the grids that r.reclass reads
 MESSAGE = re.compile(rb"rcell: script:(\d+): (.*?(?: at column (\d+))?)\n")
-MOST_MEMORY = 64 << 20  # of a program that is given a large header and no rows
-LONGEST_WHOLE = 300  # of a request that is cut at each of its bytes
-DAMAGED_IN = 4  # one in so many random requests is also damaged
-MOMENT = 0.3  # seconds in which a program would have written
+MOST_MEMORY = 64 << 20  # for a program with a large header and no rows
+LONGEST_WHOLE = 300  # a longer request is not cut at each byte
+DAMAGED_IN = 4  # one random request in this many is also damaged
+MOMENT = 0.3  # seconds after which a program would have written
 SECONDS = 120
 
 
@@ -329,7 +329,7 @@ def wrong_reading(programs: Programs, data: bytes) -> str:
     """Return the error if bytes are not read as the plain reader does, up to the same first
     error."""
     if data.startswith((b"RCELLP1\n", b"RCELLT1\n")):
-        return ""  # damage made another form of it
+        return ""  # the damage changed its form
     try:
         maps, script, questions = Reader(data).run()
     except Rejected as error:

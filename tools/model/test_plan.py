@@ -400,7 +400,7 @@ class Tests:
     def wrong(self, data: bytes) -> str:
         """Return the error in the response to a request, or nothing."""
         if data.startswith(b"RCELLQ1\n"):
-            return ""  # damage made a run of it
+            return ""  # the damage made it a run request
         run = subprocess.run([self.program], input=data, stdout=subprocess.PIPE, check=False)
         wanted = expected(data)
         given = ResponseReader(run.stdout).response()

@@ -24,7 +24,7 @@ MOST = 2**31 - 1
 MOST_LENGTH = 20_000
 FEW_ROWS, FEW_COLS = 3, 20
 WIDE_SHARE = 0.8
-LENGTHS = (1, 3, 64, 65, 300, 5000)  # the most cells of a stretch
+LENGTHS = (1, 3, 64, 65, 300, 5000)  # maximum cells of a run
 # The smallest and the largest number of a run.
 RANGES = (
     (0, 1),

@@ -9,10 +9,10 @@ use std::test::Fail;
 /// The numbering of these tiles.
 pub(crate) const AREAS: &[u8] = b"1 1 2 1\n2 1 2 2\n2 3 3 1\n";
 
-/// The table of the first.
+/// The table of the first tile.
 pub(crate) const FIRST: &[u8] = b"1 5\n2 7\n* 3\n";
 
-/// The table of the second.
+/// The table of the second tile.
 pub(crate) const SECOND: &[u8] = b"1 20\n2 30\n3 40\n";
 
 const SIZES: &[u8] = b"1 45\n2 27\n3 30\n";

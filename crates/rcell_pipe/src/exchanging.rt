@@ -29,7 +29,7 @@ pub fn exchange<R: Read + Drop, W: Sink>(
     ensures done { input.1 ≡ Asked.Going → result.status ≡ 0
         → IsDoneExchange input.0.1 result.input.0.1 result.input.1
         (W.taken out.old) (W.faults out.old) (W.taken out.new) (W.faults out.new) }
-    // Covers all exit statuses.
+    // How the exchange ends, for any exit status.
     ensures ends { input.1 ≡ Asked.Going
         → IsExchange input.0.1 result.input.0.1 result.input.1
         (W.taken out.old) (W.faults out.old) (W.taken out.new) (W.faults out.new) result.status }

@@ -134,7 +134,7 @@ pub record EndValue : Type 0 where
 abbrev pub end_bytes : EndValue → List ℕ
 end_bytes e = codes "DONE" ++ number_bytes e.status ++ number_bytes e.source ++ number_bytes e.maps ++ number_bytes e.line ++ number_bytes e.column ++ text_bytes e.text
 
--- the first eight bytes
+-- the first eight bytes of a response
 abbrev pub response_magic : List ℕ
 response_magic = codes "RCELLA1\n"
 
