@@ -469,8 +469,8 @@ def test_polygons_that_are_refused(tmp_path: pathlib.Path) -> None:
     with pytest.warns(
         UserWarning,
         match=(
-            "3 cells are in more than one polygon, the first at row 1, column 2: the later "
-            "polygon has them, and feature 1 lost them"
+            "3 cells are in more than one polygon, the first at row 1, column 2: they belong to "
+            "the later polygon, and not to feature 1"
         ),
     ):
         assert (

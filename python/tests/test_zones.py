@@ -157,7 +157,7 @@ def test_a_polygon_under_a_later_one_is_named_as_the_loser() -> None:
     assert cells(frame, zone_field="zone") == {"over": 16}
     [told] = warned(frame, zone_field="zone")
     assert "1 cells are in more than one polygon, the first at row 1, column 1" in told
-    assert "feature 0 (under) lost them; each=True takes one polygon after another" in told
+    assert "not to feature 0 (under); each=True processes polygons one after another" in told
 
 
 def test_a_polygon_between_two_others_is_not_without_a_centre() -> None:

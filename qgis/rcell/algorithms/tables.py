@@ -58,7 +58,7 @@ class CompositionAlgorithm(RcellAlgorithm):
         """Declare the parameters."""
         self.add_raster()
         self.add_zones()
-        self.add_flag("EACH", tr("Take polygons that overlap one after another"))
+        self.add_flag("EACH", tr("Process overlapping polygons one after another"))
         self.add_area()
         self.add_labels()
         self.add_null()
@@ -293,7 +293,7 @@ class ZonalAlgorithm(RcellAlgorithm):
         self.addParameter(QgsProcessingParameterRasterLayer("INPUT", tr("Raster of values")))
         self.add_band()
         self.add_zones(False)
-        self.add_flag("EACH", tr("Take polygons that overlap one after another"))
+        self.add_flag("EACH", tr("Process overlapping polygons one after another"))
         self.add_text("QUANTILES", tr("Quantiles from 0 to 1, separated by commas"), "0.5")
         title = tr("Scale of decimals: 100 rounds to 1/100 (empty: whole numbers only)")
         kind = QgsProcessingParameterNumber.Integer
@@ -350,7 +350,7 @@ class DominantAlgorithm(RcellAlgorithm):
         """Declare the parameters."""
         self.add_raster()
         self.add_zones(False)
-        self.add_flag("EACH", tr("Take polygons that overlap one after another"))
+        self.add_flag("EACH", tr("Process overlapping polygons one after another"))
         self.add_area()
         self.add_labels()
         self.add_crs()

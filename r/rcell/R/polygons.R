@@ -122,12 +122,13 @@ check_centres <- function(polygons, without) {
 warn_of_losers <- function(polygons, losers, is_contested, columns) {
   text <- paste(
     "zones: %d cells are in more than one polygon, the first at row %d, column %d:",
-    "the later polygon has them, and %s cells; each = TRUE takes one polygon after another"
+    "they belong to the later polygon, and not to %s;",
+    "each = TRUE processes polygons one after another"
   )
   row <- (is_contested[[1]] - 1L) %/% columns + 1L
   column <- (is_contested[[1]] - 1L) %% columns + 1L
-  lost <- paste(feature_names(polygons, losers), if (length(losers) > 1L) "lose" else "loses")
-  warning(sprintf(text, length(is_contested), row, column, lost), call. = FALSE)
+  names <- feature_names(polygons, losers)
+  warning(sprintf(text, length(is_contested), row, column, names), call. = FALSE)
 }
 
 # Name features by their numbers, and by their values if there is a zone field.

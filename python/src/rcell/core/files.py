@@ -65,7 +65,7 @@ def end_on_signals() -> None:
 
     for name in ("SIGHUP", "SIGQUIT", "SIGTERM", "SIGXCPU"):
         number = getattr(signal, name)
-        if signal.getsignal(number) == signal.SIG_DFL:  # keep signals ignored that nohup ignores
+        if signal.getsignal(number) == signal.SIG_DFL:  # not for signals that nohup ignores
             signal.signal(number, lambda number, _: sys.exit(128 + number))
 
 

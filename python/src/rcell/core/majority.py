@@ -15,8 +15,7 @@ from .sources import ArrayMap, MapLike, source_of
 __all__ = ["majority", "majority_script"]
 
 SIZES = range(3, 16, 2)
-# The largest number of tokens in an expression, and the tokens of `x = if(isnull(map), null(),
-# nmode())`.
+# The largest number of tokens in an expression, and the tokens outside the arguments of nmode().
 _MOST_TOKENS, _TOKENS_AROUND = 1000, 25
 _TOKENS_OF_NAME = 2
 

@@ -318,8 +318,8 @@ class _Grid:
         warn(
             f"{self.layer.name}: {losses.cells:,} cells are in more than one polygon, the first "
             f"at row {row + 1}, column {col + 1}: "
-            f"the later polygon has them, and {first_of(losers, _SHOWN)} lost them; "
-            f"{option('each', True)} takes one polygon after another"
+            f"they belong to the later polygon, and not to {first_of(losers, _SHOWN)}; "
+            f"{option('each', True)} processes polygons one after another"
         )
 
     def check_centres(self) -> None:

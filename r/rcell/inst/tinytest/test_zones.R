@@ -61,10 +61,10 @@ expect_identical(refusal(rcell_composition(land, zones = two, layer = "x"))$text
 # If polygons overlap, the last one wins, and the warning names each feature that loses cells.
 stack <- polygons(c(box(0, 4), box(0, 4), box(2, 8), box(0.1, 0.2)), name = c("a", "b", "c", "d"))
 hidden <- polygons(rep(box(0, 4), 3), name = c("a", "b", "c"))
-expect_warning(rcell_composition(land, zones = hidden), "features 1, 2 lose cells")
-expect_warning(rcell_composition(land, zones = stack), "16 cells are in more than one polygon, the first at row 1, column 1: the later polygon has them, and feature 1 loses cells")
+expect_warning(rcell_composition(land, zones = hidden), "and not to features 1, 2")
+expect_warning(rcell_composition(land, zones = stack), "16 cells are in more than one polygon, the first at row 1, column 1: they belong to the later polygon, and not to feature 1")
 expect_warning(rcell_composition(land, zones = stack), "zones: 1 of 4 polygons contain no centre of a cell: feature 4")
-expect_warning(rcell_composition(land, zones = stack, zone_field = "name"), "and feature 1 [(]a[)] loses cells")
+expect_warning(rcell_composition(land, zones = stack, zone_field = "name"), "and not to feature 1 [(]a[)]")
 expect_identical(cells_of(zones = stack, zone_field = "name"), c(b = 8L, c = 24L))
 
 # With each = TRUE, no polygon loses cells, in all calls with zones.
