@@ -113,7 +113,7 @@ def frame_of(random: Any) -> Frame:
     system = one_of(random, SYSTEMS)
     most = one_of(random, (3, 6, 12, 12, 40))
     rows, cols = (int(size) for size in random.integers(1, most + 1, 2))
-    if random.random() < 0.06:  # at the corner, rows from the south or from the north
+    if random.random() < 0.06:  # a map at the corner of the plane, with cells of 1 m
         return Frame(rows, cols, 0.0, float(rows), 1.0, 1.0, METRES)
     if system.angle is None:
         width, height = (float(it) for it in random.choice([0.5, 1, 10, 25, 30, 1 / 3, 100], 2))
