@@ -1,6 +1,6 @@
 //! Combinations: one cell from each of several maps.
 
-ghost use Rattle.std.specs.Prelude.{◌≡◌, ◌<◌, ◌↔◌, IfOk, IsTrue, Some, length, slice_get};
+ghost use Rattle.std.specs.Prelude.{◌≡◌, ◌<◌, ◌↔◌, IfOk, IsTrue, Some, length, slice_get, take};
 ghost use Rattle.cell_stats_combinations.specs.Combinations.{combination_cmp};
 
 use cell_core::cell::Cell;
@@ -65,6 +65,18 @@ impl Combo {
         Ok(Combo {
             cells: Cells::Many(many),
         })
+    }
+
+    /// Returns the combination of the first `width` of two cells. Needs no memory.
+    #[inline(always)]
+    pub fn of_pair(cells: [Cell; 2], width: usize) -> Combo
+        ensures { result ≡ take width cells }
+    {
+        let [first, second] = cells;
+        let few = [first, second, Cell::null(), Cell::null()];
+        Combo {
+            cells: Cells::Few(few, width.min(2)),
+        }
     }
 
     /// Returns the number of cells.

@@ -1,7 +1,8 @@
 //! Counts of combinations of more than two maps, kept side by side, and the list that they become.
 
 ghost use Rattle.std.specs.Prelude.{◌≡◌, ◌+◌, ◌*◌, ◌<◌, ◌^◌, ℕ, OnOk, IfOk, IsTrue, cond, drop, length, take};
-ghost use Rattle.cell_stats_combinations.specs.Combinations.{Combination};
+ghost use Rattle.std.specs.declared.cmp.Ordering.TheVariants.{Less};
+ghost use Rattle.cell_stats_combinations.specs.Combinations.{Combination, combination_cmp};
 ghost use Rattle.cell_stats_counts.specs.Listed.{listed_of, HasNoZero, AreAscending};
 ghost use Rattle.cell_stats_combinations.specs.parts.Same.{is_same};
 ghost use Rattle.cell_stats_counts.specs.parts.SideBySide.{side_by_side, gathered_of, GathersMore, IsSideBySide};
@@ -348,12 +349,25 @@ fn join(entries: &mut [(Combo, u64)]) -> usize
     last + 1
 }
 
+// Whether a combination is less than another. Their first cells mostly decide.
+#[inline(always)]
+fn is_less(one: &Combo, other: &Combo) -> bool
+    ensures { IsTrue result → combination_cmp one.now other.now ≡ Less }
+{
+    let mine = one.cells();
+    let theirs = other.cells();
+    if mine.len() > 0 && theirs.len() > 0 && mine[0] < theirs[0] {
+        return true;
+    }
+    one.cmp(other) == Ordering::Less
+}
+
 // Whether each combination is above the one before it.
 fn are_ascending(entries: &[(Combo, u64)]) -> bool
     ensures { IsTrue result → AreAscending entries.now }
 {
     for at in 1..entries.len() {
-        if entries[at - 1].0.cmp(&entries[at].0) != Ordering::Less {
+        if !is_less(&entries[at - 1].0, &entries[at].0) {
             return false;
         }
     }

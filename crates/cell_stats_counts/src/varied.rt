@@ -50,6 +50,40 @@ fn row_cells(alloc: Global, map: &CellMap, row: u32) -> Result<Vec<Cell>, Memory
     Ok(cells)
 }
 
+// Counts cells of one map.
+fn count_each(
+    alloc: Global,
+    cells: &[Cell],
+    skip: Skip,
+    table: &mut PairTable,
+    entries: &mut Vec<(Combo, u64)>,
+) -> Result<(), Memory>
+    requires places { 0 < length table.old.places.items }
+    requires fits { HasPairRoom 1 table.old.places.items entries.old.items (length cells.now) }
+    requires no_zero { HasNoZero entries.old.items }
+    ensures ok { OnOk result ((k : Combination)
+        → paired_of 1 k table.new.places.items + listed_of k entries.new.items
+        ≡ paired_of 1 k table.old.places.items + listed_of k entries.old.items
+        + count_from skip k (map alone cells.now) 0) }
+    ensures places { OnOk result (0 < length table.new.places.items) }
+    ensures no_zero { OnOk result (HasNoZero entries.new.items) }
+{
+    let mut col = 0;
+    while col < cells.len() {
+        let layout = table.layout;
+        let places = table.places.as_mut_slice();
+        col = join_alone_from(places, layout, &mut table.taken, skip, cells, col);
+        if col < cells.len() {
+            let one = [cells[col]];
+            if !is_left_out(skip, &one) {
+                add_pair(alloc, &one, 1, table, entries)?;
+            }
+            col += 1;
+        }
+    }
+    Ok(())
+}
+
 // Counts the cells of a row of one map.
 pub(crate) fn count_varied_alone(
     alloc: Global,
@@ -60,6 +94,7 @@ pub(crate) fn count_varied_alone(
     entries: &mut Vec<(Combo, u64)>,
 ) -> Result<(), Memory>
     requires row_in_range { row < grid.now.region.rows }
+    requires width { length (row_at grid.now row) ≡ grid.now.region.cols }
     requires places { 0 < length table.old.places.items }
     requires fits { HasPairRoom 1 table.old.places.items entries.old.items grid.now.region.cols }
     requires no_zero { HasNoZero entries.old.items }
@@ -70,21 +105,11 @@ pub(crate) fn count_varied_alone(
     ensures places { OnOk result (0 < length table.new.places.items) }
     ensures no_zero { OnOk result (HasNoZero entries.new.items) }
 {
-    let copied = row_cells(alloc, grid, row)?;
-    let cells = copied.as_slice();
-    let mut col = 0;
-    while col < cells.len() {
-        let layout = table.layout;
-        col = join_alone_from(table.places.as_mut_slice(), layout, skip, cells, col);
-        if col < cells.len() {
-            let one = [cells[col]];
-            if !is_left_out(skip, &one) {
-                add_pair(alloc, &one, 1, table, entries)?;
-            }
-            col += 1;
-        }
+    if let Some(cells) = grid.cells(row) {
+        return count_each(alloc, cells, skip, table, entries);
     }
-    Ok(())
+    let copied = row_cells(alloc, grid, row)?;
+    count_each(alloc, copied.as_slice(), skip, table, entries)
 }
 
 // Counts the pairs of the cells of a row of two maps.

@@ -4,7 +4,7 @@ use Rattle.cell_stats_counts.specs.Listed.{listed_of, HasNoZero}
 use Rattle.cell_stats_counts.specs.parts.HeldPlaces.{paired_of}
 use Rattle.cell_stats_counts.specs.parts.RowCells.{count_from}
 use Rattle.cell_stats_counts.specs.parts.Alone.{alone}
-use Rattle.cell_stats_counts.proofs.varied.count_varied_alone.Given as goal
+use Rattle.cell_stats_counts.proofs.varied.count_each.Given as goal
 
 abbrev pub invariant-loop-col : goal.invariant-loop-col
 invariant-loop-col l = record {

@@ -10,21 +10,21 @@ use Rattle.cell_stats_counts.specs.parts.Alone.{alone}
 use Rattle.cell_stats_counts.proofs.RowLemmas.{count_from-end, alone-at, cell-left, cell-more, cell-few}
 use Rattle.cell_stats_counts.proofs.RowLemmas.{joined, joined_few, none, one_more, next_few}
 use Rattle.cell_stats_counts.proofs.RowLemmas.{inside, before_end, still_some, past, at_end}
-use Rattle.cell_stats_counts.proofs.varied.count_varied_alone.Goals as goal
-use Rattle.cell_stats_counts.proofs.varied.count_varied_alone.Goals.{then-not-is_left_out+in_ok-add_pair}
-use Rattle.cell_stats_counts.proofs.varied.count_varied_alone.Goals.{else-not-is_left_out}
+use Rattle.cell_stats_counts.proofs.varied.count_each.Goals as goal
+use Rattle.cell_stats_counts.proofs.varied.count_each.Goals.{then-not-is_left_out+in_ok-add_pair}
+use Rattle.cell_stats_counts.proofs.varied.count_each.Goals.{else-not-is_left_out}
 
 pub loop-col-preserved-then-col-cells : goal.loop-col-preserved-then-col-cells
 loop-col-preserved-then-col-cells c =
     let inv = c.loop-col.invariant in
     let skip = c.args.skip in
-    let row = c.as_slice-cells.result.now in
+    let row = c.args.cells.now in
     let cells = map alone row in
     let col = c.join_alone_from-col.result in
     let table = c.loop-col.table in
     let listed : Combination → ℕ = λ k. listed_of k c.loop-col.entries.items in
     let new = c.join_alone_from-col.new.places in
-    let same = with_items_is table.places new (c.join_alone_from-col.auto.places ∙ c.as_mut_slice.ensures.len) in
+    let same = with_items_is table.places new (c.join_alone_from-col.auto.places ∙ c.as_mut_slice-places.ensures.len) in
     let q = alone c.index-cells-col.result in
     let within : col < length cells = inside c.if-col-cells.true (length-map row alone) in
     let here = alone-at row col _ c.if-col-cells.true c.index-cells-col.is in
@@ -33,11 +33,11 @@ loop-col-preserved-then-col-cells c =
     ≡ paired_of 1 k c.args.table.now.places.items + listed_of k c.args.entries.now.items
     + count_from skip k cells 0 = λ k.
     joined (listed k) (count_from skip k cells c.loop-col.col) (count_from skip k cells col) _ (ap (paired_of 1 k) same)
-    (c.join_alone_from-col.ensures.counts k) (ap (paired_of 1 k) c.as_mut_slice.ensures.value) (inv.counts k) in
+    (c.join_alone_from-col.ensures.counts k) (ap (paired_of 1 k) c.as_mut_slice-places.ensures.value) (inv.counts k) in
     let few : (k : Combination) → paired_of 1 k (with_items table.places new).items + listed k
     ≤ paired_of 1 k c.args.table.now.places.items + listed_of k c.args.entries.now.items + col = λ k.
     joined_few (listed k) c.loop-col.col col _ (ap (paired_of 1 k) same)
-    (c.join_alone_from-col.ensures.few k) (ap (paired_of 1 k) c.as_mut_slice.ensures.value) (inv.few k) in
+    (c.join_alone_from-col.ensures.few k) (ap (paired_of 1 k) c.as_mut_slice-places.ensures.value) (inv.few k) in
     elim c.if-not-is_left_out.branch [
       | then-not-is_left_out+in_ok-add_pair w ↦
           let kept : is_left_out skip q ≡ false = sym c.is_left_out.ensures ∙ w.if-not-is_left_out.true in
@@ -58,7 +58,7 @@ loop-col-preserved-then-col-cells c =
                 (cell-left skip k cells col q within here _ _ left (counts k)));
             few = λ k. rw w.table-is (rw w.entries-is (next_few _ col (few k)));
             some = rw w.table-is (still_some
-                (ap length same ∙ c.join_alone_from-col.auto.places ∙ ap length c.as_mut_slice.ensures.value) inv.some);
+                (ap length same ∙ c.join_alone_from-col.auto.places ∙ ap length c.as_mut_slice-places.ensures.value) inv.some);
             no_zero = rw w.entries-is inv.no_zero;
             within = before_end c.if-col-cells.true;
           }
@@ -66,8 +66,6 @@ loop-col-preserved-then-col-cells c =
 
 pub returns-clause-ok : goal.returns-clause-ok
 returns-clause-ok c = λ k.
-    let row = c.as_slice-cells.result.now in
+    let row = c.args.cells.now in
     let ended = past (length-map row alone) c.loop-col-test.false in
     at_end _ (count_from-end c.args.skip k (map alone row) c.loop-col.col ended) (c.loop-col.invariant.counts k)
-    ∙ ap (λ l. paired_of 1 k c.args.table.now.places.items + listed_of k c.args.entries.now.items
-    + count_from c.args.skip k (map alone l) 0) (c.as_slice-cells.ensures.value ∙ c.in_ok-copied.ensures.cells)
