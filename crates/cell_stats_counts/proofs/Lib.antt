@@ -1,3 +1,4 @@
+pub mod AscendLemmas
 pub mod CountLemmas
 pub mod ByteCountLemmas
 pub mod GatheredLemmas

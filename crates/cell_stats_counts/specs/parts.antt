@@ -4,5 +4,6 @@ pub mod ByteCounts
 pub mod CountsUnderWay
 pub mod HeldPlaces
 pub mod Joined
+pub mod RisingEnds
 pub mod RowCells
 pub mod SideBySide

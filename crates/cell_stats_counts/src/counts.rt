@@ -170,6 +170,8 @@ pub fn count_cells(
     count_rows(alloc, selection, &mut places, &mut entries)?;
     let width = picks.len();
     list_gathered(alloc, width, places.wide, &mut entries)?;
-    list_pairs(alloc, width, places.pairs, &mut entries)?;
+    if list_pairs(alloc, width, places.pairs, &mut entries)? {
+        return Ok(entries);
+    }
     Ok(ordered_entries(entries))
 }

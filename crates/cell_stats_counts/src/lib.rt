@@ -1,8 +1,9 @@
 //! How many cells have each combination of the categories of several maps (GRASS manual: r.stats).
 //!
 //! - `counts`: `count_cells`, the counts of some maps of a shelf
-//! - private: `counting`, which counts combinations of one or two maps in a table (`paired`, laid out by `ranges` and
-//!   sorted by `scattered`), others side by side (`gathered`); `alone`, one map by itself; `varied`, rows cell by cell
+//! - private: `counting`, which counts combinations of one or two maps in a table (`paired`, laid out by `ranges`,
+//!   sorted by `scattered`, listed by `rising` for one map), others side by side (`gathered`); `alone`, one map by
+//!   itself; `varied`, rows cell by cell
 #![tactic(auto)]
 
 mod alone;
@@ -11,5 +12,6 @@ pub mod counts;
 mod gathered;
 mod paired;
 mod ranges;
+mod rising;
 mod scattered;
 mod varied;

@@ -58,7 +58,8 @@ loop-col-preserved-then-col-cells c =
                 (cell-left skip k cells col q within here _ _ left (counts k)));
             few = λ k. rw w.table-is (rw w.entries-is (next_few _ col (few k)));
             some = rw w.table-is (still_some
-                (ap length same ∙ c.join_alone_from-col.auto.places ∙ ap length c.as_mut_slice-places.ensures.value) inv.some);
+                (ap length same ∙ c.join_alone_from-col.auto.places
+                ∙ ap length c.as_mut_slice-places.ensures.value) inv.some);
             no_zero = rw w.entries-is inv.no_zero;
             within = before_end c.if-col-cells.true;
           }

@@ -1,0 +1,14 @@
+use Rattle.std.proofs.Common.{◌≡◌, ◌+◌, take}
+use Rattle.cell_stats_combinations.specs.Combinations.{Combination}
+use Rattle.cell_stats_counts.specs.Listed.{listed_of, HasNoZero}
+use Rattle.cell_stats_counts.specs.parts.HeldPlaces.{paired_of}
+use Rattle.cell_stats_counts.specs.parts.RisingEnds.{AscendsTo}
+use Rattle.cell_stats_counts.proofs.rising.push_alone.Given as goal
+
+abbrev pub invariant-loop-place : goal.invariant-loop-place
+invariant-loop-place l = record {
+  counted : (k : Combination) → listed_of k l.entries.items
+      ≡ listed_of k l.fn.entries.items + paired_of 1 k (take l.place-index l.places);
+  no_zero : HasNoZero l.entries.items;
+  end : AscendsTo l.end l.entries.items;
+}
