@@ -121,7 +121,7 @@ def test_a_map_that_has_changed_or_is_gone_has_no_picture(table: pathlib.Path) -
     land = table.parent / "lc.tif"
     rcell.Raster(random_map(2, 40, 50, 3), PLACE, "EPSG:32633").write(land)
     page = page_of(table)
-    assert "No picture: the cells of lc.tif have changed since the table was made." in page
+    assert "No picture: the cells of lc.tif have changed since the table was written." in page
     land.unlink()
     page = page_of(table)
     assert "No picture: lc.tif cannot be read." in page and "<img" not in page
