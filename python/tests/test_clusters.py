@@ -201,7 +201,7 @@ def test_files_that_differ_on_a_worker(raster: Write) -> None:
 
 def test_what_a_cluster_does_is_said() -> None:
     class KilledWorker(Exception):
-        """A stand-in for distributed's exception."""
+        """A substitute for distributed's exception."""
 
     told = (
         (KilledWorker("tile"), rcell.RcellError, "workers of the cluster died one after another"),

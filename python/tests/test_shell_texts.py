@@ -215,7 +215,7 @@ def test_each_output_of_a_script_in_a_file(raster: Write, room: pathlib.Path, ca
     assert main(["run", "script", f"lc={raster(LAND, 'lc.tif')}", "--each", "tifs"]) == 0
     assert "02-r.out.ascii-k.tif" in os.listdir("tifs")
     assert main(["run", "script", "lc=land.txt", "--each", "out"]) == 2
-    assert "out is there already" in capfd.readouterr().err
+    assert "out already exists" in capfd.readouterr().err
     assert main(["run", "r.stats -q input=lc", "lc=land.txt", "--each", "new"]) == 1
     assert main(["run", "script", "lc=land.txt", "--each", "no/folder"]) == 4
     assert not [name for name in os.listdir() if name.startswith((".", "new"))]

@@ -155,7 +155,10 @@ def test_a_buffer_left_to_dask_may_be_longer_than_the_map() -> None:
 def test_what_cannot_be_left_to_dask() -> None:
     lazy = array_of(CELLS, (16, 10), nodata=200)
     calls: tuple[tuple[Any, str], ...] = (
-        (lambda: rcell.sieve(lazy, min_cells=3, compute=False), "sieve cannot leave its result"),
+        (
+            lambda: rcell.sieve(lazy, min_cells=3, compute=False),
+            "cannot compute the result of sieve",
+        ),
         (lambda: rcell.reclass(lazy, {1: 2}, compute=False), "this map depends on a table"),
         (lambda: rcell.clump(lazy, classes=[1], compute=False), "this map depends on a table"),
         (

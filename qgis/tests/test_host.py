@@ -21,7 +21,7 @@ UNSET = {"RCELL": "", "RCELL_PIPE": "", "RCELL_JOIN": ""}
 
 
 class Feedback:
-    """A stand-in for the feedback that QGIS passes to a run."""
+    """A substitute for the feedback that QGIS passes to a run."""
 
     def __init__(self) -> None:
         self.told: list[str] = []
