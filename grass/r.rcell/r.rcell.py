@@ -219,9 +219,9 @@ def label_lines(frame):
     for category, label in labelled:
         if b"\t" in label:
             raise Stopped(
-                _("The label of category {} has a tab, which r.category does not accept").format(
-                    category
-                )
+                _(
+                    "The label of category {} contains a tab, which r.category does not accept"
+                ).format(category)
             )
     return [b"%d\t%s\n" % pair for pair in labelled]
 

@@ -187,7 +187,7 @@ class Scripts(Session):
             self.statements("r.stats input=a")
         self.assertEqual(
             str(caught.exception),
-            "/bin/true failed: the program ended in status 0 and said: nothing",
+            "/bin/true failed: the program ended with status 0 and printed: nothing",
         )
 
 

@@ -388,7 +388,7 @@ def test_more_columns_than_one_run_has() -> None:
     assert rcell.composition(cells).cells.tolist() == [30_000] * 7
     assert rcell.patches(cells).cells.tolist() == [30_000] * 7
     assert rcell.majority(cells).array.tolist() == cells.tolist()
-    with pytest.raises(rcell.BadMap, match="70,000 columns; this call takes up to 65,535"):
+    with pytest.raises(rcell.BadMap, match="70,000 columns; this call accepts up to 65,535"):
         rcell.Raster(cells).text()
 
 
@@ -633,7 +633,7 @@ def test_a_file_that_changes_while_it_is_read(raster: Write) -> None:
         os.utime(path, (1, share))
 
     with serving(Host(progress=touch)):
-        with pytest.raises(rcell.ReadFailed, match="map.tif: has changed while it was read"):
+        with pytest.raises(rcell.ReadFailed, match="map.tif: changed while it was read"):
             as_tiles(lambda: rcell.composition(path), (10, 10))
 
 
@@ -672,7 +672,7 @@ def test_a_file_that_was_not_written_whole_leaves_the_old_one(
     monkeypatch.setattr("rcell.geotiff._IN_MEMORY", 0)
     read = rasterio.DatasetReader.read
     monkeypatch.setattr(rasterio.DatasetReader, "read", lambda *a, **b: read(*a, **b) + 1)
-    with pytest.raises(rcell.WriteFailed, match="rows 1 to 1 are not as they were written"):
+    with pytest.raises(rcell.WriteFailed, match="rows 1 to 1 were not written correctly"):
         rcell.Raster([[3, 4]]).write(path)
     assert pathlib.Path(path).read_bytes() == old
     assert os.listdir(tmp_path) == ["a.tif"]
@@ -767,7 +767,7 @@ def test_patterns_without_a_file_and_texts_in_lists(raster: Write, tmp_path: pat
         rcell.composition("no*.tif")
     text = rcell.Raster([[1, 2]]).write(tmp_path / "a.txt")
     with pytest.raises(
-        rcell.BadMap, match="a.txt is a text grid, and only rasters can be combined"
+        rcell.BadMap, match="a.txt is a text grid, but only rasters can be combined"
     ):
         rcell.composition([text, text])
     named = raster(np.ones((2, 2), np.uint8), "a[1].tif")

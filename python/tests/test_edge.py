@@ -146,7 +146,7 @@ def test_arrays_of_other_kinds() -> None:
     xarray = pytest.importorskip("xarray")
     dask = pytest.importorskip("dask.array")
     assert cells(dask.from_array(LAND, chunks=2)) == LAND.tolist()
-    assert "several variables: give it alone, or one of them, for example dataset['lc']" in str(
+    assert "several variables: pass it as the only map, or pass one variable, for example dataset['lc']" in str(
         refusal(xarray.Dataset({"lc": data_array()}))
     )
 
@@ -193,9 +193,9 @@ def test_a_nodata_beyond_all_numbers_is_no_cell() -> None:
         ({1.5: "f"}, "1.5 is not a whole number"),
         ({2**31: "x"}, "2147483648 is outside -2147483647 to 2147483647"),
         ({-(2**31): "x"}, "-2147483648 is outside -2147483647 to 2147483647"),
-        ({1: "\ud800"}, "the label of 1 has a character that no file can hold: '\\ud800'"),
-        ({1: "\udcff"}, "that no file can hold: '\\udcff'"),
-        ({1: "a\0b"}, "a label with the character NUL"),
+        ({1: "\ud800"}, "the label of 1 contains a character that files cannot store: '\\ud800'"),
+        ({1: "\udcff"}, "that files cannot store: '\\udcff'"),
+        ({1: "a\0b"}, "the label contains a NUL character"),
         (["wood"], "labels must be a path, a dict, a Series or a DataFrame; got ['wood']"),
     ],
 )
@@ -218,7 +218,7 @@ def test_labels_that_no_file_can_hold_are_not_written(tmp_path: pathlib.Path) ->
         made.write(tmp_path / "k.tif")
     assert str(
         refused.value
-    ) == "k: the label of 1 has a character that no file can hold: '\\udcff'" and not list(
+    ) == "k: the label of 1 contains a character that files cannot store: '\\udcff'" and not list(
         tmp_path.iterdir()
     )
     labels: Any = {np.int64(1): np.str_("\u00fc"), -5: "", 2**31 - 1: "x"}
@@ -310,13 +310,13 @@ def test_a_transform_that_is_not_finite_is_refused(raster: Write, bad: float) ->
 
 
 def test_what_is_no_map_is_refused(tmp_path: pathlib.Path, raster: Write) -> None:
-    with pytest.raises(rcell.BadMap, match="nodata is a number, not '3'"):
+    with pytest.raises(rcell.BadMap, match="nodata must be a number; got '3'"):
         rcell.Raster([[1]], nodata="3")  # type: ignore[arg-type]
     assert "rows of one length" in str(refusal([[1, 2], [3]]))
     with pytest.raises(rcell.BadMap, match="an Affine or six numbers"):
         rcell.Raster([[1]], (1, 2, 3))
     with pytest.raises(
-        rcell.BadMap, match="rows and columns that are not whole numbers: 1.5 and 1"
+        rcell.BadMap, match="rows and columns must be whole numbers; got 1.5 and 1"
     ):
         rcell.Region(1, 0, 1, 0, rows=1.5, cols=1)  # type: ignore[arg-type]
     assert "NUL" in str(refusal("a\0b"))
@@ -378,12 +378,12 @@ def test_labels_keep_the_blanks_of_unicode(blank: str) -> None:
 
 UTM, GAUSS = "EPSG:25832", "EPSG:31467"
 OTHER = (
-    "its coordinate reference system is EPSG:31467 (DHDN / 3-degree Gauss-Kruger zone 3), and "
-    "that of `a` is EPSG:25832 "
-    "(ETRS89 / UTM zone 32N): reproject one of them first, as with gdalwarp -t_srs EPSG:25832"
+    "its coordinate reference system is EPSG:31467 (DHDN / 3-degree Gauss-Kruger zone 3), but "
+    "`a` has EPSG:25832 "
+    "(ETRS89 / UTM zone 32N): reproject one of them first, for example with gdalwarp -t_srs EPSG:25832"
 )
 NONE = (
-    "it has no coordinate reference system, and `a` has EPSG:25832 (ETRS89 / UTM zone 32N): "
+    "it has no coordinate reference system, but `a` has EPSG:25832 (ETRS89 / UTM zone 32N): "
     'state it with crs="EPSG:25832"'
 )
 
@@ -483,7 +483,7 @@ def test_reference_systems_are_the_same_whatever_their_spelling(
 @pytest.mark.parametrize("library", ["pyproj", "osr"])
 def test_systems_without_a_plane_have_no_areas(library: str, crs: str, kind: str) -> None:
     assert importlib.import_module(f"rcell.readers.{library}").crs_of(crs).kind == kind
-    with pytest.raises(rcell.Refused, match=f"cells have no area in a {kind} reference system"):
+    with pytest.raises(rcell.Refused, match=f" is {kind}, so cells have no area: reproject"):
         rcell.composition(rcell.Raster([[1]], crs=crs), area="ha")
 
 

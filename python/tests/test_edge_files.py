@@ -180,7 +180,7 @@ def test_paths_that_are_not_utf8(room: pathlib.Path, raster: Write) -> None:
             rcell.ReadFailed, match="rasterio only accepts UTF-8 paths: rename the file"
         ):
             rcell.run("r.stats input=m", m=given)
-    with pytest.raises(rcell.ReadFailed, match="no path has a surrogate"):
+    with pytest.raises(rcell.ReadFailed, match="a path cannot contain a surrogate character"):
         rcell.run("r.stats input=m", m="\ud800.txt")
     for legend in ("\ud800.csv", "\ud800.qml", "\0.csv", "\0.qml"):
         with pytest.raises(rcell.ReadFailed, match="^labels: cannot open"):
@@ -369,7 +369,7 @@ def test_a_program_that_does_not_end_is_told(
     stranger.write_text("#!/bin/sh\nexec sleep 60\n")
     stranger.chmod(0o755)
     monkeypatch.setattr(programs, "PROBE_SECONDS", 0.5)
-    with pytest.raises(rcell.WrongProgram, match="does not end within 0.5 seconds"):
+    with pytest.raises(rcell.WrongProgram, match="did not end within 0.5 seconds"):
         find_program(stranger)
 
 

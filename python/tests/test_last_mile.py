@@ -506,7 +506,7 @@ def test_polygons_that_are_refused(tmp_path: pathlib.Path) -> None:
         rcell.composition(land(), lines)
     write_polygons(tmp_path / "z.gpkg", [(box(0, 0, 4, 3), {"name": "whole"})], layer="second")
     with pytest.raises(
-        rcell.Refused, match="has the layers z, second: name one, as .*z.gpkg.layername=z"
+        rcell.Refused, match="has the layers z, second: name one, for example .*z.gpkg.layername=z"
     ):
         rcell.composition(land(), path)
     assert rcell.composition(land(), f"{path}|layername=second", zone_field="name")[
@@ -545,7 +545,7 @@ def test_align_by_the_nearest_cell() -> None:
     source = rcell.Raster([[1, 2], [3, 0]], (10, 0, 0, 0, -10, 20), UTM, nodata=0)
     finer = rcell.Raster(np.zeros((4, 4), int), (5, 0, 0, 0, -5, 20), UTM)
     with pytest.raises(
-        rcell.OtherRegion, match='cells of 10 x 10, and those of `to` are 5 x 5: resample="nearest"'
+        rcell.OtherRegion, match='cells of 10 x 10, but `to` has cells of 5 x 5: resample="nearest"'
     ):
         rcell.align(source, to=finer)
     found = rcell.align(source, to=finer, resample="nearest")

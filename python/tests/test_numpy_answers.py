@@ -343,7 +343,7 @@ class Refusals(unittest.TestCase):
         for given, told in (
             (
                 np.zeros((2, 2, 2), int),
-                "an array of 3 dimensions (2 x 2 x 2), and a map has two; pass one band of a "
+                "an array of 3 dimensions (2 x 2 x 2), but a map has two; pass one band of a "
                 "raster, for example read(1)",
             ),
             (np.zeros((0, 2), int), "an array without cells (0 x 2)"),
@@ -374,7 +374,7 @@ class Refusals(unittest.TestCase):
             (np.array([["a"]]), "not a map of whole numbers: its cells are of the type <U1"),
             (np.array([[1j]]), "not a map of whole numbers: its cells are of the type complex128"),
             (3, "neither a path nor an array nor a raster, but a int"),
-            ((LAND, rcell.Region.of_cells(4, 4)), "an array of 3 x 4 cells, and a region of 4 x 4"),
+            ((LAND, rcell.Region.of_cells(4, 4)), "an array of 3 x 4 cells, but a region of 4 x 4"),
             (
                 (LAND, (1, 0.5, 0, 0, -1, 0)),
                 "a rotated transform (1.0, 0.5, 0.0, 0.0, -1.0, 0.0): warp the map to a north-up "
@@ -461,7 +461,7 @@ class Refusals(unittest.TestCase):
             ),
             (
                 ("r.stats -c input=lc", {"pivot": True}),
-                "pivot= needs a table of two maps, and this one has 1",
+                "pivot= needs a table of two maps, but this one has 1",
             ),
             (
                 ("r.out.ascii input=lc", {}),

@@ -284,7 +284,7 @@ class Answers(Asked):
         ]:
             with self.subTest(given=given), self.assertRaises(protocol.NoAnswer):
                 protocol.run(self.answering(given), [a_map()], b"")
-        with self.assertRaisesRegex(protocol.NoAnswer, "ended in status 4 and said: nothing"):
+        with self.assertRaisesRegex(protocol.NoAnswer, "ended with status 4 and printed: nothing"):
             protocol.run(self.answering(answer, "exit 4"), [a_map()], b"")
 
     def test_a_program_that_stops_reading(self) -> None:

@@ -94,7 +94,7 @@ def test_without_georeference(raster: Write) -> None:
         (
             LAND,
             {"transform": (25, 0, 9.99999999e9, 0, -25, 0), "crs": None},
-            "an edge of more than ten digits: east is 1e+10",
+            "east must have at most ten digits; got 1e+10",
         ),
         (
             LAND,

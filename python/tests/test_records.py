@@ -166,7 +166,7 @@ def test_defaults_are_not_recorded(folder: pathlib.Path) -> None:
 def test_a_table_without_a_record_is_named(folder: pathlib.Path) -> None:
     path = recorded(folder)
     (folder / "t.csv.json").unlink()
-    told = "t.csv has no record, which is .*t.csv.json: write it with rcell.record"
+    told = r"t.csv has no record \(.*t.csv.json\): write it with rcell.record"
     with pytest.raises(rcell.Refused, match=told):
         rcell.verify(path)
 
@@ -200,7 +200,7 @@ def test_a_record_of_another_call_fails_with_a_line(folder: pathlib.Path) -> Non
     ("words", "named", "told"),
     [
         ((np.array([[1]]),), {}, "map must be a path, .* to be recorded; got a ndarray"),
-        (("lc.tif",), {"table": "matrix"}, "table must be one of the result .*; got 'matrix'"),
+        (("lc.tif",), {"table": "matrix"}, "table must be left out if there is only one table; got 'matrix'"),
     ],
 )
 def test_calls_that_cannot_be_recorded(

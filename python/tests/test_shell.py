@@ -333,7 +333,7 @@ def test_the_command_line_as_a_process(raster: Write) -> None:
     missing = call("composition", path)
     assert (missing.returncode, missing.stderr) == (
         2,
-        "rcell-gis: the program /nowhere/rcell-pipe is not there, or may not be executed\n",
+        "rcell-gis: the program /nowhere/rcell-pipe does not exist or is not executable\n",
     )
 
 

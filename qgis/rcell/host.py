@@ -125,7 +125,7 @@ def find_program(setting: str = "", name: str = "rcell-pipe") -> str:
         _set_executable(path)
     if not os.path.isfile(path) or not os.access(path, os.X_OK):
         raise MissingProgram(
-            f"the program {path} is not there, or may not be executed: correct the path under "
+            f"the program {path} does not exist or is not executable: correct the path under "
             f"{_SETTINGS}, or leave it empty to use "
             "the plugin's own"
         )
@@ -145,6 +145,6 @@ def _set_executable(path: str) -> None:
             os.chmod(path, 0o755)
         except OSError as error:
             raise MissingProgram(
-                f"the program {path} may not be executed, and that cannot be changed: "
+                f"the program {path} is not executable, and its permissions cannot be changed: "
                 f"{error.strerror}"
             ) from None

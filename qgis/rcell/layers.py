@@ -50,7 +50,7 @@ def raster_of(layer: QgsRasterLayer, name: str, band: int | None = None) -> Sour
     """
     if layer.providerType() != "gdal":
         reason = (
-            f"its provider is {layer.providerType()}, and only rasters that GDAL opens are read"
+            f"its provider is {layer.providerType()}, but only rasters that GDAL opens are read"
         )
         raise BadMap(name, f"{reason}: export it as a GeoTIFF first")
     if is_grid(layer.source()):
@@ -154,7 +154,7 @@ class FeatureLayer:
 
 
 def plain(value: Any) -> Any:
-    """Convert an attribute to a Python object; None if it is missing."""
+    """Convert an attribute to a Python object, or return None if it is missing."""
     if value is None or value == NO_VALUE or value != value:
         return None
     for method in ("toPyDateTime", "toPyDate", "toPyTime"):
@@ -165,7 +165,7 @@ def plain(value: Any) -> Any:
 
 
 def wkt_of(crs: QgsCoordinateReferenceSystem) -> str:
-    """Return the well-known text of a QGIS reference system; empty if it is invalid."""
+    """Return the well-known text of a QGIS reference system, or an empty text if it is invalid."""
     return str(crs.toWkt(QgsCoordinateReferenceSystem.WKT2_2019)) if crs.isValid() else ""
 
 

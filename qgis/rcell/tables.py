@@ -62,9 +62,9 @@ def check_target(path: str, inputs: Sequence[str] = ()) -> None:
     if os.path.exists(target) and not os.path.isfile(target):
         return
     if not os.path.isdir(folder):
-        raise _failed(path, f"there is no folder {folder}")
+        raise _failed(path, f"the folder {folder} does not exist")
     if not os.access(folder, os.W_OK):
-        raise _failed(path, f"the folder {folder} may not be written to")
+        raise _failed(path, f"the folder {folder} is not writable")
 
 
 def _failed(path: str, text: str) -> WriteFailed:

@@ -88,10 +88,10 @@ class HostTest(unittest.TestCase):
             with mock.patch.object(host, "_FOLDER", "/nowhere"):
                 with self.assertRaisesRegex(MissingProgram, missing):
                     host.find_program()
-        told = "the program /nowhere/rcell-pipe is not there, or may not be executed: correct"
+        told = "the program /nowhere/rcell-pipe does not exist or is not executable: correct"
         with self.assertRaisesRegex(MissingProgram, told):
             host.find_program("/nowhere/rcell")
-        with self.assertRaisesRegex(MissingProgram, "may not be executed"):
+        with self.assertRaisesRegex(MissingProgram, "is not executable"):
             host.find_program(self.script("exit 0", 0o644))
 
     def test_another_program(self) -> None:
@@ -118,7 +118,7 @@ class HostTest(unittest.TestCase):
     def test_killed_and_not_understood(self) -> None:
         with self.assertRaisesRegex(Killed, r"killed by signal 9 \(SIGKILL\): too little memory"):
             self.run_of("kill -9 $$", Feedback())
-        with self.assertRaisesRegex(WrongProgram, "ended in status 7 and said: Unsinn"):
+        with self.assertRaisesRegex(WrongProgram, "ended with status 7 and printed: Unsinn"):
             self.run_of("echo Unsinn >&2; exit 7", Feedback())
 
     def test_a_cancel_ends_the_program_within_half_a_second(self) -> None:

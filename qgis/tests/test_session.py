@@ -141,7 +141,7 @@ class TableTest(InSession):
         path = made.write(self.path("far.tif"), [[2**24 + 2, 1]], gdal.GDT_Float32)
         self.run_("cross", INPUT=[path], OUTPUT="TEMPORARY_OUTPUT")
         self.assertIn(
-            "warning: far: floats of 32 bits are not exact beyond 16777216, and the map has larger values",
+            "warning: far: floats of 32 bits are not exact beyond 16777216, but the map has larger values",
             self.log.told,
         )
 
@@ -219,7 +219,7 @@ class RefusalsTest(InSession):
     def test_words(self) -> None:
         self.refused("arguments: no raster is given", "cross", INPUT=[], OUTPUT="TEMPORARY_OUTPUT")
         self.refused(
-            "arguments: 17 rasters, and a table has at most 16",
+            "arguments: 17 rasters, but a table accepts at most 16",
             "cross",
             INPUT=[self.cover] * 17,
             OUTPUT="TEMPORARY_OUTPUT",
@@ -290,7 +290,7 @@ class RefusalsTest(InSession):
             OUTPUT=self.path("t.gpkg"),
         )
         self.refused(
-            "bare: it has no coordinate reference system, and `cover` has EPSG:32632",
+            "bare: it has no coordinate reference system, but `cover` has EPSG:32632",
             "cross",
             INPUT=[bare, self.cover],
             OUTPUT=self.path("t.gpkg"),
@@ -360,13 +360,13 @@ class RefusalsTest(InSession):
 
     def test_a_folder_that_is_missing_is_told_before_the_run(self) -> None:
         self.refused(
-            "cannot be written: there is no folder",
+            "nowhere does not exist",
             "cross",
             INPUT=[self.cover],
             OUTPUT=self.path("nowhere/t.gpkg"),
         )
         self.refused(
-            "cannot be written: there is no folder",
+            "nowhere does not exist",
             "majority",
             INPUT=self.cover,
             OUTPUT=self.path("nowhere/m.tif"),
@@ -395,7 +395,7 @@ class RefusalsTest(InSession):
                 algorithm.canExecute(),
                 (
                     False,
-                    "the program /nowhere/rcell-pipe is not there, or may not be executed: correct the path under Settings > Options > "
+                    "the program /nowhere/rcell-pipe does not exist or is not executable: correct the path under Settings > Options > "
                     "Processing > Providers > rcell, or leave it empty to use the plugin's own",
                 ),
             )
@@ -640,7 +640,7 @@ class MapsTest(InSession):
         with self.assertRaisesRegex(QgsProcessingException, "RECORD needs an OUTPUT"):
             self.run_("sample", INPUT=self.cover, RECORD=True, OUTPUT=self.path("t.gpkg"))
         layer = self.labelled([(1, "other than in the file")])
-        with self.assertRaisesRegex(QgsProcessingException, "RECORD is for files"):
+        with self.assertRaisesRegex(QgsProcessingException, "RECORD describes files"):
             self.run_("composition", INPUT=layer, RECORD=True, OUTPUT=self.path("t.csv"))
         with self.assertRaisesRegex(QgsProcessingException, "t.csv: No such file"):
             self.run_("verify", INPUT=self.path("t.csv"))

@@ -239,7 +239,7 @@ class ProcessTest(unittest.TestCase):
             f"OUTPUT={self.path('no.gpkg')}",
         )
         self.refused(
-            "there is no folder",
+            "nowhere does not exist",
             "rcell:cross",
             f"INPUT={self.cover}",
             f"OUTPUT={self.path('nowhere/no.gpkg')}",

@@ -323,7 +323,7 @@ class TestRcell(TestCase):
 
     def test_labels_with_tabs_are_refused(self):
         self.assertIn(
-            "has a tab",
+            "contains a tab",
             self.refused(
                 "r.reclass input=zones output=t_x\n1 = 1 a\tb\nend\n", maps="zones", output="t_x"
             ),

@@ -165,7 +165,7 @@ def _check(grid: Raster, path: str, profile: dict[str, Any]) -> None:
             expected = _filled(cells, profile["dtype"], profile["nodata"])
             if not np.array_equal(dataset.read(1, window=_window(row, cells)), expected):
                 rows = f"rows {row + 1} to {row + len(cells)}"
-                raise OSError(f"{rows} are not as they were written: the disk may be full")
+                raise OSError(f"{rows} were not written correctly: the disk may be full")
 
 
 def _window(row: int, cells: Any) -> Any:

@@ -192,7 +192,9 @@ class Raster:
         return self.region.bounds
 
     def source(self, name: str) -> ArrayMap:
-        """Convert the map to a map of the core with this name; used by calls that accept maps.
+        """Convert the map to the core's representation, under this name.
+
+        Calls that accept maps use this.
 
         Parameters
         ----------

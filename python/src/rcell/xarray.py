@@ -162,7 +162,7 @@ class Accessor:
         if len(names) != 1:
             first = names[0] if names else "name"
             problem = f"{len(names)} maps ({', '.join(names)}), but one is needed"
-            raise BadMap("dataset", f"{problem}: select it, as dataset[{first!r}]")
+            raise BadMap("dataset", f"{problem}: select it, for example dataset[{first!r}]")
         return self._maps[names[0]]
 
     def _like(self, raster: Raster) -> Any:

@@ -331,7 +331,7 @@ class RcellAlgorithm(QgsProcessingAlgorithm):
         return int(self.parameterAsInt(self.parameter_values, name, self.context))
 
     def area(self) -> Optional[str]:
-        """Return the unit of areas; None for no areas."""
+        """Return the unit of areas, or None for no areas."""
         unit = self.word("AREA")
         return None if unit == "none" else unit
 
@@ -373,8 +373,8 @@ class RcellAlgorithm(QgsProcessingAlgorithm):
             self.recorded = make(path, call, files, options, part)
             if csv_of(self.recorded.table) != csv_of(table_of(result, part)):
                 raise Refused(
-                    "RECORD is for files, and these layers show other values, labels or features "
-                    "than their files: "
+                    "RECORD describes files, but these layers show other values, labels or "
+                    "features than their files: "
                     "save them to new files first",
                     status=2,
                 )
@@ -443,7 +443,7 @@ class RcellAlgorithm(QgsProcessingAlgorithm):
             if not self.parameterAsLayerList({"INPUT": [value]}, "INPUT", self.context):
                 raise_unreadable(value, names[place] if place < len(names) else "")
         if len(layers) > most:
-            problem = f"{len(layers)} rasters, and a table has at most {most}"
+            problem = f"{len(layers)} rasters, but a table accepts at most {most}"
             raise Refused(problem, status=2)
         return list(layers)
 
@@ -589,7 +589,7 @@ def plain_path(value: Any) -> str:
 
 
 def raise_unreadable(value: Any, name: str = "") -> None:
-    """Raise the reason why a raster cannot be read; for a path, GDAL's message.
+    """Raise an error that states why a raster cannot be read; for a path, GDAL's message.
 
     Raises
     ------

@@ -38,7 +38,7 @@ class _OfPatches(RcellAlgorithm):
         self.classes()
 
     def classes(self) -> Optional[list[int]]:
-        """Return the listed classes; None for all classes."""
+        """Return the listed classes, or None for all classes."""
         return [int(code) for code in numbers_of(self.text("CLASSES"), "classes")] or None
 
 

@@ -48,7 +48,7 @@ class CompositionAlgorithm(RcellAlgorithm):
     HELP = (
         noop(
             "<p>The table has a row for each class that occurs, or for each class in each zone. "
-            "Percentages refer to the cells with data.</p>"
+            "The percentage is the share of the area that has data, or of each zone's.</p>"
         ),
         _ZONES,
         _DEGREES,
@@ -98,8 +98,8 @@ class CrossAlgorithm(RcellAlgorithm):
     HELP = (
         noop(
             "<p>The table has a column for each raster, named after its layer, and a column for "
-            "its labels if there are any, followed by cells, areas and percentages of all cells "
-            "with data in every raster.</p>"
+            "its labels if there are any, followed by cells, areas and percentages. The percentage "
+            "is each row's share of the area that has data in every raster.</p>"
         ),
         noop(
             "<p>The rasters must have the same coordinate reference system and the same grid: "
@@ -340,8 +340,8 @@ class DominantAlgorithm(RcellAlgorithm):
     TAGS = "majority, minority, variety, mode, zonal statistics, dominant, r.mode"
     HELP = (
         noop(
-            "<p>Frequencies and percentages refer to the zone's cells with data. In a tie, the "
-            "smallest class is used. Zones without data have no row.</p>"
+            "<p>Frequencies and percentages refer to the zone's cells that have data. In a tie, "
+            "the smallest class is used. Zones without data have no row.</p>"
         ),
         _ZONES,
     )

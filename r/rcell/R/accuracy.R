@@ -130,7 +130,7 @@ sample_of <- function(x, reference, field, layer, crs, is_random) {
   if (!is_file) points <- features_of(POINTS, reference, layer, choose, !is.null(field))
   if (is.null(points) && !(is.null(field) && is.null(layer))) {
     name <- if (is.null(layer)) "field" else "layer"
-    refuse(sprintf("%s= is for points, and reference= is not", name), status = 2L)
+    refuse(sprintf("%s= requires points, but reference= has no points", name), status = 2L)
   }
   if (is_file || is.data.frame(reference)) {
     sources <- if (!is.null(x)) sources_of(list(map = x), crs)
@@ -242,7 +242,7 @@ placed_points <- function(points, source) {
   again <- duplicated(corners[, "geom"])
   if (any(again)) {
     feature <- points$ids[[corners[again, "geom"][[1]]]]
-    bad_map("reference", sprintf("not points: feature %.0f has several", feature))
+    bad_map("reference", sprintf("not points: feature %.0f has several points", feature))
   }
   texts <- points$values$texts
   numbers <- ifelse(is.na(points$values$numbers), whole_numbers(texts), points$values$numbers)

@@ -53,7 +53,7 @@ check_alignment <- function(map, target, is_same) {
     spelled <- vapply(sizes, function(size) {
       paste(format(size, digits = 15, trim = TRUE), collapse = " x ")
     }, "")
-    text <- "cells of %s, and those of `to` are %s: %s"
+    text <- "cells of %s, but `to` has cells of %s: %s"
     text <- sprintf(text, spelled[[1]], spelled[[2]], TRY_NEAREST)
     bad_map(map$name, text, class = "rcell_other_region")
   }

@@ -23,7 +23,7 @@ unit_of <- function(choice, source, argument = "area=") {
   if (kind == "none") {
     if (!choice$is_asked_for) return(NULL)
     text <- paste(
-      "%s needs a coordinate reference system, and %s has none:",
+      "%s needs a coordinate reference system, but %s has none:",
       "state it, for example crs = \"EPSG:25832\"%s"
     )
     refuse(sprintf(text, argument, source$name, instead), status = 2L)
@@ -48,7 +48,7 @@ is_in_degrees <- function(source) kind_of_crs(source$crs) == "degrees"
 check_metres <- function(source, argument, advice = "") {
   unit_of(list(unit = "m2", is_asked_for = TRUE), source, argument)
   if (!is_in_degrees(source)) return(invisible())
-  text <- "%s must be for a map in metres or feet, and this one is in degrees%s"
+  text <- "%s requires a map in metres or feet, but this map is in degrees%s"
   refuse(sprintf(text, argument, advice), status = 2L)
 }
 

@@ -75,7 +75,7 @@ all_cells <- function(source) {
 }
 
 warn_of_floats <- function(name) {
-  text <- "%s: floats of 32 bits are not exact beyond 16777216, and the map has larger values"
+  text <- "%s: floats of 32 bits are not exact beyond 16777216, but the map has larger values"
   warning(sprintf(text, name), call. = FALSE)
   FALSE
 }

@@ -45,7 +45,7 @@ rcell_cross <- function(..., area, labels = NULL, include_null = FALSE, crs = NU
   by_row <- !is.null(area) && is_in_degrees(sources[[1]])
   if (length(sources) > MAPS_LIMIT - by_row) {
     reason <- if (by_row) " with areas in degrees" else ""
-    text <- "%d maps, and a table has at most %d%s"
+    text <- "%d maps, but a table accepts at most %d%s"
     refuse(sprintf(text, length(sources), MAPS_LIMIT - by_row, reason), status = 2L)
   }
   check_legends(labels, names(sources))

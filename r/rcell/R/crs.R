@@ -38,17 +38,17 @@ check_crs <- function(sources, stated) {
 lacks_crs <- function(name, first) {
   code <- crs_facts(first$crs)$code
   stated <- if (nzchar(code)) sprintf("\"%s\"", code) else ""
-  text <- "it has no coordinate reference system, and %s has %s: state it with crs=%s"
+  text <- "it has no coordinate reference system, but %s has %s: state it with crs=%s"
   text <- sprintf(text, first$name, crs_name(first$crs), stated)
   bad_map(name, text, class = "rcell_other_crs")
 }
 
 other_crs <- function(source, first, tool = "gdalwarp") {
   code <- crs_facts(first$crs)$code
-  other <- if (first$name == "crs=") "crs= is" else sprintf("that of %s is", first$name)
+  other <- if (first$name == "crs=") "crs= is" else sprintf("%s has", first$name)
   command <- if (nzchar(code)) sprintf(" or %s -t_srs %s", tool, code) else ""
   text <- paste(
-    "its coordinate reference system is %s, and %s %s:",
+    "its coordinate reference system is %s, but %s %s:",
     "reproject one of them first, for example with terra::project%s"
   )
   text <- sprintf(text, crs_name(source$crs), other, crs_name(first$crs), command)

@@ -177,7 +177,8 @@ check_kinds <- function(role, ids, kinds) {
   text <- sprintf("not %s: feature %.0f is a %s", role$are, ids[[wrong[[1]]]], kind)
   if (kind %in% CURVED_KINDS) {
     text <- paste0(
-      text, ", and terra reads no curves: write it with ogr2ogr -nlt CONVERT_TO_LINEAR first"
+      text, ", but terra does not read curves: convert the layer first, with ogr2ogr -nlt ",
+      "CONVERT_TO_LINEAR"
     )
   }
   bad_map(role$name, text)
@@ -217,7 +218,7 @@ check_zeros <- function(role, vector, field, column) {
   feature <- which(column == 0L)[[1]]
   if (is.na(missing)) {
     text <- paste(
-      "%s: the field %s of feature %d is 0, and terra reads a missing number of a file as 0: pass",
+      "%s: the field %s of feature %d is 0, but terra reads missing numbers in files as 0: pass",
       "the path of the file, or use x$%s <- as.numeric(x$%s) if 0 is correct"
     )
     warning(sprintf(text, role$name, field, feature, field, field), call. = FALSE)

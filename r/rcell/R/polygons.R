@@ -12,8 +12,8 @@ zones_source <- function(zones, field, layer, source, each = FALSE) {
   polygons <- features_of(POLYGONS, zones, layer, choose, !is.null(field))
   if (is.null(polygons)) {
     if (!is.null(field) || each) {
-      text <- if (each) "each= is for" else "zone_field= names a field of"
-      refuse(paste(text, "polygons, and zones= is a raster"), status = 2L)
+      text <- if (each) "each=" else "zone_field="
+      refuse(paste(text, "requires polygons, but zones= is a raster"), status = 2L)
     }
     return(source_of("zones", zones))
   }

@@ -28,7 +28,7 @@ program_path <- function() {
     ))
   }
   if (dir.exists(path) || file.access(path, 1L) != 0L) {
-    missing_program(sprintf("the program %s is not there, or may not be executed", path))
+    missing_program(sprintf("the program %s does not exist or is not executable", path))
   }
   path <- normalizePath(path)
   state <- file.info(path)

@@ -125,7 +125,7 @@ check_file <- function(name, raster, facts, band) {
   if (type %in% c("Int64", "UInt64")) check_wide_null(name, lines)
   if (any(grepl("PIXELTYPE=SIGNEDBYTE", lines, fixed = TRUE)) && "INT1U" %in% datatype(raster)) {
     text <- paste(
-      "its bytes are signed, and terra reads them as 0 to 255:",
+      "its bytes are signed, but terra reads them as 0 to 255:",
       "first write it with 16 bits per cell in another program"
     )
     bad_map(name, text)
@@ -133,7 +133,7 @@ check_file <- function(name, raster, facts, band) {
   has_mask <- grepl("Mask Flags:", lines, fixed = TRUE) & !grepl("ALPHA", lines, fixed = TRUE)
   if (any(has_mask)) {
     text <- paste(
-      "has a mask of its own, and terra reads what lies beneath it:",
+      "has its own mask, but terra reads the cells beneath the mask:",
       "write it with a nodata value first"
     )
     bad_map(name, text)

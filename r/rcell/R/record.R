@@ -52,7 +52,7 @@ rcell_verify <- function(path) {
     other_files(list(call$words, call$named), folder)
   )
   if (sum_of(program_path()) != record$program) {
-    text <- "the program differs: it was rcell %s, and this is %s"
+    text <- "the program differs: it was rcell %s, but this is %s"
     told <- c(told, sprintf(text, record$versions$rcell, packageVersion("rcell")))
   }
   arguments <- lapply(c(call$words, call$named), placed_argument, folder)
@@ -68,7 +68,7 @@ rcell_verify <- function(path) {
 record_of <- function(path) {
   beside <- paste0(path, ".json")
   if (!file.exists(native_path(beside))) {
-    text <- "%s has no record, which is %s: write it with rcell_record"
+    text <- "%s has no record (%s): write it with rcell_record"
     refuse(sprintf(text, path, beside), "record", status = 4L)
   }
   wrong <- function() {
@@ -279,12 +279,12 @@ other_lines <- function(kept, now) {
   count <- min(lengths(lines))
   different <- which(lines[[1]][seq_len(count)] != lines[[2]][seq_len(count)])
   if (!length(different)) {
-    text <- "the table has %d lines, and its call returns %d"
+    text <- "the table has %d lines, but its call returns %d"
     return(sprintf(text, length(lines[[1]]), length(lines[[2]])))
   }
   first <- different[[1]]
   rest <- length(different) - 1L
   more <- if (rest) sprintf(" and in %d more %s", rest, if (rest == 1L) "line" else "lines") else ""
-  text <- "the table differs in line %d%s: `%s`, and its call returns `%s`"
+  text <- "the table differs in line %d%s: `%s`, but its call returns `%s`"
   sprintf(text, first, more, lines[[1]][[first]], lines[[2]][[first]])
 }

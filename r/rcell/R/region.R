@@ -25,7 +25,7 @@ region_of <- function(name, raster) {
   }
   if (any(abs(edges) >= EDGE_LIMIT)) {
     bad <- which(abs(edges) >= EDGE_LIMIT)[[1]]
-    text <- "an edge of more than ten digits: %s is %g"
+    text <- "%s must have at most ten digits; got %g"
     bad_map(name, sprintf(text, EDGES[[bad]], edges[[bad]]))
   }
   region <- list(

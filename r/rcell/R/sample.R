@@ -53,7 +53,7 @@ check_numbers <- function(n, allocation) {
     "c(\"11\" = 50, \"31\" = 100)"
   )
   check_argument(is_right, n, rule, POINTS_LIMIT)
-  rule <- "allocation= is for a total number of cells, but n= has a number for each class"
+  rule <- "allocation= must be left out if n= has a number for each class"
   check_argument(is.null(names(n)) || allocation == ALLOCATIONS[[1]], allocation, rule)
 }
 
@@ -63,7 +63,7 @@ divided <- function(n, allocation, class, sizes) {
     codes <- as.numeric(names(n))
     lacking <- sort(setdiff(codes, class))
     if (length(lacking)) {
-      text <- "n= must be for classes that occur; got %.0f"
+      text <- "n= must name classes that occur in the map; got %.0f"
       refuse(sprintf(text, lacking[[1]]), status = 2L)
     }
     wanted <- n[match(class, codes)]

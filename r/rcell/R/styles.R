@@ -20,7 +20,7 @@ legend_of_style <- function(path, name) {
   }
   encoding <- regmatches(text, regexec(XML_ENCODING, text))[[1]]
   if (length(encoding) == 2L && !(tolower(encoding[[2]]) %in% c("utf-8", "us-ascii"))) {
-    wrong(1L, sprintf("its encoding is %s: save it as UTF-8", encoding[[2]]))
+    wrong(1L, sprintf("its encoding is %s: save the file as UTF-8", encoding[[2]]))
   }
   tags <- tags_of(text, wrong)
   is_class <- tags$name == "paletteEntry"

@@ -9,7 +9,7 @@ finished <- function(table, answer, statement, area, percent, wide) {
     refuse(text, "script", statement$line)
   }
   if (wide && length(statement$maps) != 2L) {
-    text <- "wide= needs a table of two maps, and this one has %d"
+    text <- "wide= needs a table of two maps, but this one has %d"
     refuse(sprintf(text, length(statement$maps)), "script", statement$line)
   }
   if (!is.null(area)) table[[area_title(area)]] <- areas_of(table$cells, answer$source, area)

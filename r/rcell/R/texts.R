@@ -17,7 +17,7 @@ utf8_text <- function(path, name) {
   null <- match(as.raw(0L), bytes)
   if (!is.na(null)) {
     line <- sum(bytes[seq_len(null)] == as.raw(10L)) + 1L
-    reason <- "%s, line %d: a null byte, so this is not text: save it as UTF-8"
+    reason <- "%s, line %d: a null byte, so this is not text: save the file as UTF-8"
     refuse(sprintf(reason, path, line), name)
   }
   text <- rawToChar(bytes)
@@ -133,7 +133,7 @@ check_widths <- function(rows, width, places, name) {
   for (place in seq_along(rows)) {
     row <- rows[[place]]
     if (length(row) > width && any(nzchar(trimmed(row[-seq_len(width)])))) {
-      text <- "%s%d fields under a header of %d: put a label with a comma in quotes"
+      text <- "%s%d fields, but the header has %d: put a label with a comma in quotes"
       refuse(sprintf(text, places[[place]], length(row), width), name)
     }
   }

@@ -17,8 +17,8 @@ without data, are null.}
 }
 \value{
 A \code{SpatRaster} with the layers \code{majority} (the most frequent class, ties going to the smallest, with the
-labels of \code{x}), \code{cells} (the number of cells with data), and a layer for each class with its percentage of
-these cells, named after the label or number of the class.
+labels of \code{x}), \code{cells} (the number of cells that have data), and a layer for each class with its percentage
+of these cells, named after the label or number of the class.
 }
 \examples{
 lc <- matrix(c(1, 1, 2, 1, 3, 2), 2, byrow = TRUE)

@@ -40,8 +40,8 @@ row is counted separately.
 \value{
 A data frame with the columns \code{zone} and \code{zone_label} (if there are zones and zone labels), \code{class},
 \code{label} (if there are labels; \code{NA} for a missing one), \code{cells}, \code{area_ha} (or another unit), and
-\code{percent}, the percentage of the zone's area with data (or of its cells, without areas). Rows are sorted by zone
-and class. Cells outside all zones are left out.
+\code{percent}, the class's share of the zone's area that has data (without areas, of its cells). Rows are sorted by
+zone and class. Cells outside all zones are left out.
 }
 \seealso{\code{\link{rcell_cross}} for more maps, \code{\link{rcell_change}} for two years.}
 \examples{

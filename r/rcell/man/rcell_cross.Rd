@@ -16,8 +16,8 @@ with areas in degrees.}
 }
 \value{
 A data frame with a column for each map, followed by \code{NAME_label} if the map has labels; then \code{cells},
-\code{area_ha} (or another unit) and \code{percent}, the percentage of the area (or of the cells, without areas) with
-data in every map. Combinations that do not occur have no row.
+\code{area_ha} (or another unit) and \code{percent}, each row's share of the area (without areas, of the cells) that
+has data in every map. Combinations that do not occur have no row.
 }
 \examples{
 lc <- matrix(c(1, 1, 2, 3, 2, 2), 2, byrow = TRUE)

@@ -14,8 +14,8 @@ rcell_dominant(x, zones, area, labels = NULL, zone_labels = NULL, zone_field = N
 \value{
 A data frame with a row for each zone that has data: \code{zone}, \code{zone_label}, \code{cells}, \code{area_ha},
 \code{classes} (how many occur), \code{majority}, \code{majority_label}, \code{majority_percent}, \code{minority},
-\code{minority_label}, \code{minority_percent}. Percentages refer to the zone's cells with data, even in degrees. If
-several classes are equally frequent, the smallest is returned.
+\code{minority_label}, \code{minority_percent}. Percentages refer to the zone's cells that have data, even in degrees.
+If several classes are equally frequent, the smallest is returned.
 }
 \examples{
 land <- matrix(c(1, 1, 2, 5), 1)

@@ -276,7 +276,7 @@ def _pairs_of(
     if points is None:
         for name, word in (("field", field), ("layer", layer)):
             if word is not None:
-                raise BadArgument(name, "is for points, and reference is not")
+                raise BadArgument(name, "requires points, but reference has no points")
         pairs = _pairs_of_table(reference)
         if pairs is not None:
             return pairs, None if map is None else Maps({"map": source_of("map", map)}, crs)
@@ -321,7 +321,7 @@ def _warn_of_strata(pairs: Integers, counts: Integers) -> None:
 
 
 def _pairs_of_table(reference: Any) -> Optional[Integers]:
-    """Return the counts of class pairs in a CSV or a DataFrame; None for any other reference.
+    """Return the counts of class pairs in a CSV or a DataFrame, or None for any other reference.
 
     Rows without a map class or a reference class are left out.
     """

@@ -112,7 +112,7 @@ def aggregate(map: MapLike, factor: int, min_percent: float = 0, *, crs: Any = N
     -------
     Aggregate
         A named tuple. `majority` contains the most frequent class of each block (in a tie, the
-        smallest), `shares` the percentage of each class among the cells that are not null, and
+        smallest), `shares` each class's percentage of the block's cells that are not null, and
         `cells` the number of cells that are not null.
 
     Raises

@@ -93,7 +93,7 @@ class Measure:
     metres: float | None
 
     def length(self) -> float:
-        """Return the unit in metres; NaN if it is unknown and, with a warning, in degrees."""
+        """Return the unit in metres, or NaN if it is unknown and, with a warning, in degrees."""
         if self.metres is None:
             return math.nan
         if math.isnan(self.metres):
@@ -159,11 +159,11 @@ def flat_measure(area: str, transform: Transform, crs: Any) -> Measure:
 def metres_of(name: str, crs: Any, advice: str = "") -> float:
     """Return the length of a map's unit in metres, or raise an error that names the argument."""
     if crs is None:
-        rule = "must be for a map with a coordinate reference system, and this one has none"
+        rule = "requires a coordinate reference system, but the map has none"
         raise BadArgument(name, f"{rule}: state it, for example {option('crs', 'EPSG:25832')}")
     metres = _metres(crs, True)
     if metres is None or math.isnan(metres):
-        rule = "must be for a map in metres or feet, and this one is in degrees"
+        rule = "requires a map in metres or feet, but this map is in degrees"
         raise BadArgument(name, rule + advice)
     return metres
 
@@ -174,7 +174,7 @@ def _cell(transform: Transform, metres: float) -> float:
 
 
 def unit_of(area: Any, crs: Any) -> str | None:
-    """Return the requested unit of areas; None for no areas.
+    """Return the requested unit of areas, or None for no areas.
 
     Examples
     --------
@@ -186,7 +186,7 @@ def unit_of(area: Any, crs: Any) -> str | None:
     if not isinstance(area, str) or area not in UNITS_OF_AREA:
         raise BadArgument("area", f"must be ha, km2, m2 or None; got {area!r}")
     if crs is None:
-        problem = "needs a coordinate reference system, and the maps have none"
+        problem = "needs a coordinate reference system, but the maps have none"
         example = option("crs", "EPSG:25832")
         raise BadArgument("area", f'"{area}" {problem}: state it, for example {example}')
     return area
@@ -203,7 +203,7 @@ def _metres(crs: Any, is_needed: bool) -> float | None:
 
 
 def _understood(crs: Any) -> Crs | None:
-    """Return a reference system that is optional here; None if no library can read it."""
+    """Return a reference system that is optional here, or None if no library can read it."""
     try:
         return known(crs)
     except MissingLibrary:

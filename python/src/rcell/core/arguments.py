@@ -52,7 +52,7 @@ def whole_number_of(name: str, value: Any, least: int, most: Optional[int] = Non
 
 
 def classes_of(classes: Any) -> Optional[List[int]]:
-    """Return the classes to which a call is limited; None for all classes.
+    """Return the classes to which a call is limited, or None for all classes.
 
     Examples
     --------

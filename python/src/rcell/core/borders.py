@@ -58,7 +58,7 @@ class Watch:
             self.counts += counts
 
     def finish(self) -> None:
-        """Warn if a usual nodata value fills more than half of the border."""
+        """Warn if a common nodata value fills more than half of the border."""
         rows, cols = self._shape
         border = rows * cols - max(rows - 2, 0) * max(cols - 2, 0)
         for value, count in zip(self._values, self.counts.tolist()):

@@ -32,7 +32,7 @@ class Change(NamedTuple):
     ----------
     table : pandas.DataFrame
         A row for each change that occurs: `from`, `from_label`, `to`, `to_label`, `cells`,
-        `area_ha`, and `percent` of the cells that are null in neither year.
+        `area_ha`, and `percent`, the change's share of the area that is null in neither year.
     matrix : pandas.DataFrame
         The areas (or without areas, the cells), with a row for each class before and a column for
         each class after. If several classes have the same label, their names include their numbers,

@@ -36,7 +36,7 @@ PATIENCE_SECONDS = 30.0
 
 
 def client_of(workers: Any) -> Any:
-    """Return the client that is given as `workers`; None if it is not a client."""
+    """Return the client that is given as `workers`, or None if it is not a client."""
     if not (hasattr(workers, "scheduler_info") and hasattr(workers, "get_executor")):
         return None
     if getattr(workers, "asynchronous", False):
@@ -212,7 +212,7 @@ def _version() -> str:
 
 
 def _where() -> str:
-    """Return the address of this worker, for messages; empty outside a worker."""
+    """Return the address of this worker, for messages, or an empty text outside a worker."""
     if not _is_in_task():
         return ""
     return f" on the worker {sys.modules['distributed'].get_worker().address}"

@@ -61,8 +61,8 @@ def composition(
     -------
     pandas.DataFrame
         Columns `zone` and `zone_label` (with zones), `class`, `label` (if there are labels),
-        `cells`, `area_ha`, and `percent` of the non-null part of the zone: of its area, or of its
-        cells if there are no areas.
+        `cells`, `area_ha`, and `percent`, the class's share of the zone's area that is not null
+        (without areas, of the zone's cells that are not null).
 
     Raises
     ------
@@ -123,7 +123,8 @@ def cross(
     -------
     pandas.DataFrame
         For each map a column `NAME`, and `NAME_label` if it has labels; then `cells`, `area_ha`,
-        and `percent` of the area, or without areas of the cells, that is null in no map.
+        and `percent`, each row's share of the area (without areas, of the cells) that is null in
+        no map.
 
     Raises
     ------

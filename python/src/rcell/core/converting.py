@@ -22,7 +22,7 @@ _STATUS = 2
 
 
 def converted(path: str, to_esri: bool) -> Optional[Iterator[bytes]]:
-    """Return a text grid in ESRI ASCII or rcell format; None if the file is not a text grid."""
+    """Return a text grid in ESRI ASCII or rcell format, or None if the file is not a text grid."""
     try:
         with open(path, "rb") as file:
             start = read_some(file.fileno(), HEAD_BYTES)

@@ -69,11 +69,11 @@ class Counts:
         return self.cells if self.area is None else self.area
 
     def areas(self, measure: Measure) -> NDArray[np.float64]:
-        """Return the areas, or the cells if there is no unit."""
+        """Return the areas, or the cell counts if there is no unit."""
         return measure.area(self.cells) if self.area is None else self.area
 
     def percent(self, groups: int = 0) -> NDArray[np.float64]:
-        """Return each entry's percentage of its group's non-null entries; NaN for null.
+        """Return each entry's share of its group's total in percent, without null (which is NaN).
 
         Parameters
         ----------
@@ -134,7 +134,9 @@ class Maps:
         elif zones is not None:
             given["zones"] = source_of("zones", zones)
         if polygons is None:
-            told = "is for polygons, and zones is " + ("not given" if zones is None else "a raster")
+            told = "requires polygons, but zones is " + (
+                "not given" if zones is None else "a raster"
+            )
             for name, word in (("zone_field", zone_field), ("layer", layer), ("each", each)):
                 if word:
                     raise BadArgument(name, told)

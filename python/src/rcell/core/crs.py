@@ -125,7 +125,7 @@ def _known(text: str) -> Crs:
 
 
 def _text_of(crs: Any) -> str:
-    """Return the text of a reference system of any library; empty for None."""
+    """Return the text of a reference system of any library, or an empty text for None."""
     if crs is None:
         return ""
     for method in ("to_wkt", "ExportToWkt"):
@@ -140,7 +140,7 @@ def _text_of(crs: Any) -> str:
 
 
 def wkt_of(crs: Any) -> str:
-    """Return the well-known text of a reference system; empty for None.
+    """Return the well-known text of a reference system, or an empty text for None.
 
     Examples
     --------
@@ -220,13 +220,13 @@ def common_crs(
     for name, crs in systems.items():
         if crs is None and stated is None:
             code, title = _named(common)
-            text = f"it has no coordinate reference system, and `{titles[first]}` has {title}"
+            text = f"it has no coordinate reference system, but `{titles[first]}` has {title}"
             raise OtherCrs(titles[name], f"{text}: state it with {option('crs', code)}")
         if crs is not None and not are_same_crs(crs, common):
             code, title = _named(common)
-            has = f"that of `{titles[first]}` is" if stated is None else f"{option('crs')} is"
-            text = f"its coordinate reference system is {_named(crs)[1]}, and {has} {title}"
-            hint = f"reproject one of them first, as with {_warping(warp, code)}"
+            has = f"`{titles[first]}` has" if stated is None else f"{option('crs')} is"
+            text = f"its coordinate reference system is {_named(crs)[1]}, but {has} {title}"
+            hint = f"reproject one of them first, for example with {_warping(warp, code)}"
             raise OtherCrs(titles[name], f"{text}: {hint}")
     return common
 
@@ -271,9 +271,8 @@ def metres_of_unit(crs: Any) -> float:
         return 1.0
     if system.kind != "projected":
         raise Refused(
-            f"cells have no area in a {system.kind} reference system, and the map has "
-            f"{system.name}: "
-            f"reproject it, or leave areas out",
+            f"the reference system {system.name} is {system.kind}, so cells have no area: "
+            "reproject the map, or leave areas out",
             "map",
         )
     return system.unit

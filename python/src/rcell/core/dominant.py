@@ -49,9 +49,9 @@ def dominant(
     pandas.DataFrame
         Columns `zone`, `zone_label`, `cells`, `area_ha`, `classes` (the number of classes),
         `majority`, `majority_label`, `majority_percent`, `minority`, `minority_label`,
-        `minority_percent`. Frequencies and percentages are of the zone's cells that are not null,
-        also in degrees; in a tie, the smallest class is used. Zones with only null cells have no
-        row.
+        `minority_percent`. Frequencies and percentages refer to the zone's cells that are not
+        null, also in degrees. In a tie, the smallest class is used. Zones with only null cells
+        have no row.
 
     Raises
     ------

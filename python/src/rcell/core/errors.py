@@ -244,7 +244,7 @@ class MissingProgram(RcellError, FileNotFoundError):
     ...     find_program("/nowhere/rcell")
     ... except rcell.MissingProgram as error:
     ...     print(error)
-    the program /nowhere/rcell is not there, or may not be executed
+    the program /nowhere/rcell does not exist or is not executable
     """
 
 

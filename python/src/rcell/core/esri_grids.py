@@ -79,7 +79,9 @@ class _Header:
     def side(self, key: bytes) -> int:
         text = self.values.get(key, b"")
         if not re.fullmatch(rb"[1-9]\d{0,9}", text):
-            raise Refused(f"{key.decode()} is a whole number above 0, not {_shown(text)}", "map")
+            raise Refused(
+                f"{key.decode()} must be a whole number above 0; got {_shown(text)}", "map"
+            )
         return int(text)
 
     def value(self, *keys: bytes) -> tuple[Fraction, bytes]:
@@ -89,7 +91,7 @@ class _Header:
             raise Refused(f"the header has no {keys[0].decode()}", "map")
         number = _number(self.values[key])
         if number is None:
-            raise Refused(f"{key.decode()} is a number, not {_shown(self.values[key])}", "map")
+            raise Refused(f"{key.decode()} must be a number; got {_shown(self.values[key])}", "map")
         return number, self.values[key]
 
     def edges(self, axis: bytes, step: bytes, count: int, name: str) -> tuple[Fraction, Fraction]:
@@ -175,7 +177,8 @@ def grid_of_esri(path: str) -> Iterator[bytes]:
             except Refused as error:
                 raise Refused(error.text, "map", number) from None
     if count != header.rows * header.cols:
-        difference = f"{header.rows} rows of {header.cols} cells in the header, and {count} cells"
+        declared = f"{header.rows} rows of {header.cols} cells"
+        difference = f"the header declares {declared}, but {count} cells follow"
         raise Refused(difference, "map")
     for word in sorted(cells.forgotten):
         warn(f"cells are {word.decode()}, which the header does not declare as null")

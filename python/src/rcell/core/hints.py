@@ -358,7 +358,7 @@ def _sentences() -> dict[str, dict[str, str]]:
 
 
 def sentence(part: str, text: str) -> str:
-    """Return the advice about a message from messages.json; empty if there is none.
+    """Return the advice about a message from messages.json, or an empty string.
 
     `part` is `arguments`, `files`, `grid`, `script` or `expression`.
     """

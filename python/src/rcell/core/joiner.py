@@ -62,7 +62,7 @@ def _probe(path: str) -> None:
         is_known = ended[:2] == (0, b"1 1 2 1\n")
     except TimeoutError:
         raise WrongProgram(
-            f"{path} does not end within {PROBE_SECONDS} seconds: it is not the program rcell-join"
+            f"{path} did not end within {PROBE_SECONDS} seconds: it is not the program rcell-join"
         ) from None
     if not is_known:
         raise WrongProgram(
@@ -105,8 +105,8 @@ def check_files(count: int) -> None:
     needed, most = FILES_EACH * count + OTHER_FILES, resource.getrlimit(resource.RLIMIT_NOFILE)[1]
     if most != resource.RLIM_INFINITY and most < needed:
         raise WriteFailed(
-            f"to join {count:,} tiles, {needed:,} files are open at once, and this system allows "
-            f"{most:,}: raise its limit, which ulimit -Hn shows"
+            f"joining {count:,} tiles opens {needed:,} files at once, but this system allows "
+            f"{most:,}: raise the limit, which ulimit -Hn shows"
         )
 
 
@@ -119,7 +119,7 @@ def _checked(path: str, status: int, output: bytes, errors: str) -> bytes:
     match = _MESSAGE.fullmatch(errors)
     if match and status == 3:
         raise OutOfMemory(match[3], match[1], int(match[2]), status)
-    raise WrongProgram(f"{path} ended in status {status} and said: {errors or 'nothing'}")
+    raise WrongProgram(f"{path} ended with status {status} and printed: {errors or 'nothing'}")
 
 
 def _run(

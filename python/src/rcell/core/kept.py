@@ -52,7 +52,5 @@ def cells_for(shape: tuple[int, int], dtype: Any) -> NDArray[Any]:
             os.posix_fallocate(file.fileno(), 0, size)
             return np.memmap(file, dtype, "r+", shape=shape)
     except OSError as error:
-        problem = (
-            f"{size:,} bytes for the cells of a map can't be kept in {folder}: {error.strerror}"
-        )
+        problem = f"{size:,} bytes of map cells cannot be stored in {folder}: {error.strerror}"
         raise WriteFailed(f"{problem}; set TMPDIR to a folder with more room") from None

@@ -35,14 +35,14 @@ def checked_labels(name: str, labels: Any) -> dict[int, str]:
     Raises
     ------
     BadMap
-        A key is not a category, or a label contains a character that no file can hold.
+        A key is not a category, or a label contains a character that files cannot store.
 
     Examples
     --------
     >>> checked_labels("land", {"1": "wood"})  # doctest: +ELLIPSIS
     Traceback (most recent call last):
       ...
-    rcell.BadMap: land: a label of '1': labels belong to whole numbers from ...
+    rcell.BadMap: land: the label of '1': a category must be a whole number from ...
     """
     if not isinstance(labels, Mapping):
         raise BadMap(
@@ -52,15 +52,16 @@ def checked_labels(name: str, labels: Any) -> dict[int, str]:
         if not (isinstance(category, numbers.Integral) and abs(int(category)) < -NULL):
             raise BadMap(
                 name,
-                f"a label of {category!r}: labels belong to whole numbers from -2147483647 to "
+                f"the label of {category!r}: a category must be a whole number from -2147483647 to "
                 f"2147483647, for example {{1: 'wood'}}",
             )
         if not isinstance(label, str):
-            raise BadMap(name, f"the label of {category} is {label!r}, which is not text")
+            raise BadMap(name, f"the label of {category} must be text; got {label!r}")
         bad = _UNWRITABLE.search(label)
         if bad:
             raise BadMap(
-                name, f"the label of {category} has a character that no file can hold: {bad[0]!r}"
+                name,
+                f"the label of {category} contains a character that files cannot store: {bad[0]!r}",
             )
     return {int(category): label for category, label in labels.items()}
 
@@ -205,7 +206,7 @@ def _labels_of_rows(rows: Iterable[Sequence[Any]]) -> dict[int, str]:
 
 
 def _category_of(number: Any) -> Optional[int]:
-    """Convert a number or a text to a category; None if it is not a category."""
+    """Convert a number or a text to a category, or return None if it is not a category."""
     with contextlib.suppress(TypeError, ValueError, OverflowError):
         if float(number).is_integer() and abs(float(number)) < -NULL:
             return int(float(number))
@@ -248,7 +249,7 @@ def write_labels(path: str, labels: Mapping[int, str]) -> str | None:
     try:
         ElementTree.parse(beside)
     except ElementTree.ParseError as error:
-        raise OSError(f"the labels are not as they were written: {error}") from None
+        raise OSError(f"the labels file was not written correctly: {error}") from None
     return beside
 
 

@@ -119,7 +119,7 @@ def _of_path(path: str) -> Legend:
     source = source_of("labels", path)
     if not source.labels:
         raise _refused(
-            f"{path} has no labels: a legend is a CSV, a TSV, a QML or a raster with labels"
+            f"{path} has no labels: a legend must be a CSV, a TSV, a QML or a raster with labels"
         )
     return Legend(dict(source.labels), dict(source.colors))
 
@@ -185,7 +185,7 @@ def _rows_of_file(
         if not any(map(str.strip, row)):
             continue
         if any(map(str.strip, row[len(header) :])):
-            text = f"{len(row)} fields under a header of {len(header)}"
+            text = f"{len(row)} fields, but the header has {len(header)}"
             raise Refused(
                 f"line {first}: {text}: put a label with a comma in quotes", source, status=1
             )
@@ -203,13 +203,15 @@ def _lines_of(source: str, path: str) -> List[str]:
         reason = getattr(error, "strerror", None) or error
         raise ReadFailed(source, f"cannot open: {path}: {reason}") from None
     if content[:2] in (b"\xff\xfe", b"\xfe\xff"):
-        raise Refused(f"{path} is UTF-16: save it as UTF-8 (in Excel: CSV UTF-8)", source, status=1)
+        raise Refused(
+            f"{path} is UTF-16: save the file as UTF-8 (in Excel: CSV UTF-8)", source, status=1
+        )
     try:
         text = content.decode("utf-8-sig")
     except UnicodeDecodeError as error:
         line = content.count(b"\n", 0, error.start) + 1
         cure = (
-            "save it as UTF-8 (in Excel: CSV UTF-8), or convert it, for example from Latin-1 "
+            "save the file as UTF-8 (in Excel: CSV UTF-8), or convert it, for example from Latin-1 "
             "with iconv -f latin1 -t utf8"
         )
         raise Refused(f"line {line} is not UTF-8: {cure}", source, status=1) from None
@@ -240,7 +242,7 @@ def _of_entries(entries: Iterable[Entry]) -> Legend:
     places: Dict[int, str] = {}
     for entry in entries:
         if isinstance(entry.value, str) and not entry.value.strip():
-            raise _refused(f"{entry.place}: a label without a value")
+            raise _refused(f"{entry.place}: the label has no value")
         value = whole_number(entry.value)
         if value is None:
             raise _refused(f"{entry.place}: {entry.value!s} is not a whole number")
@@ -251,7 +253,7 @@ def _of_entries(entries: Iterable[Entry]) -> Legend:
         places[value] = entry.place
         label = _text(entry.label)
         if _UNWRITABLE in label:
-            raise _refused(f"{entry.place}: a label with the character NUL")
+            raise _refused(f"{entry.place}: the label contains a NUL character")
         if label:
             legend.labels[value] = label
         color = _of_parts(_text(entry.color))
@@ -280,12 +282,12 @@ def is_missing(value: Any) -> bool:
 
 
 def _text(value: Any) -> str:
-    """Return a field as text; empty if it is missing."""
+    """Return a field as text, or an empty text if it is missing."""
     return "" if is_missing(value) else str(value).strip(_BLANKS)
 
 
 def whole_number(value: Any) -> Optional[int]:
-    """Convert a text or a number to an int; None if it is not a whole number.
+    """Convert a text or a number to an int, or return None if it is not a whole number.
 
     Examples
     --------
@@ -329,7 +331,7 @@ def legend_of_qml(path: str) -> Legend:
         above.append(tag)
 
     def refuse(name: str, *_: Any) -> None:
-        raise _refused(f"{path} declares the entity {name}: styles have no entities")
+        raise _refused(f"{path} declares the entity {name}: a style must not declare entities")
 
     parser.StartElementHandler = begin
     parser.EndElementHandler = lambda tag: above.pop()

@@ -71,7 +71,8 @@ def open_files(name: str, paths: Sequence[Any]) -> Source:
         source: Any = open_path(path, path)
         if not hasattr(source, "window"):
             raise BadMap(
-                name, f"{path} is a text grid, and only rasters can be combined: convert it"
+                name,
+                f"{path} is a text grid, but only rasters can be combined: convert it to a raster",
             )
         sources.append(source)
     if len(sources) == 1:

@@ -151,7 +151,7 @@ def check_files_are(states: Mapping[str, State]) -> None:
         if own is None:
             raise ReadFailed(path, "cannot open: No such file")
         if own != state:
-            difference = f"{_state_text(own)}, and {_state_text(state)}"
+            difference = f"{_state_text(own)} here, but {_state_text(state)} there"
             raise ReadFailed(
                 path, f"differs from the file on the machine of the call: {difference}"
             )

@@ -156,7 +156,7 @@ def _points(layer: Layer, field: str) -> Iterator[Optional[tuple[float, float, i
             raise BadMap(layer.name, f"not points: feature {feature.id} is a {feature.kind}")
         west, south, east, north = layer.bounds(feature.geometry)
         if (west, south) != (east, north):
-            raise BadMap(layer.name, f"not points: feature {feature.id} has several")
+            raise BadMap(layer.name, f"not points: feature {feature.id} has several points")
         code = whole_number(value)
         if code is None or abs(code) > MAX_CATEGORY:
             problem = f"the class of feature {feature.id} is {value!r}, which is not a whole number"

@@ -38,7 +38,7 @@ def is_text_grid(start: bytes) -> bool:
 
 @contextlib.contextmanager
 def spooled(pieces: Iterable[bytes]) -> Iterator[str]:
-    """Write a text to a temporary file until the block ends, because programs open paths only.
+    """Keep a text in a temporary file until the block ends, because programs open only paths.
 
     Examples
     --------

@@ -98,7 +98,7 @@ def find_beside(
 def known_after(probe: Callable[[str], None], path: str) -> str:
     """Test a program and return its path; test it again only if its file has changed."""
     if not os.path.isfile(path) or not os.access(path, os.X_OK):
-        raise MissingProgram(f"the program {path} is not there, or may not be executed")
+        raise MissingProgram(f"the program {path} does not exist or is not executable")
     state = os.stat(path)
     stamp = (state.st_ino, state.st_size, state.st_mtime_ns)
     if _known.get(path) != stamp:
@@ -109,7 +109,7 @@ def known_after(probe: Callable[[str], None], path: str) -> str:
 
 _UNKNOWN = "{} is not the program {} in a version that this package supports"
 _NOT_STARTED = "the program {} cannot be executed: {}"
-_ENDLESS = "{} does not end within {} seconds: it is not the program {}"
+_ENDLESS = "{} did not end within {} seconds: it is not the program {}"
 _PROBE_GRID = b"north: 1\nsouth: 0\neast: 3\nwest: 0\nrows: 1\ncols: 3\nnull: ***\n007 *** 012 "
 _PRINTED = b"north: 1\nsouth: 0\neast: 3\nwest: 0\nrows: 1\ncols: 3\n7 * 12\n"
 

@@ -188,7 +188,7 @@ Frame = Union[TableFrame, GridFrame, PatchesFrame]
 
 
 class Call(NamedTuple):
-    """A call of `row()`, `col()`, `nrows()` or `ncols()`, and its place in the line.
+    """A call to `row()`, `col()`, `nrows()` or `ncols()`, and its place in the line.
 
     The place is the range of bytes from `start` to `end`.
     """
@@ -658,7 +658,7 @@ def failure_of(status: int, message: bytes) -> Exception:
     if status < 0:
         return Killed(-status)
     text = message.decode("utf-8", "replace").strip() or "nothing"
-    return NoAnswer(f"the program ended in status {status} and said: {text}")
+    return NoAnswer(f"the program ended with status {status} and printed: {text}")
 
 
 def _check(

@@ -53,8 +53,8 @@ _FILES = 4
 # How to create a record, in the terms of each host.
 _ASKED = {
     "python": "write it with rcell.record",
-    "shell": "add --record to the command that makes it",
-    "qgis": "tick RECORD in the algorithm that makes it",
+    "shell": "add --record to the command that writes the table",
+    "qgis": "tick RECORD in the algorithm that writes the table",
 }
 
 
@@ -176,8 +176,9 @@ def table_of(result: Any, part: Optional[str] = None) -> Table:
     if not tables:
         raise BadArgument("call", f"must return a table; got a {type(result).__name__}")
     if part not in (None, *tables):
-        names = ", ".join(filter(None, tables)) or "the result has one table"
-        raise BadArgument("table", f"must be one of the result ({names}); got {part!r}")
+        names = ", ".join(filter(None, tables))
+        rule = f"must be one of {names}" if names else "must be left out if there is only one table"
+        raise BadArgument("table", f"{rule}; got {part!r}")
     return tables[part] if part is not None else next(iter(tables.values()))
 
 
@@ -192,7 +193,7 @@ def read_record(path: str) -> dict[str, Any]:
     beside = _beside(path)
     if os.path.exists(path) and not os.path.exists(beside):
         advice = _ASKED[host().words]
-        raise Refused(f"{path} has no record, which is {beside}: {advice}", "record", status=_FILES)
+        raise Refused(f"{path} has no record ({beside}): {advice}", "record", status=_FILES)
     try:
         text = _bytes_of(beside if os.path.exists(path) else path)
         record: dict[str, Any] = json.loads(text.decode("utf-8", "surrogateescape"))
@@ -253,7 +254,7 @@ def differences(path: str, version: str) -> Iterator[str]:
     yield from _other_texts([record["call"]["words"], record["call"]["named"]], folder)
     if _sum_of_program() != record["program"]:
         yield (
-            f"the program differs: it was rcell {record['versions']['rcell']}, and this is "
+            f"the program differs: it was rcell {record['versions']['rcell']}, but this is "
             f"{version}"
         )
     try:
@@ -289,9 +290,9 @@ def _other_lines(recorded: bytes, returned: bytes) -> Iterator[str]:
         (number, line, other), *rest = different
         noun = "line" if len(rest) == 1 else "lines"
         more = f" and in {len(rest)} more {noun}" if rest else ""
-        yield f"the table differs in line {number}{more}: `{line}`, and its call returns `{other}`"
+        yield f"the table differs in line {number}{more}: `{line}`, but its call returns `{other}`"
     elif recorded != returned:
-        yield f"the table has {len(lines) - 1} lines, and its call returns {len(others) - 1}"
+        yield f"the table has {len(lines) - 1} lines, but its call returns {len(others) - 1}"
 
 
 def _other_texts(arguments: Any, folder: str) -> Iterator[str]:

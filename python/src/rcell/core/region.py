@@ -136,11 +136,9 @@ class Region:
         for name in ("north", "south", "east", "west"):
             edge: Any = getattr(self, name)
             if not _is_number(edge):
-                raise BadMap("region", f"an edge that is not a number: {name} is {edge!r}")
+                raise BadMap("region", f"{name} must be a number; got {edge!r}")
             if not math.isfinite(edge) or abs(units_of(edge)) >= EDGE_LIMIT:
-                raise BadMap(
-                    "region", f"an edge of more than ten digits: {name} is {float(edge):g}"
-                )
+                raise BadMap("region", f"{name} must have at most ten digits; got {float(edge):g}")
         self._check_sizes()
         north, south, east, west = self.units
         if north <= south or east <= west:
@@ -157,10 +155,11 @@ class Region:
         ):
             raise BadMap(
                 "region",
-                f"rows and columns that are not whole numbers: {self.rows!r} and {self.cols!r}",
+                f"rows and columns must be whole numbers; got {self.rows!r} and {self.cols!r}",
             )
         if self.rows < 1 or self.cols < 1:
-            raise BadMap("region", f"{self.rows:,} rows and {self.cols:,} columns")
+            sizes = f"rows = {self.rows}, columns = {self.cols}"
+            raise BadMap("region", f"must have at least one row and one column; got {sizes}")
 
     @classmethod
     def from_transform(cls, transform: Sequence[float], rows: int, cols: int) -> Region:
@@ -399,7 +398,7 @@ class Shift:
         """Return the reason why the grids do not coincide."""
         if self.has_other_cells:
             mine, its = (f"{width:.10g} x {height:.10g}" for height, width in self.sizes)
-            return f"cells of {mine}, and those of `{name}` are {its}"
+            return f"cells of {mine}, but `{name}` has cells of {its}"
         return f"shifted by {self.rows:.10g} rows and {self.cols:.10g} columns, not by whole cells"
 
 

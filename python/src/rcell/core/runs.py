@@ -275,7 +275,7 @@ def check_size(maps: Mapping[str, Source]) -> None:
     if not fits_one_run(source.region.shape):
         rows, cols = source.region.shape
         limits = f"up to {SIDE_LIMIT:,} rows and columns, and {CELL_LIMIT:,} cells"
-        size = f"{rows:,} rows and {cols:,} columns; this call takes {limits}"
+        size = f"{rows:,} rows and {cols:,} columns; this call accepts {limits}"
         raise BadMap(source.name, f"{size}: cut the map first, for example with gdal_translate")
 
 

@@ -173,7 +173,7 @@ def _requested(n: Any, allocation: Any) -> int | dict[int, int]:
     if not isinstance(n, Mapping):
         return whole_number_of("n", n, 1, MOST_POINTS)
     if allocation != ALLOCATIONS[0]:
-        rule = f"is for a number of cells in all, and n has one for each class; got {allocation!r}"
+        rule = f"must be left out if n has a number for each class; got {allocation!r}"
         raise BadArgument("allocation", rule)
     counts = {}
     for code, count in n.items():
@@ -189,7 +189,7 @@ def _divided(
     if isinstance(requested, dict):
         lacking = sorted(set(requested) - set(classes))
         if lacking:
-            raise BadArgument("n", f"must be for classes that occur; got {lacking[0]}")
+            raise BadArgument("n", f"must name classes that occur in the map; got {lacking[0]}")
         return [requested.get(code, 0) for code in classes]
     parts = sizes if allocation == "proportional" else [1] * len(classes)
     whole = max(sum(parts), 1)

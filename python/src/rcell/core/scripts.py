@@ -69,7 +69,7 @@ class Stats:
     def matrix(self, measure: Optional[Measure] = None, percent: bool = False) -> Matrix:
         """Return the table of two maps as a matrix of percentages, areas or cells."""
         if len(self.maps) != 2:
-            problem = f"pivot= needs a table of two maps, and this one has {len(self.maps)}"
+            problem = f"pivot= needs a table of two maps, but this one has {len(self.maps)}"
             raise Refused(problem, "script", self.line)
         values = self._percent() if percent else self._counted("pivot=")
         if measure is not None and not percent:

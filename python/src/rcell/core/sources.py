@@ -221,15 +221,15 @@ def check_computed(name: str, cells: Cells, dtype: np.dtype[Any], shape: tuple[i
     """
     if (is_converted(cells.dtype), type_of(cells.dtype)) != (is_converted(dtype), type_of(dtype)):
         problem = (
-            f"its cells are of the type {cells.dtype}, but Dask expected {dtype}: state it, as "
-            f"in map_blocks(.., dtype='{cells.dtype}')"
+            f"its cells are of the type {cells.dtype}, but Dask expected {dtype}: state it, for "
+            f"example map_blocks(.., dtype='{cells.dtype}')"
         )
         raise BadMap(name, problem)
     if cells.shape != shape:
         raise BadMap(
             name,
             f"a part of {' x '.join(map(str, shape))} cells has the shape {cells.shape}: state "
-            "the chunks, as in map_blocks(.., chunks=..)",
+            "the chunks, for example map_blocks(.., chunks=..)",
         )
 
 
@@ -283,7 +283,7 @@ def checked(
     whole = np.where(is_null, exact.dtype.type(0), exact)
     if scale is None and cells.dtype == np.float32 and np.abs(whole).max() > _EXACT_FLOAT32:
         warn(
-            f"{name}: floats of 32 bits are not exact beyond {_EXACT_FLOAT32}, and the map has "
+            f"{name}: floats of 32 bits are not exact beyond {_EXACT_FLOAT32}, but the map has "
             "larger values"
         )
     return Block(np.where(is_null, np.int32(NULL), whole.astype(np.int32)), None)
@@ -448,12 +448,12 @@ class ArrayMap:
     def __post_init__(self) -> None:
         check_array(self.name, self.array)
         if not (self.nodata_value is None or isinstance(self.nodata_value, numbers.Real)):
-            raise BadMap(self.name, f"nodata is a number, not {self.nodata_value!r}")
+            raise BadMap(self.name, f"nodata must be a number; got {self.nodata_value!r}")
         if self.array.shape != self.region.shape:
             rows, cols = self.array.shape
             raise BadMap(
                 self.name,
-                f"an array of {rows} x {cols} cells, and a region of {self.region.rows} x "
+                f"an array of {rows} x {cols} cells, but a region of {self.region.rows} x "
                 f"{self.region.cols}",
             )
 
@@ -505,7 +505,7 @@ def check_array(name: str, array: Any) -> None:
         shape = " x ".join(map(str, array.shape)) or "one number"
         raise BadMap(
             name,
-            f"an array of {array.ndim} dimensions ({shape}), and a map has two; pass one band of "
+            f"an array of {array.ndim} dimensions ({shape}), but a map has two; pass one band of "
             "a raster, for example read(1)",
         )
     if array.size == 0:

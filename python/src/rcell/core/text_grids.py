@@ -124,7 +124,9 @@ def open_path(name: str, path: str | os.PathLike[str]) -> Source:
     except OSError as error:
         raise ReadFailed(name, f"cannot open: {text}: {error.strerror}") from None
     except UnicodeEncodeError:
-        raise ReadFailed(name, f"cannot open: {text!r}: no path has a surrogate") from None
+        raise ReadFailed(
+            name, f"cannot open: {text!r}: a path cannot contain a surrogate character"
+        ) from None
     is_file = stat.S_ISREG(os.fstat(stream.fileno()).st_mode)
     head = _head_of(stream, is_file)
     if is_text_grid(head):
@@ -174,7 +176,7 @@ def _fields(head: bytes) -> tuple[dict[str, str], bool]:
 
 
 def _region_of(name: str, head: bytes) -> Region | None:
-    """Return the region in a header; None if the header is invalid, which rcell reports."""
+    """Return the region in a header, or None if the header is invalid, which rcell reports."""
     fields = _fields(head + b"\n")[0]
     try:
         edges = [_edge_of(fields[key]) for key in ("north", "south", "east", "west")]

@@ -157,7 +157,7 @@ def _states(maps: Mapping[str, Source]) -> dict[str, str]:
 def _check_states(states: Mapping[str, str]) -> None:
     for path, state in states.items():
         if state_of(path) != state:
-            raise ReadFailed(path, "has changed while it was read")
+            raise ReadFailed(path, "changed while it was read")
 
 
 @contextmanager

@@ -113,7 +113,7 @@ def _order_of_columns(columns: Integers, keys: Optional[Integers]) -> NDArray[np
 
 
 def _keys_of(columns: Integers) -> Optional[Integers]:
-    """Return a sort key for each row; None if the keys need more than 64 bits."""
+    """Return a sort key for each row, or None if the keys need more than 64 bits."""
     keys = np.zeros(columns.shape[1], np.int64)
     span = 1
     for column in list(columns[::-1]) if keys.size else []:

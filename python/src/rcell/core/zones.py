@@ -164,7 +164,7 @@ def _with_a_zone(layer: Layer, field: Optional[str]) -> list[Feature]:
         if not is_missing(value) and not (isinstance(value, str) and not value):
             features.append(replace(feature, value=value))
     if not features:
-        raise BadMap(layer.name, "no polygon contains the centre of a cell: none has a zone")
+        raise BadMap(layer.name, "no polygon contains the centre of a cell: no cell has a zone")
     return features
 
 

@@ -32,7 +32,7 @@ def open_layer(name: str, path: str, layer: Optional[str] = None) -> Polygons:
         if layer is None and len(layers) > 1:
             choice = option("layer", layers[0])
             problem = (
-                f"has the layers {', '.join(layers)}: name one, as {choice} or "
+                f"has the layers {', '.join(layers)}: name one, for example {choice} or "
                 f"{path}|layername={layers[0]}"
             )
             raise Refused(problem, name)

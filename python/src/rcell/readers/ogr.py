@@ -48,7 +48,7 @@ def open_layer(name: str, path: str, layer: Optional[str] = None) -> OgrLayer:
     if layer is None and len(names) > 1:
         choice = option("layer", names[0])
         problem = (
-            f"has the layers {', '.join(names)}: name one, as {choice} or "
+            f"has the layers {', '.join(names)}: name one, for example {choice} or "
             f"{path}|layername={names[0]}"
         )
         raise Refused(problem, name)
@@ -101,7 +101,7 @@ class OgrLayer:
 
 
 def _value_of(feature: Any, place: int) -> Any:
-    """Return the value of a field as a Python object; None if it is missing."""
+    """Return the value of a field as a Python object, or None if it is missing."""
     if not feature.IsFieldSetAndNotNull(place):
         return None
     definition = feature.GetFieldDefnRef(place)

@@ -77,7 +77,7 @@ def _places(coordinates: Any) -> Iterator[Sequence[float]]:
 
 
 def _kind(geometry: Any) -> str:
-    """Return the type of a geometry; empty for an empty geometry."""
+    """Return the type of a geometry, or an empty text for an empty geometry."""
     if hasattr(geometry, "is_empty"):
         return "" if geometry.is_empty else str(geometry.geom_type)
     is_empty = not geometry.get("coordinates") and not geometry.get("geometries")

@@ -175,12 +175,12 @@ def flat_of(name: str, array: Any) -> Flat:
         The array cannot be a map, or its coordinates are not evenly spaced.
     """
     if not hasattr(array, "coords"):
-        raise BadMap(name, f"a {type(array).__name__} without coordinates: give a DataArray")
+        raise BadMap(name, f"a {type(array).__name__} without coordinates: pass a DataArray")
     if not hasattr(array, "ndim"):
         raise BadMap(
             name,
-            f"a {type(array).__name__} of several variables: give it alone, or one of them, for "
-            f"example dataset[{next(iter(array), 'name')!r}]",
+            f"a {type(array).__name__} of several variables: pass it as the only map, or pass "
+            f"one variable, for example dataset[{next(iter(array), 'name')!r}]",
         )
     if any(size != size for size in array.shape):
         raise BadMap(
@@ -292,7 +292,7 @@ def _flat(name: str, array: Any) -> Any:
     long = [dim for dim in others if array.sizes[dim] != 1]
     if len(dims) != 2 or long:
         sizes = ", ".join(f"{dim} {array.sizes[dim]}" for dim in array.dims)
-        problem = f"a DataArray of {array.ndim} dimensions ({sizes}), and a map has two"
+        problem = f"a DataArray of {array.ndim} dimensions ({sizes}), but a map has two"
         example = long[0] if long else "band"
         raise BadMap(name, f"{problem}: select one, for example .isel({example}=0)")
     return array.isel({dim: 0 for dim in others}).transpose(*dims)
@@ -342,7 +342,9 @@ def _transform_of(name: str, array: Any) -> Transform | None:
     north, height = _spacing(name, array[y], None if stated is None else (stated[5], stated[4]))
     west, width = _spacing(name, array[x], None if stated is None else (stated[2], stated[0]))
     if width < 0:
-        raise BadMap(name, f"its columns go from east to west: sort them, as .sortby({x!r})")
+        raise BadMap(
+            name, f"its columns run from east to west: sort them, for example with .sortby({x!r})"
+        )
     return (width, 0.0, west, 0.0, height, north)
 
 
@@ -361,9 +363,9 @@ def _spacing(name: str, coordinate: Any, stated: tuple[float, float] | None) -> 
     try:
         centres = np.asarray(coordinate.values, dtype=np.float64)
     except (TypeError, ValueError):
-        raise BadMap(name, f"its coordinate {coordinate.name} is not of numbers") from None
+        raise BadMap(name, f"its coordinate {coordinate.name} is not numeric") from None
     if not np.isfinite(centres).all():
-        raise BadMap(name, f"its coordinate {coordinate.name} has a number that is not finite")
+        raise BadMap(name, f"its coordinate {coordinate.name} contains a value that is not finite")
     count = centres.size
     if stated is not None:
         edge, step = stated

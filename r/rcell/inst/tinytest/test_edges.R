@@ -75,11 +75,11 @@ both <- function(a, b, ...) rcell_table("r.stats -c input=a,b", a = a, b = b, ..
 other <- refusal(both(plain, gauss))
 expect_identical(class(other)[1:3], c("rcell_other_crs", "rcell_bad_map", "rcell_refused"))
 expect_identical(other[c("source", "status")], list(source = "b", status = 1L))
-expect_identical(other$text, paste("its coordinate reference system is EPSG:31467 (DHDN / 3-degree Gauss-Kruger zone 3), and that of `a` is",
+expect_identical(other$text, paste("its coordinate reference system is EPSG:31467 (DHDN / 3-degree Gauss-Kruger zone 3), but `a` has",
   "EPSG:25832 (ETRS89 / UTM zone 32N): reproject one of them first, for example with terra::project or gdalwarp -t_srs EPSG:25832"))
 expect_inherits(refusal(rcell_cross(a = plain, b = gauss)), "rcell_other_crs")
 expect_inherits(refusal(both(plain, write_vrt("far.vrt", crs = "EPSG:31467", transform = "0, 1, 0, 2, 0, -1"))), "rcell_other_crs")
-lacking <- paste("it has no coordinate reference system, and `%s` has EPSG:25832 (ETRS89 / UTM zone 32N):",
+lacking <- paste("it has no coordinate reference system, but `%s` has EPSG:25832 (ETRS89 / UTM zone 32N):",
   "state it with crs=\"EPSG:25832\"")
 expect_identical(refusal(both(plain, bare))[c("source", "text")], list(source = "b", text = sprintf(lacking, "a")))
 expect_identical(refusal(both(bare, plain))[c("source", "text")], list(source = "a", text = sprintf(lacking, "b")))

@@ -23,7 +23,7 @@ expect_identical(labels_by(written("a.csv", "value,label\n1,\"say \"\"x\"\"\nand
 expect_identical(fault(written("a.csv", "value,label\n1,\"two\nlines\"\nx,y\n")), "line 4: x is not a whole number from -2147483647 to 2147483647")
 expect_identical(fault(written("a.csv", "value,label\n1,a\n99999999999,b\n")), "line 3: 99999999999 is not a whole number from -2147483647 to 2147483647")
 expect_identical(fault(written("a.csv", "value,label\n1,a\n\n1.0,b\n")), "line 4: value 1.0 occurs twice")
-expect_identical(fault(written("a.csv", "value,label\n1,a, b\n")), "line 2: 3 fields under a header of 2: put a label with a comma in quotes")
+expect_identical(fault(written("a.csv", "value,label\n1,a, b\n")), "line 2: 3 fields, but the header has 2: put a label with a comma in quotes")
 expect_identical(fault(written("a.csv", "value,label,color\n1,a,red\n")), "line 2: red is not a colour such as #00ff7f")
 expect_identical(fault(written("a.csv", "value;label\n1;a\n")), "line 1: no header with value and label, separated by commas or tabs: value;label")
 expect_identical(fault(written("a.csv", "value,label\n")), "has no values below its header")
@@ -31,7 +31,7 @@ expect_identical(fault(written("a.csv", "value,label\n1,\"a\n")), "line 2: a quo
 expect_identical(fault(written("a.csv", " \n")), "is empty")
 path <- written("a.csv", "value,label\n1,a\n")
 writeBin(c(charToRaw("value,label\n1,a"), as.raw(0), charToRaw("b\n")), path)
-expect_identical(fault(path), "line 2: a null byte, so this is not text: save it as UTF-8")
+expect_identical(fault(path), "line 2: a null byte, so this is not text: save the file as UTF-8")
 writeBin(c(charToRaw("value,label\n1,a"), as.raw(0xe4), charToRaw("b\n")), path)
 expect_true(startsWith(fault(path), "line 2: not in UTF-8: save the file as UTF-8"))
 
@@ -45,7 +45,7 @@ expect_identical(fault(style(sprintf(entry, "1", "&#0;"))), "line 3: &#0; is not
 expect_identical(fault(style("<paletteEntry value=\"1\">")), "line 3: found </colorPalette>, expected the end of <paletteEntry>")
 expect_identical(fault(style()), "the style has no classes")
 expect_identical(fault(written("a.qml", "<!DOCTYPE q [<!ENTITY a \"b\">]><q/>")), "line 1: not XML, or XML with custom entities, which are not supported")
-expect_identical(fault(written("a.qml", "<?xml version=\"1.0\" encoding=\"ISO-8859-1\"?><q/>")), "line 1: its encoding is ISO-8859-1: save it as UTF-8")
+expect_identical(fault(written("a.qml", "<?xml version=\"1.0\" encoding=\"ISO-8859-1\"?><q/>")), "line 1: its encoding is ISO-8859-1: save the file as UTF-8")
 items <- "<colorrampshader><item value=\"1\" label=\"a\"/><item value=\"inf\" label=\"b\"/></colorrampshader>"
 expect_identical(fault(style(items)), "line 3: inf is not a whole number from -2147483647 to 2147483647")
 expect_identical(labels_by(style(sub("inf", "2", items))), c("a", "b", NA))

@@ -50,7 +50,7 @@ expect_identical(fault(map, 0), "min_cells= must be a whole number, at least 1; 
 expect_identical(fault(map, min_ha = "a"), "min_ha= must be a number above 0; got \"a\"")
 expect_true(startsWith(fault(matrix(1:4, 2), min_ha = 1), "min_ha= needs a coordinate reference system"))
 degrees <- rast(matrix(1:4, 2), extent = ext(0, 2, 0, 2), crs = "EPSG:4326")
-expect_true(startsWith(fault(degrees, min_ha = 1), "min_ha= must be for a map in metres or feet"))
+expect_true(startsWith(fault(degrees, min_ha = 1), "min_ha= requires a map in metres or feet"))
 
 # Buffers are measured between cell centres, also of oblong cells and over long distances.
 for (cell in list(c(30, 30), c(20, 50))) {
@@ -74,7 +74,7 @@ fault <- function(...) refusal(rcell_within(...))$text
 expect_identical(fault(far, 7, 2560), "distances= must be at most 255 cells; got 2560 m, which is 256.0 cells")
 expect_identical(fault(far, 7, c(50, 20)), "distances= must be ascending numbers above 0, for example c(100, 500); got 50, 20")
 expect_identical(fault(far, NULL, 20), "classes= must be whole numbers; got none")
-expect_identical(fault(degrees, 1, 20), "distances= must be for a map in metres or feet, and this one is in degrees")
+expect_identical(fault(degrees, 1, 20), "distances= requires a map in metres or feet, but this map is in degrees")
 expect_true(startsWith(fault(matrix(1:4, 2), 1, 20), "distances= needs a coordinate reference system"))
 
 # Blocks contain the most frequent class, the number of cells with data, and the shares of classes.

@@ -26,7 +26,7 @@ expect_inherits(refusal_by(room), "rcell_missing")
 expect_inherits(refusal_by("/bin/true"), "rcell_wrong_program")
 before <- options(rcell.program = "/nowhere/rcell")
 lines <- strsplit(conditionMessage(refusal(rcell_run("", lc = lc))), "\n")[[1]]
-expect_identical(lines[[1]], "the program /nowhere/rcell is not there, or may not be executed")
+expect_identical(lines[[1]], "the program /nowhere/rcell does not exist or is not executable")
 expect_true(startsWith(lines[[2]], "  try: "))
 options(before)
 old <- Sys.getenv("RCELL_PIPE", NA)

@@ -80,7 +80,7 @@ expect_false(file.exists(file("t.csv")))
 expect_true(startsWith(refusal(rcell_verify(file("maps/none.csv")))$text, "cannot open"))
 writeLines("class,cells", file("bad.csv"))
 fault_of_bad <- function() refusal(rcell_verify(file("bad.csv")))$text
-expect_true(grepl("bad.csv has no record, which is .*bad.csv.json: write it with rcell_record", fault_of_bad()))
+expect_true(grepl("bad.csv has no record \\(.*bad.csv.json\\): write it with rcell_record", fault_of_bad()))
 writeLines("{\"versions\": {\"python\": \"3.11\"}}", file("bad.csv.json"))
 expect_true(grepl("bad.csv was not recorded in R: verify it in Python or QGIS, or with rcell-gis verify", fault_of_bad()))
 writeLines("{\"rcell_record\": 1, \"call\": system(\"true\")}", file("bad.csv.json"))

@@ -72,7 +72,7 @@ expect_identical(fault(NULL, data.frame(map = 1, reference = 1, cells = -2)), "r
 expect_identical(fault(NULL, data.frame(x = 1)), "a data frame must have the columns map and reference; got x")
 expect_identical(fault(land, points, field = "name"), "the class of feature 1 is a, which is not a whole number")
 expect_identical(fault(land, points, field = "x"), "no field x: the fields are class, name")
-expect_identical(fault(land, land, field = "x"), "field= is for points, and reference= is not")
+expect_identical(fault(land, land, field = "x"), "field= requires points, but reference= has no points")
 points$reference <- 1
 expect_identical(fault(land, points), "has the fields class and reference: name one, for example field = \"reference\"")
 
@@ -100,7 +100,7 @@ draws <- vapply(1:60, function(seed) rcell:::drawn(sprintf("%d:1", seed), 6, 2),
 expect_true(all(table(draws) > 8))
 fault <- function(...) refusal(rcell_sample(...))$text
 expect_true(startsWith(fault(noise, 0, 1), "n= must be a whole number up to 1000000, or one for each class"))
-expect_identical(fault(noise, c("9" = 1), 1), "n= must be for classes that occur; got 9")
+expect_identical(fault(noise, c("9" = 1), 1), "n= must name classes that occur in the map; got 9")
 expect_identical(fault(noise, 5, 1.5), "seed= must be a whole number or a text; got 1.5")
 expect_identical(fault(noise, 5, 1, "half"), "allocation= must be one of equal, proportional; got \"half\"")
 

@@ -8,7 +8,7 @@ plain <- matrix(c(1, 1, 2, 2), 2)
 expect_identical(names(rcell_composition(plain)), c("class", "cells", "percent"))
 expect_identical(names(rcell_composition(plain, crs = "EPSG:25832")), c("class", "cells", "area_ha", "percent"))
 expect_identical(refusal(rcell_composition(plain, area = "ha"))$text,
-  "area= needs a coordinate reference system, and map has none: state it, for example crs = \"EPSG:25832\", or use area = NULL")
+  "area= needs a coordinate reference system, but map has none: state it, for example crs = \"EPSG:25832\", or use area = NULL")
 expect_identical(refusal(rcell_table("r.stats -c input=x", x = plain, area = "ha"))$status, 2L)
 expect_identical(names(rcell_patches(plain))[4:5], c("perimeter_m", "core_cells"))
 expect_identical(rcell_patches(plain)$perimeter_m, c(NA_real_, NA_real_))

@@ -73,7 +73,7 @@ expect_identical(suppressWarnings(rcell_zonal(land, stack, each = TRUE))$cells, 
 found <- suppressWarnings(rcell_dominant(land, stack, zone_field = "name", each = TRUE))
 expect_identical(found$zone_label, c("a", "b", "c"))
 expect_identical(found$cells, c(16L, 16L, 24L))
-expect_identical(refusal(rcell_composition(land, zones = land, each = TRUE))$text, "each= is for polygons, and zones= is a raster")
+expect_identical(refusal(rcell_composition(land, zones = land, each = TRUE))$text, "each= requires polygons, but zones= is a raster")
 
 # Decimals are accepted only with an explicit scale.
 slope <- setValues(land, c(0.125, 0.5, 1.25, NA, rep(2.5, 28)))
@@ -92,7 +92,7 @@ counted <- polygons(c(box(0, 4), box(4, 8)), number = c(0L, 5L))
 known <- stored(counted, "known.gpkg")
 expect_silent(found <- rcell_composition(land, zones = vect(known), zone_field = "number"))
 expect_identical(found$zone, c(0L, 5L))
-expect_warning(rcell_composition(land, zones = counted, zone_field = "number"), "the field number of feature 1 is 0, and terra reads a missing number")
+expect_warning(rcell_composition(land, zones = counted, zone_field = "number"), "the field number of feature 1 is 0, but terra reads missing numbers")
 counted$number <- as.numeric(counted$number)
 expect_silent(rcell_composition(land, zones = counted, zone_field = "number"))
 counted$number <- c(NA, 5L)
@@ -108,7 +108,7 @@ expect_identical(refusal(rcell_composition(land, zones = file("none.gpkg")))$tex
   sprintf("cannot open: %s: No such file or directory", file("none.gpkg")))
 writeLines("north", file("text.md"))
 expect_true(grepl("neither polygons nor a raster", refusal(rcell_composition(land, zones = file("text.md")))$text))
-expect_identical(refusal(rcell_composition(land, zones = land, zone_field = "x"))$text, "zone_field= names a field of polygons, and zones= is a raster")
+expect_identical(refusal(rcell_composition(land, zones = land, zone_field = "x"))$text, "zone_field= requires polygons, but zones= is a raster")
 expect_identical(refusal(rcell_composition(land, zone_field = "x"))$text, "zone_field=, layer= and each= require zones=")
 
 # The output file cannot be a file that the call reads: a raster, its sidecars, the sources of a VRT, a crosswalk.
