@@ -738,7 +738,7 @@ def test_of_files_that_overlap_the_later_has_the_cells(raster: Write) -> None:
         (
             {"transform": (30, 0, 500, 0, -20, 900)},
             rcell.OtherRegion,
-            "differ: cells of 30 x 20, and those",
+            "differ: cells of 30 x 20, but `",
         ),
         (
             {"transform": (10, 0, 503, 0, -20, 900)},
