@@ -142,7 +142,7 @@ def test_one_class_has_no_kappa() -> None:
     ("row", "told"),
     [
         ((1, 1.5, 2), "row 1: 1.5 is not a class"),
-        ((1, 1, -2), "row 1: -2 cells are fewer than none"),
+        ((1, 1, -2), "row 1: the number of cells must not be negative; got -2"),
     ],
 )
 def test_a_row_that_is_wrong_is_named(row: Any, told: str) -> None:

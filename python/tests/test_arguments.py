@@ -84,7 +84,7 @@ def test_each_argument_is_named_with_its_value(call: Call, told: str) -> None:
         (xarray.Variable(("y", "x"), LAND), "map: .*Variable"),
         (np.array([["a"]]), "map: not a map of whole numbers: its cells are of the type <U1"),
         (3, "map: neither a path nor an array nor a raster, but a int"),
-        ([[1, 2], [3]], "map: not an array of rows of one length"),
+        ([[1, 2], [3]], "map: not an array with rows of equal length"),
     ],
 )
 def test_what_is_not_a_map_is_named(given: Any, told: str) -> None:

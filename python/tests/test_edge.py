@@ -312,7 +312,7 @@ def test_a_transform_that_is_not_finite_is_refused(raster: Write, bad: float) ->
 def test_what_is_no_map_is_refused(tmp_path: pathlib.Path, raster: Write) -> None:
     with pytest.raises(rcell.BadMap, match="nodata must be a number; got '3'"):
         rcell.Raster([[1]], nodata="3")  # type: ignore[arg-type]
-    assert "rows of one length" in str(refusal([[1, 2], [3]]))
+    assert "rows of equal length" in str(refusal([[1, 2], [3]]))
     with pytest.raises(rcell.BadMap, match="an Affine or six numbers"):
         rcell.Raster([[1]], (1, 2, 3))
     with pytest.raises(
@@ -400,7 +400,7 @@ def test_maps_of_two_reference_systems_are_refused(raster: Write) -> None:
     shifted = raster(LAND[:2], "c.tif", crs=GAUSS)
     with pytest.raises(rcell.OtherCrs):  # before regions are compared
         crossed(maps[0], shifted)
-    with pytest.raises(rcell.OtherCrs, match="and crs= is EPSG:31467"):
+    with pytest.raises(rcell.OtherCrs, match="but crs= is EPSG:31467"):
         crossed(maps[0], maps[0], crs=GAUSS)
     assert crossed(maps[0], maps[0]) == crossed(
         maps[0], rcell.Raster(LAND, TRANSFORM, rasterio.crs.CRS.from_epsg(25832))

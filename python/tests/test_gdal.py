@@ -159,7 +159,7 @@ def test_places_and_bands_that_are_rejected(made: Made) -> None:
     assert "not finite" in refusal(lambda: made(place=(nan, 1, 0, 0, 0, -1)))
     assert refusal(lambda: made(place=(0, 1, 0.5, 0, 0.5, -1))).startswith("a rotated transform")
     assert "west to east" in refusal(lambda: made(place=(10, -1, 0, 100, 0, -1)))
-    assert "more than ten digits" in refusal(lambda: made(place=(1e11, 1, 0, 1, 0, -1)))
+    assert "must have at most ten digits" in refusal(lambda: made(place=(1e11, 1, 0, 1, 0, -1)))
     assert refusal(lambda: made(bands=2)) == "has 2 bands: choose one, for example band=1"
     assert refusal(lambda: made(bands=2, band=3)) == "has 2 bands, and no band 3"
     assert made(bands=2, band=2).band == 2

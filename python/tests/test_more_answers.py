@@ -53,7 +53,7 @@ def test_a_class_without_a_rule_is_an_error_that_names_it() -> None:
 @pytest.mark.parametrize(
     ("rules", "told"),
     [
-        ({(1, 5): 1, 3: 2}, "rules must have one rule for each class; got two for 3"),
+        ({(1, 5): 1, 3: 2}, "rules must have at most one rule for each class; got two for 3"),
         ({1.5: 1}, "1.5 is not a class"),
         ({1: "wood"}, "'wood' is not a class"),
         ({(5, 1): 1}, "5-1 is not a range"),

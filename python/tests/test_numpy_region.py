@@ -36,9 +36,9 @@ class RegionsOfTheProgram(unittest.TestCase):
 
     def test_what_is_refused(self) -> None:
         for words, told in (
-            ((1e10, 0, 1, 0, 1, 1), "more than ten digits: north is 1e+10"),
-            ((float("nan"), 0, 1, 0, 1, 1), "more than ten digits"),
-            ((float("inf"), 0, 1, 0, 1, 1), "more than ten digits"),
+            ((1e10, 0, 1, 0, 1, 1), "north must have at most ten digits; got 1e+10"),
+            ((float("nan"), 0, 1, 0, 1, 1), "must have at most ten digits"),
+            ((float("inf"), 0, 1, 0, 1, 1), "must have at most ten digits"),
             ((1e-9, 0, 1, 0, 1, 1), "north is not above south once they are rounded"),
             ((1, 0, 0, 1, 1, 1), "east is not above west"),
             ((1, 0, 1, 0, 0, 1), "0 rows"),

@@ -163,7 +163,7 @@ sample_of_table <- function(reference) {
   }
   below <- which(numbers$cells < 0)
   if (length(below)) {
-    text <- "%s%.0f cells are fewer than none"
+    text <- "%sthe number of cells must not be negative; got %.0f"
     refuse(sprintf(text, places[[below[[1]]]], numbers$cells[[below[[1]]]]), "reference")
   }
   list(

@@ -103,7 +103,7 @@ def _checked(rules: Iterable[Rule]) -> Sequence[Rule]:
     for rule, following in zip(listed, listed[1:]):
         if following.low <= rule.high:
             raise BadArgument(
-                "rules", f"must have one rule for each class; got two for {following.low}"
+                "rules", f"must have at most one rule for each class; got two for {following.low}"
             )
     return listed
 

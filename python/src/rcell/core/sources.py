@@ -542,9 +542,9 @@ def array_map(
     try:
         array, null = unmasked(cells)
     except ValueError as error:
-        raise BadMap(name, f"not an array of rows of one length: {error}") from None
+        raise BadMap(name, f"not an array with rows of equal length: {error}") from None
     if array.dtype.kind == "O" and isinstance(cells, (list, tuple)):
-        raise BadMap(name, "not an array of rows of one length")
+        raise BadMap(name, "not an array with rows of equal length")
     check_array(name, array)
     array, null, region, transform = _placed(name, array, null, place)
     known = checked_labels(name, labels or {})

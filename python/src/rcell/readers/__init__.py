@@ -72,7 +72,7 @@ def open_features(name: str, source: Any, layer: Optional[str] = None) -> Option
             return None
         if named and layer and named != layer:
             raise BadArgument(
-                "layer", f"must be the layer of the path; got {layer!r} and {named!r}"
+                "layer", f"must match the layer named in the path; got {layer!r} and {named!r}"
             )
         if not path.startswith("/vsi") and not os.path.exists(path):
             raise ReadFailed(name, f"cannot open: {path}: No such file or directory")

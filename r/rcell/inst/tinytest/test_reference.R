@@ -68,7 +68,7 @@ expect_identical(fault(NULL, sample, "map"), "areas= must be areas by class if t
 expect_identical(fault(NULL, before), "x= must be given, unless reference= is a table; got NULL")
 expect_identical(fault(before, matrix(NA_real_, 1, 6)), "the sample is empty: no cell has a class in the map and in the reference")
 expect_identical(fault(NULL, data.frame(map = 1.5, reference = 1)), "row 1: 1.5 is not a class or a number of cells")
-expect_identical(fault(NULL, data.frame(map = 1, reference = 1, cells = -2)), "row 1: -2 cells are fewer than none")
+expect_identical(fault(NULL, data.frame(map = 1, reference = 1, cells = -2)), "row 1: the number of cells must not be negative; got -2")
 expect_identical(fault(NULL, data.frame(x = 1)), "a data frame must have the columns map and reference; got x")
 expect_identical(fault(land, points, field = "name"), "the class of feature 1 is a, which is not a whole number")
 expect_identical(fault(land, points, field = "x"), "no field x: the fields are class, name")
