@@ -1,5 +1,5 @@
 # SPDX-License-Identifier: Apache-2.0 OR GPL-2.0-or-later
-"""Estimate the accuracy of a map, and correct the areas of its classes, from a reference sample."""
+"""Estimate a map's accuracy, and correct its class areas, using a reference sample."""
 
 from __future__ import annotations
 
@@ -36,7 +36,7 @@ Floats = NDArray[np.float64]
 
 
 class Accuracy(NamedTuple):
-    """The agreement of a map with a reference; the result of `accuracy`.
+    """The result of `accuracy`: how well a map agrees with a reference.
 
     Parameters
     ----------
@@ -44,15 +44,15 @@ class Accuracy(NamedTuple):
         The number of sample cells, with a row for each class of the map and a column for each class
         of the reference.
     classes : pandas.DataFrame
-        The accuracies and the area of each class, with standard errors.
+        Each class's accuracies and area, with standard errors.
     overall, overall_se : float
-        The share of the area that is mapped correctly, and its standard error.
+        The share of the area that is mapped correctly, and the standard error of this share.
     kappa : float
-        Cohen's kappa of the estimated shares; NaN if there is one class.
+        Cohen's kappa, computed from the estimated shares, or NaN if there is only one class.
     quantity, allocation : float
-        Quantity disagreement and allocation disagreement. With `overall` they add up to 1.
+        Quantity disagreement and allocation disagreement. The sum of both and `overall` is 1.
     cells : int
-        The size of the sample.
+        The number of cells in the sample.
 
     Examples
     --------
@@ -83,41 +83,44 @@ def accuracy(
     labels: Any = None,
     crs: Any = None,
 ) -> Accuracy:
-    """Compare a map with a reference, and estimate the accuracy and area of each class.
+    """Compare a map with a reference, and estimate each class's accuracy and area.
 
     Parameters
     ----------
     map : path, array, or any map that `run` accepts, or None
-        None if the reference is a table.
+        The map to assess. It may be None if the reference is a table.
     reference : map, points or table
-        A map, whose null cells are not in the sample; points, as a path, a GeoDataFrame or GeoJSON;
-        or a table, as a CSV or a DataFrame, with the columns `map`, `reference` and optionally
-        `cells`.
+        The reference sample: a map, whose null cells are ignored; points, given as a path, a
+        GeoDataFrame or GeoJSON; or a table, given as a CSV file or a DataFrame with the columns
+        `map`, `reference` and optionally `cells`.
     areas : "map", dict, Series, DataFrame or path, optional
-        The areas of the map's classes, for a sample that was drawn class by class: "map" computes
-        them from the map; otherwise areas by class, as a dict, a CSV or a DataFrame with the
-        columns `value` and `area`. Without areas, the sample is treated as a simple random sample,
-        with a warning if points do not look like one.
+        The areas of the map's classes, required if the sample was drawn class by class. "map"
+        computes the areas from the map. Otherwise, provide each class's area in a dict, a Series,
+        or a CSV file or DataFrame with the columns `value` and `area`. Without areas, the sample is
+        treated as a simple random sample, and a warning is issued if the points do not look like a
+        random sample.
     area : {"ha", "km2", "m2"} or None
-        The unit of areas, as in `composition`; hectares if `areas` contains areas by class.
+        The unit of areas, as in `composition`. The default is hectares if `areas` lists areas by
+        class.
     field : str, optional
-        The field with the class of each point; by default `class`, or `reference`.
+        The field that contains each point's class. By default, `class` or `reference`.
     layer : str, optional
-        The layer, if the file of points has several layers.
+        The layer to read, if the file of points has several layers.
     labels : path, dict, Series or DataFrame, optional
         A legend, as in `composition`.
     crs : any, optional
-        The reference system to assume for maps that have none.
+        The coordinate reference system to assume for maps that do not have one.
 
     Returns
     -------
     Accuracy
-        A named tuple: `matrix`, `classes`, `overall`, `overall_se`, `kappa`, `quantity`,
-        `allocation`, `cells`. The columns of `classes` are `class`, `label`, `cells_map`,
-        `cells_reference`, `users`, `users_se`, `producers`, `producers_se`, and with areas
-        `mapped_ha`, `area_ha`, `area_se_ha`. Accuracies are shares from 0 to 1, computed with
-        equations 1 to 11 of Olofsson et al. 2014. Undefined values are NaN. Without areas, standard
-        errors are correct for a random sample, but meaningless for a complete reference.
+        A named tuple with the fields `matrix`, `classes`, `overall`, `overall_se`, `kappa`,
+        `quantity`, `allocation` and `cells`. The columns of `classes` are `class`, `label`,
+        `cells_map`, `cells_reference`, `users`, `users_se`, `producers`, `producers_se` and, if
+        areas are computed, `mapped_ha`, `area_ha` and `area_se_ha`. Accuracies are shares from 0 to
+        1, computed with equations 1 to 11 of Olofsson et al. 2014. Undefined values are NaN.
+        Without areas, the standard errors are correct for a random sample, but meaningless if the
+        reference covers the full map.
 
     Raises
     ------
@@ -125,7 +128,7 @@ def accuracy(
         The sample is empty, a class with an area has no sample cells, or the class of a point is
         not a whole number.
     BadArgument
-        A class of the sample has no area.
+        `areas` does not contain the area of a class in the sample.
 
     Examples
     --------
@@ -163,7 +166,7 @@ def accuracy(
 
 
 def summary_of(result: Accuracy) -> Table:
-    """Return the overall figures of an accuracy assessment as a table with one row."""
+    """Return overall accuracy, kappa, both disagreements and the sample size as a one-row table."""
     names = result._fields[2:]
     parts = ((name, np.array([value])) for name, value in zip(names, result[2:]))
     return Table(
@@ -178,16 +181,16 @@ def _matrix_of(classes: Integers, counts: Integers, legend: Mapping[int, str]) -
 
 
 class _Estimate:
-    """Area shares by map class (rows) and reference class (columns), from a stratified sample.
+    """Estimated area shares by map class (rows) and reference class (columns).
 
-    The strata are the map's classes. Equations are numbered as in Olofsson et al. 2014, Remote
-    Sensing of Environment 148. The variance is NaN for a stratum with one cell, and not needed for
-    a stratum without area.
+    The sample is stratified by the map's classes. Equations are numbered as in Olofsson et al.
+    2014, Remote Sensing of Environment 148. The variance is NaN for a stratum with one cell, and is
+    not needed for a stratum without area.
 
     Parameters
     ----------
     counts : array of int64
-        The cells of the sample.
+        The number of sample cells for each map class (row) and reference class (column).
     weights : array of float64
         Each class's share of the map's area.
     """
@@ -203,7 +206,7 @@ class _Estimate:
         self.shares_se = np.sqrt(self._squares.sum(axis=0))  # equation 10
 
     def columns(self) -> list[Column]:
-        """Return the number of cells and the accuracies of each class, with standard errors."""
+        """Return columns with each class's cell counts, accuracies and standard errors."""
         has_rows, own = self._rows > 0, np.diag(self._squares)
         producers = _ratio(np.diag(self._joint), self.shares)  # equation 3
         # Equation 7, with shares in place of numbers of cells.
@@ -222,7 +225,7 @@ class _Estimate:
         ]
 
     def summary(self) -> tuple[float, float, float, float, float]:
-        """Return overall accuracy, kappa, and quantity and allocation disagreement."""
+        """Return overall accuracy and its standard error, kappa, and both disagreements."""
         overall = float(np.trace(self._joint))  # equation 1
         overall_se = math.sqrt(np.trace(self._squares))  # equation 5
         marginal = self._joint.sum(axis=1)
@@ -238,7 +241,7 @@ class _Estimate:
 
 
 def _ratio(above: Any, below: Any) -> Floats:
-    """Return the quotient, or NaN if the divisor is not positive."""
+    """Divide two arrays, returning NaN wherever the divisor is not positive."""
     return np.asarray(above / np.where(np.asarray(below) > 0, below, np.nan))
 
 
@@ -268,9 +271,10 @@ def _pairs_of(
     crs: Any,
     is_random: bool,
 ) -> tuple[Integers, Optional[Maps]]:
-    """Return the counts of class pairs in map and reference, and the maps if the map is given.
+    """Count the sample cells of each pair of map class and reference class.
 
-    Warns if points are treated as a random sample but do not look like one.
+    Returns the counts and the maps. The maps are None if the reference is a table and no map is
+    given. Warns if points are treated as a random sample but do not look like one.
     """
     points = open_features("reference", reference, layer)
     if points is None:
@@ -296,9 +300,9 @@ def _pairs_of(
 
 
 def _warn_of_strata(pairs: Integers, counts: Integers) -> None:
-    """Warn if a sample's class shares are implausible for a random sample, with a chi-squared test.
+    """Warn if a chi-squared test finds a sample's class shares implausible for a random sample.
 
-    The rarest classes are pooled, and the limit uses the Wilson-Hilferty approximation.
+    The rarest classes are pooled. The limit uses the Wilson-Hilferty approximation.
     """
     drawn = np.zeros(len(counts))
     np.add.at(drawn, np.searchsorted(counts[:, 0], pairs[:, 0]), pairs[:, 2])
@@ -321,7 +325,7 @@ def _warn_of_strata(pairs: Integers, counts: Integers) -> None:
 
 
 def _pairs_of_table(reference: Any) -> Optional[Integers]:
-    """Return the counts of class pairs in a CSV or a DataFrame, or None for any other reference.
+    """Return the counts of class pairs in a CSV file or a DataFrame, or None for other references.
 
     Rows without a map class or a reference class are left out.
     """
@@ -353,7 +357,7 @@ def _pairs_of_table(reference: Any) -> Optional[Integers]:
 def _sizes_of(
     areas: Any, area: Any, maps: Optional[Maps], crs: Any
 ) -> tuple[Optional[dict[int, float]], Optional[str]]:
-    """Return the areas of the map's classes (or None) and the unit of areas in the result."""
+    """Return the area of each map class, or None, and the unit of areas in the result."""
     if areas is None:
         return None, None
     if isinstance(areas, str) and areas == "map":
@@ -370,7 +374,7 @@ def _sizes_of(
 
 
 def _sizes_given(areas: Any) -> Any:
-    """Yield the classes and areas in a dict, a Series, a CSV or a DataFrame."""
+    """Yield (class, area) pairs from a dict, a Series, a CSV file or a DataFrame."""
     if isinstance(areas, (str, os.PathLike)) or hasattr(areas, "columns"):
         rows = rows_of("areas", areas, ("value", "area"))
         listed = [(f"{place}: ", row["value"], row["area"]) for place, row in rows]

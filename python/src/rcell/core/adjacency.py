@@ -1,5 +1,5 @@
 # SPDX-License-Identifier: Apache-2.0 OR GPL-2.0-or-later
-"""Count the cell sides that classes share, and measure the length of their borders."""
+"""Count the cell sides that classes share, and measure the borders between the classes."""
 
 from __future__ import annotations
 
@@ -30,20 +30,21 @@ def adjacency(map: MapLike, *, labels: Any = None, crs: Any = None) -> Table:
     labels : path, dict, Series or DataFrame, optional
         A legend, as in `composition`.
     crs : any, optional
-        The reference system to assume for a map that has none.
+        The coordinate reference system to assume for a map that does not have one.
 
     Returns
     -------
     pandas.DataFrame
-        Columns `class`, `label`, `neighbour`, `neighbour_label`, `sides`, `border_m`. Each pair is
-        listed once, with the smaller class first; the pair of a class with itself counts the sides
-        between its own cells. Sides next to null and along the map's edge are left out. `border_m`
-        is NaN without a reference system and, with a warning, in degrees.
+        The columns are `class`, `label`, `neighbour`, `neighbour_label`, `sides` and `border_m`.
+        Each pair of classes is listed once, with the smaller class first. A pair of equal classes
+        counts the sides between cells of that class. Sides next to null cells and along the map's
+        edge are left out. `border_m` is NaN if the map has no reference system or, with a warning,
+        if its coordinates are in degrees.
 
     Raises
     ------
     Refused
-        See `run`; also raised for invalid legends.
+        A legend is invalid, or for a reason listed in `run`.
 
     Examples
     --------
@@ -69,9 +70,9 @@ def adjacency(map: MapLike, *, labels: Any = None, crs: Any = None) -> Table:
 def sides_of(
     right: NDArray[np.int64], below: NDArray[np.int64]
 ) -> tuple[NDArray[np.int64], NDArray[np.int64], NDArray[np.int64]]:
-    """Return each class pair once, and its shared sides in both directions.
+    """Return each pair of classes once, with its numbers of shared sides.
 
-    The last two columns count sides from west to east, and from north to south.
+    The two arrays of numbers count the sides from west to east, and the sides from north to south.
     """
     pairs = np.sort(np.concatenate([right[:, :2], below[:, :2]]), axis=1)
     kinds, pair_of = np.unique(pairs, axis=0, return_inverse=True)

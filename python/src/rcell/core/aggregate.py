@@ -1,5 +1,5 @@
 # SPDX-License-Identifier: Apache-2.0 OR GPL-2.0-or-later
-"""Make coarser maps from blocks of cells: the most frequent class, and the share of each class."""
+"""Aggregate blocks of cells to coarser maps of the most frequent class and the class shares."""
 
 from __future__ import annotations
 
@@ -26,7 +26,7 @@ Integers = NDArray[np.int64]
 
 
 class Aggregate(NamedTuple):
-    """Maps of blocks of cells; the result of `aggregate`.
+    """The result of `aggregate`: maps with one cell per block.
 
     Parameters
     ----------
@@ -35,7 +35,7 @@ class Aggregate(NamedTuple):
     shares : Shares
         The percentage of each class in each block.
     cells : Raster
-        The number of cells of each block that are not null.
+        The number of non-null cells in each block.
 
     Examples
     --------
@@ -54,19 +54,21 @@ class Aggregate(NamedTuple):
 
 @dataclass(frozen=True)
 class BlockShares:
-    """The percentage of each class in each block. Blocks are numbered row by row from 0.
+    """The percentage of each class in each block.
+
+    Blocks are numbered row by row from 0.
 
     Attributes
     ----------
     blocks : ArrayMap
-        The most frequent class of each block; null for a null block.
+        The most frequent class of each block, or null if the block is null.
     classes : list of int
-        Ascending.
+        The classes in ascending order.
     entries : array of int64
-        A row for each class of each block: the block, the index of the class, and the number of
+        A row for each class in each block: the block, the index of the class, and the number of
         cells.
     cells : array of int64
-        For each block.
+        The number of non-null cells in each block.
     """
 
     blocks: ArrayMap
@@ -76,16 +78,16 @@ class BlockShares:
 
     @property
     def names(self) -> list[str]:
-        """The label of each class, or its number.
+        """The label of each class, or its number if it has no label.
 
-        The number is appended to a label of two classes.
+        If two classes have the same label, their numbers are appended.
         """
         [names] = distinct_names([(np.array(self.classes, np.int64), self.blocks.labels)])
         return names
 
     @cached_property
     def percent(self) -> NDArray[np.float64]:
-        """The percentages, classes x rows x columns; NaN for a null block."""
+        """The percentages as an array of classes x rows x columns, with NaN for null blocks."""
         block, index, count = self.entries.T
         percent = np.zeros((len(self.classes), self.cells.size))
         percent[index, block] = count * 100.0 / self.cells[block]
@@ -94,26 +96,26 @@ class BlockShares:
 
 
 def aggregate(map: MapLike, factor: int, min_percent: float = 0, *, crs: Any = None) -> Aggregate:
-    """Make a coarser map from blocks of `factor` by `factor` cells, starting in the north-west.
+    """Aggregate blocks of `factor` by `factor` cells, starting at the north-west corner.
 
     Parameters
     ----------
     map : path, array, or any map that `run` accepts
     factor : int
-        The number of rows and of columns of a block. Blocks at the southern and eastern edges may
+        The number of rows and columns in a block. Blocks at the southern and eastern edges may
         extend beyond the map.
     min_percent : float
-        The smallest percentage of a block's cells that must be inside the map and not null;
-        otherwise the block is null. A block with only null cells is always null.
+        The minimum percentage of a block's cells that must be inside the map and not null.
+        Otherwise, the block is null. A block with only null cells is always null.
     crs : any, optional
-        The reference system to assume for a map that has none.
+        The coordinate reference system to assume for a map that does not have one.
 
     Returns
     -------
     Aggregate
-        A named tuple. `majority` contains the most frequent class of each block (in a tie, the
-        smallest), `shares` each class's percentage of the block's cells that are not null, and
-        `cells` the number of cells that are not null.
+        A named tuple. `majority` contains the most frequent class of each block, or the smallest of
+        these classes in a tie. `shares` contains each class's percentage of the block's non-null
+        cells, and `cells` the number of non-null cells.
 
     Raises
     ------
@@ -170,9 +172,10 @@ def aggregate(map: MapLike, factor: int, min_percent: float = 0, *, crs: Any = N
 
 
 def _counted(entries: Integers, classes: Integers, blocks: int) -> tuple[Integers, Integers]:
-    """Return each block's most frequent class (null if it has no cells) and cell count.
+    """Return the most frequent class and the number of cells of each block.
 
-    The classes are indices, and the entries are sorted by block.
+    The class is null for a block without cells. The entries contain indices of classes and must be
+    sorted by block.
     """
     block, index, count = entries.T
     first = places_of(block)

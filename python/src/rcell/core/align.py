@@ -1,5 +1,5 @@
 # SPDX-License-Identifier: Apache-2.0 OR GPL-2.0-or-later
-"""Align maps with the grid of another map on request, and count the cells used and lost."""
+"""Align maps with another map's grid on request, and count the cells used and lost."""
 
 from __future__ import annotations
 
@@ -36,16 +36,16 @@ _SIDE = 1024
 
 
 class Aligned(NamedTuple):
-    """The effect of `rcell.align` on a map.
+    """How `rcell.align` moved a map, and how many cells it used, repeated and lost.
 
     Parameters
     ----------
     shift_rows, shift_columns : float or None
-        The map's row and column, from 0, at which the new grid begins; None if the reference
-        systems differ.
+        The map's row and column, counted from 0, at which the new grid begins. None if the
+        reference systems differ.
     cells_used, cells_repeated, cells_lost : int
-        The number of the map's non-null cells that are in the result, are in it more than once, and
-        are not in it.
+        The numbers of the map's non-null cells that the result contains, contains more than once,
+        and does not contain.
 
     Examples
     --------
@@ -65,24 +65,24 @@ class Aligned(NamedTuple):
 def align(
     map: MapLike, to: MapLike, resample: Optional[str] = None, *, crs: Any = None
 ) -> tuple[ArrayMap, Aligned]:
-    """Align a map with the grid of another map, by whole cells or with the nearest cells.
+    """Align a map with another map's grid, by whole cells or with the nearest cells.
 
     Parameters
     ----------
     map, to : path, array, or any map that `run` accepts
-        The map to align, and the map with the grid.
+        The map to align, and the map whose grid is used.
     resample : {"nearest"}, optional
-        Each new cell gets the value of the cell that contains its centre; on a border, of the
-        southern or eastern cell. By default, only whole rows and columns are removed, or added as
-        null.
+        "nearest" gives each new cell the value of the old cell that contains the new cell's centre.
+        A centre on a border belongs to the southern or eastern cell. By default, only whole rows
+        and columns are removed, or added as null cells.
     crs : any, optional
-        The reference system to assume for maps that have none.
+        The coordinate reference system to assume for maps that do not have one.
 
     Returns
     -------
     Raster
-        The map on the new grid. Its attribute `aligned` is an `Aligned`, which counts the cells
-        that were used, repeated and lost.
+        The map on the new grid. Its attribute `aligned` contains an `Aligned` object, which counts
+        the cells that were used, repeated and lost.
 
     Raises
     ------
@@ -136,13 +136,15 @@ def align(
 
 
 class _Target:
-    """The map on the new grid, all null at first; kept in a file if it is too large for memory.
+    """The map on the new grid, in which all cells are null at first.
+
+    The cells are kept in a file if they do not fit in memory.
 
     Parameters
     ----------
     source : Source
     shape : tuple of two ints
-        The rows and columns of the grid.
+        The numbers of rows and columns in the new grid.
     """
 
     def __init__(self, source: Source, shape: tuple[int, int]) -> None:
@@ -155,7 +157,7 @@ class _Target:
             self.null[...] = True
 
     def put(self, part: Any, cells: Cells, null: Mask, where: Any = True) -> None:
-        """Write cells into a part of the grid, or only where a mask of the part is true."""
+        """Write cells to a part of the grid, or only to the cells that a mask selects."""
         if self.null is not None:
             _copy(self.null[part], null, where)
         elif null.any():
@@ -164,7 +166,7 @@ class _Target:
 
 
 def _copy(target: NDArray[Any], values: NDArray[Any], where: Any) -> None:
-    """Write values into an array, or only where a mask is true."""
+    """Write values to an array, or only where a mask is true."""
     if where is True:
         target[...] = values
     else:
@@ -172,15 +174,15 @@ def _copy(target: NDArray[Any], values: NDArray[Any], where: Any) -> None:
 
 
 def _null_of(source: Source, block: Block) -> Mask:
-    """Return which cells of a block are null."""
+    """Return a mask of the null cells in a block."""
     return null_cells(block.cells, block.null, source.nodata)
 
 
 class _Axis(NamedTuple):
     """The rows (or columns) of a map that a grid uses.
 
-    `taken` lists their indices in ascending order, `first` is the first row of the grid inside the
-    map, and `often` counts how often the grid uses each row of the map.
+    `taken` lists the map's rows in ascending order, `first` is the grid's first row inside the map,
+    and `often` counts how often the grid uses each row of the map.
     """
 
     taken: NDArray[np.int64]
@@ -189,7 +191,7 @@ class _Axis(NamedTuple):
 
     @classmethod
     def of(cls, centres: NDArray[np.float64], size: int) -> _Axis:
-        """Return the rows that a grid uses.
+        """Return the rows (or columns) of a map that a grid uses.
 
         `centres` contains the centres of the grid's rows, in units of the map's cells.
         """
@@ -201,13 +203,16 @@ class _Axis(NamedTuple):
         return cls(taken, first, often)
 
     def part(self, begin: int, end: int) -> tuple[slice, Any]:
-        """Return the grid rows that use map rows in a range, and the row that each uses."""
+        """Return the grid rows that use map rows in a range, and the map row that each uses."""
         low, high = (int(place) for place in np.searchsorted(self.taken, (begin, end)))
         return slice(self.first + low, self.first + high), _run(self.taken[low:high] - begin)
 
 
 def _shifted(source: Source, like: Source, target: _Target, resample: Optional[str]) -> Aligned:
-    """Put a map on another map's grid, shifted by whole rows and columns or with nearest cells."""
+    """Copy a map to another map's grid with the same reference system.
+
+    The grid is shifted by whole rows and columns, unless the nearest cells are requested.
+    """
     shift = Shift.between(source.transform, like.transform, like.region.shape)
     if resample is None and not shift.is_whole:
         cure = f"{option('resample', 'nearest')} takes the nearest cell"
@@ -229,7 +234,7 @@ def _shifted(source: Source, like: Source, target: _Target, resample: Optional[s
 
 
 def _run(places: NDArray[np.int64]) -> Any:
-    """Return consecutive indices as a slice, for speed; other indices unchanged."""
+    """Return consecutive indices as a slice, for speed, and other indices unchanged."""
     if not places.size:
         return slice(0, 0)
     if places[-1] - places[0] + 1 != places.size:
@@ -238,7 +243,7 @@ def _run(places: NDArray[np.int64]) -> Any:
 
 
 def _projected(source: Source, like: Source, target: _Target) -> Aligned:
-    """Put a map on a grid with another reference system, with the nearest cells."""
+    """Resample a map to a grid in another reference system, using the nearest cells."""
     system, source_system = known(like.crs), known(source.crs)
     assert system is not None and source_system is not None
     width, _, west, _, height, north = source.transform
@@ -269,14 +274,14 @@ def _projected(source: Source, like: Source, target: _Target) -> Aligned:
 
 
 class _Window(NamedTuple):
-    """The smallest window that contains given cells, and the index of each cell in it."""
+    """The smallest window that contains the given cells, and each cell's index in the window."""
 
     place: Rectangle
     flat: NDArray[np.int64]
 
     @classmethod
     def of(cls, down: NDArray[np.float64], across: NDArray[np.float64]) -> _Window:
-        """Return the window of the cells in these rows and columns."""
+        """Return the smallest window that contains the cells in these rows and columns."""
         top, left = int(down.min()), int(across.min())
         rows, cols = int(down.max()) + 1 - top, int(across.max()) + 1 - left
         down_in_window = down.astype(np.int64) - top
@@ -284,14 +289,14 @@ class _Window(NamedTuple):
         return cls(Rectangle(top, left, rows, cols), down_in_window * cols + across_in_window)
 
     def note(self, often: NDArray[np.uint8], null: Mask) -> None:
-        """Count how often each cell that is not null is used, up to 2."""
+        """Count how often each non-null cell has been used, up to 2."""
         part = often[self.place.slices]
         times = np.bincount(self.flat[~null], minlength=self.place.cells)
         part[...] = np.minimum(times.reshape(part.shape) + part, 2)
 
 
 def _held(source: Source) -> ArrayMap:
-    """Read a map that cannot be read in windows, such as a text grid, into memory."""
+    """Read a map into memory if it cannot be read in windows, for example a text grid."""
     blocks = list(source.blocks())
     cells = np.concatenate([block.cells for block in blocks])
     nulls = [block.null for block in blocks if block.null is not None]

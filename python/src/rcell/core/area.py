@@ -1,5 +1,5 @@
 # SPDX-License-Identifier: Apache-2.0 OR GPL-2.0-or-later
-"""Compute cell areas: one for all cells of a projected map, one per row of a map in degrees."""
+"""Compute cell areas: one for a projected map, or one for each row of a map in degrees."""
 
 from __future__ import annotations
 
@@ -27,15 +27,15 @@ _MOST_BEYOND = 0.5 + 1e-6
 def row_areas(
     north: float, height: float, width: float, rows: int, ellipsoid: tuple[float, float]
 ) -> NDArray[np.float64]:
-    """Return the area of a cell of each row in square metres, on the ellipsoid.
+    """Return the area of a cell in each row, in square metres on the ellipsoid.
 
     Parameters
     ----------
     north, height, width : float
-        The northern edge, and the size of a cell, in radians.
+        The grid's northern edge and a cell's height and width, in radians.
     rows : int
     ellipsoid : tuple of float
-        The semi-major axis in metres, and the flattening.
+        The semi-major axis in metres and the flattening.
 
     Examples
     --------
@@ -69,21 +69,22 @@ def row_areas(
 
 @dataclass(frozen=True)
 class Measure:
-    """The sizes of the cells of a map.
+    """The cell sizes of a map, and the unit of areas.
 
     Attributes
     ----------
     unit : str or None
-        The unit of areas; None for no areas.
+        The unit of areas, or None if no areas are wanted.
     divisor : float
-        The number of square metres in the unit.
+        The number of square metres in a unit of area.
     cell : float
-        The area of a cell of a projected map in square metres.
+        The area of a cell in square metres, if the map is projected.
     by_row : array of float64 or None
-        The area in square metres of a cell of each row, if the map is in degrees and areas are
+        The area of a cell in each row, in square metres, if the map is in degrees and areas are
         wanted.
     metres : float or None
-        The length of the map's unit in metres; NaN in degrees, None if it is unknown.
+        The length of the map's unit in metres, NaN if the unit is degrees, or None if it is
+        unknown.
     """
 
     unit: str | None
@@ -93,7 +94,10 @@ class Measure:
     metres: float | None
 
     def length(self) -> float:
-        """Return the unit in metres, or NaN if it is unknown and, with a warning, in degrees."""
+        """Return the length of the map's unit in metres, or NaN if it is unknown or in degrees.
+
+        Warns if the map is in degrees.
+        """
         if self.metres is None:
             return math.nan
         if math.isnan(self.metres):
@@ -102,21 +106,25 @@ class Measure:
 
     @property
     def column(self) -> str:
-        """The suffix of column names in this unit."""
+        """The suffix for the names of size columns: the unit of areas, or `cells` without areas."""
         return self.unit or "cells"
 
     def area(self, weights: NDArray[Any]) -> NDArray[np.float64]:
-        """Convert numbers of cells (projected maps) or square metres (in degrees) to areas."""
+        """Convert sizes to areas in the unit.
+
+        Sizes are numbers of cells if the map is projected, and square metres if it is in degrees.
+        """
         return weights * self.cell / self.divisor
 
 
 def measure_of(area: Any, source: Source, crs: Any) -> Measure:
-    """Return the sizes of the cells of a map.
+    """Return the cell sizes of a map and the unit of areas.
 
     Parameters
     ----------
     area : {"auto", "ha", "km2", "m2"} or None
-        The unit; "auto" means hectares if there is a reference system, otherwise no areas.
+        The unit of areas. "auto" means hectares if the map has a reference system, and no areas
+        otherwise.
     source : Source
     crs : any
 
@@ -138,12 +146,12 @@ def measure_of(area: Any, source: Source, crs: Any) -> Measure:
 
 
 def flat_measure(area: str, transform: Transform, crs: Any) -> Measure:
-    """Return the sizes of the cells of a map whose cells all have the same area.
+    """Return the cell sizes of a map whose cells all have the same area.
 
     Raises
     ------
     BadArgument
-        The map is in degrees; also raised as in `measure_of`.
+        The map is in degrees, or for a reason listed in `measure_of`.
     """
     unit = unit_of(area, crs)
     metres = _metres(crs, True)
@@ -174,7 +182,7 @@ def _cell(transform: Transform, metres: float) -> float:
 
 
 def unit_of(area: Any, crs: Any) -> str | None:
-    """Return the requested unit of areas, or None for no areas.
+    """Return the requested unit of areas, or None if no areas are wanted.
 
     Examples
     --------
@@ -193,7 +201,7 @@ def unit_of(area: Any, crs: Any) -> str | None:
 
 
 def _metres(crs: Any, is_needed: bool) -> float | None:
-    """Return the unit's length in metres; NaN in degrees, None if it is unknown and not needed."""
+    """Return the length of a map's unit in metres, NaN for degrees, or None if it is unknown."""
     system = known(crs) if is_needed or crs is None else _understood(crs)
     if system is None:
         return None
@@ -203,7 +211,7 @@ def _metres(crs: Any, is_needed: bool) -> float | None:
 
 
 def _understood(crs: Any) -> Crs | None:
-    """Return a reference system that is optional here, or None if no library can read it."""
+    """Return an optional reference system, or None if no library can read it."""
     try:
         return known(crs)
     except MissingLibrary:
@@ -211,7 +219,7 @@ def _understood(crs: Any) -> Crs | None:
 
 
 def _by_row(source: Source, crs: Any) -> NDArray[np.float64]:
-    """Return the area of a cell of each row, on the ellipsoid of a reference system."""
+    """Return the area of a cell in each row, on the reference system's ellipsoid."""
     system = known(crs)
     assert system is not None
     width, _, _, _, height, north = source.transform

@@ -1,5 +1,5 @@
 # SPDX-License-Identifier: Apache-2.0 OR GPL-2.0-or-later
-"""Check arguments that several calls have in common."""
+"""Check arguments that several calls accept."""
 
 from __future__ import annotations
 
@@ -35,7 +35,7 @@ def check_connectivity(connectivity: Any) -> None:
 
 
 def whole_number_of(name: str, value: Any, least: int, most: Optional[int] = None) -> int:
-    """Return an argument as an int, or raise BadArgument unless it is in a range.
+    """Return an argument as an int, or raise BadArgument if it is not a whole number in a range.
 
     Examples
     --------
@@ -52,7 +52,7 @@ def whole_number_of(name: str, value: Any, least: int, most: Optional[int] = Non
 
 
 def classes_of(classes: Any) -> Optional[List[int]]:
-    """Return the classes to which a call is limited, or None for all classes.
+    """Return a list of the classes to which a call is limited, or None for all classes.
 
     Examples
     --------
@@ -78,7 +78,7 @@ def classes_of(classes: Any) -> Optional[List[int]]:
 
 
 def first_of(values: Iterable[Any], most: int = _SHOWN) -> str:
-    """Return a text with the first values and the number of further ones.
+    """Join the first few values to a string that ends with the number of omitted values.
 
     Examples
     --------
@@ -91,7 +91,7 @@ def first_of(values: Iterable[Any], most: int = _SHOWN) -> str:
 
 
 def known_names(noun: str, names: Iterable[str]) -> str:
-    """Return the part of a message about an unknown name that lists the known names.
+    """Return the end of a message about an unknown name: the list of known names.
 
     Examples
     --------
@@ -107,7 +107,7 @@ def known_names(noun: str, names: Iterable[str]) -> str:
 
 
 def check_arguments(call: Callable[..., Any], named: Iterable[str]) -> None:
-    """Raise BadArgument if a name is not an argument of a call.
+    """Raise BadArgument if any of the names is not a parameter of a call.
 
     Examples
     --------
@@ -132,14 +132,14 @@ def check_script(script: Any) -> None:
 
 
 def check_named_maps(maps: Any, named: Mapping[str, Any], words: Iterable[str]) -> None:
-    """Raise BadArgument if maps are not given by name, or a name is a misspelt parameter.
+    """Raise BadArgument if a map is not given by name, or a name is a misspelt parameter.
 
     Parameters
     ----------
     maps : any
         The positional argument: a mapping of maps, a Dataset, or None.
     named : mapping of str to any
-        The keyword arguments that the call treats as maps.
+        The keyword arguments that the call uses as maps.
     words : iterable of str
         The parameters of the call.
     """
@@ -160,7 +160,10 @@ def check_named_maps(maps: Any, named: Mapping[str, Any], words: Iterable[str]) 
 
 
 def _may_be_map(value: Any) -> bool:
-    """Return whether a value may be a map: a text with a dot, a path, or not a plain value."""
+    """Return whether a value may be a map.
+
+    A path, a string with a dot, and any value that is not a plain value may be a map.
+    """
     if isinstance(value, str):
         return "." in value or os.sep in value or os.path.exists(value)
     return not (value is None or isinstance(value, (bool, int, float)))

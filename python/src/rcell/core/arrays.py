@@ -1,5 +1,5 @@
 # SPDX-License-Identifier: Apache-2.0 OR GPL-2.0-or-later
-"""Define array types for annotations, without importing numpy.typing at run time."""
+"""Define array types for annotations without importing numpy.typing at run time."""
 
 from __future__ import annotations
 

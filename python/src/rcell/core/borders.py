@@ -1,5 +1,5 @@
 # SPDX-License-Identifier: Apache-2.0 OR GPL-2.0-or-later
-"""Warn about undeclared nodata: a usual nodata value along most of a map's border."""
+"""Warn if a usual nodata value fills most of a map's border but is not declared."""
 
 from __future__ import annotations
 
@@ -20,7 +20,7 @@ _USUAL = (255, -9999, -32768)
 
 
 class Watch:
-    """Counts usual nodata values along the border of a map.
+    """A counter of usual nodata values along the border of a map.
 
     Blocks or windows may be added in any order.
 
@@ -30,7 +30,7 @@ class Watch:
     source : Source
         The map, or a part of it.
     shape : tuple of two ints
-        The rows and columns of the map.
+        The numbers of rows and columns in the map.
     """
 
     def __init__(self, name: str, source: Any, shape: tuple[int, int]) -> None:
@@ -44,7 +44,7 @@ class Watch:
         self._lock = threading.Lock()
 
     def add(self, block: Block, row: int, col: int) -> None:
-        """Count the cells of a block that begins at a row and a column."""
+        """Count the cells of a block that begins at the given row and column."""
         if self._values:
             cells, null = _border(block, row, col, self._shape)
             counts = [
@@ -53,12 +53,12 @@ class Watch:
             self.merge(np.array(counts, np.int64))
 
     def merge(self, counts: NDArray[np.int64]) -> None:
-        """Add the counts of other windows of the map."""
+        """Add the counts from other windows of the map."""
         with self._lock:
             self.counts += counts
 
     def finish(self) -> None:
-        """Warn if a common nodata value fills more than half of the border."""
+        """Warn if a usual nodata value fills more than half of the border."""
         rows, cols = self._shape
         border = rows * cols - max(rows - 2, 0) * max(cols - 2, 0)
         for value, count in zip(self._values, self.counts.tolist()):
@@ -72,7 +72,7 @@ class Watch:
 
 
 def watched(name: str, source: Source) -> Iterator[Block]:
-    """Yield a map's blocks, then warn if a nodata value fills over half of its border."""
+    """Yield a map's blocks, then warn if a usual nodata value fills over half of its border."""
     watch, row = Watch(name, source, source.region.shape), 0
     for block in source.blocks():
         watch.add(block, row, 0)
@@ -82,7 +82,10 @@ def watched(name: str, source: Source) -> Iterator[Block]:
 
 
 def _may_be_undeclared(source: Any, value: int) -> bool:
-    """Return whether a value may be an undeclared nodata value; 255 may be only in bytes."""
+    """Return whether a value may be an undeclared nodata value of a map.
+
+    The value 255 is considered only in maps of bytes.
+    """
     if source.nodata == value:
         return False
     limits = np.iinfo(source.dtype)
@@ -92,9 +95,9 @@ def _may_be_undeclared(source: Any, value: int) -> bool:
 def _border(
     block: Block, row: int, col: int, shape: tuple[int, int]
 ) -> tuple[NDArray[Any], NDArray[np.bool_]]:
-    """Return a block's cells on the border of the map, and which of them are null.
+    """Return the cells of a block that are on the map's border, and a mask of the null cells.
 
-    The block begins at a row and a column of the map.
+    The block begins at the given row and column of the map.
     """
     (rows, cols), (high, wide) = shape, block.cells.shape
     is_last = row + high == rows and rows > 1

@@ -1,5 +1,5 @@
 # SPDX-License-Identifier: Apache-2.0 OR GPL-2.0-or-later
-"""Find the calls that return tables by the names that records contain."""
+"""Find the calls that return tables by the names that are used in records."""
 
 from __future__ import annotations
 
@@ -29,12 +29,12 @@ CALLS = {call.__name__: call for call in _CALLS}
 
 
 def call_named(name: str) -> Callable[..., Any]:
-    """Return the call with this name.
+    """Return the call with the given name.
 
     Raises
     ------
     Refused
-        The name is unknown.
+        There is no call with this name.
     """
     if name not in CALLS:
         raise Refused(f"there is no call {name}", "record")

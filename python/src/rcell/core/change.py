@@ -1,5 +1,5 @@
 # SPDX-License-Identifier: Apache-2.0 OR GPL-2.0-or-later
-"""Count changes between maps of two or more years."""
+"""Count the changes between maps of two or more years."""
 
 from __future__ import annotations
 
@@ -26,21 +26,22 @@ Labels = Mapping[int, str]
 
 
 class Change(NamedTuple):
-    """The changes from class to class; the result of `change`.
+    """The result of `change`: how much of each class changed to each other class.
 
     Parameters
     ----------
     table : pandas.DataFrame
-        A row for each change that occurs: `from`, `from_label`, `to`, `to_label`, `cells`,
-        `area_ha`, and `percent`, the change's share of the area that is null in neither year.
+        A row for each change that occurs, with the columns `from`, `from_label`, `to`, `to_label`,
+        `cells`, `area_ha` and `percent`: the change's percentage of the area that is null in
+        neither year.
     matrix : pandas.DataFrame
-        The areas (or without areas, the cells), with a row for each class before and a column for
-        each class after. If several classes have the same label, their names include their numbers,
-        for example `wood (31)`.
+        The areas, or the numbers of cells if areas are not computed, with a row for each class
+        before and a column for each class after. If several classes have the same label, their
+        numbers are appended, for example `wood (31)`.
     summary : pandas.DataFrame
-        A row for each class: its area before and after, gain, loss, net change, swap and
-        persistence. Swap is twice the smaller of gain and loss: the area that a class lost in one
-        place and gained in another.
+        A row for each class, with the area before, the area after, gain, loss, net change, swap and
+        persistence. Swap is twice the smaller of gain and loss, because a class lost this area in
+        one place and gained it in another.
 
     Examples
     --------
@@ -67,27 +68,28 @@ def change(
     labels: Any = None,
     crs: Any = None,
 ) -> Change:
-    """Compare maps of two or more years class by class, where neither map is null.
+    """Compare maps of two or more years class by class, in the cells that are null in neither.
 
     Parameters
     ----------
     before, after : path, array, or any map that `run` accepts
-        Two maps. Alternatively, `before` is a list of maps in the order of their years, or a
-        DataArray with the dimension `time`; each map is then compared with the next one.
+        The maps of the two years. Alternatively, `before` is a list of maps in the order of their
+        years, or a DataArray with the dimension `time`. Each map is then compared with the next
+        map.
     years : iterable of int, optional
-        The year of each map; required for a list of more than two maps.
+        The year of each map. It is required for a list of more than two maps.
     area : {"ha", "km2", "m2"} or None
         The unit of areas, as in `composition`.
     labels : path, dict, Series or DataFrame, optional
-        The legend of all maps, which replaces their own labels, as in `composition`. By default,
+        A legend for all maps, as in `composition`, which replaces the maps' own labels. By default,
         maps without labels get the labels of the first map with labels.
     crs : any, optional
-        The reference system to assume for maps that have none.
+        The coordinate reference system to assume for maps that do not have one.
 
     Returns
     -------
     Change
-        A named tuple of DataFrames: `table`, `matrix` and `summary`.
+        A named tuple of the DataFrames `table`, `matrix` and `summary`.
 
     Raises
     ------
@@ -119,7 +121,7 @@ def change(
 
 
 def _maps_of(before: Any, after: Any, years: Any) -> tuple[dict[str, Any], Any]:
-    """Return the maps of a call by name, and the years."""
+    """Return the maps of a call by name, and their years."""
     if after is not None:
         return {"before": before, "after": after}, years
     maps, years = maps_in_time(before, years)
@@ -141,7 +143,7 @@ def maps_in_time(maps: Any, years: Any) -> tuple[list[Any], Any]:
 
 
 def checked_years(years: Any, maps: int) -> Optional[list[int]]:
-    """Return the years as a list, or raise BadArgument unless there is one per map."""
+    """Return the years as a list, or raise BadArgument unless each map has one year."""
     if years is None and maps == 2:
         return None
     if isinstance(years, str) or not (years is None or isinstance(years, Iterable)):
@@ -160,7 +162,7 @@ def checked_years(years: Any, maps: int) -> Optional[list[int]]:
 
 
 def _classes_of(pairs: Sequence[Counts], index: int) -> NDArray[np.int64]:
-    """Return the classes that occur in one map of a series, from the counts of pairs of years."""
+    """Return the classes in one map of a series, given the counts of each pair of years."""
     parts = []
     if index < len(pairs):
         parts.append(pairs[index].classes[:, 0])  # the map is the earlier of this pair
@@ -171,7 +173,7 @@ def _classes_of(pairs: Sequence[Counts], index: int) -> NDArray[np.int64]:
 
 @dataclass(frozen=True)
 class _Changes:
-    """The counts of each pair of years, and the labels of each year."""
+    """The cell counts of all changes between consecutive years, and the labels of each year."""
 
     pairs: Sequence[Counts]
     years: Optional[list[int]]
@@ -234,7 +236,10 @@ class _Changes:
         return Table(columns)
 
     def _years_of(self, rows: list[int]) -> list[Column]:
-        """Return the columns of years; `rows` contains each pair's number of rows."""
+        """Return the two columns that contain the years before and after each change.
+
+        `rows` contains the number of rows for each pair of years.
+        """
         if self.years is None:
             return []
         years = np.array(self.years, np.int64)
@@ -248,7 +253,7 @@ class _Changes:
         classes: Sequence[NDArray[np.int64]],
         labels: Sequence[Labels],
     ) -> list[Column]:
-        """Return the class column of all pairs and, if there are labels, the label column."""
+        """Return the class column for all years and, if there are labels, the label column."""
         columns = [Column(name, "class", np.concatenate(classes))]
         if any(self.labels):
             pairs = zip(classes, labels)
@@ -260,7 +265,10 @@ class _Changes:
 def _matrix_of(
     pair: Counts, measured: NDArray[Any], after: NDArray[np.int64]
 ) -> tuple[NDArray[np.int64], NDArray[Any]]:
-    """Return the classes before, and the values by class before (rows) and after (columns)."""
+    """Return the classes before, and a matrix of the values.
+
+    The matrix has a row for each class before and a column for each class after.
+    """
     before, down = np.unique(pair.classes[:, 0], return_inverse=True)
     values = np.zeros((before.size, after.size), measured.dtype)
     values[down, np.searchsorted(after, pair.classes[:, 1])] = measured
@@ -268,7 +276,7 @@ def _matrix_of(
 
 
 def _summary_of(pair: Counts, measured: NDArray[Any]) -> tuple[NDArray[np.int64], NDArray[Any]]:
-    """Return the classes of two years, and the seven measures of a summary for each class."""
+    """Return the classes of two years, and each class's seven measures for the summary."""
     classes, indices = np.unique(pair.classes, return_inverse=True)
     before, after = indices.reshape(-1, 2).T
     persists = before == after

@@ -1,5 +1,5 @@
 # SPDX-License-Identifier: Apache-2.0 OR GPL-2.0-or-later
-"""Process tiles on the workers of a Dask cluster: the given client's or the current client's."""
+"""Process tiles on the workers of a Dask cluster, using the given or the current client."""
 
 from __future__ import annotations
 
@@ -36,7 +36,7 @@ PATIENCE_SECONDS = 30.0
 
 
 def client_of(workers: Any) -> Any:
-    """Return the client that is given as `workers`, or None if it is not a client."""
+    """Return the argument `workers` if it is a Dask client, or None otherwise."""
     if not (hasattr(workers, "scheduler_info") and hasattr(workers, "get_executor")):
         return None
     if getattr(workers, "asynchronous", False):
@@ -45,9 +45,9 @@ def client_of(workers: Any) -> Any:
 
 
 def current_client() -> Any:
-    """Return the client that Dask would use now, or None.
+    """Return the client that Dask would currently use, or None if there is no client.
 
-    Inside a task on a worker the result is None, so that the task does not wait for other workers.
+    Also returns None inside a task on a worker, so that the task does not wait for other workers.
     """
     distributed, dask = sys.modules.get("distributed"), sys.modules.get("dask")
     if distributed is None or dask is None or _is_in_task():
@@ -62,13 +62,13 @@ def current_client() -> Any:
 
 
 def _is_in_task() -> bool:
-    """Return whether this thread runs a task of a cluster's worker."""
+    """Return whether this thread is running a task on a cluster's worker."""
     worker = sys.modules.get("distributed.worker")
     return hasattr(getattr(worker, "thread_state", None), "execution_state")
 
 
 class Cluster:
-    """The workers of a client.
+    """The workers that a Dask client can use.
 
     Parameters
     ----------
@@ -88,12 +88,12 @@ class Cluster:
 
     @property
     def threads(self) -> int:
-        """The number of tiles that the workers can process at a time, at least 1."""
+        """The number of tiles that the workers can process at the same time, at least 1."""
         return max(sum(int(worker["nthreads"]) for worker in self._workers), 1)
 
     @property
     def memory(self) -> int:
-        """The smallest memory per thread of any worker, in bytes."""
+        """The smallest memory per thread among the workers, in bytes."""
         limits = [
             (worker["memory_limit"] or _UNKNOWN * worker["nthreads"]) // worker["nthreads"]
             for worker in self._workers
@@ -101,7 +101,7 @@ class Cluster:
         return min(limits, default=_UNKNOWN)
 
     def submit(self, work: TileWork) -> Future[TileDone]:
-        """Submit a tile and return its future.
+        """Submit a tile to the cluster and return the tile's future.
 
         If a worker is lost, another worker processes the tile.
         """
@@ -116,17 +116,17 @@ class Cluster:
         return future
 
     def warn_if_empty(self) -> None:
-        """Warn if the cluster has no workers yet."""
+        """Warn if the cluster does not have any workers yet."""
         if not self._workers:
             warn(f"the cluster of {self._client.scheduler.address} has no workers: waiting for one")
 
     def cancel(self) -> None:
-        """Cancel tiles that no worker has begun."""
+        """Cancel the tiles that no worker has begun."""
         self._executor.shutdown(wait=False)
 
 
 def result_of(future: Future[Made]) -> Made:
-    """Return a tile's result, or raise the cluster's error as an error of this package."""
+    """Return a tile's result, or convert the cluster's error to an error of this package."""
     try:
         return future.result()
     except CancelledError:
@@ -143,7 +143,10 @@ def result_of(future: Future[Made]) -> Made:
 
 
 def sent_parts(work: TileWork) -> tuple[TileWork, dict[str, State], str, dict[str, Any]]:
-    """Return the arguments of `run_on_worker`; the last one holds Dask arrays to compute."""
+    """Return the four arguments that `run_on_worker` needs to process a tile.
+
+    The last argument contains Dask arrays that must be computed first.
+    """
     maps, arrays = {}, {}
     for name, source in work.maps.items():
         maps[name] = sendable(source, work.outer)
@@ -164,24 +167,24 @@ def run_on_worker(
     version: str,
     cells: Optional[Mapping[str, Any]] = None,
 ) -> TileDone:
-    """Process a tile in a worker process.
+    """Process a tile in a worker process, and return the tile's results.
 
     Parameters
     ----------
     work : TileWork
     states : mapping of str to states
-        The files to read, with their states on the machine of the call.
+        The files to read, and the state of each file on the machine of the call.
     version : str
         The version of this package on the machine of the call.
     cells : mapping of str to array
-        The cells of maps that Dask holds.
+        The computed cells of each map that is a Dask array.
 
     Raises
     ------
     WrongProgram
         The worker has a different version of this package.
     ReadFailed
-        A file on the worker's machine differs.
+        A file on the worker's machine differs from the file on the machine of the call.
     """
     if version != _version():
         problem = (
@@ -212,7 +215,7 @@ def _version() -> str:
 
 
 def _where() -> str:
-    """Return the address of this worker, for messages, or an empty text outside a worker."""
+    """Return this worker's address for messages, or an empty string outside a worker."""
     if not _is_in_task():
         return ""
     return f" on the worker {sys.modules['distributed'].get_worker().address}"

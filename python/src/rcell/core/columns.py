@@ -1,5 +1,5 @@
 # SPDX-License-Identifier: Apache-2.0 OR GPL-2.0-or-later
-"""Define the core's tables, which packages convert to DataFrames, layers and texts."""
+"""Define the core's tables, which packages convert to DataFrames, layers and text files."""
 
 from __future__ import annotations
 
@@ -19,14 +19,14 @@ Value = Union[int, float, str, None]
 
 @dataclass(frozen=True)
 class Column:
-    """A column of a table.
+    """A column of a table, with a name, a kind and values.
 
     Attributes
     ----------
     name : str
     kind : {"class", "label", "count", "measure"}
-        A class is an integer, with -2147483648 for null; a label is a text, or None if it is
-        missing; a count is an integer; a measure is a float, or NaN if it is missing.
+        A class is an integer, with -2147483648 for null. A label is a string, or None if the label
+        is missing. A count is an integer. A measure is a float, or NaN if the measure is missing.
     values : array, or list of str or None
     """
 
@@ -47,9 +47,9 @@ class Column:
 
 
 class Table:
-    """Columns of equal length.
+    """A table of columns that have the same length and unique names.
 
-    A repeated name gets the first number that makes it unique.
+    If a name is repeated, the first number that makes the name unique is appended.
 
     Parameters
     ----------
@@ -75,7 +75,7 @@ class Table:
 
     @property
     def rows(self) -> list[tuple[Value, ...]]:
-        """The rows, with None for missing values."""
+        """The rows as tuples, with None for missing values."""
         return list(zip(*(column.listed() for column in self.data)))
 
     def __len__(self) -> int:
@@ -83,14 +83,14 @@ class Table:
 
 
 class Matrix(Table):
-    """A table whose last columns are the classes of a map.
+    """A table that has a column for each class of a map, after the columns that identify a row.
 
     Parameters
     ----------
     keys : list of Column
         The columns that identify a row.
     across : str
-        The variable whose classes are the other columns.
+        The name of the variable whose classes are the other columns.
     titles : list of str
     values : array, a row for each row of the keys, a column for each title
     is_numbered : bool
@@ -143,7 +143,7 @@ class Matrix(Table):
 
 
 def _codes(classes: NDArray[np.int64]) -> tuple[NDArray[np.int64], NDArray[np.intp]]:
-    """Return the distinct classes, null last, and each entry's index among them."""
+    """Return the distinct classes, with null last, and the index of each entry's class."""
     last = np.iinfo(np.int64).max
     codes, indices = np.unique(np.where(classes == NULL, last, classes), return_inverse=True)
     return np.where(codes == last, NULL, codes), indices
@@ -152,16 +152,16 @@ def _codes(classes: NDArray[np.int64]) -> tuple[NDArray[np.int64], NDArray[np.in
 def distinct_names(
     axes: Sequence[tuple[NDArray[np.int64], Mapping[int, str]]], taken: Sequence[str] = ()
 ) -> list[list[str]]:
-    """Return a unique name for each class on each axis: its label or its number.
+    """Return a unique name for each class on each axis: its label, or its number without a label.
 
-    The number is appended to a label of two classes.
+    If two classes have the same label, their numbers are appended.
 
     Parameters
     ----------
     axes : sequence of (array, mapping)
-        Classes and their labels.
+        The classes on each axis, and the labels of the classes.
     taken : sequence of str
-        The names of other columns.
+        The names that other columns already have.
 
     Examples
     --------
@@ -191,7 +191,7 @@ def _number(code: int) -> str:
 
 
 def unique_names(names: Iterable[str]) -> list[str]:
-    """Return the names, with the first number that makes it unique appended to a repeated name.
+    """Return the names, appending to each repeated name the first number that makes it unique.
 
     Examples
     --------

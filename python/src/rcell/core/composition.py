@@ -1,5 +1,5 @@
 # SPDX-License-Identifier: Apache-2.0 OR GPL-2.0-or-later
-"""Count the classes of a map, by zone or in combination with other maps."""
+"""Count the cells of a map's classes, by zone or in combination with other maps."""
 
 from __future__ import annotations
 
@@ -29,45 +29,46 @@ def composition(
     include_null: bool = False,
     crs: Any = None,
 ) -> Table:
-    """Count the cells of each class of a map, with areas and percentages, in total or by zone.
+    """Count each class's cells, with areas and percentages, for the full map or by zone.
 
     Parameters
     ----------
     map : path, array, or any map that `run` accepts
     zones : map, or path of polygons, GeoDataFrame or GeoSeries, optional
-        A cell belongs to the polygon that contains its centre. A feature without geometry, or
-        without a value, has no zone.
+        A cell belongs to the polygon that contains the cell's centre. Features without a geometry
+        or without a value are ignored.
     area : {"ha", "km2", "m2"} or None
-        The unit of areas; None leaves them out. By default, areas are in hectares if the map has a
-        reference system with a known unit, and left out if it has none. In degrees, areas are on
-        the ellipsoid of the reference system.
+        The unit of areas; None leaves areas out. By default, areas are in hectares if the map has a
+        reference system with a known unit, and are left out otherwise. If the map is in degrees,
+        areas are computed on the reference system's ellipsoid.
     labels, zone_labels : path, dict, Series or DataFrame, optional
-        A legend that replaces the labels of the map, or of the zones: a CSV or TSV with `value` and
-        `label`, a QML, or labels by value.
+        A legend that replaces the map's or the zones' labels: a CSV or TSV file with the columns
+        `value` and `label`, a QGIS style (`.qml`), or the label of each value.
     zone_field : str, optional
-        The field of the polygons with the ids or names of the zones; by default the zone is the
-        feature's own id (the index of a GeoDataFrame).
+        The polygon field that contains the ids or names of the zones. By default, a zone is
+        identified by the id of its feature, which is the index of a GeoDataFrame.
     layer : str, optional
-        The layer, if the file of polygons has several layers.
+        The layer to read, if the polygon file has several layers.
     each : bool
-        Whether to process overlapping polygons one after another. By default, the later polygon
-        gets the cells, with a warning.
+        Whether to process overlapping polygons separately, so that each polygon counts all of its
+        cells. By default, cells in several polygons belong to the last polygon, and a warning is
+        issued.
     include_null : bool
-        Whether to also count null cells.
+        Whether null cells are also counted.
     crs : any, optional
-        The reference system to assume for maps that have none.
+        The coordinate reference system to assume for maps that do not have one.
 
     Returns
     -------
     pandas.DataFrame
-        Columns `zone` and `zone_label` (with zones), `class`, `label` (if there are labels),
-        `cells`, `area_ha`, and `percent`, the class's share of the zone's area that is not null
-        (without areas, of the zone's cells that are not null).
+        The columns are `zone` and `zone_label` (if there are zones), `class`, `label` (if there are
+        labels), `cells`, `area_ha` and `percent`. `percent` is the class's percentage of the zone's
+        area that is not null or, without areas, of the zone's non-null cells.
 
     Raises
     ------
     Refused
-        See `run`; also raised for invalid legends and polygons.
+        A legend or a polygon is invalid, or for a reason listed in `run`.
 
     Examples
     --------
@@ -102,34 +103,34 @@ def cross(
     crs: Any = None,
     **named: MapLike,
 ) -> Table:
-    """Count how often the classes of several maps occur together, with areas and percentages.
+    """Count each combination of classes in several maps, with areas and percentages.
 
     Parameters
     ----------
     maps : mapping, optional
-        Maps by name, for names that are also parameters of this call.
+        Maps by name. Use this mapping for names that are also parameters of this call.
     area : {"ha", "km2", "m2"} or None
         The unit of areas, as in `composition`.
     labels : mapping, optional
-        Legends, keyed by the names of the maps; each as in `composition`.
+        A legend, as in `composition`, for each map name.
     include_null : bool
-        Whether to also count combinations with null.
+        Whether combinations that contain null are also counted.
     crs : any, optional
-        The reference system to assume for maps that have none.
+        The coordinate reference system to assume for maps that do not have one.
     **named
-        Maps by name: at most 16, or 15 in degrees.
+        At most 16 maps by name, or 15 if the maps are in degrees.
 
     Returns
     -------
     pandas.DataFrame
-        For each map a column `NAME`, and `NAME_label` if it has labels; then `cells`, `area_ha`,
-        and `percent`, each row's share of the area (without areas, of the cells) that is null in
-        no map.
+        For each map, a column `NAME` and, if the map has labels, a column `NAME_label`, followed by
+        `cells`, `area_ha` and `percent`. `percent` is the row's percentage of the area (without
+        areas, of the cells) that is not null in any map.
 
     Raises
     ------
     Refused
-        See `run`; also raised for invalid legends.
+        A legend is invalid, or for a reason listed in `run`.
 
     Examples
     --------

@@ -22,7 +22,10 @@ _STATUS = 2
 
 
 def converted(path: str, to_esri: bool) -> Optional[Iterator[bytes]]:
-    """Return a text grid in ESRI ASCII or rcell format, or None if the file is not a text grid."""
+    """Convert a text grid to the ESRI ASCII or rcell format.
+
+    Returns the pieces of the text, or None if the file is not a text grid.
+    """
     try:
         with open(path, "rb") as file:
             start = read_some(file.fileno(), HEAD_BYTES)
@@ -38,27 +41,27 @@ def converted(path: str, to_esri: bool) -> Optional[Iterator[bytes]]:
 
 
 def _printed(path: str) -> Iterator[bytes]:
-    """Yield the text of a grid in the layout that rcell prints."""
+    """Yield the pieces of a text grid in the layout that rcell prints."""
     program = find_program()
     with program_errors("", ["map"], program), printed(program, path) as pieces:
         yield from pieces
 
 
 def printed_map(raster: Any, to_esri: bool) -> Iterator[bytes]:
-    """Yield the text of a map as an rcell grid, or as an ESRI ASCII grid."""
+    """Yield the pieces of a map's text as an rcell grid or an ESRI ASCII grid."""
     pieces = iter([raster.text()])
     return esri_of_grid(pieces) if to_esri else pieces
 
 
 def like(raster: Any, path: str) -> Any:
-    """Return a map with the reference system and exact extent of another map.
+    """Return a copy of a map with the reference system and exact extent of another map.
 
-    The extents may differ by up to half a cell.
+    The edges of the two maps may differ by up to half a cell.
 
     Raises
     ------
     Refused
-        The sizes differ, or an edge differs by more than half a cell.
+        The numbers of rows or columns differ, or an edge differs by more than half a cell.
     """
     from .sources import source_of
 

@@ -1,5 +1,5 @@
 # SPDX-License-Identifier: Apache-2.0 OR GPL-2.0-or-later
-"""Read the maps of a call, and count the combinations of their classes."""
+"""Read the maps of a call, and count the combinations of the maps' classes."""
 
 from __future__ import annotations
 
@@ -33,16 +33,16 @@ Integers = NDArray[np.int64]
 
 @dataclass(frozen=True)
 class Counts:
-    """The number of cells of each combination of classes.
+    """The number of cells in each combination of classes.
 
     Attributes
     ----------
     classes : array of int64, entries x maps
-        Ascending, -2147483648 for null, which comes last.
+        The combinations in ascending order. Null is -2147483648 and is sorted last.
     cells : array of int64
     area : array of float64 or None
-        In the unit of the call, for maps in degrees; None for other maps, whose areas follow from
-        the cells.
+        The areas in the unit of the call, if the maps are in degrees. None for other maps, because
+        their areas follow from the numbers of cells.
     """
 
     classes: Integers
@@ -50,12 +50,12 @@ class Counts:
     area: Optional[NDArray[np.float64]]
 
     def where(self, kept: NDArray[Any]) -> Counts:
-        """Return the entries that a mask or a list of indices selects."""
+        """Return the entries that a mask or an array of indices selects."""
         area = None if self.area is None else self.area[kept]
         return Counts(self.classes[kept], self.cells[kept], area)
 
     def summed(self, first: NDArray[np.intp]) -> Counts:
-        """Return sums of consecutive entries.
+        """Return the sums of groups of consecutive entries.
 
         Each group begins at an index in `first` and keeps the classes of its first entry.
         """
@@ -65,20 +65,22 @@ class Counts:
         return Counts(self.classes[first], np.add.reduceat(self.cells, first), area)
 
     def weights(self) -> NDArray[Any]:
-        """Return the weights for shares: areas in degrees, otherwise exact cell counts."""
+        """Return the weights for percentages: areas in degrees, exact cell counts otherwise."""
         return self.cells if self.area is None else self.area
 
     def areas(self, measure: Measure) -> NDArray[np.float64]:
-        """Return the areas, or the cell counts if there is no unit."""
+        """Return the areas, or the numbers of cells if no areas are wanted."""
         return measure.area(self.cells) if self.area is None else self.area
 
     def percent(self, groups: int = 0) -> NDArray[np.float64]:
-        """Return each entry's share of its group's total in percent, without null (which is NaN).
+        """Return each entry's percentage of its group's total.
+
+        Null entries are not part of the total, and their percentage is NaN.
 
         Parameters
         ----------
         groups : int
-            The number of leading classes that entries of a group have in common.
+            The number of leading classes that all entries of a group have in common.
         """
         is_null = (self.classes == NULL).any(axis=1)
         counted = np.where(is_null, 0, self.weights())
@@ -92,7 +94,7 @@ class Counts:
     def columns(
         self, measure: Measure, percent: Optional[NDArray[np.float64]] = None
     ) -> list[Column]:
-        """Return the columns cells, area and percent of a table."""
+        """Return the columns of cells, areas and percentages for a table."""
         columns = [Column("cells", "count", self.cells)]
         if measure.unit is not None:
             columns.append(Column(f"area_{measure.unit}", "measure", self.areas(measure)))
@@ -100,19 +102,19 @@ class Counts:
 
 
 class Maps:
-    """The maps of a call, with one region and one reference system.
+    """The maps of a call, which must have the same region and reference system.
 
     Parameters
     ----------
     maps : mapping of str to any
     crs : any
-        The reference system to assume for maps that have none.
+        The coordinate reference system to assume for maps that do not have one.
     zones : any, optional
-        A map, or polygons, which become the map `zones`.
+        A map or polygons, which are used as the map `zones`.
     zone_field, layer : str, optional
-        The polygon field with ids or names, and the layer of the polygon file.
+        The polygon field that contains ids or names, and the layer of the polygon file to read.
     each : bool
-        Whether to process overlapping polygons one after another.
+        Whether to process overlapping polygons separately.
     """
 
     def __init__(
@@ -145,19 +147,19 @@ class Maps:
         self.first = next(iter(self.sources.values()))
 
     def measure(self, area: Any) -> Measure:
-        """Return the cell sizes of the maps."""
+        """Return the cell sizes of the maps and the unit of areas."""
         return measure_of(area, self.first, self.crs)
 
     def tables(self, script: str, once: int = 0) -> list[Integers]:
-        """Return a script's tables.
+        """Run a script over the maps and return the tables that the script prints.
 
-        If polygons are processed one after another, their rows are merged and sorted.
+        If overlapping polygons are processed separately, their rows are merged and sorted.
 
         Parameters
         ----------
         script : str
         once : int
-            The number of leading tables that do not depend on zones.
+            The number of leading tables that do not depend on the zones.
         """
         if self._zones is None or len(self._zones.maps) == 1:
             return [output.values for output in execute(script, self.sources)]
@@ -169,9 +171,9 @@ class Maps:
         return runs[0][:once] + merged
 
     def ask(self, question: Question, clump: str, fold: PatchFold) -> bool:
-        """Give the patches of a map to a fold, as `runs.ask` does.
+        """Pass the patches of a map to a fold, as `runs.ask` does, and return True.
 
-        Returns False if polygons are processed one after another.
+        Returns False without a result if overlapping polygons are processed separately.
         """
         if self._zones is not None and len(self._zones.maps) > 1:
             return False
@@ -180,7 +182,7 @@ class Maps:
     def counts(
         self, tables: Sequence[Sequence[str]], measure: Measure, include_null: bool = False
     ) -> list[Counts]:
-        """Count the combinations of classes of each list of maps."""
+        """Count the combinations of classes in each of several lists of maps."""
         flags = "-c" if include_null else "-c -n"
         rows = [] if measure.by_row is None else ["row"]
         lines = ["r.mapcalc row = row()"] if rows else []
@@ -194,7 +196,7 @@ class Maps:
     def columns(
         self, title: str, classes: Integers, name: str, legend: Any = None, label: str = "{}_label"
     ) -> list[Column]:
-        """Return a map's class column and, if there are labels, its label column."""
+        """Return the class column of a map and, if there are labels, the label column."""
         argument, own = "labels", self.sources[name].labels
         if name == "zones" and self._zones is not None:
             is_null = classes == NULL
@@ -205,7 +207,10 @@ class Maps:
 
 
 def counts_of(values: Integers, measure: Measure) -> Counts:
-    """Return the counts in a table, summed over rows if its first column is the row."""
+    """Convert a table to the counts of its combinations.
+
+    In degrees, the first column is the row, and the counts are summed over all rows.
+    """
     if measure.by_row is None:
         return Counts(values[:, :-1], values[:, -1].copy(), None)
     area = values[:, -1] * measure.by_row[values[:, 0] - 1]
@@ -230,9 +235,9 @@ def legend_for(
     classes: Sequence[tuple[str, Integers]],
     argument: str = "labels",
 ) -> Mapping[int, str]:
-    """Return class labels from a legend, or else the map's own labels.
+    """Return class labels from a legend, or the map's own labels if there is no legend.
 
-    Warns about classes that are not in the legend.
+    Warns about classes that the legend does not contain.
 
     Parameters
     ----------
@@ -260,7 +265,7 @@ def legend_for(
 def coded(
     title: str, classes: Integers, labels: Mapping[int, str], label: str = "{}_label"
 ) -> list[Column]:
-    """Return the class column and, if there are labels, the label column."""
+    """Return a column of classes and, if there are labels, a column of labels."""
     columns = [Column(title, "class", classes)]
     if labels:
         texts = [labels.get(code) for code in classes.tolist()]

@@ -1,5 +1,5 @@
 # SPDX-License-Identifier: Apache-2.0 OR GPL-2.0-or-later
-"""Process tiles in threads, each with its own programs, or on the workers of a cluster."""
+"""Process tiles in threads that run their own programs, or on the workers of a cluster."""
 
 from __future__ import annotations
 
@@ -29,29 +29,31 @@ Made = TypeVar("Made")
 
 
 def _ready(done: TileDone) -> Future[TileDone]:
-    """Return a finished future for a tile whose results were kept by an earlier run."""
+    """Return a finished future for a tile whose results an earlier run has kept."""
     future: Future[TileDone] = Future()
     future.set_result(done)
     return future
 
 
 class _Stopped(Exception):
-    """Raised in the threads of other tiles after the call has ended, to stop their programs."""
+    """Raised in the threads of a call that has ended, to stop the threads' programs."""
 
 
 class Crew:
-    """The threads for a call's tiles, as a context manager that stops their programs on exit.
+    """The threads that process the tiles of a call.
+
+    A crew is a context manager, which stops all of its programs on exit.
 
     Parameters
     ----------
     workers : int
         The number of tiles to process at a time.
     steps : int
-        The number of progress steps: one for each time that a tile is processed.
+        The number of progress steps. Each processed tile is one step.
     is_shown : bool
-        Whether to report progress to the host.
+        Whether to report the progress to the host.
     cluster : Cluster, optional
-        The cluster whose workers process tiles instead of threads.
+        The cluster whose workers process the tiles instead of threads.
     """
 
     def __init__(
@@ -90,7 +92,7 @@ class Crew:
     def each(
         self, do: Callable[[Rectangle], Made], places: Sequence[Rectangle]
     ) -> Iterator[tuple[int, Made]]:
-        """Call a function for each place and yield (index, result) pairs as calls complete."""
+        """Call a function for each place, and yield (index, result) pairs as the calls finish."""
         yield from self._in_turn(lambda place: self._pool.submit(self._run, do, place), places)
 
     def run(
@@ -99,7 +101,10 @@ class Crew:
         finish: Callable[[TileWork, TileDone], Made],
         places: Sequence[Rectangle],
     ) -> Iterator[tuple[int, Made]]:
-        """Run the work of each place and yield (index, `finish` result) pairs as tiles complete."""
+        """Process the tile at each place, and yield (index, result) pairs as the tiles finish.
+
+        A result is the value that `finish` returns for the processed tile.
+        """
 
         def do(place: Rectangle) -> Made:
             work = prepare(place)
@@ -118,14 +123,14 @@ class Crew:
             yield index, finish(works.pop(places[index]), self._without_warnings(done))
 
     def _without_warnings(self, done: TileDone) -> TileDone:
-        """Collect a tile's warnings, which are issued at the end of the call."""
+        """Keep a tile's warnings until the end of the call, and return the tile."""
         self._warnings.update(dict.fromkeys(done.warnings))
         return done
 
     def _in_turn(
         self, submit: Callable[[Rectangle], Future[Made]], places: Sequence[Rectangle]
     ) -> Iterator[tuple[int, Made]]:
-        """Submit places, a few ahead of the workers, and yield each result as it completes."""
+        """Submit places, a few ahead of the workers, and yield results as the tiles finish."""
         running: dict[Future[Any], int] = {}
         waiting = iter(enumerate(places))
         while True:
@@ -140,7 +145,7 @@ class Crew:
                 self._step()
 
     def _run(self, do: Callable[[Rectangle], Any], place: Rectangle) -> Any:
-        """Process a tile in a thread, and collect its warnings for the caller's host."""
+        """Process a place in a thread, keeping its warnings until the end of the call."""
         caller = dataclasses.replace(
             self._caller,
             warn=lambda text: self._warnings.setdefault(text, None),
@@ -161,7 +166,7 @@ class Crew:
             raise _Stopped
 
     def _ended(self, running: dict[Future[Any], int]) -> set[Future[Any]]:
-        """Wait for tiles to finish and return them, checking for interrupts meanwhile."""
+        """Wait until some tiles finish, checking for interrupts, and return their futures."""
         patience = time.monotonic() + PATIENCE_SECONDS
         while True:
             if self._caller.watch is not None:

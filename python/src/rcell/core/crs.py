@@ -32,19 +32,21 @@ _SHOWN = 60
 
 @dataclass(frozen=True, eq=False)
 class Crs:
-    """A reference system of a library: pyproj in `readers.pyproj`, GDAL's osr in `readers.gdal`.
+    """A coordinate reference system, as read by a library.
+
+    `readers.pyproj` implements this class with pyproj, and `readers.gdal` with GDAL's osr.
 
     Attributes
     ----------
     wkt : str
-        Its well-known text.
+        The well-known text of the system.
     codes : tuple of str
-        Its codes in registers, such as `EPSG:3035`.
+        The system's codes in registries, for example `EPSG:3035`.
     title : str
-        Its name.
+        The name of the system.
     kind : {"geographic", "projected", "geocentric", "vertical", "local"}
     unit : float
-        The size of its unit: in radians if the system is geographic, otherwise in metres.
+        The size of the unit, in radians if the system is geographic, otherwise in metres.
     ellipsoid : tuple of float
         The semi-major axis in metres and the flattening, if the system is geographic.
     """
@@ -58,17 +60,17 @@ class Crs:
 
     @property
     def name(self) -> str:
-        """Its name for messages: the code and the title."""
+        """The code and the title of the system, for messages."""
         title = self.title or "a system without a name"
         return f"{self.codes[0]} ({title})" if self.codes else title
 
     @property
     def code(self) -> str:
-        """Its first code, for commands and options."""
+        """The first code of the system, for commands and options."""
         return self.codes[0] if self.codes else "WKT"
 
     def same(self, other: Crs) -> bool:
-        """Return whether both systems are the same for coordinates in the order x, y."""
+        """Return whether two systems are the same for coordinates in the order x, y."""
         return (
             self.wkt == other.wkt
             or bool(set(self.codes) & set(other.codes))
@@ -76,18 +78,21 @@ class Crs:
         )
 
     def is_equal(self, other: Crs) -> bool:
-        """Return whether the library considers both systems equal, ignoring axis order."""
+        """Return whether the library considers two systems equal, ignoring the axis order."""
         raise NotImplementedError
 
     def points(
         self, to: Crs, x: NDArray[Any], y: NDArray[Any]
     ) -> tuple[NDArray[Any], NDArray[Any]]:
-        """Transform points to another system; points outside it become infinite or NaN."""
+        """Transform points to another system.
+
+        Points outside the other system become infinite or NaN.
+        """
         raise NotImplementedError
 
 
 def eastward(projjson: str) -> str:
-    """Return a system's PROJJSON with its axes in the order x, y, and without its code.
+    """Return a system's PROJJSON with the axes in the order x, y, and without a code.
 
     Examples
     --------
@@ -102,14 +107,14 @@ def eastward(projjson: str) -> str:
 
 
 def known(crs: Any) -> Crs | None:
-    """Convert a reference system of any library, a code or a text to a Crs; None stays None.
+    """Convert a library's reference system, a code or a string to a `Crs`, and None to None.
 
     Raises
     ------
     ValueError
-        The text is not understood.
+        The string is not understood.
     MissingLibrary
-        Neither pyproj nor GDAL's Python is installed.
+        Neither pyproj nor GDAL's Python package is installed.
     """
     if isinstance(crs, Crs):
         return crs
@@ -125,7 +130,7 @@ def _known(text: str) -> Crs:
 
 
 def _text_of(crs: Any) -> str:
-    """Return the text of a reference system of any library, or an empty text for None."""
+    """Return a library's reference system as a string, or an empty string for None."""
     if crs is None:
         return ""
     for method in ("to_wkt", "ExportToWkt"):
@@ -140,7 +145,7 @@ def _text_of(crs: Any) -> str:
 
 
 def wkt_of(crs: Any) -> str:
-    """Return the well-known text of a reference system, or an empty text for None.
+    """Return the well-known text of a reference system, or an empty string for None.
 
     Examples
     --------
@@ -154,7 +159,7 @@ def wkt_of(crs: Any) -> str:
 def _checked(name: str, crs: Any) -> Any:
     """Return a reference system, or raise BadMap if it is not understood.
 
-    Without a library, nothing is checked.
+    If no library is installed, the reference system is returned unchecked.
     """
     try:
         return None if known(crs) is None else crs
@@ -181,18 +186,18 @@ def common_crs(
     warp: str = "gdalwarp",
     titles: Mapping[str, str] | None = None,
 ) -> Any:
-    """Return the reference system that all maps have in common.
+    """Return the reference system that all maps share, or raise OtherCrs if two maps differ.
 
     Parameters
     ----------
     maps : mapping of str to any
-        The reference system of each map by name; None for a map without one.
+        The reference system of each map by name, or None for a map without a reference system.
     stated : any, optional
-        The reference system to assume for maps that have none.
+        The coordinate reference system to assume for maps that do not have one.
     warp : str
-        The GDAL program that reprojects the maps.
+        The name of the GDAL program that reprojects the maps, for messages.
     titles : mapping of str to str, optional
-        The names of maps in messages, if they differ from their names in `maps`.
+        The names of the maps in messages, if these names differ from the names in `maps`.
 
     Raises
     ------
@@ -232,7 +237,7 @@ def common_crs(
 
 
 def _warping(program: str, code: str) -> str:
-    """Return the command that reprojects a map or polygons, in the form for the host."""
+    """Return the command, or the QGIS tool, that reprojects a map or polygons."""
     if host().words == "qgis":
         return "Warp (reproject)" if program == "gdalwarp" else "Reproject layer"
     return f"{program} -t_srs {code}"
@@ -247,7 +252,7 @@ def are_same_crs(crs: Any, other: Any) -> bool:
 
 
 def is_geographic(crs: Any) -> bool:
-    """Return whether a reference system is in degrees; False for None.
+    """Return whether a reference system is in degrees. None is not in degrees.
 
     Examples
     --------
@@ -259,12 +264,12 @@ def is_geographic(crs: Any) -> bool:
 
 
 def metres_of_unit(crs: Any) -> float:
-    """Return the unit of a projected reference system in metres; 1 for None.
+    """Return the length of a reference system's unit in metres, or 1 for None.
 
     Raises
     ------
     Refused
-        The system is local, geocentric or vertical, so cells have no area.
+        The reference system is not projected, so cells have no area.
     """
     system = known(crs)
     if system is None:

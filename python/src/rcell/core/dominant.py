@@ -26,7 +26,7 @@ def dominant(
     each: bool = False,
     crs: Any = None,
 ) -> Table:
-    """Find each zone's most frequent and rarest class, and its number of classes.
+    """Find each zone's most frequent and rarest classes, and count the zone's classes.
 
     Parameters
     ----------
@@ -40,23 +40,23 @@ def dominant(
     zone_field, layer : str, optional
         See `composition`.
     each : bool
-        Whether to process overlapping polygons one after another, as in `composition`.
+        Whether to process overlapping polygons separately, as in `composition`.
     crs : any, optional
-        The reference system to assume for maps that have none.
+        The coordinate reference system to assume for maps that do not have one.
 
     Returns
     -------
     pandas.DataFrame
-        Columns `zone`, `zone_label`, `cells`, `area_ha`, `classes` (the number of classes),
-        `majority`, `majority_label`, `majority_percent`, `minority`, `minority_label`,
-        `minority_percent`. Frequencies and percentages refer to the zone's cells that are not
-        null, also in degrees. In a tie, the smallest class is used. Zones with only null cells
-        have no row.
+        The columns are `zone`, `zone_label`, `cells`, `area_ha`, `classes` (the number of classes),
+        `majority`, `majority_label`, `majority_percent`, `minority`, `minority_label` and
+        `minority_percent`. Frequencies and percentages refer to the number of the zone's non-null
+        cells, even if the map is in degrees. In a tie, the smallest class is used. Zones with only
+        null cells are left out.
 
     Raises
     ------
     Refused
-        See `run`; also raised for invalid legends and polygons.
+        A legend or a polygon is invalid, or for a reason listed in `run`.
 
     Examples
     --------

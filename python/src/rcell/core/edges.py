@@ -1,5 +1,5 @@
 # SPDX-License-Identifier: Apache-2.0 OR GPL-2.0-or-later
-"""Handle edges of maps as the program does, in whole units of 10^-8."""
+"""Handle the edges of maps as the program does, in whole units of 10^-8."""
 
 from __future__ import annotations
 
@@ -13,16 +13,16 @@ UNITS = 10**DECIMALS
 
 
 def edge_text(units: int) -> str:
-    """Return an edge in units of 10^-8 as a decimal text."""
+    """Return an edge, given in units of 10^-8, as a decimal string."""
     whole, part = divmod(abs(units), UNITS)
     sign = "-" if units < 0 else ""
     return f"{sign}{whole}.{part:0{DECIMALS}d}".rstrip("0").rstrip(".")
 
 
 def differences_of(own: Iterable[int], others: Iterable[int]) -> list[str]:
-    """Return a text for each difference between two grids.
+    """Return a description of each difference between two grids.
 
-    A grid is given as its four edges in units of 10^-8, its rows and its columns.
+    A grid is given as a sequence of its four edges in units of 10^-8, its rows and its columns.
 
     Examples
     --------

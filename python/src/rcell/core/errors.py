@@ -1,5 +1,5 @@
 # SPDX-License-Identifier: Apache-2.0 OR GPL-2.0-or-later
-"""Define the errors of the package, one class for each kind."""
+"""Define the errors of the package, with one class for each kind of error."""
 
 from __future__ import annotations
 
@@ -48,9 +48,9 @@ class BadArgument(RcellError, ValueError):
     Parameters
     ----------
     argument : str
-        Its name.
+        The name of the argument.
     reason : str
-        What the argument must be, and the value met.
+        The required value, and the value that was given.
 
     Examples
     --------
@@ -80,20 +80,20 @@ class Refused(Fault, RcellError):
     Parameters
     ----------
     text : str
-        The message; for an error of the program, the program's own text.
+        The message. For an error in the program, this is the program's own message.
     source : str
         The name of the map, or `script`, `labels` or `output`.
     line : int
-        The line of the source, from 1; 0 if the error has no line.
+        The line of the source, counted from 1, or 0 if the error is not in a line.
     status : int
-        The exit status of the program: 1 for a grid or the script, 2 for the command line, 3 out of
-        memory, 4 for files.
+        The exit status of the program: 1 for an error in a grid or the script, 2 for an error in
+        the command line, 3 if memory ran out, and 4 for an error in reading or writing a file.
     content : str, optional
-        The text of that line of the script.
+        The text of the line, if the source is the script.
     advice : str, optional
-        What to write instead.
+        The text to write instead.
     column : int, optional
-        The position in the line, in bytes from 1, unless `text` names it.
+        The position in the line, counted in bytes from 1, unless `text` contains the position.
 
     Examples
     --------
@@ -110,12 +110,14 @@ class Refused(Fault, RcellError):
 
 
 class OutOfMemory(Refused, MemoryError):
-    """Raised if the program runs out of memory; `source` and `line` show where.
+    """Raised if the program runs out of memory.
+
+    `source` and `line` identify the place that the program was processing.
 
     Parameters
     ----------
     text, source, line, status, content, advice, column
-        As in Refused.
+        As in `Refused`.
 
     Examples
     --------
@@ -126,18 +128,18 @@ class OutOfMemory(Refused, MemoryError):
 
 
 class BadMap(Refused, ValueError):
-    """Raised if a map contains values that are not whole numbers, or has no regular grid.
+    """Raised if a map contains values that are not whole numbers, or its grid is not regular.
 
     Parameters
     ----------
     name : str
-        The name of the map; it is also the `source` of the error.
+        The name of the map, which is also the `source` of the error.
     text : str
-        The error.
+        The message.
     row, col : int, optional
-        The row and column of the first invalid cell, from 1 at the top left.
+        The row and column of the first invalid cell, counted from 1 at the top left.
     value : number, optional
-        The value of that cell.
+        The value of the first invalid cell.
 
     Examples
     --------
@@ -169,13 +171,13 @@ class BadMap(Refused, ValueError):
 class OtherRegion(BadMap):
     """Raised if a map's edges, rows or columns differ from the first map's.
 
-    Nothing is resampled. The last line of the message is the call of `rcell.align` that aligns the
-    map with the first map.
+    Maps are never resampled automatically. The last line of the message is the call to
+    `rcell.align` that aligns the map with the first map.
 
     Parameters
     ----------
     name, text, row, col, value
-        As in BadMap.
+        As in `BadMap`.
 
     Examples
     --------
@@ -190,12 +192,12 @@ class OtherRegion(BadMap):
 
 
 class OtherCrs(BadMap):
-    """Raised if coordinate reference systems differ, or only some maps have one.
+    """Raised if the maps' reference systems differ, or only some maps have a reference system.
 
     Parameters
     ----------
     name, text, row, col, value
-        As in BadMap.
+        As in `BadMap`.
 
     Examples
     --------
@@ -210,12 +212,12 @@ class OtherCrs(BadMap):
 
 
 class ReadFailed(BadMap):
-    """Raised if a file cannot be opened, or a part of it cannot be read.
+    """Raised if a file cannot be opened, or a part of a file cannot be read.
 
     Parameters
     ----------
     name, text
-        As in BadMap.
+        As in `BadMap`.
 
     Examples
     --------
@@ -269,7 +271,7 @@ class Killed(RcellError):
     Parameters
     ----------
     signal : int
-        The signal number.
+        The number of the signal.
 
     Examples
     --------
@@ -314,13 +316,13 @@ class MissingLibrary(RcellError, ImportError):
     Parameters
     ----------
     library : str
-        Its name.
+        The name of the library.
     extra : str
-        The extra of the wheel that installs it.
+        The extra of the wheel that installs the library.
     purpose : str
-        The task that needs it.
+        The task that needs the library.
     reason : str, optional
-        Why an installed library cannot be loaded, for example because memory ran out.
+        The reason why an installed library cannot be loaded, for example because memory ran out.
 
     Examples
     --------

@@ -1,7 +1,7 @@
 # SPDX-License-Identifier: Apache-2.0 OR GPL-2.0-or-later
 """Convert ESRI ASCII grids (GDAL's AAIGrid) to rcell grids and back, with exact edges.
 
-Needs only the standard library.
+This module needs only the standard library.
 """
 
 from __future__ import annotations
@@ -51,7 +51,7 @@ def _shown(word: bytes) -> str:
 
 
 class _Header:
-    """The header of an ESRI ASCII grid: its values by key, and the start of the cells."""
+    """The header of an ESRI ASCII grid: each key's value, and the position of the first cell."""
 
     def __init__(self, start: bytes) -> None:
         self.values: dict[bytes, bytes] = {}
@@ -85,7 +85,7 @@ class _Header:
         return int(text)
 
     def value(self, *keys: bytes) -> tuple[Fraction, bytes]:
-        """Return the value and the text of the first of these keys that is present."""
+        """Return the value, as a number and as text, of the first of these keys that is present."""
         key = next((key for key in keys if key in self.values), None)
         if key is None:
             raise Refused(f"the header has no {keys[0].decode()}", "map")
@@ -95,7 +95,7 @@ class _Header:
         return number, self.values[key]
 
     def edges(self, axis: bytes, step: bytes, count: int, name: str) -> tuple[Fraction, Fraction]:
-        """Return the two edges of an axis, correcting the upper edge for a truncated cell size."""
+        """Return an axis's two edges, correcting the upper edge if the cell size was truncated."""
         size, text = self.value(step, b"cellsize")
         corner, centre = axis + b"llcorner", axis + b"llcenter"
         if corner in self.values or centre not in self.values:
@@ -121,7 +121,7 @@ class _Header:
 
 
 class _Cells(dict[bytes, bytes]):
-    """A cache of cell texts, which converts each distinct word once."""
+    """A cache of converted cells, which avoids converting the same word repeatedly."""
 
     def __init__(self, null: Optional[bytes]) -> None:
         super().__init__()
@@ -152,12 +152,12 @@ class _Cells(dict[bytes, bytes]):
 
 
 def grid_of_esri(path: str) -> Iterator[bytes]:
-    """Yield an ESRI ASCII grid as an rcell grid.
+    """Convert an ESRI ASCII grid to an rcell grid, and yield the text in pieces.
 
     Raises
     ------
     Refused
-        The header or a cell is invalid; the error names the line.
+        The header or a cell is invalid. The error names the line.
     """
     with open(path, "rb") as file:
         pieces = iter(lambda: read_some(file.fileno(), PIECE), b"")
@@ -193,7 +193,7 @@ def _lines(start: bytes, pieces: Iterable[bytes]) -> Iterator[bytes]:
 
 
 def esri_of_grid(pieces: Iterator[bytes]) -> Iterator[bytes]:
-    """Yield a grid that rcell printed as an ESRI ASCII grid."""
+    """Convert a grid that rcell printed to an ESRI ASCII grid, and yield the text in pieces."""
     start = b""
     while start.count(b"\n") < 6:
         start += next(pieces)

@@ -1,7 +1,7 @@
 # SPDX-License-Identifier: Apache-2.0 OR GPL-2.0-or-later
-"""Run rcell on text grids and explain its message, for `rcell-gis explain`.
+"""Run rcell on text grids and explain its error message, for `rcell-gis explain`.
 
-Needs only the standard library.
+This module needs only the standard library.
 """
 
 from __future__ import annotations
@@ -28,7 +28,7 @@ LONGEST_LINE = 1 << 20  # the longest line that is examined, in bytes
 
 
 def explain(script: str, words: Sequence[str]) -> int:
-    """Run rcell on a script, print advice after its message, and return its status.
+    """Run rcell on a script, print its message followed by advice, and return its exit status.
 
     The output of rcell is written to standard output unchanged.
     """
@@ -49,7 +49,7 @@ def explain(script: str, words: Sequence[str]) -> int:
 def _explained(
     script: str, paths: dict[str, str], source: str, line: int, text: str
 ) -> Iterator[str]:
-    """Yield the line of an error with a mark, and advice."""
+    """Yield the line that contains an error, with the error marked, followed by advice."""
     message = _COLUMN.sub("", text)
     if text.startswith(("cannot open", "read failed", "write failed")):
         known = "write failed after N bytes" if text.startswith("write") else text
@@ -65,7 +65,7 @@ def _explained(
 
 
 def _near_file(path: str) -> Optional[str]:
-    """Return the file name most similar to a missing file's."""
+    """Return the existing file whose name is most similar to a missing file's name, or None."""
     folder, name = os.path.split(path)
     listed = folder or "."
     if os.path.exists(path) or not os.path.isdir(listed):
@@ -76,7 +76,7 @@ def _near_file(path: str) -> Optional[str]:
 
 
 def _of_script(script: str, names: list[str], line: int, text: str) -> Iterator[str]:
-    """Yield the line of a script with a mark, and the corrected line if the program accepts one."""
+    """Yield a script's invalid line, with the error marked, and a correction if one is found."""
     with open(script, "rb") as file:
         content = file.read(SCRIPT_BYTES) if os.path.isfile(script) else b""
     lines = content.decode("utf-8", "surrogateescape").split("\n")
@@ -92,7 +92,7 @@ def _of_script(script: str, names: list[str], line: int, text: str) -> Iterator[
 
 
 def _of_grid(paths: dict[str, str], name: str, line: int, text: str) -> Iterator[str]:
-    """Yield the line of a text grid with a mark, and advice."""
+    """Yield a text grid's invalid line, with the error marked, followed by advice."""
     path = paths[name]
     if not os.path.isfile(path):
         yield f"try: {sentence('grid', text)}"
@@ -114,7 +114,7 @@ def _of_grid(paths: dict[str, str], name: str, line: int, text: str) -> Iterator
 
 
 def _bad_word(raw: bytes, start: bytes) -> Optional[int]:
-    """Return the column of the first word that is not a cell."""
+    """Return the column of the first word that is not a valid cell, or None."""
     match = re.search(rb"(?m)^[ \t]*null:[ \t]*(\S+)", start)
     null = match[1] if match else b"*"
     for word in re.finditer(rb"\S+", raw):
@@ -125,7 +125,7 @@ def _bad_word(raw: bytes, start: bytes) -> Optional[int]:
 
 
 def _other_region(paths: dict[str, str], name: str, start: bytes) -> Iterator[str]:
-    """Describe each header line that differs from the first grid's."""
+    """Yield a description of each header line that differs from the first grid's."""
     first = next(iter(paths))
     with open(paths[first], "rb") as file:
         wanted = dict(_EDGE.findall(file.read(HEAD_BYTES)))

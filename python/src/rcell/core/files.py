@@ -44,9 +44,9 @@ OWN_DESCRIPTORS = "/proc/self/fd"
 
 
 def open_standard_streams() -> None:
-    """Open /dev/null on each closed descriptor from 0 to 2, so that no other file gets its number.
+    """Open /dev/null on closed standard streams, so that other files do not get their numbers.
 
-    A closed standard output is opened for reading, so that writing to it still fails.
+    A closed standard output is opened for reading, so that writing to standard output still fails.
     """
     while (descriptor := os.open(os.devnull, os.O_RDWR)) <= 2:
         if descriptor == 1:
@@ -60,7 +60,7 @@ def open_standard_streams() -> None:
 
 
 def end_on_signals() -> None:
-    """Turn signals that end a program into SystemExit, so that unfinished files are removed."""
+    """Convert signals that end a program to SystemExit, so that unfinished files are removed."""
     import signal
 
     for name in ("SIGHUP", "SIGQUIT", "SIGTERM", "SIGXCPU"):
@@ -83,7 +83,7 @@ _outputs: ContextVar[Sequence[str]] = ContextVar("outputs", default=())
 
 @contextlib.contextmanager
 def writing(*paths: str) -> Iterator[None]:
-    """Raise Refused as soon as a call reads one of its own outputs in this block.
+    """Raise Refused if two outputs are the same file, or this block reads one of the outputs.
 
     Examples
     --------
@@ -107,23 +107,23 @@ def writing(*paths: str) -> Iterator[None]:
 
 
 def opened(*paths: str) -> None:
-    """Record files that the current call reads.
+    """Record the files that the current call reads.
 
-    Call this function whenever a file is opened, with all files of a raster that GDAL lists.
+    Call this function whenever a file is opened, with all files that GDAL lists for a raster.
     """
     for output in _outputs.get():
         check_output(output, paths)
 
 
 def check_output(output: str, inputs: Iterable[str]) -> None:
-    """Raise Refused if writing an output, or GDAL's files next to it, would overwrite an input.
+    """Raise Refused if writing an output and its GDAL sidecar files would overwrite an input.
 
     Parameters
     ----------
     output : str
     inputs : iterable of str
-        Paths, in which a layer is `FILE|layername=NAME`. All files of a Shapefile and all sources
-        of a VRT are also checked.
+        The paths of the inputs. A layer is written as `FILE|layername=NAME`. All files of a
+        Shapefile and all sources of a VRT are also checked.
     """
     names = {os.path.realpath(output) + ending for ending in ("", *SIDECARS)}
     for path in _files_of(inputs):
@@ -138,7 +138,7 @@ def check_output(output: str, inputs: Iterable[str]) -> None:
 
 
 def _files_of(inputs: Iterable[str]) -> Iterator[str]:
-    """Yield all files that opening these paths reads."""
+    """Yield all files that are read if these paths are opened."""
     yielded: dict[str, None] = {}
     waiting = list(inputs)
     while waiting:
@@ -179,7 +179,10 @@ def _wait(descriptor: int, event: int) -> None:
 
 
 def read_some(descriptor: int, most: int) -> bytes:
-    """Read from a descriptor, waiting until it is ready; an empty result means the end."""
+    """Read at most `most` bytes from a descriptor, waiting until some bytes are available.
+
+    The result is empty only at the end of the file.
+    """
     while True:
         try:
             return os.read(descriptor, most)
@@ -188,12 +191,12 @@ def read_some(descriptor: int, most: int) -> bytes:
 
 
 def read_all(descriptor: int) -> bytes:
-    """Read a descriptor to its end, waiting whenever it is not ready."""
+    """Read a descriptor to the end of its file, waiting whenever no bytes are available."""
     return b"".join(iter(lambda: read_some(descriptor, PIECE), b""))
 
 
 def write_all(descriptor: int, data: bytes | memoryview) -> None:
-    """Write all bytes to a descriptor, waiting and repeating as needed."""
+    """Write all bytes to a descriptor, waiting whenever it is not ready."""
     rest = memoryview(data).cast("B")
     while rest:
         try:
@@ -216,7 +219,7 @@ def _own_descriptor(path: str) -> int | None:
 
 
 def _opened_for_writing(descriptor: int) -> int:
-    """Return a copy of a descriptor that is open for writing."""
+    """Duplicate a descriptor, or raise OSError if it is open only for reading."""
     if fcntl.fcntl(descriptor, fcntl.F_GETFL) & os.O_ACCMODE == os.O_RDONLY:
         name = "standard output" if descriptor == 1 else f"descriptor {descriptor}"
         raise OSError(errno.EBADF, "is closed", name)
@@ -224,9 +227,9 @@ def _opened_for_writing(descriptor: int) -> int:
 
 
 def _opened_special(path: str) -> int | None:
-    """Open a device, FIFO or open descriptor (`-` is standard output).
+    """Open a device, a FIFO or an open descriptor for writing (`-` is standard output).
 
-    Returns None for a regular or new file.
+    Returns the new descriptor, or None if the path is a regular file or does not exist.
     """
     descriptor = 1 if path == "-" else _own_descriptor(path)
     if descriptor is not None:
@@ -239,17 +242,17 @@ def _opened_special(path: str) -> int | None:
 
 
 class Output:
-    """An output file that gets its name when the block ends without an exception.
+    """An output file, which replaces the target only if the block ends without an exception.
 
     The file is written in a private folder next to the target. If this process is killed, the next
-    output removes that folder. Links are followed, and a replaced file keeps its mode. GDAL's files
-    next to a raster are replaced together with the raster. An existing device or FIFO is written
-    to, never replaced.
+    output with the same name removes the folder. Links are followed, and a new file gets the mode
+    of the file that it replaces. GDAL's sidecar files are replaced together with the raster. An
+    existing device or FIFO is written to, and is never replaced.
 
     Parameters
     ----------
     path : str
-        The target; `-` is standard output.
+        The path of the target, or `-` for standard output.
     """
 
     def __init__(self, path: str) -> None:
@@ -286,13 +289,13 @@ class Output:
         return os.path.join(self._room.path, name)
 
     def stream(self) -> int:
-        """Return a descriptor for writing the file."""
+        """Return a descriptor to which the contents of the file can be written."""
         if self._stream is None:
             self._stream = os.open(self.path(), os.O_WRONLY | os.O_CREAT | os.O_EXCL, 0o666)
         return self._stream
 
     def keep(self) -> None:
-        """Move the file to the target, or copy its bytes to the device or FIFO."""
+        """Move the file to the target, or copy its bytes to a device or FIFO."""
         if self._room is None or self._is_kept:
             return
         try:
@@ -324,7 +327,7 @@ class Output:
                 write_all(self._special, piece)
 
     def _adopt(self, part: str) -> None:
-        """Copy the owner and mode of the replaced file to the new file."""
+        """Copy the replaced file's owner and mode to the new file."""
         try:
             old = os.stat(self._target)
         except FileNotFoundError:
@@ -338,7 +341,7 @@ class Output:
         os.chmod(part, mode & ~0o070 if has_other_group else mode)
 
     def _replace(self, part: str) -> None:
-        """Move the new files into place, or restore the old files if that fails."""
+        """Move the new files to their targets, or restore the old files if that fails."""
         assert self._room is not None
         with open(part, "rb") as file:
             os.fsync(file.fileno())

@@ -1,9 +1,9 @@
 # SPDX-License-Identifier: Apache-2.0 OR GPL-2.0-or-later
-"""Correct script lines that rcell rejects: propose a line that rcell accepts, or a sentence.
+"""Correct script lines that rcell rejects, with a line that rcell accepts or a sentence.
 
-The corrections cover common mistakes. At most two are tested with rcell-pipe, and a line is
-proposed only if rcell-pipe accepts it. No result of a run depends on this module. Lines contain one
-character per byte, because columns count bytes.
+The corrections cover common mistakes. At most two corrected lines are tested with rcell-pipe, and a
+line is proposed only if rcell-pipe accepts it. No result of a run depends on this module. Lines
+contain one character per byte, because columns are counted in bytes.
 """
 
 from __future__ import annotations
@@ -62,7 +62,7 @@ def _lower(match: re.Match[str]) -> str:
 
 
 def _whole(match: re.Match[str]) -> str:
-    """Rewrite a comparison, product or quotient with a decimal number in whole numbers."""
+    """Rewrite a comparison, product or quotient with a decimal number using whole numbers."""
     sign, value = match[1].strip(), Fraction(match[2])
     if sign in ("<", ">=", ">", "<="):
         return f"{sign} {value // 1 + (value.denominator > 1 and sign in ('<', '>='))}"
@@ -154,7 +154,7 @@ REWRITES: dict[str, list[tuple[str, Replacement]]] = {
 
 
 class _Error:
-    """A rejected line: its bytes as text, the message, and the names of the known maps."""
+    """A rejected line, with one character per byte, its message, and the names of known maps."""
 
     def __init__(self, text: str, line: str, column: int, names: list[str]) -> None:
         self.text, self.line, self.names = text, line, names
@@ -166,7 +166,7 @@ class _Error:
             self.place = self.bad.start()
 
     def bad_word(self) -> Optional[re.Match[str]]:
-        """Return the word that is not an option or not a map, or None."""
+        """Return the match of the first word that is not a valid option or a known map, or None."""
         if self.text == "unknown map":
             values = re.compile(r"(?<=[=,])[A-Za-z_][\w.]*(?=[,\s]|$)", re.ASCII)
             words = values.finditer(self.line) if self.command in OPTIONS else ()
@@ -182,7 +182,7 @@ class _Error:
         return None
 
     def is_option(self, key: str, equals: str, value: str) -> bool:
-        """Return whether a word is an option of the line's command, with a possible value."""
+        """Return whether a word is an option of the line's command and has a valid value."""
         flags, keys = OPTIONS.get(self.command, ("", ()))
         if key.startswith("-"):
             return len(key) > 1 and set(key[1:]) <= set(flags) and not equals
@@ -199,7 +199,7 @@ class _Error:
     # Corrections
 
     def lines(self) -> Iterator[str]:
-        """Yield corrected lines, the most likely first."""
+        """Yield corrected lines, with the most likely correction first."""
         marked = self.line[: self.place] + _MARK + self.line[self.place :]
         changed, first = marked, None
         for pattern, new in REWRITES.get(self.text, ()):
@@ -215,7 +215,7 @@ class _Error:
                 yield line
 
     def near_lines(self) -> Iterator[str]:
-        """Yield the line with the nearest known name, or with a missing part added."""
+        """Yield lines with an unknown name replaced by a similar one, or a missing part added."""
         head, tail = self.line[: self.place], self.line[self.place :]
         word = (_NAME.match(tail) or _WORD.match(tail) or [""])[0]
         rest = tail[len(word) :]
@@ -246,7 +246,7 @@ class _Error:
             yield self.line + ")" * (self.line.count("(") - self.line.count(")"))
 
     def near_options(self) -> Iterator[str]:
-        """Yield replacements for a word that is not an option; an empty text removes it."""
+        """Yield replacements for an invalid option. An empty string removes the option."""
         assert self.bad
         flags, keys = OPTIONS.get(self.command, ("", ()))
         key, equals, value = self.bad[0].partition("=")
@@ -268,11 +268,11 @@ class _Error:
         yield self.bad[0] if has_value and is_once else ""
 
     def divides(self, new: str) -> bool:
-        """Return whether a correction introduces a division."""
+        """Return whether a corrected line contains a division that the original line does not."""
         return self.text == "number not whole" and new.count("/") > self.line.count("/")
 
     def sentence(self) -> str:
-        """Return advice about the message."""
+        """Return a sentence of advice about the message, or an empty string."""
         text = self.text
         if text == "bad option":
             text = "options that exclude each other"
@@ -292,7 +292,9 @@ class _Error:
 def advice(
     program: str, script: bytes, names: Sequence[str], line: int, text: str
 ) -> tuple[Optional[int], Optional[str]]:
-    """Return the column of the invalid word if the message has none, and advice; None if unknown.
+    """Return the column of the invalid word, and a corrected line or advice.
+
+    The column is None if the message already contains it. The advice is None if none is known.
 
     Parameters
     ----------
@@ -300,11 +302,11 @@ def advice(
         The path of rcell-pipe.
     script : bytes
     names : sequence of str
-        The names of the maps that are given.
+        The names of the given maps.
     line : int
-        The number of the rejected line, from 1.
+        The number of the rejected line, counted from 1.
     text : str
-        The message.
+        The program's message about the line.
     """
     lines = script.decode("latin-1").split("\n")
     column = _COLUMN.search(text)
@@ -326,7 +328,7 @@ def advice(
 
 
 def _is_accepted(program: str, names: Sequence[str], script: str, line: int) -> bool:
-    """Return whether rcell-pipe accepts a script up to this line."""
+    """Return whether rcell-pipe accepts the lines of a script up to the given line."""
     from . import protocol  # a circular import: protocol needs this module for its errors
 
     try:
@@ -337,7 +339,7 @@ def _is_accepted(program: str, names: Sequence[str], script: str, line: int) -> 
 
 
 def near(word: str, known: Iterable[str], cutoff: float = 0.6) -> list[str]:
-    """Return a list with the most similar known word, or an empty list.
+    """Return a list of the known word that is most similar to a word, or an empty list.
 
     Examples
     --------
@@ -366,9 +368,9 @@ def sentence(part: str, text: str) -> str:
 
 
 def lines_of_error(content: str, column: Optional[int]) -> list[str]:
-    """Return a script line and a mark under a column (in bytes, from 1), if it is given.
+    """Return a list of a script line and, if a column is given, a line that marks the column.
 
-    A long line is shortened to the part around the mark.
+    Columns are counted in bytes from 1. A long line is shortened to the part around the mark.
     """
     raw = _NO_BYTES.sub("\ufffd", content).encode("utf-8", "surrogateescape")
     start = (column or 1) - 1

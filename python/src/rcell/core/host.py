@@ -1,5 +1,5 @@
 # SPDX-License-Identifier: Apache-2.0 OR GPL-2.0-or-later
-"""Describe the host: the package, command line or plugin that calls the core."""
+"""Describe the host, which is the package, command line or plugin that calls the core."""
 
 from __future__ import annotations
 
@@ -18,7 +18,7 @@ _PACKAGE = os.path.dirname(os.path.dirname(os.path.abspath(__file__)))
 
 
 def _warn(text: str) -> None:
-    """Issue a warning that points to the line that called the package."""
+    """Issue a warning whose location is the line that called the package."""
     depth, frame = 2, sys._getframe(1)
     while frame.f_back is not None and frame.f_code.co_filename.startswith(_PACKAGE):
         depth, frame = depth + 1, frame.f_back
@@ -27,23 +27,24 @@ def _warn(text: str) -> None:
 
 @dataclass(frozen=True)
 class Host:
-    """A caller of the core.
+    """A package, command line or plugin that calls the core.
 
     Attributes
     ----------
     words : {"python", "shell", "qgis"}
-        The form in which the host writes options.
+        The language in which messages write options.
     warn : callable
-        Called with the text of a warning.
+        A function that is called with the text of each warning.
     find : callable, optional
-        Returns the path of a program by name. By default, programs are found where Python packages
-        install them.
+        A function that returns the path of the program with a given name. By default, programs are
+        found where Python packages install them.
     watch : callable, optional
-        Called while a program runs; an exception ends the run.
+        A function that is called repeatedly while a program runs. An exception ends the run.
     progress : callable, optional
-        Called with the share of the maps' cells that have been sent, from 0 to 1.
+        A function that is called with the share of the maps' cells that have been sent, from 0 to
+        1.
     started : callable, optional
-        Called before a script runs, with the script and its maps by name.
+        A function that is called before a script runs, with the script and its maps by name.
     """
 
     words: str = "python"
@@ -64,7 +65,7 @@ def host() -> Host:
 
 @contextlib.contextmanager
 def serving(caller: Host) -> Iterator[None]:
-    """Set the host for calls in this block and thread."""
+    """Set the host for the calls in this block and thread."""
     token = _host.set(caller)
     try:
         yield
@@ -78,7 +79,7 @@ def warn(text: str) -> None:
 
 
 def option(name: str, value: Any = None) -> str:
-    """Return an option in the form of the current host, with its value if one is given.
+    """Return an option, with its value if a value is given, as the current host writes options.
 
     Examples
     --------

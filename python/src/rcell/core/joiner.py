@@ -1,8 +1,8 @@
 # SPDX-License-Identifier: Apache-2.0 OR GPL-2.0-or-later
-"""Find the program rcell-join, and join the clumps of tiles with it.
+"""Find the program rcell-join, and use it to join the clumps of tiles.
 
-`rcell-join` is proved: from the borders of tiles it computes the numbering of their clumps in the
-full map.
+`rcell-join` is proved to compute, from the borders of tiles, the numbering of the tiles' clumps in
+the full map.
 """
 
 from __future__ import annotations
@@ -39,7 +39,7 @@ OTHER_FILES = 256
 
 
 def find_joiner(program: str | os.PathLike[str] | None = None) -> str:
-    """Return the path of rcell-join, found like `find_beside` or with RCELL_JOIN.
+    """Find rcell-join with `find_beside` or RCELL_JOIN, and return its path.
 
     Examples
     --------
@@ -56,7 +56,7 @@ _PROBE_BORDER = b"north: 1\nsouth: 0\neast: 2\nwest: 0\nrows: 10\ncols: 4\n" + (
 
 
 def _probe(path: str) -> None:
-    """Raise WrongProgram unless the program joins the clumps of a test tile correctly."""
+    """Raise WrongProgram unless a program joins the clumps of a test tile correctly."""
     try:
         ended = _run(path, ["clumps", "-d"], [_PROBE_BORDER], PROBE_SECONDS)
         is_known = ended[:2] == (0, b"1 1 2 1\n")
@@ -73,14 +73,16 @@ def _probe(path: str) -> None:
 def numbering_of(
     borders: Sequence[bytes], diagonal: bool = False, program: str | os.PathLike[str] | None = None
 ) -> NDArray[Any]:
-    """Join the clumps of tiles using the tiles' borders, row by row from the top left.
+    """Number the clumps of tiles as in the full map, using the tiles' borders.
+
+    The tiles are given row by row from the top left.
 
     Returns
     -------
     array of int64, entries x 4
-        The numbering. Each row contains a tile, the first and the last of consecutive clumps, and
-        the first clump's number in the full map; the following clumps have the following numbers.
-        Tiles and clumps are counted from 1.
+        The numbering. Each row contains a tile, the first and the last of several consecutive
+        clumps, and the first clump's number in the full map. The other clumps have consecutive
+        numbers in the full map. Tiles and clumps are counted from 1.
 
     Raises
     ------
@@ -101,7 +103,7 @@ def numbering_of(
 
 
 def check_files(count: int) -> None:
-    """Raise WriteFailed if the system does not allow a process to open enough files at once."""
+    """Raise WriteFailed if the system does not allow enough files to be open at once."""
     needed, most = FILES_EACH * count + OTHER_FILES, resource.getrlimit(resource.RLIMIT_NOFILE)[1]
     if most != resource.RLIM_INFINITY and most < needed:
         raise WriteFailed(
@@ -111,7 +113,7 @@ def check_files(count: int) -> None:
 
 
 def _checked(path: str, status: int, output: bytes, errors: str) -> bytes:
-    """Return the output of a run, or raise an error if the run failed."""
+    """Return the output of a run of rcell-join, or raise an error if the run failed."""
     if status == 0:
         return output
     if status < 0:
@@ -125,7 +127,7 @@ def _checked(path: str, status: int, output: bytes, errors: str) -> bytes:
 def _run(
     path: str, words: list[str], texts: Sequence[bytes], seconds: float | None = None
 ) -> tuple[int, bytes, str]:
-    """Run the program, and return its status, output and message."""
+    """Run rcell-join, and return its exit status, output and message."""
     with ExitStack() as opened:
         opened.enter_context(_files_allowed(len(texts)))
         files = []
@@ -156,7 +158,7 @@ _limit_lock = threading.Lock()
 
 @contextmanager
 def _files_allowed(count: int) -> Iterator[None]:
-    """Raise the limit of open files for this process and its program, if the system allows it."""
+    """Raise the limit on open files in this block, as far as the system allows it."""
     needed, soft = FILES_EACH * count + OTHER_FILES, resource.getrlimit(resource.RLIMIT_NOFILE)[0]
     if soft == resource.RLIM_INFINITY or needed <= soft:
         yield
@@ -174,7 +176,7 @@ def _files_allowed(count: int) -> Iterator[None]:
 
 
 def _unnamed() -> int:
-    """Return the descriptor of an unnamed file, in memory if this Python supports it."""
+    """Return the descriptor of a new unnamed file, in memory if this Python supports it."""
     if hasattr(os, "memfd_create"):
         return os.memfd_create("table")
     with tempfile.TemporaryFile() as file:
@@ -182,7 +184,7 @@ def _unnamed() -> int:
 
 
 def _held(text: bytes) -> int:
-    """Return the descriptor of an unnamed file that contains this text."""
+    """Return the descriptor of a new unnamed file that contains a text."""
     try:
         file = above_standard(_unnamed())
     except OSError as error:

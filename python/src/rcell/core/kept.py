@@ -22,7 +22,7 @@ _LARGE_FILES = "/var/tmp"
 
 
 def fits_memory(shape: tuple[int, int], dtype: Any) -> bool:
-    """Return whether the cells of a map fit in the memory that one map may use."""
+    """Return whether a map's cells fit in the share of free memory that one map may use."""
     return _size_of(shape, dtype) <= free_memory() * _SHARE
 
 
@@ -31,14 +31,14 @@ def _size_of(shape: tuple[int, int], dtype: Any) -> int:
 
 
 def cells_for(shape: tuple[int, int], dtype: Any) -> NDArray[Any]:
-    """Return an array for a map's cells, in memory or in an unnamed temporary file.
+    """Create an array for a map's cells, in memory or in an unnamed temporary file.
 
     The file is removed together with the array.
 
     Raises
     ------
     WriteFailed
-        There is not enough room for the file.
+        The file does not fit on the disk.
     """
     size = _size_of(shape, dtype)
     if fits_memory(shape, dtype):

@@ -1,5 +1,5 @@
 # SPDX-License-Identifier: Apache-2.0 OR GPL-2.0-or-later
-"""Read and write labels and colours of a raster's categories in the formats of GDAL and QGIS."""
+"""Read and write the labels and colours of categories in the formats of GDAL and QGIS."""
 
 from __future__ import annotations
 
@@ -30,7 +30,7 @@ _UNWRITABLE = re.compile("[\0\ud800-\udfff]")
 
 
 def checked_labels(name: str, labels: Any) -> dict[int, str]:
-    """Return labels by category, or raise BadMap if a key or a label is invalid.
+    """Return labels by category, or raise BadMap if a category or a label is invalid.
 
     Raises
     ------
@@ -67,17 +67,17 @@ def checked_labels(name: str, labels: Any) -> dict[int, str]:
 
 
 def legend_of_band(band: ElementTree.Element, path: str) -> Legend:
-    """Return the labels and colours of a raster band, from GDAL's VRT description.
+    """Return the labels and colours of a raster band from GDAL's VRT description.
 
     Labels are read from category names, an attribute table, CF's `flag_meanings`, or a QGIS style
-    next to the raster; colours are read from a colour table, an attribute table, or the style.
+    next to the raster. Colours are read from a colour table, an attribute table, or the style.
 
     Parameters
     ----------
     band : Element
-        The element `VRTRasterBand`.
+        The `VRTRasterBand` element.
     path : str
-        The path of the raster; empty to ignore styles.
+        The path of the raster, or an empty string to ignore styles.
 
     Examples
     --------
@@ -108,7 +108,7 @@ def _style_beside(path: str) -> Legend:
 
 
 def flags_of(values: Any, meanings: Any) -> dict[int, str]:
-    """Return labels from CF attributes: `flag_values` and `flag_meanings`.
+    """Return labels by category from the CF attributes `flag_values` and `flag_meanings`.
 
     Examples
     --------
@@ -127,7 +127,10 @@ def flags_of(values: Any, meanings: Any) -> dict[int, str]:
 
 
 def _color_table(band: ElementTree.Element, labels: Mapping[int, str]) -> dict[int, str]:
-    """Return the colours of a colour table; black means no colour."""
+    """Return the colours by category from a band's colour table.
+
+    Black means that a category without a label has no colour.
+    """
     colors = {}
     for code, entry in enumerate(band.findall("ColorTable/Entry")):
         parts = [int(entry.get(key, "0")) for key in ("c1", "c2", "c3")]
@@ -137,7 +140,7 @@ def _color_table(band: ElementTree.Element, labels: Mapping[int, str]) -> dict[i
 
 
 class _Attributes:
-    """The attribute table of a band; empty if it has none."""
+    """The attribute table of a band, which may be empty."""
 
     def __init__(self, usages: list[int], titles: list[str], rows: list[list[str]]) -> None:
         self.usages = usages
@@ -146,7 +149,7 @@ class _Attributes:
 
     @classmethod
     def of(cls, band: ElementTree.Element) -> _Attributes:
-        """Return the attribute table of a band."""
+        """Return the attribute table of a band, or an empty table if the band has none."""
         table = band.find("GDALRasterAttributeTable")
         if table is None:
             return cls([], [], [])
@@ -160,7 +163,7 @@ class _Attributes:
         return cls(usages, titles, rows)
 
     def _column(self, usages: Sequence[int], titles: Sequence[str]) -> Optional[int]:
-        """Return the first column with one of these usages, or else with one of these titles."""
+        """Return the index of the first column with a given usage, else a given title, or None."""
         for place, usage in enumerate(self.usages):
             if usage in usages:
                 return place
@@ -170,7 +173,7 @@ class _Attributes:
         return None
 
     def labels(self) -> dict[int, str]:
-        """Return the label of each value."""
+        """Return the labels by category, or an empty dict if the table has no labels."""
         value = self._column(_VALUE_USAGES, ("value",))
         name = self._column(
             (_USAGE_NAME,), ("class_name", "class_names", "name", "label", "category")
@@ -180,7 +183,7 @@ class _Attributes:
         return _labels_of_rows((row[value], row[name]) for row in self.rows)
 
     def colors(self) -> dict[int, str]:
-        """Return the colour of each value."""
+        """Return the colours by category, or an empty dict if the table has no colours."""
         value = self._column(_VALUE_USAGES, ("value",))
         if value is None or not set(_USAGES_RGB) <= set(self.usages):
             return {}
@@ -194,7 +197,7 @@ class _Attributes:
 
 
 def _labels_of_rows(rows: Iterable[Sequence[Any]]) -> dict[int, str]:
-    """Return labels by category from (number or text, label) pairs.
+    """Return labels by category from (category, label) pairs, skipping invalid pairs.
 
     Examples
     --------
@@ -206,7 +209,7 @@ def _labels_of_rows(rows: Iterable[Sequence[Any]]) -> dict[int, str]:
 
 
 def _category_of(number: Any) -> Optional[int]:
-    """Convert a number or a text to a category, or return None if it is not a category."""
+    """Convert a number or a string to a category, or return None if it is not a category."""
     with contextlib.suppress(TypeError, ValueError, OverflowError):
         if float(number).is_integer() and abs(float(number)) < -NULL:
             return int(float(number))
@@ -214,23 +217,23 @@ def _category_of(number: Any) -> Optional[int]:
 
 
 def write_labels(path: str, labels: Mapping[int, str]) -> str | None:
-    """Write the labels of a raster's first band to GDAL's file `.aux.xml` next to it.
+    """Write the labels of a raster's first band to GDAL's `.aux.xml` file next to the raster.
 
     Parameters
     ----------
     path : str
-        The path of a raster that is complete and closed.
+        The path of the raster, which must be complete and closed.
     labels : mapping of int to str
 
     Returns
     -------
     str or None
-        The file with the labels; None if there are no labels.
+        The path of the file with the labels, or None if there are no labels.
 
     Raises
     ------
     OSError
-        The labels could not be written completely.
+        The labels were not written completely.
     """
     if not labels:
         return None
@@ -254,7 +257,7 @@ def write_labels(path: str, labels: Mapping[int, str]) -> str | None:
 
 
 def _root_of(beside: str) -> ElementTree.Element:
-    """Return the existing contents of a raster's `.aux.xml`, or an empty element."""
+    """Return the root element of a raster's `.aux.xml`, or a new element if there is no file."""
     with contextlib.suppress(OSError, ElementTree.ParseError):
         root = ElementTree.parse(beside).getroot()
         if root.tag == "PAMDataset":
@@ -263,7 +266,7 @@ def _root_of(beside: str) -> ElementTree.Element:
 
 
 def _put_table(band: ElementTree.Element, labels: Mapping[int, str]) -> None:
-    """Add an attribute table with values and labels in GDAL's format."""
+    """Add an attribute table of values and labels in GDAL's format to a band."""
     table = ElementTree.SubElement(band, "GDALRasterAttributeTable", tableType="thematic")
     columns = [("Value", _INTEGER, _USAGE_VALUE), ("Class_Name", _TEXT, _USAGE_NAME)]
     for place, (title, kind, usage) in enumerate(columns):

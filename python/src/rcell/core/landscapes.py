@@ -1,5 +1,5 @@
 # SPDX-License-Identifier: Apache-2.0 OR GPL-2.0-or-later
-"""Count the patches, classes and borders of landscapes: a map, or each zone of a map."""
+"""Count the patches, classes and borders of landscapes, which are a map or a map's zones."""
 
 from __future__ import annotations
 
@@ -21,9 +21,9 @@ Floats = NDArray[np.float64]
 
 
 class Sides(NamedTuple):
-    """Pairs of members that share cell sides.
+    """The pairs of members that share cell sides.
 
-    Contains the indices of both members, and the numbers of shared ends and flanks.
+    Contains the indices of both members, and the numbers of ends and flanks that they share.
     """
 
     first: Integers
@@ -34,24 +34,26 @@ class Sides(NamedTuple):
 
 @dataclass(frozen=True)
 class Landscapes:
-    """The counts of each landscape: one per zone, or one for the full map.
+    """The counts of each landscape. A landscape is a zone or, without zones, the full map.
 
     Attributes
     ----------
     zones : array
         The zone of each landscape.
     classes, zone_at : array
-        For each member, which is a class in a landscape: the class, and the index of its landscape.
+        For each member, the class and the index of the landscape. A member is a class in a
+        landscape.
     member_at, cells, weights, ends, flanks : array
-        For each patch, in the order of zones and first cells: the index of its member, its cells,
-        its weight (square metres in degrees, otherwise cells), and the cell sides on its border:
-        ends (north, south) and flanks (west, east).
+        For each patch, in the order of zones and first cells: the index of the patch's member, the
+        number of cells, the weight, and the numbers of ends and flanks on the patch's border. The
+        weight is in square metres if the map is in degrees, otherwise in cells. Ends are northern
+        and southern cell sides, and flanks are western and eastern cell sides.
     like : array
-        The number of sides between cells of the same member, for each member.
+        For each member, the number of sides between two cells of the member.
     sides : Sides
-        The sides between two members of a landscape.
+        The sides between different members of the same landscape.
     end, flank : float
-        The lengths of an end and a flank in metres; NaN if they are unknown.
+        The lengths of an end and a flank in metres, or NaN if the lengths are unknown.
     """
 
     zones: Integers
@@ -74,26 +76,26 @@ class Landscapes:
 
     @property
     def borders(self) -> Floats:
-        """The length of the border of each pair of members in metres."""
+        """The length in metres of the border between each pair of members."""
         return self.sides.ends * self.end + self.sides.flanks * self.flank
 
     def by_member(self, values: NDArray[Any]) -> NDArray[Any]:
-        """Return the sums over the patches of each member."""
+        """Return the sum of the patches' values for each member."""
         return summed(self.member_at, values, self.classes.size)
 
     def by_zone(self, values: NDArray[Any]) -> NDArray[Any]:
-        """Return the sums over the members of each landscape."""
+        """Return the sum of the members' values for each landscape."""
         return summed(self.zone_at, values, self.zones.size)
 
 
 def summed(groups: Integers, values: NDArray[Any], size: int) -> NDArray[Any]:
-    """Return the sums of values by group."""
+    """Return the sum of the values in each group, for group indices from 0 to `size` - 1."""
     sums: NDArray[Any] = np.bincount(groups, values, size).astype(values.dtype)
     return sums
 
 
 def landscapes_of(maps: Maps, connectivity: int, measure: Measure, has_zones: bool) -> Landscapes:
-    """Count the landscapes of `map`, or of each zone if there are zones."""
+    """Count the landscapes of the map `map`: one per zone, or one if there are no zones."""
     name, lines = "map", []
     zones, classes, steps = np.zeros(1, np.int64), None, 1
     if has_zones:
@@ -138,7 +140,7 @@ def landscapes_of(maps: Maps, connectivity: int, measure: Measure, has_zones: bo
 
 
 def _weights(cells: Integers, by_row: Sequence[Integers], measure: Measure) -> Floats:
-    """Return the square metres of patches in degrees, otherwise their cells."""
+    """Return the weight of each patch: square metres in degrees, otherwise cells."""
     if measure.by_row is None:
         return cells.astype(np.float64)
     [table] = by_row
@@ -152,13 +154,16 @@ def _sums(values: NDArray[Any], first: NDArray[np.intp]) -> NDArray[Any]:
 
 
 def _ranked(source: str, name: str, values: Integers, step: int) -> list[str]:
-    """Return script lines that renumber the categories of a map 0, step, 2 * step, ..."""
+    """Return script lines that renumber the given categories of a map 0, step, 2 * step, ..."""
     rules = [f"{value} = {place * step}" for place, value in enumerate(values.tolist())]
     return [f"r.reclass input={source} output={name}", *rules, "end"]
 
 
 def _script(name: str, connectivity: int, measure: Measure) -> list[str]:
-    """Return script lines that count patches and their sides, neighbours, and patch rows."""
+    """Return script lines that count the cells and sides of patches, and neighbouring members.
+
+    In degrees, the lines also count each patch's cells in each row.
+    """
     flag = "-d " if connectivity == 8 else ""
     # Cells of one class that share a side are in one patch, so two comparisons yield all
     # perimeters.
@@ -179,7 +184,7 @@ def _script(name: str, connectivity: int, measure: Measure) -> list[str]:
 
 
 def _borders(members: Integers, zone_at: Integers, right: Integers, below: Integers) -> Sides:
-    """Return the pairs of members that share sides in a landscape."""
+    """Return the pairs of different members that share cell sides within a landscape."""
     pairs, flanks, ends = sides_of(right, below)
     first, second = np.searchsorted(members, pairs.T)
     is_border = first != second

@@ -1,5 +1,5 @@
 # SPDX-License-Identifier: Apache-2.0 OR GPL-2.0-or-later
-"""Read legends from CSV or TSV files, QGIS styles, rasters, and Python objects."""
+"""Read legends from CSV or TSV files, QGIS styles, rasters and Python objects."""
 
 from __future__ import annotations
 
@@ -37,13 +37,13 @@ _PARTS = re.compile(r"([0-9]{1,3}),([0-9]{1,3}),([0-9]{1,3})(,.*)?")
 
 
 class Legend(NamedTuple):
-    """Labels and colours of classes.
+    """The labels and colours of classes.
 
     Attributes
     ----------
     labels : dict of int to str
     colors : dict of int to str
-        As `#rrggbb`.
+        The colours in the form `#rrggbb`.
     """
 
     labels: Dict[int, str]
@@ -51,7 +51,7 @@ class Legend(NamedTuple):
 
 
 class Entry(NamedTuple):
-    """A class in a legend, with its place in the legend for messages."""
+    """A class in a legend, with its line or key in the legend for error messages."""
 
     place: str
     value: Any
@@ -60,7 +60,7 @@ class Entry(NamedTuple):
 
 
 def labels_of(source: Any) -> Mapping[int, str]:
-    """Return the labels in a legend of any kind.
+    """Return the labels in a legend of any kind that `legend_of` accepts.
 
     Examples
     --------
@@ -71,23 +71,24 @@ def labels_of(source: Any) -> Mapping[int, str]:
 
 
 def legend_of(source: Any) -> Legend:
-    """Return a legend.
+    """Read a legend from a file, or convert a Python object to a legend.
 
     Parameters
     ----------
     source : path, dict, Series or DataFrame
-        A CSV or TSV with the columns `value` and `label` and optionally `colour`, a QGIS style
-        (`.qml`), or a raster with labels; labels by value; a DataFrame with these columns.
+        A path of a CSV or TSV file with the columns `value`, `label` and optionally `colour`, of a
+        QGIS style (`.qml`), or of a raster with labels. Alternatively, the label of each value, or
+        a DataFrame with the columns of a CSV file.
 
     Raises
     ------
     Refused
         A value is not a whole number or occurs twice, a colour is invalid, or the header is
-        missing; the error names the line.
+        missing. The error names the line.
     ReadFailed
         The file cannot be opened.
     BadArgument
-        The source has another type.
+        The source has none of these types.
     """
     if isinstance(source, (str, os.PathLike)):
         return _of_path(os.fspath(source))
@@ -105,7 +106,7 @@ def legend_of(source: Any) -> Legend:
 
 
 def _of_path(path: str) -> Legend:
-    """Read a legend from a file, which its ending identifies as a style, table or raster."""
+    """Read a legend from a style, a table or a raster, depending on the file extension."""
     ending = os.path.splitext(path)[1].lower()
     if ending == _STYLE:
         return legend_of_qml(path)
@@ -136,7 +137,7 @@ def _entries_of(source: Any) -> Iterator[Entry]:
 def rows_of(
     source: str, table: Any, needed: Tuple[str, ...], optional: Tuple[str, ...] = ()
 ) -> Iterator[Tuple[str, Dict[str, Any]]]:
-    """Yield the place and the selected fields of each row of a DataFrame, CSV or TSV."""
+    """Yield the place and the selected fields of each row in a DataFrame, CSV or TSV file."""
     if isinstance(table, (str, os.PathLike)):
         yield from _rows_of_file(source, os.fspath(table), needed, optional)
         return
@@ -151,9 +152,10 @@ def rows_of(
 def _rows_of_file(
     source: str, path: str, needed: Tuple[str, ...], optional: Tuple[str, ...] = ()
 ) -> Iterator[Tuple[str, Dict[str, str]]]:
-    """Yield the rows of a CSV or TSV.
+    """Yield the place and the selected fields of each row in a CSV or TSV file.
 
-    Titles may have any case and order. Other columns are ignored, and empty lines are skipped.
+    Column titles may be in any order, in upper or lower case. Other columns and empty lines are
+    skipped.
 
     Raises
     ------
@@ -234,7 +236,7 @@ def _columns_of(
 
 
 def _of_entries(entries: Iterable[Entry]) -> Legend:
-    """Check entries and return them as a legend.
+    """Convert entries to a legend, or raise Refused if an entry is invalid.
 
     Values must be unique whole numbers, and labels and colours must be valid.
     """
@@ -265,7 +267,7 @@ def _of_entries(entries: Iterable[Entry]) -> Legend:
 
 
 def _of_parts(color: str) -> str:
-    """Convert a colour given by its parts to `#rrggbb`; return any other text unchanged."""
+    """Convert a colour given by its components to `#rrggbb`, and return other text unchanged."""
     match = _PARTS.fullmatch(color)
     if not match:
         return color
@@ -282,12 +284,12 @@ def is_missing(value: Any) -> bool:
 
 
 def _text(value: Any) -> str:
-    """Return a field as text, or an empty text if it is missing."""
+    """Return a field as a string, which is empty if the field is missing."""
     return "" if is_missing(value) else str(value).strip(_BLANKS)
 
 
 def whole_number(value: Any) -> Optional[int]:
-    """Convert a text or a number to an int, or return None if it is not a whole number.
+    """Convert a string or a number to an int, or return None if it is not a whole number.
 
     Examples
     --------

@@ -1,5 +1,5 @@
 # SPDX-License-Identifier: Apache-2.0 OR GPL-2.0-or-later
-"""Import optional libraries, which only some calls need."""
+"""Import the optional libraries that only some calls need."""
 
 from __future__ import annotations
 
@@ -24,7 +24,7 @@ def has(library: str) -> bool:
 
 
 def need(library: str, extra: str, purpose: str) -> Any:
-    """Import a module by its full name, or raise MissingLibrary if that fails.
+    """Import a module by its full name, or raise MissingLibrary if the import fails.
 
     Examples
     --------

@@ -1,9 +1,9 @@
 # SPDX-License-Identifier: Apache-2.0 OR GPL-2.0-or-later
-"""Read the text output of the programs. Needs numpy.
+"""Read the text output of the programs.
 
-rcell-pipe reads and writes binary data. Only two outputs are text: a user's text grids, which rcell
-prints in a normal form, and the tables and numberings of rcell-join, whose formats are in
-docs/rcell-join.md.
+This module needs numpy. rcell-pipe reads and writes binary data. Only two kinds of output are text:
+users' text grids, which rcell prints in a normal form, and the tables and numberings of rcell-join,
+whose formats are described in docs/rcell-join.md.
 """
 
 from __future__ import annotations
@@ -36,14 +36,14 @@ _HEADER_BYTES = 1 << 8
 
 
 def numbers_of(text: bytes, width: int) -> NDArray[np.int64]:
-    """Parse lines of `width` whole numbers each, with `NULL` for null.
+    """Convert lines of `width` whole numbers each to an array, in which null is `NULL`.
 
-    Numbers of 2^63 or more wrap around: 2^64 is subtracted.
+    Numbers of 2^63 or more wrap around, because 2^64 is subtracted.
 
     Raises
     ------
     NoAnswer
-        The text has another format.
+        The text does not have this format.
 
     Examples
     --------
@@ -62,9 +62,9 @@ def numbers_of(text: bytes, width: int) -> NDArray[np.int64]:
 
 
 class PrintedGrid(NamedTuple):
-    """A grid that rcell printed: its edges, its size and its rows.
+    """A grid that rcell printed, with its edges, size and rows.
 
-    The rows are in blocks, in which `NULL` is null.
+    The rows are in blocks, in which null is `NULL`.
     """
 
     edges: tuple[str, ...]
@@ -80,9 +80,9 @@ def printed_grid(
     seconds: Optional[float] = None,
     watch: Optional[Callable[[], None]] = None,
 ) -> Iterator[PrintedGrid]:
-    """Read a grid that rcell prints.
+    """Print a text grid with rcell and read the output.
 
-    Parameters and errors are the same as in `printing.printed`.
+    The parameters and errors are the same as for `printing.printed`.
     """
     with printed(program, path, seconds, watch) as pieces:
         text, header = b"", None
@@ -97,7 +97,7 @@ def printed_grid(
 
 
 def _blocks(pieces: Iterator[bytes], rows: int, cols: int) -> Iterator[NDArray[np.int32]]:
-    """Yield blocks of rows, or raise NoAnswer unless they add up to `rows`."""
+    """Yield blocks of rows, or raise NoAnswer if the number of rows is not `rows`."""
     rest = b""
     for piece in pieces:
         lines, end, rest = (rest + piece).rpartition(b"\n")

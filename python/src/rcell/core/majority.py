@@ -1,5 +1,5 @@
 # SPDX-License-Identifier: Apache-2.0 OR GPL-2.0-or-later
-"""Filter maps by majority: each cell gets the most frequent class of the square around it."""
+"""Filter maps with a majority filter, which assigns the most frequent nearby class to a cell."""
 
 from __future__ import annotations
 
@@ -21,7 +21,7 @@ _TOKENS_OF_NAME = 2
 
 
 def majority(map: MapLike, size: int = 3, fill: bool = False, *, crs: Any = None) -> ArrayMap:
-    """Give each cell the most frequent class of the square around it.
+    """Assign to each cell the most frequent class in the square around the cell.
 
     In a tie, the smallest class is used.
 
@@ -29,17 +29,17 @@ def majority(map: MapLike, size: int = 3, fill: bool = False, *, crs: Any = None
     ----------
     map : path, array, or any map that `run` accepts
     size : int
-        The number of rows and of columns of the square; must be odd, from 3 to 15. Null cells and
+        The number of rows and columns in the square. It must be odd, from 3 to 15. Null cells and
         cells outside the map are ignored.
     fill : bool
-        Whether null cells also get a class; by default, they stay null.
+        Whether null cells also get a class. By default, null cells stay null.
     crs : any, optional
-        The reference system to assume for a map that has none.
+        The coordinate reference system to assume for a map that does not have one.
 
     Returns
     -------
     Raster
-        The filtered map, with the labels and colours of the map.
+        The filtered map, with the original map's labels and colours.
 
     Raises
     ------
@@ -62,10 +62,10 @@ def majority(map: MapLike, size: int = 3, fill: bool = False, *, crs: Any = None
 
 
 def majority_script(size: int, fill: bool) -> str:
-    """Return the script that computes the map `majority` from the map `map`.
+    """Return the script that filters the map `map` and creates the map `majority`.
 
-    The expressions for squares of 13 and 15 cells have too many tokens. The script therefore first
-    writes the cells with the longest offsets to maps of their own, because a map without an offset
+    The expressions for squares of 13 and 15 rows have too many tokens. The script therefore first
+    writes the cells with the longest offsets to separate maps, because a map without an offset
     needs fewer tokens.
 
     Examples

@@ -1,5 +1,5 @@
 # SPDX-License-Identifier: Apache-2.0 OR GPL-2.0-or-later
-"""Find the memory and the processors that this process may use."""
+"""Find out how much memory and how many processors this process may use."""
 
 from __future__ import annotations
 
@@ -21,7 +21,7 @@ def processors() -> int:
 
 
 def free_memory() -> int:
-    """Return the free memory in bytes, within the limits of the machine and the control group."""
+    """Return the free memory in bytes that the machine and the control group allow."""
     limits = [_UNKNOWN]
     with contextlib.suppress(OSError, ValueError, KeyError, IndexError):
         with open("/proc/meminfo", encoding="ascii") as file:

@@ -1,5 +1,5 @@
 # SPDX-License-Identifier: Apache-2.0 OR GPL-2.0-or-later
-"""Compute landscape metrics of patches, classes and landscapes, in total or by zone.
+"""Compute landscape metrics for patches, classes and landscapes, for the full map or by zone.
 
 Definitions follow FRAGSTATS 4 (McGarigal, Cushman and Ene 2012), without background. Edges are
 borders between two classes.
@@ -46,48 +46,48 @@ def metrics(
     each: bool = False,
     crs: Any = None,
 ) -> Table:
-    """Compute landscape metrics of each class, of each patch, or of the full map.
+    """Compute landscape metrics for each class, for each patch, or for the landscape.
 
     Parameters
     ----------
     map : path, array, or any map that `run` accepts
     level : {"class", "landscape", "patch"}
     connectivity : {4, 8}
-        Which cells belong to one patch: 4 connects cells that share an edge, 8 also cells that
-        share a corner.
+        The cells that belong to the same patch: 4 connects cells that share an edge, and 8 also
+        connects cells that share a corner.
     area : {"ha", "km2", "m2"} or None
         The unit of areas, as in `composition`. Without areas, sizes are in cells.
     zones : map, or path of polygons, GeoDataFrame or GeoSeries, optional
-        Each zone is a separate landscape: patches end at its border and are numbered from 1. Cell
-        sides along the border of a zone are not edges.
+        The zones, each of which is a separate landscape. Patches end at a zone's border and are
+        numbered from 1 in each zone. Cell sides along a zone's border are not edges.
     labels, zone_labels : path, dict, Series or DataFrame, optional
         Legends, as in `composition`.
     zone_field, layer : str, optional
         See `composition`.
     each : bool
-        Whether to process overlapping polygons one after another, as in `composition`.
+        Whether to process overlapping polygons separately, as in `composition`.
     crs : any, optional
-        The reference system to assume for maps that have none.
+        The coordinate reference system to assume for maps that do not have one.
 
     Returns
     -------
     pandas.DataFrame
-        The columns `zone`, `zone_label`, `class` and `label` come first. By class, they are
-        followed by `cells`, `area_ha`, `percent`, `patches`, `patches_km2`,
+        The first columns are `zone`, `zone_label`, `class` and `label`. For classes, the other
+        columns are `cells`, `area_ha`, `percent`, `patches`, `patches_km2`,
         `largest_patch_percent`, `mean_patch_ha`, `area_weighted_mean_patch_ha`,
         `effective_mesh_ha`, `edge_m`, `edge_density_m_ha`, `mean_shape_index`, `aggregation_index`,
-        `cohesion`, `interspersion_index`. A landscape also has `classes`, `contagion`,
-        `shannon_diversity`, `shannon_evenness` and `simpson_diversity`. By patch, the columns are
-        `patch`, `class`, `label`, `cells`, `area_ha`, `perimeter_m`, `shape_index`,
-        `fractal_dimension`. The landscape consists of all cells of the map or zone that are not
-        null. Percentages and densities refer to the landscape, and edges are cell sides between two
-        of its classes. Undefined measures are NaN. Measures that need a length are NaN without a
-        reference system and, with a warning, in degrees.
+        `cohesion` and `interspersion_index`. For landscapes, the columns `classes`, `contagion`,
+        `shannon_diversity`, `shannon_evenness` and `simpson_diversity` are added. For patches, the
+        columns are `patch`, `class`, `label`, `cells`, `area_ha`, `perimeter_m`, `shape_index` and
+        `fractal_dimension`. A landscape consists of all non-null cells of the map or zone.
+        Percentages and densities refer to the landscape, and edges are cell sides between two
+        classes of the landscape. Undefined measures are NaN. Measures that need a length are NaN if
+        the map has no reference system or, with a warning, if the map is in degrees.
 
     Raises
     ------
     Refused
-        See `run`; also raised for invalid legends and polygons.
+        A legend or a polygon is invalid, or for a reason listed in `run`.
     BadArgument
         An argument is out of range.
 
@@ -124,7 +124,7 @@ def metrics(
 
 
 def _sized(cells: Integers, weights: Floats, measure: Measure) -> list[Column]:
-    """Return the columns of cells and areas."""
+    """Return a column of cells and, if areas are wanted, a column of areas."""
     columns = [Column("cells", "count", cells)]
     if measure.unit is not None:
         columns.append(Column(f"area_{measure.unit}", "measure", measure.area(weights)))
@@ -136,7 +136,7 @@ def _measures(values: dict[str, Floats]) -> list[Column]:
 
 
 def _shapes(land: Landscapes) -> Floats:
-    """Return each patch's shape index: a quarter of the perimeter over the area's root."""
+    """Return each patch's shape index: a quarter of its perimeter over its area's square root."""
     shapes: Floats = 0.25 * land.perimeters / np.sqrt(land.cells * land.end * land.flank)
     return shapes
 
@@ -205,7 +205,7 @@ def _of_sizes(
     edges: Floats,
     measure: Measure,
 ) -> list[Column]:
-    """Return the measures that classes and landscapes have in common.
+    """Return the columns of measures that classes and landscapes have in common.
 
     `groups` contains the index of each patch's class or landscape.
     """
@@ -232,7 +232,8 @@ def _of_sizes(
 def _aggregation(land: Landscapes) -> Floats:
     """Return the aggregation index of each member (He, DeZonia and Mladenoff 2000).
 
-    The index divides the like sides by the largest possible number for an area of this size.
+    The index is the number of like sides as a percentage of the largest number that is possible
+    with the same number of cells.
     """
     cells = land.by_member(land.cells)
     side = np.sqrt(cells).astype(np.int64)  # exact, because maps have fewer than 2^31 cells
@@ -243,9 +244,9 @@ def _aggregation(land: Landscapes) -> Floats:
 
 
 def _cohesion(groups: Integers, land: Landscapes, whole: Integers) -> Floats:
-    """Return the patch cohesion index (Schumaker 1996); NaN in a landscape of one cell.
+    """Return the patch cohesion index of each group (Schumaker 1996).
 
-    Perimeters are in cell sides, and areas in cells.
+    Perimeters are in cell sides, and areas in cells. The index is NaN in a landscape of one cell.
     """
     sides = (land.ends + land.flanks).astype(np.float64)
     above, below = (
@@ -258,11 +259,10 @@ def _cohesion(groups: Integers, land: Landscapes, whole: Integers) -> Floats:
 def _interspersion(
     groups: Integers, borders: Floats, edges: Floats, kinds: Integers, others: Integers
 ) -> Floats:
-    """Return the interspersion index: the entropy of borders over its maximum.
+    """Return each group's interspersion index: the entropy of the borders over its maximum.
 
-    The maximum depends on the number of classes.
-
-    The index is NaN if there are fewer than three classes, or no edges.
+    The maximum depends on the number of classes. The index is NaN if there are fewer than three
+    classes, or no edges.
     """
     known = (others >= 2) & (edges > 0)
     most = np.where(known, np.log(np.maximum(kinds, 2)), np.nan)
@@ -270,7 +270,7 @@ def _interspersion(
 
 
 def _entropy(groups: Integers, parts: Floats, size: int) -> Floats:
-    """Return the entropy of each group's parts in nats."""
+    """Return the entropy, in nats, of the parts of each group."""
     total = summed(groups, parts, size)[groups]
     shares = parts / np.where(total > 0, total, np.nan)
     return summed(groups, -shares * np.log(np.where(shares > 0, shares, 1)), size)

@@ -1,5 +1,5 @@
 # SPDX-License-Identifier: Apache-2.0 OR GPL-2.0-or-later
-"""Read several files as one map: a list of files, or the files that match a pattern."""
+"""Read several files as one map, given a list of files or a pattern of file names."""
 
 from __future__ import annotations
 
@@ -26,7 +26,7 @@ _WILD = "*?["
 
 
 class Part(NamedTuple):
-    """A file in a mosaic, and its place in the map."""
+    """A file in a mosaic, and the rectangle that the file covers in the map."""
 
     source: Any
     place: Rectangle
@@ -38,7 +38,7 @@ def is_pattern(path: str) -> bool:
 
 
 def open_pattern(name: str, pattern: str) -> Source:
-    """Open the files that match a pattern, in the order of their names, as one map."""
+    """Open the files that match a pattern as one map, in the order of the file names."""
     paths = sorted(glob.glob(pattern, recursive=True))
     if not paths:
         raise ReadFailed(name, f"cannot open: {pattern}: no file matches it")
@@ -46,21 +46,22 @@ def open_pattern(name: str, pattern: str) -> Source:
 
 
 def open_files(name: str, paths: Sequence[Any]) -> Source:
-    """Open files on one grid as one map.
+    """Open several files on the same grid as one map.
 
-    Gaps are null. If files overlap, the later file's cells are used unless they are null.
+    Gaps between files are null. If files overlap, the later file's cells are used unless they are
+    null.
 
     Parameters
     ----------
     name : str
-        The name of the map, for errors.
+        The name of the map, for error messages.
     paths : sequence of paths
 
     Raises
     ------
     OtherCrs, OtherRegion, BadMap
-        Two files differ in reference system, cell size, alignment, type or nodata; the message
-        names both files and the difference.
+        Two files differ in reference system, cell size, alignment, type or nodata value. The
+        message names both files and the difference.
     ReadFailed
         A file cannot be opened.
     """
@@ -102,7 +103,7 @@ def open_files(name: str, paths: Sequence[Any]) -> Source:
 def _shift_of(name: str, first: Any, source: Any) -> tuple[int, int]:
     """Return the row and column of the first file at which another file begins.
 
-    Raises an error if the files do not fit together.
+    Raises OtherRegion or BadMap if the two files cannot be combined.
     """
     both = f"{source.name} and {first.name}"
     shift = Shift.between(first.transform, source.transform, source.region.shape)
@@ -122,7 +123,7 @@ def _shift_of(name: str, first: Any, source: Any) -> tuple[int, int]:
 
 
 def _is_full(parts: Sequence[Part], cells: int) -> bool:
-    """Return whether files fill a map of this number of cells without overlaps."""
+    """Return whether files cover all cells of a map of the given size without overlaps."""
     corners = np.array([place for _, place in parts])
     is_apart = all(len(_near(corners, place)) == 1 for _, place in parts)
     return is_apart and sum(place.cells for _, place in parts) == cells
@@ -149,7 +150,7 @@ def _warn_of_overlaps(mosaic: MosaicMap) -> None:
 
 @dataclass(frozen=True)
 class MosaicMap:
-    """Files on one grid as one map; created by `open_files`.
+    """Several files on the same grid as one map, as returned by `open_files`.
 
     Attributes
     ----------
@@ -159,8 +160,8 @@ class MosaicMap:
     transform : tuple of six float
     crs : any
     is_masked : bool
-        Whether its blocks have masks: if a file has a mask, or if there may be gaps and there is no
-        nodata value.
+        Whether the map's blocks have masks. They have masks if a file has a mask, or if there may
+        be gaps but no nodata value.
     """
 
     name: str
@@ -177,7 +178,7 @@ class MosaicMap:
 
     @cached_property
     def overlaps(self) -> Sequence[tuple[int, int]]:
-        """The pairs of files that overlap, with the later file first."""
+        """The pairs of overlapping files as indices, with the later file first."""
         pairs = []
         for index, (_, place) in enumerate(self.parts):
             for other in _near(self._places, place).tolist():
@@ -186,7 +187,10 @@ class MosaicMap:
         return pairs
 
     def sent(self, outer: Rectangle) -> Optional[MosaicMap]:
-        """Return a map with only the files in a window, but at least one file."""
+        """Return a map that contains only the files in a window, and at least one file.
+
+        Returns None if a file cannot be opened by another process.
+        """
         parts = []
         for index in _near(self._places, outer).tolist() or [0]:
             source, place = self.parts[index]
@@ -198,48 +202,48 @@ class MosaicMap:
 
     @property
     def dtype(self) -> np.dtype[Any]:
-        """The data type of its blocks."""
+        """The data type of the map's blocks."""
         dtype: np.dtype[Any] = self.parts[0].source.dtype
         return dtype
 
     @property
     def nodata(self) -> Optional[int]:
-        """The value that marks null in its blocks."""
+        """The value that marks null in the map's blocks."""
         nodata: Optional[int] = self.parts[0].source.nodata
         return nodata
 
     @property
     def labels(self) -> Mapping[int, str]:
-        """The labels of its categories, from the first file."""
+        """The labels of the map's categories, from the first file."""
         labels: Mapping[int, str] = self.parts[0].source.labels
         return labels
 
     @property
     def colors(self) -> Mapping[int, str]:
-        """The colours of its categories, from the first file."""
+        """The colours of the map's categories, from the first file."""
         colors: Mapping[int, str] = self.parts[0].source.colors
         return colors
 
     @property
     def files(self) -> tuple[str, ...]:
-        """The files of all parts."""
+        """The paths of all files from which the map is read."""
         return tuple(file for part in self.parts for file in part.source.files)
 
     @property
     def block_shape(self) -> tuple[int, int]:
-        """The rows and columns of a block in the first file."""
+        """The numbers of rows and columns in a block of the first file."""
         shape: tuple[int, int] = self.parts[0].source.block_shape
         return shape
 
     def blocks(self) -> Iterator[Block]:
-        """Yield the rows from north to south."""
+        """Yield blocks of full rows from north to south."""
         rows, cols = self.region.shape
         step = max(1, BLOCK_CELLS // cols)
         for row in range(0, rows, step):
             yield self.window(row, 0, min(step, rows - row), cols)
 
     def window(self, row: int, col: int, rows: int, cols: int) -> Block:
-        """Return a window of cells; rows and columns are counted from the north-west."""
+        """Return the cells in a window, whose row and column are counted from the north-west."""
         place, nodata = Rectangle(row, col, rows, cols), self.nodata
         cells = np.full((rows, cols), 0 if nodata is None else nodata, self.dtype)
         null = np.ones((rows, cols), np.bool_) if self.is_masked else None

@@ -1,5 +1,5 @@
 # SPDX-License-Identifier: Apache-2.0 OR GPL-2.0-or-later
-"""Measure the patches of a map, with the program or from tables."""
+"""Measure the patches of a map, either in the program or from the tables of a script."""
 
 from __future__ import annotations
 
@@ -26,23 +26,24 @@ Floats = NDArray[np.float64]
 
 @dataclass(frozen=True)
 class PatchMeasures:
-    """The measures of patches: each array has one value per patch.
+    """The measures of patches, in arrays with one value per patch.
 
     Attributes
     ----------
     numbers : array of int64
-        The patch numbers of r.clump, ascending.
+        The patch numbers from r.clump, in ascending order.
     classes, cells, core : array of int64
         The class, the number of cells, and the number of core cells. A cell is in the core if all
-        cells within the core depth, across edges, are in its patch.
+        cells that can be reached within the core depth, across edges, are in the same patch.
     ends, flanks : array of int64
-        The cell sides on the border of the patch: north and south sides, and west and east sides.
+        The numbers of cell sides on the patch's border: northern and southern sides (ends), and
+        western and eastern sides (flanks).
     top, bottom, left, right : array of int64
-        The first and last row and column, from 0.
+        The first and last row, and the first and last column, counted from 0.
     zones : array of int64 or None
-        The zone that contains most cells; `NULL` if no cell has a zone.
+        The zone that contains most of the patch's cells, or `NULL` if no cell is in a zone.
     area, core_area : array of float64 or None
-        The areas of the patch and its core, in the unit of the call.
+        The areas of the patch and the patch's core, in the unit of the call.
     """
 
     numbers: Integers
@@ -77,11 +78,11 @@ def patch_measures(
     measure : Measure
     connectivity, depth : int
     classes : list of int, optional
-        Only patches of these classes.
+        Measure only patches of these classes.
     fewest : int
-        Only patches with at least this many cells.
+        Measure only patches with at least this many cells.
     has_zones : bool
-        Whether there is a map `zones`.
+        Whether the maps include a map `zones`.
     """
     found = PatchSum(classes, fewest)
     question = Question("map", connectivity, depth, "zones" if has_zones else "")
@@ -91,7 +92,7 @@ def patch_measures(
 
 
 def _of_sum(found: PatchSum, measure: Measure) -> PatchMeasures:
-    """Convert the program's counts to measures."""
+    """Convert the program's counts of patches to measures of patches."""
     counts, has_area = dict(found.counts), measure.unit is not None
     zones = counts.pop("zones", None)
     return PatchMeasures(
@@ -105,16 +106,16 @@ def _of_sum(found: PatchSum, measure: Measure) -> PatchMeasures:
 
 
 def _zones(numbers: Integers, table: Integers) -> Integers:
-    """Return the zone with most cells of each patch; null if no cell has a zone.
+    """Return the zone that contains most cells of each patch, or null if no cell is in a zone.
 
     In a tie, the smallest zone is returned.
 
     Parameters
     ----------
     numbers : array of int64
-        The patch numbers, ascending.
+        The patch numbers, in ascending order.
     table : array of int64
-        The columns are patch, zone and cells.
+        A table with the columns patch, zone and cells.
     """
     found = np.full(numbers.size, NULL, np.int64)
     order = np.lexsort([table[:, 1], -table[:, 2], table[:, 0]])
@@ -125,9 +126,9 @@ def _zones(numbers: Integers, table: Integers) -> Integers:
 
 
 def _places(numbers: Integers, of: Integers) -> tuple[NDArray[np.intp], NDArray[np.bool_]]:
-    """Look up values in ascending numbers.
+    """Look up values in an ascending array of numbers.
 
-    Returns the indices of the values found, and a mask of the values found.
+    Returns the index of each value that is found, and a mask of the values that are found.
     """
     at = np.minimum(np.searchsorted(numbers, of), max(numbers.size - 1, 0))
     kept = numbers[at] == of if numbers.size else np.zeros(of.size, np.bool_)
@@ -148,7 +149,7 @@ def _of_tables(
     fewest: int,
     has_zones: bool,
 ) -> PatchMeasures:
-    """Compute patch measures from tables of sides, cores, rows, columns and zones."""
+    """Compute patch measures from a script's tables of sides, cores, rows, columns and zones."""
     by_row = measure.by_row is not None
     script = _script(connectivity, classes, depth, has_zones, by_row)
     sides, core, by_rows, by_cols, *in_zones = maps.tables(script, once=4)
@@ -213,12 +214,12 @@ def _script(
 
 
 class _Tables:
-    """The patches of a map with at least `fewest` cells, and their columns from tables.
+    """The patches of a map that have at least `fewest` cells, read from a script's tables.
 
     Parameters
     ----------
     sides : array of int64
-        The columns are patch, class, coded sides on the border of the patch, and cells.
+        A table with the columns patch, class, coded sides on the patch's border, and cells.
     fewest : int
     """
 
@@ -234,12 +235,15 @@ class _Tables:
         self._sides = sides
 
     def sides(self) -> list[Integers]:
-        """Return each patch's number of ends and of flanks."""
+        """Return the number of ends and the number of flanks of each patch."""
         numbers, codes, cells = self._sides[:, 0], self._sides[:, 2], self._sides[:, 3]
         return [self.summed(numbers, cells * part) for part in (codes % _FLANK, codes // _FLANK)]
 
     def summed(self, numbers: Integers, values: NDArray[Any]) -> NDArray[Any]:
-        """Return the sum of each patch's values; equal patch numbers must be consecutive."""
+        """Return the sum of each patch's values.
+
+        Entries with the same patch number must be consecutive.
+        """
         first = places_of(numbers)
         found = np.zeros(self.numbers.size, values.dtype)
         if first.size:
@@ -248,7 +252,7 @@ class _Tables:
         return found
 
     def ends_of(self, table: Integers) -> tuple[Integers, Integers]:
-        """Return the first and last row (or column) of each patch."""
+        """Return the first row (or column) and the last row (or column) of each patch."""
         first = places_of(table[:, 0])
         last = (
             np.concatenate([first[1:], [len(table)]]).astype(np.intp) - 1 if first.size else first
@@ -259,7 +263,10 @@ class _Tables:
     def areas(
         self, measure: Measure, rows: Integers, core: Integers, inner: Integers
     ) -> tuple[Optional[Floats], Optional[Floats]]:
-        """Return the areas of the patches and cores; in degrees, sums over their rows."""
+        """Return the areas of the patches and of their cores, or None if no areas are wanted.
+
+        In degrees, areas are summed over rows.
+        """
         if measure.by_row is None:
             has_area = measure.unit is not None
             return (measure.area(self.cells), measure.area(inner)) if has_area else (None, None)

@@ -1,5 +1,5 @@
 # SPDX-License-Identifier: Apache-2.0 OR GPL-2.0-or-later
-"""Summarise the patches of each class without a table of all patches."""
+"""Summarise the patches of each class without creating a table of all patches."""
 
 from __future__ import annotations
 
@@ -28,20 +28,20 @@ def class_summary(
     fewest: int,
     labels: Any = None,
 ) -> Table:
-    """Return each class's number of patches, cells and area, and its largest and mean patch size.
+    """Return the columns of a table with each class's number of patches and patch sizes.
 
     Parameters
     ----------
     maps : Maps
     clump : str
-        The line of a script that numbers the patches of `map` as `patch`.
+        The script line that numbers the patches of `map` and creates the map `patch`.
     measure : Measure
     classes : list of int, optional
-        Only patches of these classes.
+        Count only patches of these classes.
     fewest : int
-        Only patches with at least this many cells.
+        Count only patches with at least this many cells.
     labels : any, optional
-        A legend.
+        A legend that replaces the labels of the map.
     """
     summary = _Summary(measure, classes, fewest)
     rows = [] if measure.by_row is None else ["r.mapcalc row = row()"]
@@ -52,7 +52,7 @@ def class_summary(
 
 
 class Numbers(NamedTuple):
-    """The totals of a class's patches."""
+    """The totals of a class's patches: patches, cells, area and largest patch."""
 
     patches: int = 0
     cells: int = 0
@@ -61,7 +61,7 @@ class Numbers(NamedTuple):
     largest_area: float = 0.0
 
     def plus(self, more: Numbers) -> Numbers:
-        """Return the totals of both sets of patches."""
+        """Return the totals of two disjoint sets of patches together."""
         return Numbers(
             self.patches + more.patches,
             self.cells + more.cells,
@@ -72,7 +72,7 @@ class Numbers(NamedTuple):
 
 
 class _Summary:
-    """Sums up the patches of each class over tiles.
+    """The totals of each class's patches, which are added up tile by tile.
 
     Patches that may continue in other tiles wait until the tiles are joined. Tiles may be added in
     any order. Areas are summed in the order of the tiles, so that rounding is reproducible.
@@ -84,9 +84,10 @@ class _Summary:
         self._complete: dict[int, dict[int, Numbers]] = {}
 
     def add(self, tile: int, table: Integers, waiting: Integers) -> None:
-        """Add a tile's table, and the patches that may continue in other tiles.
+        """Add a tile's table, and keep the patches that may continue in other tiles waiting.
 
-        The columns are class, patch, row (only in degrees) and cells.
+        The table's columns are class, patch, row (only in degrees) and cells. `waiting` lists the
+        numbers of the patches that may continue.
         """
         if self._listed is not None:
             table = table[np.isin(table[:, 0], self._listed)]
@@ -96,7 +97,10 @@ class _Summary:
         self._complete[tile] = self._counted(patches[~is_open], area[~is_open])
 
     def join(self, numbers_of: Callable[[int, Integers], Integers]) -> None:
-        """Count the waiting patches, using their numbers in the full map."""
+        """Count the waiting patches.
+
+        `numbers_of` returns the numbers of a tile's patches in the full map.
+        """
         if not self._waiting:
             return
         tiles = sorted(self._waiting)
@@ -108,14 +112,17 @@ class _Summary:
         self._complete[tiles[-1] + 1] = self._counted(*joined)
 
     def _patches_of(self, table: Integers) -> tuple[Integers, Floats]:
-        """Return the class, number and cells of each patch, and its area."""
+        """Return the patches of a table, and their areas.
+
+        The columns of the patches are class, number and cells.
+        """
         if self._measure.by_row is None:
             return table, self._measure.area(table[:, -1])
         area = table[:, -1] * self._measure.by_row[table[:, 2] - 1] / self._measure.divisor
         return _added(table[:, [0, 1, 3]], area)
 
     def _counted(self, patches: Integers, area: Floats) -> dict[int, Numbers]:
-        """Return the totals of complete patches by class."""
+        """Return the totals by class of patches that have enough cells."""
         is_large = patches[:, 2] >= self._fewest
         patches, area = patches[is_large], area[is_large]
         first = places_of(patches[:, 0])
@@ -133,7 +140,7 @@ class _Summary:
         return dict(zip(patches[first, 0].tolist(), numbers))
 
     def _by_class(self) -> dict[int, Numbers]:
-        """Return the totals of all tiles by class."""
+        """Return the totals by class, summed over all tiles."""
         by_class: dict[int, Numbers] = {}
         for tile in sorted(self._complete):
             for code, numbers in self._complete[tile].items():
@@ -141,7 +148,7 @@ class _Summary:
         return by_class
 
     def columns(self, maps: Maps, labels: Any) -> list[Column]:
-        """Return the columns of the table."""
+        """Return the columns of the summary table, with one row per class."""
         by_class = self._by_class()
         codes = np.array(sorted(by_class), np.int64)
         numbers = [by_class[code] for code in codes.tolist()]
@@ -167,7 +174,7 @@ class _Summary:
 
 
 def _added(patches: Integers, area: Floats) -> tuple[Integers, Floats]:
-    """Add up the cells and areas of entries with the same class and patch number."""
+    """Return the cells and areas, summed over entries with the same class and patch number."""
     order = np.lexsort([patches[:, 1], patches[:, 0]])
     patches, area = patches[order], area[order]
     first = places_of(patches[:, :2])

@@ -43,46 +43,47 @@ def patches(
     summary: str | None = None,
     crs: Any = None,
 ) -> Table:
-    """List the patches of a map: connected cells of one class, numbered as in r.clump.
+    """List a map's patches, which are connected cells of one class, numbered as in r.clump.
 
     Parameters
     ----------
     map : path, array, or any map that `run` accepts
     connectivity : {4, 8}
-        4 connects cells that share an edge, 8 also cells that share a corner.
+        4 connects cells that share an edge, and 8 also connects cells that share a corner.
     area : {"ha", "km2", "m2"} or None
-        The unit of areas, as in `composition`. Without areas, there is a column `core_cells`.
+        The unit of areas, as in `composition`. Without areas, the table has a column `core_cells`.
     zones : map, or path of polygons, GeoDataFrame or GeoSeries, optional
-        See `composition`. A patch gets the zone that contains most of its cells; in a tie, the
-        smallest zone.
+        The zones, as in `composition`. A patch is assigned to the zone that contains most of the
+        patch's cells. In a tie, the smallest zone is used.
     classes : int or iterable of int, optional
-        List only patches of these classes. Patches keep their numbers.
+        List only patches of these classes. The numbers of the patches do not change.
     min_cells : int, optional
-        List only patches with at least this many cells. Patches keep their numbers.
+        List only patches with at least this many cells. The numbers of the patches do not change.
     core_depth : int
-        A cell is in the core of its patch if all cells within this many steps, across edges, are in
-        the patch.
+        The depth of the core in steps across edges. A cell is in the core of a patch if all cells
+        within this many steps are in the patch.
     labels, zone_labels : path, dict, Series or DataFrame, optional
         Legends, as in `composition`.
     zone_field, layer : str, optional
         See `composition`.
     each : bool
-        Whether to process overlapping polygons one after another, as in `composition`.
+        Whether to process overlapping polygons separately, as in `composition`.
     summary : {"class"}, optional
-        Return a row per class instead of a row per patch. The table of patches, which may be too
-        large for memory, is then not created.
+        "class" returns a row per class instead of a row per patch. The table of all patches, which
+        may be too large for memory, is then not created.
     crs : any, optional
-        The reference system to assume for maps that have none.
+        The coordinate reference system to assume for maps that do not have one.
 
     Returns
     -------
     pandas.DataFrame
-        Columns `patch`, `class`, `label`, `cells`, `area_ha`, `perimeter_m`, `core_ha`, `west`,
-        `south`, `east`, `north`, and with zones `zone` and `zone_label`. The perimeter includes
-        sides to other patches, to null and along the map's edge; it is NaN without a reference
-        system and, with a warning, in degrees. With a summary, the columns are `class`, `label`,
-        `patches`, `cells`, `area_ha`, `largest_ha` and `mean_ha`; without areas, `largest_cells`
-        and `mean_cells` replace the last three.
+        The columns are `patch`, `class`, `label`, `cells`, `area_ha`, `perimeter_m`, `core_ha`,
+        `west`, `south`, `east` and `north` and, if there are zones, `zone` and `zone_label`. The
+        perimeter includes cell sides next to other patches, next to null cells and along the map's
+        edge. It is NaN if the map has no reference system or, with a warning, if the map is in
+        degrees. For a summary, the columns are `class`, `label`, `patches`, `cells`, `area_ha`,
+        `largest_ha` and `mean_ha`. Without areas, `largest_cells` and `mean_cells` replace the last
+        three columns.
 
     Raises
     ------
@@ -130,7 +131,7 @@ def patches(
 
 
 def _areas(found: PatchMeasures, measure: Measure) -> list[Column]:
-    """Return the area columns of patches and cores; without a unit, the core cells."""
+    """Return columns of patch areas and core areas or, without areas, of core cells."""
     if found.area is None or found.core_area is None:
         return [Column("core_cells", "count", found.core)]
     return [
@@ -140,15 +141,15 @@ def _areas(found: PatchMeasures, measure: Measure) -> list[Column]:
 
 
 def _perimeter(found: PatchMeasures, transform: Transform, unit: float) -> NDArray[np.float64]:
-    """Return the perimeters of patches.
+    """Return the perimeter of each patch in metres.
 
-    An end has the length of the cell's width, and a flank of its height.
+    An end is as long as a cell is wide, and a flank is as long as a cell is high.
     """
     return (found.ends * transform[0] + found.flanks * -transform[4]) * unit
 
 
 def _extents(found: PatchMeasures, transform: Transform) -> list[Column]:
-    """Return the columns of each patch's bounding box."""
+    """Return columns with the bounding box of each patch."""
     width, _, west, _, height, north = transform
     edges = {
         "west": west + width * found.left,
@@ -167,25 +168,26 @@ def clump(
     *,
     crs: Any = None,
 ) -> ArrayMap:
-    """Return a map of patch numbers, as `patches` lists them.
+    """Return a map in which each cell contains the number of its patch, as in `patches`.
 
     Parameters
     ----------
     map : path, array, or any map that `run` accepts
     connectivity : {4, 8}
-        4 connects cells that share an edge, 8 also cells that share a corner.
+        4 connects cells that share an edge, and 8 also connects cells that share a corner.
     classes : int or iterable of int, optional
-        Keep only patches of these classes; other cells become null. Patches keep their numbers.
+        Keep only patches of these classes. All other cells become null. The numbers of the patches
+        do not change.
     min_cells : int, optional
-        Only patches with at least this many cells.
+        Keep only patches with at least this many cells. The numbers of the patches do not change.
     crs : any, optional
-        The reference system to assume for a map that has none.
+        The coordinate reference system to assume for a map that does not have one.
 
     Returns
     -------
     Raster
-        The map, in which patches are numbered from 1 in the order of their first cells, as in
-        r.clump.
+        The map of patch numbers. Patches are numbered from 1 in the order of their first cells, as
+        in r.clump.
 
     Raises
     ------
@@ -218,7 +220,7 @@ def clump(
 
 
 def _leave_out(numbers: ArrayMap, kept: NDArray[np.bool_]) -> None:
-    """Set the cells of excluded patches to null, in blocks of rows."""
+    """Set the cells of excluded patches to null, one block of rows at a time."""
     null = numbers.nodata_value
     assert null is not None
     step = max(1, BLOCK_CELLS // numbers.region.cols)

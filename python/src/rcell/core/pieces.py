@@ -1,5 +1,5 @@
 # SPDX-License-Identifier: Apache-2.0 OR GPL-2.0-or-later
-"""Send parts of maps to other processes: as paths of files, as Dask chunks, or as cells."""
+"""Send parts of maps to other processes as paths of files, as Dask chunks, or as cells."""
 
 from __future__ import annotations
 
@@ -33,7 +33,7 @@ State = tuple[int, int]
 
 @dataclass(frozen=True)
 class Piece:
-    """A map that contains only the cells of a window."""
+    """A map that contains only the cells in a window of another map."""
 
     name: str
     dtype: np.dtype[Any]
@@ -44,12 +44,12 @@ class Piece:
 
     @classmethod
     def of(cls, source: Any, outer: Rectangle) -> Piece:
-        """Return the cells of a map."""
+        """Return a piece that contains the cells in a window of a map."""
         scale, block = getattr(source, "scale", 1), source.window(*outer)
         return cls(source.name, source.dtype, source.nodata, source.is_masked, scale, block)
 
     def window(self, row: int, col: int, rows: int, cols: int) -> Block:
-        """Return all cells; the requested window must have their shape."""
+        """Return all cells of the piece, whose shape must be the requested shape."""
         assert self.block.cells.shape == (rows, cols)
         return self.block
 
@@ -65,9 +65,9 @@ class Chunks:
         The type that Dask expects.
     nodata_value : float or None
     is_masked : bool
-        Whether its block has a mask, because each chunk may have a mask.
+        Whether the window's block has a mask, because each chunk may have a mask.
     cells : array
-        A Dask array; after `filled`, a numpy array.
+        A Dask array, or a numpy array after `filled` has replaced the cells.
     """
 
     name: str
@@ -78,16 +78,16 @@ class Chunks:
 
     @property
     def dtype(self) -> np.dtype[Any]:
-        """The data type of its block."""
+        """The data type of the window's block."""
         return type_of(self.announced)
 
     @property
     def nodata(self) -> Optional[int]:
-        """The value that marks null in its block."""
+        """The value that marks null in the window's block."""
         return nodata_of(self.announced, self.nodata_value)
 
     def window(self, row: int, col: int, rows: int, cols: int) -> Block:
-        """Return all cells; the requested window must have their shape."""
+        """Return all cells of the window, whose shape must be the requested shape."""
         cells, null = unmasked(self.cells)
         check_computed(self.name, cells, self.announced, (rows, cols))
         if self.is_masked and null is None:
@@ -96,15 +96,15 @@ class Chunks:
 
 
 def is_file(source: Any) -> bool:
-    """Return whether a map contains the unchanged cells of its files."""
+    """Return whether a map's cells are exactly the cells in its files."""
     return bool(getattr(source, "is_file", False))
 
 
 def sendable(source: Any, outer: Rectangle) -> Any:
-    """Return a map that can be sent to another process, with at least the cells of a window.
+    """Return a map that can be sent to another process and contains at least a window's cells.
 
-    Maps from files that can be opened by path, and maps from Dask, have a method `sent`. For other
-    maps, the cells are sent.
+    Maps from Dask, and maps from files that can be opened by path, have a method `sent`. All other
+    maps are sent as cells.
     """
     inner = source.source if isinstance(source, Scaled) else source
     sent = inner.sent(outer) if hasattr(inner, "sent") else None
@@ -114,13 +114,13 @@ def sendable(source: Any, outer: Rectangle) -> Any:
 
 
 def chunks_of(source: Any) -> Any:
-    """Return the Dask array with the cells of a map, or None."""
+    """Return the Dask array that contains a map's cells, or None if the map is not from Dask."""
     inner = source.source if isinstance(source, Scaled) else source
     return inner.cells if isinstance(inner, Chunks) else None
 
 
 def filled(source: Any, cells: Any) -> Any:
-    """Return a Dask map with its cells replaced: by computed cells, or by None."""
+    """Return a Dask map whose cells are replaced with computed cells or with None."""
     if isinstance(source, Scaled):
         return Scaled(filled(source.source, cells), source.scale)
     return replace(source, cells=cells)
@@ -130,12 +130,12 @@ def filled(source: Any, cells: Any) -> Any:
 
 
 def shared_path(path: str) -> str:
-    """Return the absolute path of a file; other names that GDAL accepts are unchanged."""
+    """Return the absolute path of a file, and any other name that GDAL accepts unchanged."""
     return os.path.abspath(path) if os.path.exists(path) else path
 
 
 def states_of(paths: Iterable[str]) -> dict[str, State]:
-    """Return the states of files, leaving out paths that are not files on this system."""
+    """Return the state of each file by path, leaving out paths that do not exist here."""
     states = {}
     for path in map(shared_path, paths):
         if os.path.exists(path):
@@ -145,7 +145,7 @@ def states_of(paths: Iterable[str]) -> dict[str, State]:
 
 
 def check_files_are(states: Mapping[str, State]) -> None:
-    """Raise ReadFailed if files differ from states taken elsewhere or earlier."""
+    """Raise ReadFailed if a file's state differs from the state recorded on another machine."""
     for path, state in states.items():
         own = states_of([path]).get(path)
         if own is None:
@@ -163,5 +163,5 @@ def _state_text(state: State) -> str:
 
 
 def _time(nanoseconds: int) -> str:
-    """Return a time as text with nanoseconds."""
+    """Return a time, given in nanoseconds, as a string."""
     return str(np.datetime64(nanoseconds, "ns"))

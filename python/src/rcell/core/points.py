@@ -1,5 +1,5 @@
 # SPDX-License-Identifier: Apache-2.0 OR GPL-2.0-or-later
-"""Find the cells of a map that contain points with a class."""
+"""Find the map cells that contain the points of a layer, and read the class of each point."""
 
 from __future__ import annotations
 
@@ -30,16 +30,17 @@ Integers = NDArray[np.int64]
 
 @dataclass(frozen=True)
 class Points:
-    """Points on the grid of a map.
+    """Points that are assigned to the cells of a map.
 
     Attributes
     ----------
     map : ArrayMap
-        The cells with points, numbered from 1; all other cells are null.
+        A map in which the cells that contain points are numbered from 1, and all other cells are
+        null.
     cells, classes : array of int64
         The cell number and the class of each point.
     left_out : list of str
-        The reasons why points are in no cell, with the number of points.
+        The reasons why points are not in a cell, each with its number of points.
     total : int
     """
 
@@ -50,12 +51,13 @@ class Points:
     total: int
 
     def pairs(self, table: Integers) -> Integers:
-        """Count pairs of map class and point class, and warn of points that are left out.
+        """Count the pairs of map class and point class, and warn about points that are left out.
 
         Parameters
         ----------
         table : array of int64
-            The number and the map class of each cell that is not null in the map.
+            The number and the map class of each cell that contains points and is not null in the
+            map.
         """
         mapped = np.full(int(self.cells.max(initial=0)) + 1, NULL, np.int64)
         mapped[table[:, 0]] = table[:, 1]
@@ -73,18 +75,18 @@ class Points:
 
 
 def points_of(layer: Layer, field: Optional[str], like: Source, crs: Any = None) -> Points:
-    """Place the points of a layer on the grid of a map.
+    """Assign the points of a layer to the cells of a map.
 
-    A cell contains its northern and its western edge.
+    A point on a border belongs to the cell south or east of the border.
 
     Parameters
     ----------
     layer : Layer
     field : str, optional
-        The field with the class of each point.
+        The field that contains each point's class.
     like : Source
     crs : any
-        The reference system to assume for maps that have none.
+        The coordinate reference system to assume for maps that do not have one.
 
     Raises
     ------
@@ -129,7 +131,7 @@ def points_of(layer: Layer, field: Optional[str], like: Source, crs: Any = None)
 
 
 def _field_of(layer: Layer, field: Optional[str]) -> str:
-    """Return the field with the classes: the named field, or the only field with a usual name."""
+    """Return the field that contains the classes: the given field, or the only usual field."""
     usual = [name for name in _FIELDS if name in layer.fields]
     if field is None and len(usual) == 1:
         return usual[0]
@@ -146,7 +148,7 @@ def _field_of(layer: Layer, field: Optional[str]) -> str:
 
 
 def _points(layer: Layer, field: str) -> Iterator[Optional[tuple[float, float, int]]]:
-    """Yield the coordinates and the class of each point; None if either is missing."""
+    """Yield the coordinates and class of each point, with None if either is missing."""
     for feature in layer.features(field):
         value = feature.value
         if feature.geometry is None or is_missing(value) or value == "":

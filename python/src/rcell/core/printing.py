@@ -1,8 +1,8 @@
 # SPDX-License-Identifier: Apache-2.0 OR GPL-2.0-or-later
-"""Read text grids: rcell reads a user's grid and prints it in a normal form.
+"""Read users' text grids, which rcell prints in a normal form.
 
-This is the only module that starts `rcell`. Everything else uses rcell-pipe, whose requests contain
-binary maps. The module can be removed once requests accept text grids.
+This is the only module that starts `rcell`. All other modules use rcell-pipe, whose requests
+contain binary maps. This module can be removed once requests accept text grids.
 """
 
 from __future__ import annotations
@@ -38,7 +38,7 @@ def is_text_grid(start: bytes) -> bool:
 
 @contextlib.contextmanager
 def spooled(pieces: Iterable[bytes]) -> Iterator[str]:
-    """Keep a text in a temporary file until the block ends, because programs open only paths.
+    """Keep a text in a temporary file during the block, because programs open only paths.
 
     Examples
     --------
@@ -64,7 +64,7 @@ def printed(
     seconds: Optional[float] = None,
     watch: Optional[Callable[[], None]] = None,
 ) -> Iterator[Iterator[bytes]]:
-    """Print a grid with rcell, and yield the output piece by piece.
+    """Print a grid with rcell, and yield an iterator over the pieces of the output.
 
     The output is complete only if no error is raised.
 
@@ -75,7 +75,7 @@ def printed(
     path : str
         The path of the grid.
     seconds, watch
-        See `protocol.run`, which also lists the errors raised.
+        As in `protocol.run`, which also lists the errors that are raised.
     """
     with contextlib.ExitStack() as cleanup:
         begin_work()

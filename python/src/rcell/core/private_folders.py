@@ -1,7 +1,7 @@
 # SPDX-License-Identifier: Apache-2.0 OR GPL-2.0-or-later
 """Create hidden folders for incomplete files.
 
-The folder of a killed process is removed when the same file is written again.
+If a process is killed, its folder is removed when the same file is written again.
 """
 
 from __future__ import annotations
@@ -22,7 +22,7 @@ class PrivateFolder:
     """A hidden folder that is named after a file and that only this user can read.
 
     A killed process cannot remove its folder. Each process therefore holds a lock in its folder,
-    and a new folder first removes unlocked folders for the same file.
+    and creating a folder first removes all unlocked folders for the same file.
 
     Parameters
     ----------
@@ -59,13 +59,16 @@ class PrivateFolder:
         self._lock: int | None = lock
 
     def rename(self, path: str) -> None:
-        """Rename the folder, which is then kept; the target must be missing or an empty folder."""
+        """Move the folder to another path and keep it there.
+
+        The path must not exist, or must be an empty folder.
+        """
         os.unlink(_lock_of(self.path))
         os.rename(self.path, path)
         self._unlock()
 
     def remove(self) -> None:
-        """Remove the folder and its contents, unless it was renamed."""
+        """Remove the folder and its contents, unless the folder was renamed."""
         if self._lock is not None:
             try:
                 _remove(self.path)
@@ -79,9 +82,9 @@ class PrivateFolder:
 
 
 def _lock_of(path: str) -> str:
-    """Return the path of a folder's lock, a file with the folder's name.
+    """Return the path of a folder's lock, which is a file with the folder's name.
 
-    The written file cannot have this name.
+    The file that is written to the folder cannot have the folder's name.
     """
     return os.path.join(path, os.path.basename(path))
 
@@ -105,7 +108,7 @@ def _locked(path: str) -> int | None:
 
 
 def _remove_abandoned(folder: str, stem: str) -> None:
-    """Remove folders for a file that killed processes of this user left."""
+    """Remove the folders for a file that killed processes of this user have left."""
     with contextlib.suppress(OSError):
         for name in os.listdir(folder):
             if name.startswith(stem) and _ENDING.fullmatch(name, len(stem)):
@@ -114,7 +117,7 @@ def _remove_abandoned(folder: str, stem: str) -> None:
 
 
 def _remove_unlocked(path: str) -> None:
-    """Remove a folder of this user, or raise OSError if a process holds its lock."""
+    """Remove a folder of this user, or raise OSError if a process holds the folder's lock."""
     with contextlib.ExitStack() as opened:
         room = os.open(path, os.O_RDONLY | os.O_DIRECTORY | os.O_NOFOLLOW)
         opened.callback(os.close, room)

@@ -1,5 +1,5 @@
 # SPDX-License-Identifier: Apache-2.0 OR GPL-2.0-or-later
-"""Find, start and reliably stop programs, with pipes that no other process holds open."""
+"""Find, start and reliably stop programs, using pipes that no other process holds open."""
 
 from __future__ import annotations
 
@@ -46,7 +46,7 @@ _lock = threading.RLock()
 
 
 def _let_go() -> None:
-    """Close pipes in a forked child, because the parent would wait for their end."""
+    """Close all pipes in a forked child, because the parent would wait for their end."""
     while _held:
         os.close(_held.pop())
     _lock.release()
@@ -63,19 +63,19 @@ def begin_work() -> None:
 
 
 def end_work() -> None:
-    """Record that the file is finished or removed, or the program has stopped."""
+    """Record that a file is finished or removed, or a program has stopped."""
     global _works
     with _lock:
         _works -= 1
 
 
 def has_work() -> bool:
-    """Return whether this process must clean up before it ends."""
+    """Return whether this process must remove files or stop programs before it ends."""
     return _works > 0
 
 
 def found_on_path(name: str) -> str | None:
-    """Return the first program with this name on the path, skipping relative folders."""
+    """Return the first program with a given name on the path, skipping relative folders."""
     for folder in os.get_exec_path():
         path = os.path.join(folder, name)
         if os.path.isabs(folder) and os.path.isfile(path) and os.access(path, os.X_OK):
@@ -84,7 +84,11 @@ def found_on_path(name: str) -> str | None:
 
 
 def above_standard(descriptor: int) -> int:
-    """Return a descriptor of the same file with a number above the standard streams'."""
+    """Return a descriptor of the same file whose number is above 2.
+
+    A descriptor from 0 to 2 is duplicated and closed, because these numbers belong to the standard
+    streams.
+    """
     if descriptor > 2:
         return descriptor
     try:
@@ -94,7 +98,10 @@ def above_standard(descriptor: int) -> int:
 
 
 def pipe() -> tuple[int, int]:
-    """Create a large pipe, if the system allows it, that is closed in forked children."""
+    """Create a pipe that is closed in forked children.
+
+    The pipe has a large buffer if the system allows it.
+    """
     with _lock:
         reader, writer = (above_standard(end) for end in os.pipe())
         _held.update((reader, writer))
@@ -104,31 +111,34 @@ def pipe() -> tuple[int, int]:
 
 
 def close(descriptor: int) -> None:
-    """Close an end of a pipe."""
+    """Close one end of a pipe."""
     with _lock:
         _held.discard(descriptor)
         os.close(descriptor)
 
 
 class Started:
-    """A running program, as a context manager that stops the program on exit.
+    """A running program.
+
+    The program is a context manager, which stops the program on exit.
 
     Parameters
     ----------
     words : sequence of str
     inherited : sequence of int
-        Descriptors that the program inherits with the same numbers.
+        The descriptors that the program inherits under the same numbers.
     seconds : float, optional
-        The time limit.
+        The time limit for the program.
     stdin : int
-        The descriptor of its standard input.
+        The descriptor of the program's standard input.
     watch : callable, optional
-        Called ten times a second while waiting for output.
+        A function that is called ten times a second while waiting for output.
 
     Raises
     ------
     OSError
-        The program cannot be started; or, as TimeoutError, it exceeds its time limit.
+        The program cannot be started. If the program exceeds its time limit, the error is a
+        TimeoutError.
     """
 
     def __init__(
@@ -180,7 +190,7 @@ class Started:
         end_work()
 
     def pieces(self) -> Iterator[bytes]:
-        """Yield the output as it arrives, until standard output and standard error end."""
+        """Yield the standard output as it arrives, until both output streams end."""
         while self._has_output():
             if piece := os.read(self._output, READ_BYTES):
                 yield piece
@@ -188,7 +198,7 @@ class Started:
                 self._ended(self._output)
 
     def fill(self, room: memoryview) -> int:
-        """Read output into a buffer until it is full or the output ends.
+        """Read output into a buffer until the buffer is full or the output ends.
 
         Returns the number of bytes read.
         """
@@ -201,7 +211,10 @@ class Started:
         return filled
 
     def _has_output(self) -> bool:
-        """Wait for output, collecting the message; return False once both have ended."""
+        """Wait for standard output, and return False once both output streams have ended.
+
+        Text on standard error is collected for the message.
+        """
         while self._open_ends:
             wait = self._longest_wait()
             ready = {end for end, _ in self._poll.poll(None if wait is None else wait * 1000)}
@@ -234,7 +247,7 @@ class Started:
         return left
 
     def end(self) -> tuple[int, bytes]:
-        """Wait for the program to end, and return its status and message."""
+        """Wait until the program ends, and return its exit status and message."""
         try:
             return self._process.wait(self._seconds_left()), self._message
         except subprocess.TimeoutExpired:

@@ -35,7 +35,7 @@ Path = Union[str, "os.PathLike[str]"]
 
 
 def candidates(name: str) -> Iterator[str]:
-    """Yield possible paths of a program: Python's scripts, next to Python, on the path."""
+    """Yield possible paths of a program: in Python's scripts, next to Python, and on the path."""
     folders = [sysconfig.get_path("scripts")]
     if "posix_user" in sysconfig.get_scheme_names():
         folders.append(sysconfig.get_path("scripts", "posix_user"))
@@ -50,33 +50,33 @@ _known: dict[str, tuple[int, int, int]] = {}
 
 
 def find_program(program: Optional[Path] = None) -> str:
-    """Return the path of rcell, found like `find_beside` or with RCELL.
+    """Find rcell with `find_beside` or RCELL, and return its path.
 
-    Only text grids need this program.
+    Only text grids need rcell.
     """
     return find_beside("rcell", "RCELL", _probe, program)
 
 
 def find_pipe(program: Optional[Path] = None) -> str:
-    """Return the path of rcell-pipe, found like `find_beside` or with RCELL_PIPE."""
+    """Find rcell-pipe with `find_beside` or RCELL_PIPE, and return its path."""
     return find_beside("rcell-pipe", "RCELL_PIPE", _probe_pipe, program)
 
 
 def find_beside(
     name: str, variable: str, probe: Callable[[str], None], program: Optional[Path]
 ) -> str:
-    """Return the path of a program.
+    """Find a program, check that it works, and return its path.
 
-    The host may name the program. Otherwise it is looked for in this order: the argument, an
-    environment variable, next to the program that RCELL names, the scripts of this Python
-    installation (in which the wheel installs it), and the path.
+    The host may provide the path. Otherwise, the following places are searched in this order: the
+    argument, an environment variable, the folder of the program that RCELL names, the scripts of
+    this Python installation (to which the wheel installs programs), and the path.
 
     Raises
     ------
     MissingProgram
         The program was not found.
     WrongProgram
-        The program does not work as this package requires.
+        The program does not pass the test of this package.
     """
     find = host().find
     if program is None and find is not None:
@@ -96,7 +96,10 @@ def find_beside(
 
 
 def known_after(probe: Callable[[str], None], path: str) -> str:
-    """Test a program and return its path; test it again only if its file has changed."""
+    """Test a program and return its path.
+
+    The program is tested again only if its file has changed.
+    """
     if not os.path.isfile(path) or not os.access(path, os.X_OK):
         raise MissingProgram(f"the program {path} does not exist or is not executable")
     state = os.stat(path)
@@ -133,7 +136,7 @@ def _probe(path: str) -> None:
 
 
 def _probe_pipe(path: str) -> None:
-    """Raise WrongProgram unless rcell-pipe completes a test run."""
+    """Raise WrongProgram unless rcell-pipe completes a test run correctly."""
     try:
         is_known = protocol.is_known(path, PROBE_SECONDS)
     except TimeoutError:
@@ -146,7 +149,7 @@ def _probe_pipe(path: str) -> None:
 
 @contextlib.contextmanager
 def program_errors(script: str, names: list[str], path: str) -> Iterator[None]:
-    """Raise the errors of rcell-pipe as errors of this package."""
+    """Convert the errors of rcell-pipe in this block to errors of this package."""
     try:
         yield
     except protocol.Rejected as end:

@@ -1,8 +1,8 @@
 # SPDX-License-Identifier: Apache-2.0 OR GPL-2.0-or-later
-"""Write requests for rcell-pipe, and read its responses, as docs/pipe.md defines them.
+"""Write requests for rcell-pipe and read its responses, as defined in docs/pipe.md.
 
 A request contains maps and a script, and a response contains frames. The program writes nothing
-before it has read the complete request, except a frame that rejects it. So the request can be
+until it has read the complete request, unless it rejects the request. The request can therefore be
 written first and the response read afterwards, without a thread.
 """
 
@@ -72,12 +72,12 @@ MOST_CELL_BYTES = 1 << 33
 
 
 def script_bytes(script: str) -> bytes:
-    """Return the bytes of a script, in which surrogates escape bytes that are not UTF-8.
+    """Return a script as bytes. Surrogates in the script escape bytes that are not UTF-8.
 
     Raises
     ------
     Rejected
-        A lone surrogate does not escape a byte.
+        The script contains a surrogate that does not escape a byte.
     """
     try:
         return script.encode("utf-8", "surrogateescape")
@@ -99,25 +99,25 @@ def script_bytes(script: str) -> bytes:
 
 @dataclass(frozen=True)
 class TableFrame:
-    """The table of an `r.stats`, or the cells of an `r.stats -1` in reading order.
+    """The table of an `r.stats` statement, or the cells of `r.stats -1` in reading order.
 
     Attributes
     ----------
     line : int
-        The line of the statement, from 1.
+        The line of the statement, counted from 1.
     names : tuple of str
-        Its maps.
+        The names of the maps in the statement.
     separator, null_text : bytes
-        Of the printed table.
+        The separator and the text for null in the printed table.
     entries : int
-        The number of combinations or cells.
+        The number of combinations or of cells.
     counts : memoryview or None
-        An unsigned 64-bit number for each entry; None without the flag `-c`.
+        An unsigned 64-bit number for each entry, or None without the flag `-c`.
     cells : memoryview
-        32-bit integers, entry by entry, in which `NULL` is null.
+        The categories as 32-bit integers, entry by entry. Null is `NULL`.
     labels : list of bytes or None
-        The label of each cell: `no data` for null, empty for a category without a label. None
-        without the flag `-l`.
+        The label of each cell, which is `no data` for null and empty for a category without a
+        label. None without the flag `-l`.
     """
 
     line: int
@@ -132,22 +132,22 @@ class TableFrame:
 
 @dataclass(frozen=True)
 class GridFrame:
-    """The map of an `r.out.ascii`.
+    """The map that an `r.out.ascii` statement prints.
 
     Attributes
     ----------
     line : int
     name : str
     null_text : bytes
-        Of the printed grid.
+        The text for null in the printed grid.
     edges : tuple of str
-        North, south, east and west, in rcell's notation.
+        The northern, southern, eastern and western edges, in rcell's notation.
     rows, cols : int
     type : {"u8", "i32"}
-        u8 if all categories are from 0 to 254, with 255 for null; otherwise i32, with `NULL` for
-        null.
+        The type of the cells: u8 if all categories are from 0 to 254, with 255 for null; otherwise
+        i32, with `NULL` for null.
     cells : memoryview
-        The cells row by row, in this type.
+        The cells row by row, with the type `type`.
     """
 
     line: int
@@ -161,23 +161,23 @@ class GridFrame:
 
     @property
     def null(self) -> int:
-        """The number that marks null."""
+        """The number that marks null in the cells."""
         return NULL_BYTE if self.type == "u8" else NULL
 
 
 @dataclass(frozen=True)
 class PatchesFrame:
-    """The program's response to a question about patches.
+    """The program's response to a question about the patches of a map.
 
     Attributes
     ----------
     question : int
-        The index of the question, from 0.
+        The index of the question, counted from 0.
     rows : memoryview
-        `PATCH_BYTES` for each patch, in the order of patch numbers. A row contains the class as
-        i32, then as u64 the cells, ends, flanks, core cells, first and last row, and first and last
-        column, from 0. If the question has zones, the zone follows as i32, or `NULL` if there is no
-        zone.
+        A row of `PATCH_BYTES` bytes for each patch, in the order of the patch numbers. A row
+        contains the class as i32, followed by the cells, ends, flanks, core cells, first and last
+        row, and first and last column as u64. Rows and columns are counted from 0. If the question
+        has zones, the zone follows as i32, which is `NULL` if the patch has no zone.
     """
 
     question: int
@@ -188,9 +188,9 @@ Frame = Union[TableFrame, GridFrame, PatchesFrame]
 
 
 class Call(NamedTuple):
-    """A call to `row()`, `col()`, `nrows()` or `ncols()`, and its place in the line.
+    """A call to `row()`, `col()`, `nrows()` or `ncols()`, and the call's position in the line.
 
-    The place is the range of bytes from `start` to `end`.
+    The position is the range of bytes from `start` to `end`.
     """
 
     function: str
@@ -205,27 +205,28 @@ class Statement:
     Attributes
     ----------
     line : int
-        Its first line, from 1.
+        The first line of the statement, counted from 1.
     command : {"r.mapcalc", "r.reclass", "r.clump", "r.stats", "r.out.ascii"}
     made : str
-        The map that the statement creates, or empty.
+        The name of the map that the statement creates, or an empty string.
     reads : dict of str to Margin
-        Each map that the statement reads, with the margin around a cell that it needs.
+        Each map that the statement reads, with the margin that the statement needs around a cell.
     needs : dict of str to Margin or None
         Each given map on which the statement depends, directly or through earlier statements, with
-        the margin around a cell that it needs; None for the full map.
+        the margin that the statement needs around a cell, or None if it needs the full map.
     options : str
-        The flags of r.stats, as letters.
+        The flags of an r.stats statement, as letters.
     inputs : tuple of str
-        The maps of `input=`, in its order.
+        The names of the maps in `input=`, in the same order.
     after : tuple of int
-        The categories of `after=`.
+        The categories in `after=`.
     calls : tuple of Call
-        Calls of position functions, from left to right.
+        The calls to position functions, from left to right.
     labels : dict of int to str
-        The labels in its rules.
+        The labels in the statement's rules, by category.
     text : str
-        The lines of the statement; of an r.reclass, all lines up to the next statement.
+        The lines of the statement. An r.reclass statement includes all lines up to the next
+        statement.
     """
 
     line: int
@@ -247,7 +248,7 @@ _AnyFrame = Union[Frame, Statement]
 class Fault(Exception):
     """Raised if a map, a script or a request is invalid.
 
-    The class Refused of each package documents the attributes.
+    The attributes are documented in the class `Refused` of each package.
     """
 
     def __init__(
@@ -286,16 +287,18 @@ class Rejected(Exception):
     Attributes
     ----------
     status : int
-        1: the request or the script is invalid; 3: out of memory; 4: the program could not read.
+        1 if the request or the script is invalid, 3 if memory ran out, and 4 if the program could
+        not read the request.
     source : {"request", "script", "question", ""}
     map : int
         The index of the invalid map, if the source is the request.
     line : int
-        The line of the script, or the row of the map, from 1; 0 if there is none.
+        The line of the script, or the row of the map, counted from 1. 0 if the error is not in a
+        line or a row.
     column : int
-        The byte in the line, from 1; 0 if there is none.
+        The position in the line, counted in bytes from 1. 0 if the position is unknown.
     text : str
-        The message, in rcell's words.
+        The message, in the same words as rcell's message.
     """
 
     def __init__(
@@ -312,7 +315,7 @@ class Rejected(Exception):
         )
 
     def parts(self, program: str, script: str, names: Sequence[str]) -> dict[str, Any]:
-        """Return the arguments of `Fault` for this error, with advice from the program."""
+        """Return the arguments for a `Fault` that describes this error, with advice if possible."""
         parts = {"text": self.text, "source": "script", "line": self.line, "status": self.status}
         if self.source == "request" and self.map < len(names):
             return {**parts, "source": names[self.map]}
@@ -335,25 +338,28 @@ class Rejected(Exception):
 
 
 class NotStarted(OSError):
-    """The program cannot be started."""
+    """Raised if the program cannot be started."""
 
 
 class Killed(Exception):
-    """Raised if a signal ended the program; the argument is the signal."""
+    """Raised if a signal ended the program. The argument is the number of the signal."""
 
 
 class NoAnswer(Exception):
-    """Raised if the program is not this version's rcell-pipe; the argument describes its output."""
+    """Raised if the program is not this version's rcell-pipe.
+
+    The argument describes the output of the program.
+    """
 
 
 class _NotUnderstood(Exception):
-    """Raised if the response ends early or has another format."""
+    """Raised if a response ends early or does not have the expected format."""
 
 
 class _Response:
-    """A reader of responses.
+    """A reader of the program's responses.
 
-    It allocates memory for data that has arrived, not for an announced length.
+    The reader allocates memory only for data that has arrived, not for an announced length.
     """
 
     def __init__(
@@ -394,7 +400,10 @@ class _Response:
         return tuple(self.name() for _ in range(count))
 
     def cells(self, count: int, letter: str) -> memoryview:
-        """Read numbers of a `struct` type; long arrays are read directly into their own memory."""
+        """Read `count` numbers of a `struct` type.
+
+        Long arrays are read directly into their own memory.
+        """
         size = count * struct.calcsize(letter)
         if self._fill is None or not DIRECT_BYTES <= size <= MOST_CELL_BYTES:
             return memoryview(self.take(size)).cast(letter)
@@ -409,7 +418,7 @@ class _Response:
         return room.cast(letter)
 
     def table(self) -> TableFrame:
-        """Read the table of an r.stats."""
+        """Read the frame of an r.stats statement."""
         line, entries, width = self.numbers(3)
         counts, labels, separator = self.take(3)
         return TableFrame(
@@ -424,7 +433,7 @@ class _Response:
         )
 
     def grid(self) -> GridFrame:
-        """Read the map of an r.out.ascii."""
+        """Read the frame of an r.out.ascii statement."""
         line = self.count()
         null_text = bytes(self.text())
         name = self.name()
@@ -460,7 +469,7 @@ class _Response:
         )
 
     def options(self) -> str:
-        """Read the flags of a statement, which are bits in the order of the letters."""
+        """Read the flags of a statement, which are stored as bits, and return them as letters."""
         [bits] = self.take(1)
         flags = ""
         for place, letter in enumerate(_OPTIONS):
@@ -482,7 +491,7 @@ class _Response:
         raise _NotUnderstood
 
     def done(self) -> Rejected:
-        """Read the status at the end of the response."""
+        """Read the program's final status and error from the end of the response."""
         status, source, map, line, column = self.numbers(5)
         return Rejected(
             status,
@@ -494,7 +503,7 @@ class _Response:
         )
 
     def frames(self) -> tuple[list[_AnyFrame], Rejected]:
-        """Return the frames and the final status."""
+        """Read the complete response, and return the frames and the final status."""
         frames: list[_AnyFrame] = []
         kinds: dict[bytes, Callable[[], _AnyFrame]] = {
             b"TABL": self.table,
@@ -524,7 +533,8 @@ def run(
 ) -> list[Frame]:
     """Run a script over maps, and return the frames of its outputs and questions.
 
-    The frames of outputs are in the order of the script. The frames of questions follow.
+    The frames of the outputs are in the order of the script, and are followed by the frames of the
+    questions.
 
     Parameters
     ----------
@@ -535,7 +545,7 @@ def run(
     seconds : float, optional
         The time limit for the run.
     watch : callable, optional
-        Called at least ten times a second; an exception ends the run.
+        A function that is called at least ten times a second. An exception ends the run.
 
     Raises
     ------
@@ -568,9 +578,10 @@ def text(
     seconds: Optional[float] = None,
     watch: Optional[Callable[[], None]] = None,
 ) -> Iterator[bytes]:
-    """Yield the text that rcell prints for a script over maps, piece by piece.
+    """Run a script over maps, and yield the text that rcell would print, piece by piece.
 
-    The text is complete only if no error is raised. See also `run`.
+    The text is complete only if no error is raised. The parameters and errors are the same as for
+    `run`.
     """
     with asked([program], request(maps, script, magic=b"RCELLT1\n"), seconds, watch) as process:
         pieces, held = process.pieces(), b""
@@ -597,7 +608,7 @@ _PROBE_CELLS = [struct.pack("<4i", 12, 2, NULL, NULL), struct.pack("<3i", 1, NUL
 
 
 def is_known(program: str, seconds: float) -> bool:
-    """Return whether a program is this version's rcell-pipe, with a test run over three cells.
+    """Test with a grid of three cells whether a program is this version's rcell-pipe.
 
     Raises
     ------
@@ -621,9 +632,9 @@ def plan(
     seconds: Optional[float] = None,
     watch: Optional[Callable[[], None]] = None,
 ) -> list[Statement]:
-    """Return a plan of a script's statements over maps with these names.
+    """Return the statements of a script that is to run over maps with the given names.
 
-    No map is read. See also `run`.
+    The maps are not read. The errors are the same as for `run`.
     """
     statements = [
         frame
@@ -648,13 +659,13 @@ def _answered(
     seconds: Optional[float],
     watch: Optional[Callable[[], None]],
 ) -> list[_AnyFrame]:
-    """Send a request, and return the frames of its response."""
+    """Send a request to the program, and return the frames of the response."""
     with asked([program], sent, seconds, watch) as process:
         return _check(_response(process.pieces(), process.fill), *process.end())
 
 
 def failure_of(status: int, message: bytes) -> Exception:
-    """Return the error for a program that failed without a readable response."""
+    """Return the exception for a program that failed without a readable response."""
     if status < 0:
         return Killed(-status)
     text = message.decode("utf-8", "replace").strip() or "nothing"
@@ -664,7 +675,7 @@ def failure_of(status: int, message: bytes) -> Exception:
 def _check(
     response: Optional[tuple[list[_AnyFrame], Rejected]], status: int, message: bytes
 ) -> list[_AnyFrame]:
-    """Return the frames of a response, or raise the program's error."""
+    """Return the frames of a response, or raise the error that the program reported."""
     if response is None or status != response[1].status:
         raise failure_of(status, message)
     if status:
@@ -685,7 +696,7 @@ def asked(
     watch: Optional[Callable[[], None]],
     inherited: Sequence[int] = (),
 ) -> Iterator[Started]:
-    """Start a program and send it a request on standard input."""
+    """Start a program, write a request to its standard input, and stop it after the block."""
     try:
         reader, writer = pipe()
         try:
@@ -706,9 +717,9 @@ def asked(
 
 
 def _send(writer: int, pieces: Iterator[Buffer], watch: Optional[Callable[[], None]]) -> None:
-    """Write a request.
+    """Write a request to the program.
 
-    Stop if the program stops reading, because its response contains the error.
+    Writing stops if the program stops reading, because the response then contains the error.
     """
     os.set_blocking(writer, watch is None)
     room = select.poll()
@@ -729,9 +740,9 @@ def _send(writer: int, pieces: Iterator[Buffer], watch: Optional[Callable[[], No
 def _response(
     pieces: Iterator[bytes], fill: Optional[Callable[[memoryview], int]] = None
 ) -> Optional[tuple[list[_AnyFrame], Rejected]]:
-    """Read all pieces and return the response, or None if it is not understood.
+    """Read all pieces and return the response, or None if the format is not understood.
 
-    Long cells are read with `fill`, if it is given.
+    Long cells are read with `fill`, if `fill` is given.
     """
     try:
         return _Response(pieces, fill).frames()
