@@ -38,9 +38,7 @@ ROOT = os.path.dirname(HERE)
 DOCUMENT = f"{ROOT}/bench/RESULTS.md"
 MARKS = ("<!-- The tables of bench/joining.py -->\n", "<!-- End of them -->\n")
 ENVIRONMENT = {"PATH": "/usr/bin:/bin", "LC_ALL": "C"}
-ROW_OF_CATEGORIES = (
-    4  # categories on a side: few, so that clumps continue in the next tile
-)
+ROW_OF_CATEGORIES = 4  # categories on a side: few, so that clumps continue in the next tile
 LENGTH_OF_A_RUN = 8
 ADDING = "NR == 1 || $1 != before { if (NR > 1) print before, cells; before = $1; cells = 0 } { cells += $2 } END { print before, cells }"
 MEGABYTE = 2**20

@@ -204,7 +204,10 @@ def test_each_cell_of_a_class_is_as_likely() -> None:
     [
         ({"n": 0}, "n must be a whole number from 1 to 1000000; got 0"),
         ({"n": {9: 1}}, "n must name classes that occur in the map; got 9"),
-        ({"n": {1: 1}, "allocation": "proportional"}, "allocation must be left out if n has a number for each class"),
+        (
+            {"n": {1: 1}, "allocation": "proportional"},
+            "allocation must be left out if n has a number for each class",
+        ),
         ({"n": 5, "allocation": "odd"}, "allocation must be equal or proportional; got 'odd'"),
         ({"n": 5, "seed": 1.5}, "seed must be a whole number or a text; got 1.5"),
     ],

@@ -146,8 +146,9 @@ def test_arrays_of_other_kinds() -> None:
     xarray = pytest.importorskip("xarray")
     dask = pytest.importorskip("dask.array")
     assert cells(dask.from_array(LAND, chunks=2)) == LAND.tolist()
-    assert "several variables: pass it as the only map, or pass one variable, for example dataset['lc']" in str(
-        refusal(xarray.Dataset({"lc": data_array()}))
+    assert (
+        "several variables: pass it as the only map, or pass one variable, for example dataset['lc']"
+        in str(refusal(xarray.Dataset({"lc": data_array()})))
     )
 
 
@@ -315,9 +316,7 @@ def test_what_is_no_map_is_refused(tmp_path: pathlib.Path, raster: Write) -> Non
     assert "rows of equal length" in str(refusal([[1, 2], [3]]))
     with pytest.raises(rcell.BadMap, match="an Affine or six numbers"):
         rcell.Raster([[1]], (1, 2, 3))
-    with pytest.raises(
-        rcell.BadMap, match="rows and columns must be whole numbers; got 1.5 and 1"
-    ):
+    with pytest.raises(rcell.BadMap, match="rows and columns must be whole numbers; got 1.5 and 1"):
         rcell.Region(1, 0, 1, 0, rows=1.5, cols=1)  # type: ignore[arg-type]
     assert "NUL" in str(refusal("a\0b"))
     for name, better in (("a=b", "a_b"), ("a-b", "a_b"), ("1", "m_1"), ("a\0", "a_")):

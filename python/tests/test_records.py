@@ -200,7 +200,11 @@ def test_a_record_of_another_call_fails_with_a_line(folder: pathlib.Path) -> Non
     ("words", "named", "told"),
     [
         ((np.array([[1]]),), {}, "map must be a path, .* to be recorded; got a ndarray"),
-        (("lc.tif",), {"table": "matrix"}, "table must be left out if there is only one table; got 'matrix'"),
+        (
+            ("lc.tif",),
+            {"table": "matrix"},
+            "table must be left out if there is only one table; got 'matrix'",
+        ),
     ],
 )
 def test_calls_that_cannot_be_recorded(

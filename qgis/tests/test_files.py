@@ -115,7 +115,10 @@ class FilesTest(unittest.TestCase):
     def test_targets_that_cannot_be_written(self) -> None:
         os.mkdir(self.path("folder.tif"))
         os.symlink("lc.tif", self.path("link.tif"))
-        for name, told in (("nowhere/a.tif", "nowhere does not exist"), ("folder.tif", "is a folder")):
+        for name, told in (
+            ("nowhere/a.tif", "nowhere does not exist"),
+            ("folder.tif", "is a folder"),
+        ):
             with self.assertRaisesRegex(WriteFailed, f"cannot be written: .*{told}"):
                 check_target(self.path(name))
         for name in ("lc.tif", "link.tif"):

@@ -400,7 +400,7 @@ class RefusalsTest(InSession):
                 ),
             )
             self.refused(
-                "the program /nowhere/rcell-pipe is not there",
+                "the program /nowhere/rcell-pipe does not exist or is not executable",
                 "majority",
                 INPUT=self.cover,
                 OUTPUT=self.path("m.tif"),

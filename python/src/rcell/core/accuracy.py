@@ -346,7 +346,9 @@ def _pairs_of_table(reference: Any) -> Optional[Integers]:
                 raise Refused(f"{place}: {problem}", "reference")
             numbers.append(number)
         if numbers[2] < 0:
-            raise Refused(f"{place}: the number of cells must not be negative; got {numbers[2]}", "reference")
+            raise Refused(
+                f"{place}: the number of cells must not be negative; got {numbers[2]}", "reference"
+            )
         pairs.append(numbers)
     return np.array(pairs, np.int64).reshape(-1, 3)
 
