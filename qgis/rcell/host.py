@@ -30,7 +30,7 @@ _PROGRAMS = {
 
 
 class Cancelled(RcellError):
-    """Raised if the user cancelled the run; the program has been stopped."""
+    """Raised if the user cancels the run, after the program has been stopped."""
 
     def __str__(self) -> str:
         return "cancelled"
@@ -42,7 +42,7 @@ def host_of(setting: str, feedback: Any) -> Host:
     Parameters
     ----------
     setting : str
-        The program in the settings, or an empty text.
+        The program's path in the settings, or an empty string.
     feedback : QgsProcessingFeedback
     """
     warned: set[str] = set()

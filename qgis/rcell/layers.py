@@ -41,7 +41,9 @@ _LEAST, _GREATEST = float("-inf"), float("inf")
 
 
 def raster_of(layer: QgsRasterLayer, name: str, band: int | None = None) -> Source:
-    """Open a band of a layer as a map. Without a band, the layer must have only one.
+    """Open a band of a layer as a map.
+
+    If `band` is None, the layer must have only one band.
 
     Raises
     ------
@@ -110,7 +112,7 @@ def _features_of(layer: QgsVectorLayer) -> FeatureLayer:
 
 @dataclass(frozen=True)
 class FeatureLayer:
-    """Copies the polygons or points of a layer for the core.
+    """The polygons or points of a layer, copied for the core.
 
     Only the main thread may access the layer itself.
 
@@ -149,12 +151,12 @@ class FeatureLayer:
         return ogr.burn(shapes, transform, shape)
 
     def bounds(self, geometry: Any) -> tuple[float, float, float, float]:
-        """Return west, south, east and north of a geometry."""
+        """Return the west, south, east and north bounds of a geometry."""
         return ogr.bounds_of(geometry)
 
 
 def plain(value: Any) -> Any:
-    """Convert an attribute to a Python object, or return None if it is missing."""
+    """Convert an attribute to a Python object, or return None if the attribute is missing."""
     if value is None or value == NO_VALUE or value != value:
         return None
     for method in ("toPyDateTime", "toPyDate", "toPyTime"):
@@ -165,7 +167,7 @@ def plain(value: Any) -> Any:
 
 
 def wkt_of(crs: QgsCoordinateReferenceSystem) -> str:
-    """Return the well-known text of a QGIS reference system, or an empty text if it is invalid."""
+    """Return the well-known text of a QGIS reference system, or an empty string if invalid."""
     return str(crs.toWkt(QgsCoordinateReferenceSystem.WKT2_2019)) if crs.isValid() else ""
 
 
@@ -205,7 +207,7 @@ def _classes_of(renderer: Any, band: int) -> list[tuple[float, str]]:
 
 
 def colours_of(layer: QgsRasterLayer, band: int) -> dict[int, Any]:
-    """Return the colours of a layer's classes; empty if its style has no classes."""
+    """Return a layer's colours by class, or an empty dict if the layer's style has no classes."""
     renderer = layer.renderer()
     if isinstance(renderer, QgsPalettedRasterRenderer) and renderer.band() == band:
         # Copy the colour, because it is deleted together with its class.
@@ -217,7 +219,7 @@ def _uses_nodata(layer: QgsRasterLayer, band: int) -> bool:
     """Return whether the file's nodata value is null, unless the user disabled it.
 
     QGIS ignores nodata values that its data type cannot represent, such as -128 in signed bytes.
-    Here, they are null.
+    Here, these values are null.
     """
     provider = layer.dataProvider()
     return bool(provider.useSourceNoDataValue(band)) or not provider.sourceHasNoDataValue(band)

@@ -44,7 +44,7 @@ _VERSION_OF_META_TYPES = 33800
 
 
 def cells_of(map: ArrayMap, null: int = NULL) -> NDArray[np.int32]:
-    """Return the cells of a map, with this number for null."""
+    """Return the cells of a map, with the given number for null."""
     is_null = null_cells(map.array, map.null, map.nodata_value)
     return np.where(is_null, null, map.array).astype(np.int32)
 
@@ -85,9 +85,9 @@ def put_legend(
     colours: Mapping[int, Any],
     context: QgsProcessingContext,
 ) -> bool:
-    """Write a legend next to a raster as .qml, and style its layer.
+    """Write a legend to a .qml file next to a raster, and style the raster's layer.
 
-    Returns False if the raster has too many classes.
+    Return False if the raster has too many classes for a legend.
     """
     style = os.path.splitext(path)[0] + ".qml"
     if not os.path.isfile(path):
@@ -156,7 +156,7 @@ def counted_classes(map: ArrayMap, like: Source, crs: Any) -> list[tuple[int, st
 def counted(label: str, cells: int, like: Source, crs: Any) -> str:
     """Return a label with cells and, if all cells have the same area, the area.
 
-    The area is in hectares, or in square kilometres if a cell has at least one.
+    The area is in hectares, or in square kilometres if a cell covers at least 1 km2.
     """
     try:
         measure = measure_of("auto", like, like.crs or crs)

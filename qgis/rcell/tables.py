@@ -1,5 +1,5 @@
 # SPDX-License-Identifier: Apache-2.0 OR GPL-2.0-or-later
-"""Write tables and rasters with GDAL; a file gets its name only when it is complete."""
+"""Write tables and rasters with GDAL, and name each file only when the file is complete."""
 
 from __future__ import annotations
 
@@ -41,7 +41,7 @@ Check = Callable[[], None]
 
 
 def no_check() -> None:
-    """Do nothing; used if nothing can interrupt the writing."""
+    """Do nothing, as the check for writing that cannot be interrupted."""
 
 
 def check_target(path: str, inputs: Sequence[str] = ()) -> None:
@@ -95,7 +95,7 @@ def distinct(table: Table) -> list[Column]:
 def write_table(path: str, table: Table, check: Check = no_check) -> None:
     """Write a table as CSV or GeoPackage, depending on the ending of the path.
 
-    `check` is called at intervals; an exception ends the writing.
+    `check` is called at intervals, and can raise an exception to stop the writing.
 
     Raises
     ------
@@ -169,9 +169,9 @@ def _insert(part: str, name: str, identifier: str, rows: Iterable[Any], count: i
 
 
 def _make_geopackage(part: str, name: str, columns: list[Column]) -> str:
-    """Create an empty table and return its column names, beginning with the row number.
+    """Create an empty table, and return the column names, beginning with the row number.
 
-    Returns an empty text if that failed.
+    After an error, return an empty string.
     """
     source = ogr.GetDriverByName("GPKG").CreateDataSource(part)
     options = ["FID=rcell_fid"] if any(column.name.lower() == "fid" for column in columns) else []
@@ -216,7 +216,7 @@ def write_raster(
         The map whose position and reference system are used.
     labels : mapping of int to str
     check : callable
-        Called at intervals; an exception ends the writing.
+        A function that is called at intervals, and can raise an exception to stop the writing.
     names : sequence of str
         The descriptions of the bands.
 
@@ -241,7 +241,7 @@ def write_raster(
 
 
 def _copied(folder: str, part: str, driver: str, tiff: str) -> str:
-    """Copy a raster in memory and return the copy's path; empty if that failed.
+    """Copy a raster in memory, and return the copy's path, or an empty string after an error.
 
     The copy is in memory because GDAL does not report every full disk.
     """
@@ -286,7 +286,7 @@ def _write_tiff(
 
 
 def _copy_out(source: str, target: str) -> None:
-    """Copy a file and GDAL's file next to it from GDAL's memory to the disk."""
+    """Copy a file and its GDAL sidecar file from GDAL's memory to the disk."""
     for ending in ("", _BESIDE):
         if gdal.VSIStatL(source + ending) is None:
             continue
@@ -311,7 +311,7 @@ def _flushed(dataset: Any) -> bool:
 
 @contextlib.contextmanager
 def partly(path: str) -> Iterator[str]:
-    """Yield a temporary path for a file, which gets its name at the end.
+    """Yield a temporary path for a file, which is renamed at the end of the block.
 
     After an error, no file is left.
 

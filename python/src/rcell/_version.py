@@ -1,5 +1,5 @@
 # SPDX-License-Identifier: Apache-2.0 OR GPL-2.0-or-later
-"""The version of the package, the same as the program's."""
+"""The version of the package, which equals the program's version."""
 
 __all__ = ["__version__"]
 

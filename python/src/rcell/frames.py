@@ -169,7 +169,7 @@ def _series(column: Column) -> Any:
 def _returning(
     kind: str, convert: Callable[[Made], Returned], lazy: str = ""
 ) -> Callable[[Callable[Words, Made]], Call[Words, Returned]]:
-    """Return a decorator that converts a function's result, which `help` shows as `kind`.
+    """Return a decorator that converts a function's result, and documents its type as `kind`.
 
     The decorator adds the parameters `workers` and `resume`, which control the processing of large
     maps, and `compute`, with which Dask can compute the result later.
@@ -200,7 +200,7 @@ def _returning(
 
 
 def _signature_of(make: Callable[..., Any], kind: str) -> inspect.Signature:
-    """Return the signature of a call: its function's parameters and those that all calls share."""
+    """Return the signature of a call: its function's parameters and the shared parameters."""
     signature = inspect.signature(make)
     own, more = list(signature.parameters.values()), []
     if own[-1].kind is inspect.Parameter.VAR_KEYWORD:
@@ -241,7 +241,7 @@ def _accuracy_of(result: Accuracy) -> Accuracy:
 
 
 def _raster_of(result: Any) -> Raster:
-    """Convert a map of the core to a Raster, with an `Aligned` or `Sieved` if there is one."""
+    """Convert a map of the core to a Raster, with its `Aligned` or `Sieved` account, if any."""
     return Raster._of(*result) if isinstance(result, tuple) else Raster._of(result)
 
 
@@ -262,7 +262,8 @@ def _trajectories_of(result: Trajectories) -> Trajectories:
 class Result(Sequence[Any]):
     """The outputs of a script, in the order of its statements.
 
-    The sequence contains a DataFrame for each r.stats and a Raster for each r.out.ascii.
+    The sequence contains a DataFrame for each `r.stats` statement and a Raster for each
+    `r.out.ascii` statement.
 
     Parameters
     ----------

@@ -38,7 +38,7 @@ _COG = {
 
 
 def smallest_type(least: int, greatest: int) -> tuple[str, int]:
-    """Return the smallest type with room for all categories and nodata, and the nodata value.
+    """Return the smallest data type for the categories and a nodata value, and that value.
 
     Examples
     --------
@@ -125,7 +125,7 @@ def write_geotiff(grid: Raster, path: str, is_cog: bool = False) -> None:
 def _write_from_memory(
     grid: Raster, path: str, profile: dict[str, Any], make: Callable[..., None]
 ) -> None:
-    """Create a file in memory, and write it with Python, which reports all errors."""
+    """Create a file in memory, and write its bytes with Python, which reports all errors."""
     with need("rasterio.io", "gis", "to write a GeoTIFF").MemoryFile(ext=".tif") as memory:
         make(grid, memory.name, profile)
         with open(path, "wb") as file:
@@ -180,7 +180,7 @@ def _range_of(grid: Raster) -> tuple[int, int]:
 
 
 def _ends_of(cells: Any) -> tuple[int, ...]:
-    """Return the smallest and the largest category of rows; empty if all cells are null."""
+    """Return the smallest and the largest category in rows, or () if all cells are null."""
     if isinstance(cells, np.ma.MaskedArray):
         return (int(cells.min()), int(cells.max())) if np.ma.count(cells) else ()
     smallest = int(cells.min())
@@ -205,5 +205,5 @@ def _rows_of(grid: Raster) -> Iterator[tuple[int, Any]]:
 
 
 def _filled(cells: Any, dtype: str, nodata: float) -> Any:
-    """Convert rows to the type and nodata value of the file, which bytes already have."""
+    """Convert masked rows to the type and nodata value of the file, and return bytes unchanged."""
     return cells.filled(nodata).astype(dtype) if isinstance(cells, np.ma.MaskedArray) else cells

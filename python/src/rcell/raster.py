@@ -37,8 +37,8 @@ _COG = (".cog.tif", ".cog.tiff")
 class Raster:
     """A map in memory, with the properties that an array does not store.
 
-    If a call gets only an array, its cells have size 1. `(array, transform)` is a short form of
-    this class.
+    If an array is passed to a call without a transform, its cells have size 1. `(array, transform)`
+    is a short form of a Raster.
 
     Parameters
     ----------
@@ -50,11 +50,11 @@ class Raster:
     crs : any, optional
         A reference system of rasterio or pyproj, or its well-known text.
     nodata : float, optional
-        A value that is null.
+        The value that marks null.
     labels : path, dict, Series or DataFrame, optional
         A legend, as in `composition`.
     colors : mapping of int to str, optional
-        As `#rrggbb`.
+        The colours of categories, as `#rrggbb`.
     name : str
         The name of the map in messages, plots and DataArrays.
 
@@ -98,7 +98,7 @@ class Raster:
 
     @classmethod
     def _of(cls, source: ArrayMap, account: Aligned | Sieved | None = None) -> Raster:
-        """Convert a map of the core, with an account of its creation."""
+        """Convert a map of the core to a Raster, with an account of the map's creation."""
         raster = cls.__new__(cls)
         raster._set(source, account)
         return raster
@@ -139,9 +139,9 @@ class Raster:
         return self.array[first:end] if "array" in vars(self) else self._masked(first, end)
 
     def _bytes(self, first: int, end: int) -> Any:
-        """Return consecutive rows as bytes, with 255 for null, or None.
+        """Return consecutive rows as bytes, or None if the map does not store bytes.
 
-        The result is None if the map does not store bytes.
+        In the bytes, 255 is null.
         """
         source = self._source
         is_kept = source.is_narrow and source.null is None and source.nodata_value == NULL_BYTE
@@ -192,9 +192,9 @@ class Raster:
         return self.region.bounds
 
     def source(self, name: str) -> ArrayMap:
-        """Convert the map to the core's representation, under this name.
+        """Return the map in the core's representation, with the given name.
 
-        Calls that accept maps use this.
+        Calls that accept maps use this method.
 
         Parameters
         ----------
@@ -215,7 +215,7 @@ class Raster:
         return dataclasses.replace(self._source, name=name)
 
     def categories(self) -> list[int]:
-        """Return the categories that occur, ascending.
+        """Return the categories that occur in the map, in ascending order.
 
         Returns
         -------
@@ -388,7 +388,7 @@ class Raster:
         )
 
     def _picture(self) -> bytes:
-        """Return a small PNG picture in which null is transparent."""
+        """Return a small PNG picture of the map, in which null is transparent."""
         step = -(-max(self.shape) // THUMBNAIL)
         places, colors, norm = _colored(self.array[::step, ::step], self.categories(), self.colors)
         scale = need("matplotlib.cm", "plot", "to draw a map").ScalarMappable(norm, colors)
@@ -416,7 +416,7 @@ class Raster:
 
 
 def _colored(array: Any, categories: list[int], colors: dict[int, str]) -> tuple[Any, Any, Any]:
-    """Return the values to draw, their colour map and its scale.
+    """Return the values to draw, their colour map, and their normalisation.
 
     The values are indices of categories or, for many categories, the categories themselves.
     """

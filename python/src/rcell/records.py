@@ -53,7 +53,7 @@ def record(
     Raises
     ------
     BadArgument
-        The call is not one of this package, or an argument cannot be recorded.
+        The call is not from this package, or an argument cannot be recorded.
     Refused
         See the call; also raised if the CSV is one of its input files.
     WriteFailed
@@ -96,7 +96,7 @@ def verify(path: str | os.PathLike[str]) -> list[str]:
     Raises
     ------
     Refused
-        There is no record, or the R package wrote it.
+        The table has no record, or the R package wrote the record.
 
     Examples
     --------

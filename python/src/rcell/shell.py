@@ -97,7 +97,7 @@ class Command(NamedTuple):
 
 
 def _pairs(words: Sequence[str]) -> dict[str, str]:
-    """Parse arguments NAME=PATH, and return them as a dict."""
+    """Parse arguments of the form NAME=PATH, and return a dict of paths by name."""
     paths: dict[str, str] = {}
     for word in words:
         name, equals, path = word.partition("=")
@@ -142,7 +142,7 @@ def _joined(words: list[str]) -> list[str]:
 
 
 def _line(synopsis: str, does: str) -> str:
-    """Return the help line of a command; a long synopsis gets a separate line."""
+    """Return the help line of a command, with a long synopsis on a separate line."""
     gap = f"\n  {'':<{_SYNOPSIS}}" if len(synopsis) > _SYNOPSIS else ""
     return f"  {synopsis:<{_SYNOPSIS}}{gap} {does}"
 
@@ -177,7 +177,7 @@ def _parser() -> tuple[_Parser, dict[str, _Parser]]:
 
 
 def _call(words: argparse.Namespace) -> Callable[..., Any]:
-    """Return the call of a command, which returns columns and is recorded on request."""
+    """Return the function that a command calls, which records the call on request."""
     rcell = importlib.import_module("rcell")
     call: Callable[..., Any] = getattr(rcell, words.command).__wrapped__
     if not words.__dict__.get("record"):
@@ -196,7 +196,7 @@ def _call(words: argparse.Namespace) -> Callable[..., Any]:
 
 
 def _options(words: argparse.Namespace) -> dict[str, Any]:
-    """Return the options that are given, as arguments of the call."""
+    """Return the given options as arguments for the call."""
     names = [ARGUMENTS.get(name, name) for name in words.options if name not in NO_ARGUMENTS]
     if words.command in ("zonal", "dominant"):
         names.append("zones")
@@ -276,7 +276,7 @@ def _sample(words: argparse.Namespace) -> None:
 
 
 def _to_map(words: argparse.Namespace) -> None:
-    """Write the map that a call returns, and print an account of it if there is one."""
+    """Write the map that a call returns, and print the call's account of the map, if any."""
     words.map_paths = {"map": words.map, **({"to": words.to} if words.command == "align" else {})}
 
     def make_maps() -> list[Any]:
@@ -403,7 +403,7 @@ def _mask() -> int:
 
 
 def _ending_of_maps(words: argparse.Namespace) -> str:
-    """Return .txt if all input maps are rcell grids, otherwise .tif."""
+    """Return `.txt` if all input maps are rcell grids, otherwise `.tif`."""
     is_text = all(path.lower().endswith(".txt") for path in words.map_paths.values())
     return ".txt" if is_text else ".tif"
 
@@ -482,7 +482,7 @@ def _write_table(
 
 @contextlib.contextmanager
 def _writing_a_table(path: Optional[str]) -> Iterator[None]:
-    """Raise Refused if the table's file is read in this block, or its ending is unknown."""
+    """Raise Refused if the block reads the table's file, or the file has an unknown extension."""
     if path is None:
         yield
         return
@@ -502,7 +502,7 @@ def emit(text: str) -> None:
 
 
 def script_of(word: str) -> str:
-    """Return the text of a script: a file, standard input, or the word itself."""
+    """Return a script's text from a file, from standard input, or from the argument itself."""
     if word != "-" and not os.path.exists(word) and word.startswith("r."):
         return word
     try:
@@ -828,7 +828,7 @@ def _in_one_line(error: RcellError, path: Optional[str]) -> str:
 def _align_words(error: Refused, paths: dict[str, str]) -> Optional[str]:
     """Return the command that aligns a map with the first map.
 
-    Only its option is returned if one of the maps is unknown.
+    If the path of either map is unknown, only the option `--resample nearest` is returned.
     """
     if not error.advice:
         return None

@@ -42,7 +42,7 @@ def write_maps(targets: Sequence[str], make: Callable[[], list[Any]]) -> None:
 
 
 def map_ending(path: str) -> str:
-    """Return the ending of a map's path; for cloud-optimised GeoTIFFs, `.cog.tif`."""
+    """Return the file name extension of a map's path, including `.cog` if present."""
     stem, ending = os.path.splitext(path.lower())
     return f".cog{ending}" if stem.endswith(".cog") else ending
 
@@ -70,7 +70,7 @@ def write_map(raster: Any, path: str, ending: str) -> None:
 
 
 def file_errors(path: str) -> contextlib.AbstractContextManager[None]:
-    """Convert OSError to WriteFailed with this path."""
+    """Convert OSError to WriteFailed, which names the path."""
     errors: contextlib.AbstractContextManager[None] = importlib.import_module(
         "rcell.core.writing"
     ).write_errors("standard output" if path == "-" else path)

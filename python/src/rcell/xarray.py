@@ -1,9 +1,9 @@
 # SPDX-License-Identifier: Apache-2.0 OR GPL-2.0-or-later
 """Add the accessor `.rcell` to the DataArrays and Datasets of xarray.
 
-The name of a DataArray, or `map` if it has none, is the name of the map. The variables of a Dataset
-are maps. Dask arrays are computed window by window with the current client. Maps that are computed
-from them stay in Dask; with `compute=False`, tables also stay in Dask.
+A DataArray's name, or `map` for a DataArray without a name, is the name of the map. The variables
+of a Dataset are maps. Dask arrays are computed window by window with the current client. Maps
+computed from Dask arrays stay in Dask. With `compute=False`, tables also stay in Dask.
 """
 
 from __future__ import annotations
@@ -83,9 +83,9 @@ class Accessor:
         ----------
         script : str
         area : {'ha', 'km2', 'm2'}, optional
-            A column of areas.
+            Add a column of areas in this unit.
         percent : bool
-            A column of percentages.
+            Add a column of percentages.
         crs : any, optional
             The coordinate reference system to assume for maps that have none.
         **more : DataArray or path
@@ -149,7 +149,7 @@ class Accessor:
     def _made(
         self, call: Any, *words: Any, maps: Any = None, is_local: bool = True, **options: Any
     ) -> Any:
-        """Return a map as a DataArray, which stays in Dask if all its inputs are Dask arrays."""
+        """Return a call's map as a DataArray, in Dask if all input maps are Dask arrays."""
         all_maps = (self._maps if maps is None else maps).values()
         work = {word for word in ("workers", "resume") if options.get(word) is not None}
         stays = is_local and not work and all(map(is_lazy, all_maps))
@@ -298,7 +298,7 @@ _SECTION = re.compile(r"\n\n    (\w+)\n    -+\n")
 
 
 def _method_of(name: str, how: _Method) -> Callable[..., Any]:
-    """Convert a call to a method, with the array as the call's first map."""
+    """Convert a call to a method that passes the array as the first map."""
     call: Any = getattr(frames, name)
 
     signature = inspect.signature(call)

@@ -109,7 +109,7 @@ class RcellAlgorithm(QgsProcessingAlgorithm):
         return "".join(tr(part) for part in self.HELP)
 
     def helpUrl(self) -> str:
-        """Return the page of the plugin, which the Help button opens."""
+        """Return the URL of the plugin's help page, which the Help button opens."""
         paths = [
             os.path.normpath(os.path.join(os.path.dirname(os.path.abspath(__file__)), name))
             for name in _HELP
@@ -126,7 +126,7 @@ class RcellAlgorithm(QgsProcessingAlgorithm):
         return QIcon(_ICON)
 
     def canExecute(self) -> tuple[bool, str]:
-        """Return whether the program is found.
+        """Return whether the program was found, and an error message if it was not.
 
         QGIS calls this method before the dialog; qgis_process does not call it.
         """
@@ -172,7 +172,10 @@ class RcellAlgorithm(QgsProcessingAlgorithm):
     def processAlgorithm(
         self, parameters: Parameters, context: QgsProcessingContext, feedback: QgsProcessingFeedback
     ) -> dict[str, Any]:
-        """Run the program in a separate thread; errors contain the program's message."""
+        """Run the algorithm in a separate thread, and return its results by output name.
+
+        Errors contain the program's message.
+        """
         self.parameter_values, self.context, self.feedback = parameters, context, feedback
         self.check = watch_of(feedback)
         try:
@@ -184,7 +187,7 @@ class RcellAlgorithm(QgsProcessingAlgorithm):
             raise QgsProcessingException(message_of(error, feedback)) from None
 
     def chosen_words(self) -> dict[str, str]:
-        """Return the given choices as texts, because QGIS rejects the number 8 for the choice `8`.
+        """Return the given choices as strings, because QGIS rejects the integer 8 for choice `8`.
 
         Raises
         ------
@@ -319,7 +322,7 @@ class RcellAlgorithm(QgsProcessingAlgorithm):
         return str(self.parameterAsString(self.parameter_values, name, self.context))
 
     def word(self, name: str) -> str:
-        """Return the chosen option."""
+        """Return the chosen option of a parameter."""
         return str(self.parameterAsEnumString(self.parameter_values, name, self.context))
 
     def flag(self, name: str) -> bool:
@@ -340,11 +343,11 @@ class RcellAlgorithm(QgsProcessingAlgorithm):
         return self.parameterAsFile(self.parameter_values, name, self.context) or None
 
     def labels(self) -> Optional[str]:
-        """Return the file of labels, or None."""
+        """Return the path of the legend file, or None."""
         return self.path("LABELS")
 
     def record_path(self) -> str:
-        """Return the file of the table to record, or an empty text.
+        """Return the path of the table to record, or an empty string if no record is requested.
 
         Raises
         ------
@@ -381,7 +384,7 @@ class RcellAlgorithm(QgsProcessingAlgorithm):
         return result
 
     def file_of(self, argument: Any) -> Any:
-        """Replace each layer in an argument with its file."""
+        """Replace each layer in an argument with the layer's file."""
         if isinstance(argument, Mapping):
             return {name: self.file_of(value) for name, value in argument.items()}
         if isinstance(argument, list):
@@ -415,7 +418,7 @@ class RcellAlgorithm(QgsProcessingAlgorithm):
         self.fit([*self.rasters, self.zones] if is_raster else self.rasters)
 
     def zoning(self) -> dict[str, Any]:
-        """Return the arguments of calls for zones."""
+        """Return the zone arguments of a call."""
         return {
             "zone_field": self.text("ZONE_FIELD") or None,
             "zone_labels": self.path("ZONE_LABELS"),
@@ -427,7 +430,7 @@ class RcellAlgorithm(QgsProcessingAlgorithm):
         sources_of({f"map_{place}": raster for place, raster in enumerate(rasters)}, self.crs())
 
     def raster_layers(self, names: Sequence[str] = (), most: int = MOST_RASTERS) -> list[Any]:
-        """Return the layers of the parameter for several rasters.
+        """Return the raster layers that the user selected for `INPUT`.
 
         Raises
         ------
@@ -533,7 +536,7 @@ def _glance(maps: Sequence[Any]) -> None:
 
 
 def renamed(table: Table, titles: Mapping[str, str]) -> Table:
-    """Rename the maps in the columns of a table, including label columns."""
+    """Rename the columns of maps in a table, including their label columns."""
     names = {**titles, **{f"{name}_label": f"{title}_label" for name, title in titles.items()}}
     return Table(
         Column(names.get(column.name, column.name), column.kind, column.values)
@@ -554,7 +557,8 @@ def as_log(text: str) -> str:
 def message_of(error: RcellError, feedback: QgsProcessingFeedback) -> str:
     """Return the message of an error.
 
-    In a window, the line with a mark is written to the log, which has a fixed-width font.
+    In the QGIS window, the script line and its mark are written to the log, which has a fixed-width
+    font.
     """
     text = str(error)
     if (
@@ -570,14 +574,14 @@ def message_of(error: RcellError, feedback: QgsProcessingFeedback) -> str:
 
 
 def program_setting() -> str:
-    """Return the program in the settings, or an empty text."""
+    """Return the program's path from the settings, or an empty string."""
     return str(ProcessingConfig.getSetting("RCELL_PROGRAM") or "").strip()
 
 
 def plain_path(value: Any) -> str:
-    """Return the path of a destination file.
+    """Return the path of a destination file, or an empty string for other destinations.
 
-    The result is empty for memory layers, databases and temporary outputs.
+    Other destinations are memory layers, databases and temporary outputs.
     """
     if isinstance(value, QgsProcessingOutputLayerDefinition):
         value = value.sink.staticValue()
@@ -589,7 +593,9 @@ def plain_path(value: Any) -> str:
 
 
 def raise_unreadable(value: Any, name: str = "") -> None:
-    """Raise an error that states why a raster cannot be read; for a path, GDAL's message.
+    """Raise an error that explains why a raster cannot be read.
+
+    For a path, the error contains GDAL's message.
 
     Raises
     ------

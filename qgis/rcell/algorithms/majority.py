@@ -20,7 +20,7 @@ SIZES = [str(size) for size in SIDES]
 
 
 class MajorityAlgorithm(RcellAlgorithm):
-    """Gives each cell the most frequent class of the square around it."""
+    """Assigns each cell the most frequent class in the square around the cell."""
 
     NAME = "majority"
     TITLE = noop("Majority of a neighbourhood")
@@ -46,7 +46,7 @@ class MajorityAlgorithm(RcellAlgorithm):
         self.add_map(tr("Majority"))
 
     def answer(self) -> dict[str, Any]:
-        """Return the map."""
+        """Write the map, and return its path."""
         size = int(self.word("SIZE"))
         raster = majority(self.rasters[0], size, self.flag("FILL"))
         path = self.put_map(raster, named_classes(raster))
@@ -86,7 +86,7 @@ class WithinAlgorithm(RcellAlgorithm):
         return [numbers_of(self.text(name.upper()), name) for name in ("classes", "distances")]
 
     def answer(self) -> dict[str, Any]:
-        """Return the map."""
+        """Write the map, and return its path."""
         classes, distances = self.lists()
         raster = within(self.rasters[0], map(int, classes), distances, crs=self.crs())
         self.colours = {}
@@ -94,7 +94,7 @@ class WithinAlgorithm(RcellAlgorithm):
 
 
 class AggregateAlgorithm(RcellAlgorithm):
-    """Makes a coarser map of the most frequent classes, and maps the shares of all classes."""
+    """Creates a coarser map of the most frequent classes, and maps the shares of all classes."""
 
     NAME = "aggregate"
     TITLE = noop("Aggregate to larger cells")

@@ -25,7 +25,7 @@ LEVELS = ["class", "landscape", "patch"]
 
 
 class _OfPatches(RcellAlgorithm):
-    """The parameters that the algorithms over patches have in common."""
+    """Declares the parameters that all patch algorithms share."""
 
     def add_patches(self) -> None:
         """Add the parameters that define and select patches."""
@@ -59,7 +59,7 @@ class ClumpAlgorithm(_OfPatches):
         self.add_map(tr("Map of patches"))
 
     def answer(self) -> dict[str, Any]:
-        """Return the map."""
+        """Write the map, and return its path."""
         connectivity, fewest = int(self.word("CONNECTIVITY")), self.number("MIN_CELLS")
         raster = clump(self.rasters[0], connectivity, self.classes(), fewest, crs=self.crs())
         self.colours = {}
@@ -263,7 +263,7 @@ class MetricsAlgorithm(RcellAlgorithm):
 def _legend(table: Table, raster: Source, crs: Any) -> list[tuple[int, str]]:
     """Return a legend with the number, class and size of each patch.
 
-    If there are too many patches, the entries only count patches.
+    If there are too many patches for a legend, each entry is empty.
     """
     if len(table) > MOST_CLASSES:
         return [(0, "")] * len(table)

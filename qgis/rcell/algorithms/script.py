@@ -166,7 +166,7 @@ class ScriptAlgorithm(RcellAlgorithm):
         return script.rstrip("\n")
 
     def _wanted(self, plan: list[Statement]) -> str:
-        """Return the name of the requested map, or an empty text."""
+        """Return the name of the requested map, or an empty string if no map is requested."""
         name: str = self.text("MAP").strip()
         if not self.parameter_values.get("OUTPUT"):
             if name:

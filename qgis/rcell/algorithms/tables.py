@@ -70,7 +70,7 @@ class CompositionAlgorithm(RcellAlgorithm):
         self.read_zoned()
 
     def answer(self) -> dict[str, Any]:
-        """Return the table."""
+        """Write the table, and return its path."""
         table = self.called(
             composition,
             self.rasters[0],
@@ -124,7 +124,7 @@ class CrossAlgorithm(RcellAlgorithm):
         self.fit(self.rasters)
 
     def answer(self) -> dict[str, Any]:
-        """Return the table."""
+        """Write the table, and return its path."""
         names = made_names([raster.name for raster in self.rasters])
         maps = dict(zip(names, self.rasters))
         crossed = self.called(
@@ -306,7 +306,7 @@ class ZonalAlgorithm(RcellAlgorithm):
         self.read_zoned()
 
     def answer(self) -> dict[str, Any]:
-        """Return the table."""
+        """Write the table, and return its path."""
         quantiles = numbers_of(self.text("QUANTILES"), "quantiles")
         table = self.called(
             zonal,
@@ -361,7 +361,7 @@ class DominantAlgorithm(RcellAlgorithm):
         self.read_zoned()
 
     def answer(self) -> dict[str, Any]:
-        """Return the table."""
+        """Write the table, and return its path."""
         table = self.called(
             dominant,
             self.rasters[0],
@@ -391,7 +391,7 @@ class AdjacencyAlgorithm(RcellAlgorithm):
         self.add_table()
 
     def answer(self) -> dict[str, Any]:
-        """Return the table."""
+        """Write the table, and return its path."""
         named = {"labels": self.labels(), "crs": self.crs()}
         table = self.called(adjacency, self.rasters[0], **named)
         return {"OUTPUT": self.put_table("OUTPUT", table)}

@@ -1,7 +1,7 @@
 # SPDX-License-Identifier: Apache-2.0 OR GPL-2.0-or-later
 """Load the core and the GDAL readers of the Python package.
 
-The zip contains copies; in the repository, they are in python/src/rcell.
+The zip contains copies of both. In the repository, the originals are in python/src/rcell.
 """
 
 import os

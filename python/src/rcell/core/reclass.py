@@ -23,7 +23,7 @@ _RANGE = re.compile(r"([+-]?[0-9]+) *- *([+-]?[0-9]+)")
 
 
 class Rule(NamedTuple):
-    """A range of classes and its new class; None for null."""
+    """A rule that replaces a range of classes with a new class, or with null if `new` is None."""
 
     low: int
     high: int
@@ -32,7 +32,7 @@ class Rule(NamedTuple):
 
     @property
     def text(self) -> str:
-        """The rule in the syntax of r.reclass."""
+        """The rule in r.reclass syntax."""
         classes = str(self.low) if self.low == self.high else f"{self.low} thru {self.high}"
         return f"{classes} = {'NULL' if self.new is None else self.new} {self.label}".rstrip()
 
@@ -48,15 +48,15 @@ def reclass(map: MapLike, rules: Any, other: Optional[str] = None, *, crs: Any =
         class; empty for null) and optionally `label`; or a dict of new classes by class or by
         `(first, last)`.
     other : {"keep", "null"}, optional
-        Keep classes without a rule, or set them to null. By default, they raise an error that lists
-        them.
+        Whether to keep classes that have no rule or set them to null. By default, the call raises
+        an error that lists these classes.
     crs : any, optional
         The reference system to assume for a map that has none.
 
     Returns
     -------
     Raster
-        The new map, with the labels of the rules. Kept classes have the labels of the map.
+        The new map, with labels from the rules. Classes without a rule keep their labels.
 
     Raises
     ------
@@ -96,7 +96,7 @@ def reclass(map: MapLike, rules: Any, other: Optional[str] = None, *, crs: Any =
 
 
 def _checked(rules: Iterable[Rule]) -> Sequence[Rule]:
-    """Sort rules by class, and raise BadArgument if a class has two rules."""
+    """Return the rules sorted by class, or raise BadArgument if a class has two rules."""
     listed = sorted(rules, key=lambda rule: (rule.low, rule.high))
     if not listed:
         raise BadArgument("rules", "must have at least one rule; got none")
@@ -109,7 +109,7 @@ def _checked(rules: Iterable[Rule]) -> Sequence[Rule]:
 
 
 def _joined(listed: Sequence[Rule]) -> Iterator[Rule]:
-    """Merge rules for consecutive classes, because scripts are limited to 1 MiB."""
+    """Merge equal rules for consecutive classes, because scripts are limited to 1 MiB."""
     run = listed[0]
     for rule in listed[1:]:
         if (rule.low, rule.new, rule.label) == (run.high + 1, run.new, run.label):
@@ -134,7 +134,7 @@ def _check_all(entries: list[list[int]], listed: Sequence[Rule]) -> None:
 
 
 def _rules_of(crosswalk: Any) -> Iterator[Rule]:
-    """Yield the rules of a crosswalk of any kind."""
+    """Yield the rules of a crosswalk, which is a dict, a DataFrame or a CSV."""
     if isinstance(crosswalk, (str, os.PathLike)) or hasattr(crosswalk, "columns"):
         for place, row in rows_of("rules", crosswalk, ("value", "new"), ("label",)):
             yield _rule(f"{place}: ", row["value"], row["new"], row.get("label"))
@@ -146,7 +146,7 @@ def _rules_of(crosswalk: Any) -> Iterator[Rule]:
 
 
 def _rule(place: str, value: Any, new: Any, label: Any) -> Rule:
-    """Return a rule for a class or for a range, which is a pair or a text such as `1-9`."""
+    """Return the rule for a class, or for a range given as a pair or as a string such as `1-9`."""
     low, high = value if isinstance(value, tuple) and len(value) == 2 else (value, value)
     match = _RANGE.fullmatch(value.strip()) if isinstance(value, str) else None
     if match:

@@ -1,5 +1,5 @@
 # SPDX-License-Identifier: Apache-2.0 OR GPL-2.0-or-later
-"""Write tables with a record of their inputs, which anyone can verify later."""
+"""Write tables with a record of their inputs, so that anyone can verify the tables later."""
 
 from __future__ import annotations
 
@@ -59,7 +59,7 @@ _ASKED = {
 
 
 class BandOf(NamedTuple):
-    """A band of a raster, as a recordable argument."""
+    """A band of a raster as an argument that can be recorded."""
 
     path: str
     band: int
@@ -67,7 +67,7 @@ class BandOf(NamedTuple):
 
 @dataclasses.dataclass
 class RecordedCall:
-    """The result of a call, its table, and its inputs.
+    """The result of a recorded call, with its table and its inputs.
 
     Attributes
     ----------
@@ -76,7 +76,7 @@ class RecordedCall:
     call : dict
         The name of the call, its arguments, and the name of the table in its result.
     runs : list of dict
-        Each script that was run, with the SHA-256 checksum of each map's cells by name.
+        Each script that was run, with a SHA-256 checksum of the cells of each map, by map name.
     """
 
     outcome: Any
@@ -87,7 +87,7 @@ class RecordedCall:
     def write(self, path: str, version: str) -> None:
         """Write the table and, next to it, the record.
 
-        The same maps, call and versions always result in the same bytes.
+        The same maps, call and versions always produce the same bytes.
         """
         table = csv_of(self.table)
         versions = {"rcell": version, "python": platform.python_version(), "numpy": np.__version__}
@@ -111,7 +111,7 @@ def make(
     named: Mapping[str, Any],
     part: Optional[str] = None,
 ) -> RecordedCall:
-    """Run a call and record it, for a table at this path.
+    """Run a call and record the run for a table at `path`.
 
     Raises
     ------
@@ -135,7 +135,7 @@ def make(
 
 
 def csv_of(table: Table) -> bytes:
-    """Return a table as a CSV."""
+    """Return a table in CSV format, as bytes."""
     text = table_text("csv", table.columns, table.rows)
     return text.encode("utf-8", "surrogateescape")
 
@@ -166,7 +166,7 @@ def _recorded(
 
 
 def table_of(result: Any, part: Optional[str] = None) -> Table:
-    """Return a table from the result of a call, by default the first table."""
+    """Return the table `part` from the result of a call, or by default the first table."""
     if isinstance(result, Accuracy) and part == "summary":
         return summary_of(result)
     tables = {"": result} if isinstance(result, Table) else {}
@@ -188,7 +188,7 @@ def read_record(path: str) -> dict[str, Any]:
     Raises
     ------
     Refused
-        There is no record, or it is not a record of this version.
+        The table has no record, or the record is invalid or from another version.
     """
     beside = _beside(path)
     if os.path.exists(path) and not os.path.exists(beside):
@@ -213,12 +213,15 @@ def _bytes_of(path: str) -> bytes:
 
 
 def is_of_r(record: Mapping[str, Any]) -> bool:
-    """Return whether the R package wrote a record; its scripts contain different lines."""
+    """Return whether the R package wrote a record.
+
+    The R package's scripts contain different lines.
+    """
     return "R" in record["versions"]
 
 
 def _is_record(record: Any) -> bool:
-    """Return whether an object contains the keys of a record."""
+    """Return whether an object read from JSON contains the keys of a record."""
     try:
         call, runs = record["call"], record["runs"]
         texts = [
@@ -241,7 +244,7 @@ def _is_record(record: Any) -> bool:
 
 
 def differences(path: str, version: str) -> Iterator[str]:
-    """Run the call in a record again, and yield one line for each difference."""
+    """Run a recorded call again, and yield a line for each difference from the record."""
     record, folder = read_record(path), os.path.dirname(os.path.abspath(path))
     if is_of_r(record):
         text = (
@@ -269,7 +272,7 @@ def differences(path: str, version: str) -> Iterator[str]:
 def _other_runs(
     runs: Sequence[Any], recorded_runs: Sequence[Any], paths: Mapping[str, str]
 ) -> Iterator[str]:
-    """Describe which maps and scripts differ between two lists of runs."""
+    """Yield a line for each map whose cells differ, and a line if the scripts differ."""
     maps: dict[str, None] = {}
     for run, recorded in zip(runs, recorded_runs):
         for name, sum_then in recorded["maps"].items():
@@ -282,7 +285,7 @@ def _other_runs(
 
 
 def _other_lines(recorded: bytes, returned: bytes) -> Iterator[str]:
-    """Describe the first line that differs between two tables, and count the others."""
+    """Yield a line that shows the first difference between two tables and counts the rest."""
     lines, others = (text.decode("utf-8", "replace").split("\n") for text in (recorded, returned))
     pairs = enumerate(zip(lines, others), 1)
     different = [(number, *pair) for number, pair in pairs if pair[0] != pair[1]]
@@ -296,7 +299,7 @@ def _other_lines(recorded: bytes, returned: bytes) -> Iterator[str]:
 
 
 def _other_texts(arguments: Any, folder: str) -> Iterator[str]:
-    """Describe which legends and other text files of a call have changed."""
+    """Yield a line for each legend or other text file of a call that has changed."""
     for file in files_in(arguments):
         path = os.path.join(folder, file["path"])
         if "sha256" in file and os.path.exists(path) and file_sum(path) != file["sha256"]:
@@ -304,7 +307,7 @@ def _other_texts(arguments: Any, folder: str) -> Iterator[str]:
 
 
 def files_in(argument: Any) -> Iterator[Mapping[str, Any]]:
-    """Yield the files among recorded arguments, in order."""
+    """Yield each file that recorded arguments contain, in order."""
     if isinstance(argument, dict) and "path" in argument:
         yield argument
     elif isinstance(argument, (dict, list)):
@@ -313,7 +316,7 @@ def files_in(argument: Any) -> Iterator[Mapping[str, Any]]:
 
 
 def _paths_of(recorded_call: Mapping[str, Any], call: Callable[..., Any]) -> dict[str, str]:
-    """Return the paths of maps by argument name."""
+    """Return the paths in a recorded call by argument name."""
     titles = [*inspect.signature(call).parameters]
     arguments = {**dict(zip(titles, recorded_call["words"])), **recorded_call["named"]}
     return {
@@ -349,13 +352,13 @@ def _plain(title: str, argument: Any, folder: str) -> Any:
 
 
 def _is_pattern(path: str) -> bool:
-    """Return whether a path is a pattern of files in a folder that exists."""
+    """Return whether a path is a file name pattern in an existing folder."""
     folder, name = os.path.split(path)
     return bool(re.search("[*?[]", name)) and os.path.isdir(folder or os.curdir)
 
 
 def placed(argument: Any, folder: str) -> Any:
-    """Convert a recorded argument back to an argument of the call."""
+    """Convert a recorded argument back to an argument for the call."""
     if isinstance(argument, list):
         return [placed(part, folder) for part in argument]
     if not isinstance(argument, dict):

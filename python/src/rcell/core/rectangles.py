@@ -15,7 +15,7 @@ NO_MARGIN = Margin()
 
 
 class Rectangle(NamedTuple):
-    """A rectangle of cells: its first row and column, from 0, and its rows and columns."""
+    """A rectangle of cells, given by its first row and column (from 0) and its size."""
 
     top: int
     left: int
@@ -24,17 +24,17 @@ class Rectangle(NamedTuple):
 
     @property
     def cells(self) -> int:
-        """Its number of cells."""
+        """The number of cells in the rectangle."""
         return self.rows * self.cols
 
     @property
     def slices(self) -> tuple[slice, slice]:
-        """Its rows and columns, as an index into an array of the map."""
+        """The rectangle's rows and columns, as an index into the map's array."""
         return slice(self.top, self.top + self.rows), slice(self.left, self.left + self.cols)
 
     @property
     def region(self) -> Region:
-        """Its region in a map with cells of size 1 and its top left corner at 0, 0."""
+        """The rectangle's region in a map of unit cells whose top left corner is at 0, 0."""
         low, right = self.top + self.rows, self.left + self.cols
         return Region(-self.top, -low, right, self.left, self.rows, self.cols)
 
@@ -58,13 +58,13 @@ class Rectangle(NamedTuple):
         return Rectangle(top, left, low - top, right - left)
 
     def part_of(self, outer: Rectangle, cells: NDArray[Any]) -> NDArray[Any]:
-        """Extract the cells of this rectangle from the cells of a rectangle around it."""
+        """Extract this rectangle's cells from the cells of an enclosing rectangle."""
         top, left = self.top - outer.top, self.left - outer.left
         return cells[top : top + self.rows, left : left + self.cols]
 
 
 def rectangles_of(shape: tuple[int, int], size: tuple[int, int]) -> list[Rectangle]:
-    """Cut a map into tiles, row by row; each cell is in exactly one tile.
+    """Return the tiles of a map, row by row, so that each cell is in exactly one tile.
 
     Examples
     --------

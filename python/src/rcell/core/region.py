@@ -1,5 +1,5 @@
 # SPDX-License-Identifier: Apache-2.0 OR GPL-2.0-or-later
-"""Define regions: the edges, in the program's precision, and the rows and columns of a map."""
+"""Define `Region`: a map's edges, in the program's precision, and its rows and columns."""
 
 from __future__ import annotations
 
@@ -42,7 +42,7 @@ NEARLY_WHOLE = 1e-3
 
 
 def units_of(edge: float | Fraction) -> int:
-    """Return an edge in units of 10^-8, the precision of the program."""
+    """Convert an edge to integer units of 10^-8, the precision of the program."""
     return int(round(Fraction(edge) * UNITS))
 
 
@@ -62,7 +62,7 @@ def _is_number(value: Any) -> bool:
 
 
 def six_numbers(name: str, transform: Any) -> Transform:
-    """Return the six numbers of any kind of transform."""
+    """Convert a transform of any type to six floats."""
     try:
         a, b, c, d, e, f = (float(number) for number in tuple(transform)[:6])
     except (TypeError, ValueError):
@@ -97,7 +97,7 @@ def edges_of_transform(
 
 @dataclass(frozen=True, eq=False)
 class Region:
-    """A region: four edges, and the numbers of rows and columns.
+    """A map's region: its four edges and its numbers of rows and columns.
 
     The program stores edges with 8 decimals. Two regions are therefore equal if their sizes are
     equal and their edges are equal after rounding to 8 decimals.
@@ -105,7 +105,7 @@ class Region:
     Parameters
     ----------
     north, south, east, west : float
-        The outer edges of the outer cells, in the units of the map.
+        The outer edges of the outermost cells, in map units.
     rows, cols : int
         The numbers of cells from north to south and from west to east.
 
@@ -194,7 +194,7 @@ class Region:
 
     @classmethod
     def of_cells(cls, rows: int, cols: int) -> Region:
-        """Return the region of an array without a position: unit cells from 0, 0.
+        """Return the region of an array that has no position: unit cells from the origin.
 
         Parameters
         ----------
@@ -272,7 +272,7 @@ class Region:
 
     @property
     def transform(self) -> Transform:
-        """The six numbers of its transform, in the order of `rasterio.Affine`.
+        """The six numbers of the region's transform, in the order of `rasterio.Affine`.
 
         Examples
         --------
@@ -285,7 +285,7 @@ class Region:
 
     @property
     def edges(self) -> tuple[str, str, str, str]:
-        """The north, south, east and west edges, as the program reads them.
+        """The north, south, east and west edges, as strings that the program reads.
 
         Examples
         --------
@@ -297,7 +297,7 @@ class Region:
         return north, south, east, west
 
     def differences(self, other: Region) -> list[str]:
-        """Return a text for each edge and size in which another region differs.
+        """Return a description of each edge and size in which another region differs.
 
         Parameters
         ----------
@@ -307,7 +307,7 @@ class Region:
         Returns
         -------
         list of str
-            A text for each difference; empty if they are equal.
+            A description of each difference. The list is empty if the regions are equal.
 
         Examples
         --------
@@ -333,7 +333,7 @@ class Region:
 
 @dataclass(frozen=True)
 class Shift:
-    """The position of one grid in another.
+    """The position and cell size of a grid relative to another grid.
 
     Attributes
     ----------
@@ -356,7 +356,7 @@ class Shift:
 
     @classmethod
     def between(cls, other: Transform, grid: Transform, shape: tuple[int, int]) -> Shift:
-        """Return the position of a grid in another grid.
+        """Return the shift of a grid relative to another grid.
 
         Examples
         --------
@@ -395,7 +395,7 @@ class Shift:
         return down, across
 
     def misfit(self, name: str) -> str:
-        """Return the reason why the grids do not coincide."""
+        """Return an explanation of why the cells of the grids do not coincide."""
         if self.has_other_cells:
             mine, its = (f"{width:.10g} x {height:.10g}" for height, width in self.sizes)
             return f"cells of {mine}, but `{name}` has cells of {its}"

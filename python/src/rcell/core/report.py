@@ -1,5 +1,5 @@
 # SPDX-License-Identifier: Apache-2.0 OR GPL-2.0-or-later
-"""Write reports: an HTML page with recorded tables, pictures of maps, and verify commands."""
+"""Write HTML reports with recorded tables, pictures of maps, and verify commands."""
 
 from __future__ import annotations
 
@@ -108,7 +108,7 @@ def page_of(paths: Sequence[str], title: str) -> str:
 
 
 def _section_of(path: str) -> str:
-    """Return the section of a page about one table."""
+    """Return the HTML section about one recorded table."""
     record, name = read_record(path), os.path.basename(path)
     if file_sum(path) != record["table"]["sha256"]:
         raise Refused("it has changed since it was written: record it again", path)
@@ -138,7 +138,7 @@ def _text(value: Any) -> str:
 
 
 def _table_of(path: str, name: str) -> Iterator[str]:
-    """Yield the HTML lines of a table: its first rows, and the number of further rows."""
+    """Yield HTML lines with the first rows of a table and the number of further rows."""
     with open(path, encoding="utf-8", errors="replace", newline="") as file:
         titles, *rows = csv.reader(file)
     columns = [_shown(column) for column in zip(*rows)] or [(False, [])] * len(titles)
@@ -156,7 +156,7 @@ def _table_of(path: str, name: str) -> Iterator[str]:
 
 
 def _shown(column: Sequence[str]) -> tuple[bool, list[str]]:
-    """Return whether a column is numeric, and its texts.
+    """Return whether a column is numeric, and its cells as strings to display.
 
     Decimals are rounded to about six digits.
     """
@@ -195,7 +195,7 @@ def _argument(value: Any) -> str:
 
 
 def _sums_of(record: Mapping[str, Any]) -> str:
-    """Return a table with all SHA-256 checksums in a record."""
+    """Return an HTML table of all SHA-256 checksums in a record."""
     sums = {}
     for number, run in enumerate(record["runs"], 1):
         for line in run["script"].split("\n"):
@@ -215,7 +215,7 @@ def _sums_of(record: Mapping[str, Any]) -> str:
 
 
 def _picture_of(record: Mapping[str, Any], folder: str) -> Iterator[str]:
-    """Yield a picture of a call's first map with a legend, or the reason for its absence."""
+    """Yield HTML with a picture and legend of a call's first map, or with why they are missing."""
     first = next(files_in([record["call"]["words"], record["call"]["named"]]), None)
     if first is None or not record["runs"]:
         return
@@ -252,7 +252,7 @@ def _picture_of(record: Mapping[str, Any], folder: str) -> Iterator[str]:
 
 
 def _thinned(source: Source) -> tuple[NDArray[np.int64], int]:
-    """Thin out a map so that it fits into a picture, and return every nth cell and n."""
+    """Return every nth row and column of a map, and n, so that the map fits into a picture."""
     step = -(-max(source.region.shape) // MOST_PIXELS)
     rows, first = [], 0
     for block in source.blocks():
@@ -264,7 +264,10 @@ def _thinned(source: Source) -> tuple[NDArray[np.int64], int]:
 
 
 def _png(cells: NDArray[np.int64], colours: Mapping[int, str]) -> bytes:
-    """Return a PNG picture in which null is transparent; small maps are enlarged."""
+    """Return a PNG picture of a map, in which null is transparent.
+
+    Small maps are enlarged.
+    """
     classes = [NULL, *colours]
     shades = [(0, 0, 0, 0), *((*bytes.fromhex(colour[1:7]), 255) for colour in colours.values())]
     pixels = np.array(shades, np.uint8)[np.searchsorted(classes, cells)]

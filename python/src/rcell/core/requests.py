@@ -1,5 +1,5 @@
 # SPDX-License-Identifier: Apache-2.0 OR GPL-2.0-or-later
-"""Write the bytes of a request to rcell-pipe: maps, a script, and questions about maps."""
+"""Encode requests to rcell-pipe: maps, a script, and questions about maps."""
 
 from __future__ import annotations
 
@@ -37,7 +37,7 @@ class Block(NamedTuple):
 
 @dataclass(frozen=True)
 class Map:
-    """An input map.
+    """An input map of a request.
 
     Attributes
     ----------
@@ -67,7 +67,7 @@ class Map:
     labels: Mapping[int, str] = field(default_factory=dict)
 
     def pieces(self) -> Iterator[Buffer]:
-        """Yield the bytes of the map.
+        """Yield the bytes that encode the map.
 
         Raises
         ------
@@ -114,7 +114,7 @@ def _short(text: str) -> bytes:
 
 
 def _interleaved(cells: memoryview, mask: memoryview, row_bytes: int, cols: int) -> Iterator[bytes]:
-    """Yield rows, each followed by its mask."""
+    """Yield the rows of a map, each followed by the row's mask."""
     rows = len(cells) // row_bytes
     if len(mask) != rows * cols:
         raise ValueError(f"a mask of {len(mask)} bytes for {rows} rows of {cols} cells")
@@ -129,7 +129,7 @@ def _interleaved(cells: memoryview, mask: memoryview, row_bytes: int, cols: int)
 
 
 class Margin(NamedTuple):
-    """The rows above and below, and the columns left and right, that are needed around a cell."""
+    """The numbers of rows and columns that are needed on each side of a cell."""
 
     up: int = 0
     down: int = 0
@@ -138,19 +138,19 @@ class Margin(NamedTuple):
 
 
 class Question(NamedTuple):
-    """A question about a map of a script: the measures of its patches.
+    """A request for the measures of the patches in a map.
 
     Attributes
     ----------
     map : str
-        An input map, or a map that the script creates.
+        The name of an input map, or of a map that the script creates.
     connectivity : {4, 8}
     depth : int
         A cell is in the core of its patch if all cells within this many steps, across edges, are in
         the patch.
     zones : str
-        A map of zones, or empty. With zones, each patch is returned with the zone that contains
-        most of its cells.
+        The name of a map of zones, or an empty string. With zones, each patch is returned with the
+        zone that contains most of its cells.
     """
 
     map: str
@@ -160,7 +160,7 @@ class Question(NamedTuple):
 
     @property
     def is_diagonal(self) -> bool:
-        """Whether cells that share a corner are connected."""
+        """Whether cells that share only a corner are connected."""
         return self.connectivity == 8
 
     @property
@@ -169,12 +169,12 @@ class Question(NamedTuple):
         return Margin(*[self.depth] * 4)
 
     def bytes(self) -> bytes:
-        """Return the bytes of the question."""
+        """Return the bytes that encode the question."""
         numbers = struct.pack("<BI", self.connectivity, self.depth)
         return bytes([_PATCHES]) + _short(self.map) + numbers + _short(self.zones)
 
     def text(self) -> str:
-        """Return the question as a comment for records, which follows the script."""
+        """Return the question as a comment, which follows the script in records."""
         numbers = f"connectivity {self.connectivity}, core depth {self.depth}"
         zones = f", zones {self.zones}" if self.zones else ""
         return f"# question: patches of {self.map}, {numbers}{zones}"
@@ -186,7 +186,7 @@ def request(
     questions: Sequence[Question] = (),
     magic: bytes = b"RCELLQ1\n",
 ) -> Iterator[Buffer]:
-    """Yield the bytes of a request."""
+    """Yield the bytes of a request with maps, a script, and questions."""
     yield magic + struct.pack("<I", len(maps))
     for each in maps:
         yield from each.pieces()
@@ -195,7 +195,7 @@ def request(
 
 
 def plan_request(names: Sequence[str], script: bytes) -> Iterator[Buffer]:
-    """Yield the bytes of a request for a plan."""
+    """Yield the bytes of a request for the plan of a script."""
     yield b"RCELLP1\n" + struct.pack("<I", len(names)) + b"".join(map(_short, names)) + struct.pack(
         "<I", len(script)
     ) + script

@@ -28,13 +28,13 @@ _DETAILS = ("layer", "band", "null_ranges", "file_nodata", "scale")
 
 @dataclass(frozen=True)
 class Shelf:
-    """A folder with the results of tiles, or no folder.
+    """Keeps the results of finished tiles in a folder, if a folder is given.
 
     Attributes
     ----------
     folder : str or None
     state : bytes
-        Identifies the maps and the program by the paths, sizes and times of their files.
+        Bytes that identify the maps and the program by their files' paths, sizes and times.
     """
 
     folder: Optional[str]
@@ -42,7 +42,7 @@ class Shelf:
 
     @classmethod
     def of(cls, folder: Optional[str], maps: Mapping[str, Source], shape: tuple[int, int]) -> Shelf:
-        """Return the shelf in a folder for these maps; create the folder if it is missing."""
+        """Return the shelf for these maps, and create the folder if it is missing."""
         if folder is None:
             return cls(None, b"")
         with write_errors(folder):
@@ -55,7 +55,7 @@ class Shelf:
         return cls(folder, "\0".join(parts).encode("utf-8", "surrogateescape"))
 
     def known(self, work: TileWork) -> TileWork:
-        """Return a tile's work with its kept results, or with the path for its future results."""
+        """Return a tile's work with results from an earlier call, or a path for new results."""
         if self.folder is None:
             return work
         maps: dict[str, Any] = {}
@@ -86,7 +86,7 @@ class Shelf:
         return sum_of.hexdigest()
 
     def keep(self, path: str, done: TileDone) -> None:
-        """Keep the results of a tile, if a path is given."""
+        """Write the results of a tile to a path, unless the path is empty."""
         if path:
             with replacing(path) as beside, write_errors(path):
                 _save(beside, done.results)
@@ -102,7 +102,7 @@ def _save(path: str, arrays: Sequence[NDArray[Any]]) -> None:
 
 
 def state_of(path: str) -> str:
-    """Return a text that changes if a file changes."""
+    """Return a string that changes if a file changes."""
     try:
         state = os.stat(path)
     except OSError:

@@ -41,7 +41,7 @@ class Output:
     ----------
     command : {"r.stats", "r.out.ascii"}
     line : int
-        The line of the script; 0 for a map that was requested by name.
+        The line of the statement in the script, or 0 for a map that was requested by name.
     maps : tuple of str
         The maps that the statement read.
     values : array
@@ -61,12 +61,12 @@ class Output:
 
 
 class Fold(Protocol):
-    """Receives the table of an r.stats over patches in parts, without a table of all patches."""
+    """Receives an `r.stats` table over patches tile by tile, instead of as one table."""
 
     def add(self, tile: int, table: NDArray[Any], waiting: NDArray[Any]) -> None:
         """Receive a tile's table, and the patches that may continue in other tiles.
 
-        Patches have the numbers of the tile.
+        Patches are numbered within the tile.
         """
 
     def join(self, numbers_of: Callable[[int, NDArray[Any]], NDArray[Any]]) -> None:
@@ -74,7 +74,7 @@ class Fold(Protocol):
 
 
 class PatchFold(Protocol):
-    """Receives the program's measures of patches."""
+    """Receives the program's patch measures, tile by tile."""
 
     def add(
         self,
@@ -84,14 +84,14 @@ class PatchFold(Protocol):
         waiting: NDArray[Any],
         tables: list[NDArray[Any]],
     ) -> None:
-        """Receive the patches of a tile, numbered in the tile.
+        """Receive a tile's patches, which are numbered within the tile.
 
-        `waiting` lists the patches that may continue in other tiles. The first column of `tables`
-        is the patch.
+        `waiting` lists the patches that may continue in other tiles. The first column of each table
+        in `tables` is the patch number.
         """
 
     def join(self, numbers_of: Callable[[int, NDArray[Any]], NDArray[Any]]) -> None:
-        """Join the patches, using their numbers in the full map."""
+        """Join the patches of all tiles, using their numbers in the full map."""
 
 
 def execute(
@@ -127,9 +127,9 @@ def execute(
     Raises
     ------
     Refused
-        The program rejects a map or the script; the line is a line of the caller's script.
+        The program rejects a map or the script. The error names a line of the caller's script.
     BadMap
-        A cell cannot be sent.
+        A cell is neither null nor a whole number in range.
     OutOfMemory, Killed, MissingProgram, WrongProgram
     """
     from .tile_runs import demand_of, run_tiles
@@ -164,7 +164,7 @@ def execute_once(
     wanted: Sequence[str] = (),
     program: Path | None = None,
 ) -> list[Output]:
-    """Run a script over maps in one run, without tiles; see `execute`."""
+    """Run a script over maps without tiles; see `execute`."""
     frames = _frames(script, maps, (), wanted, program)
     return _numbered([_output(frame) for frame in frames], len(wanted))
 
@@ -175,22 +175,22 @@ def ask(
     maps: Mapping[str, Source],
     fold: PatchFold,
 ) -> bool:
-    """Give the patches of a map to a fold, in one run or in tiles.
+    """Measure the patches of a map, in one run or in tiles, and pass them to a fold.
 
     Parameters
     ----------
     question : Question
     clump : str
-        The script line that numbers the patches as `patch`. Tiles use it to count the zones of
-        patches in a table.
+        The script line that numbers the patches as `patch`. Tiles use this line to count the zones
+        of patches in a table.
     maps : mapping of str to Source
     fold : PatchFold
 
     Returns
     -------
     bool
-        Whether the patches were given to the fold. A host that runs scripts itself does not support
-        questions.
+        Whether the patches were passed to the fold. Hosts that run scripts themselves do not
+        support questions.
     """
     from .tile_patches import PATCH, ZONED_PATCH
     from .tile_runs import ask_tiles, demand_of
@@ -221,7 +221,7 @@ def ask(
 def planned(
     script: str, names: Iterable[str], *, program: Path | None = None
 ) -> list[protocol.Statement]:
-    """Return the plan of a script: what each statement reads, creates and needs.
+    """Return the plan of a script, which lists what each statement reads, creates and needs.
 
     Raises the same errors as `execute`.
     """
@@ -243,7 +243,7 @@ def printed(script: str, maps: Mapping[str, Source], *, program: Path | None = N
 
 
 def grid_text(source: Source) -> bytes:
-    """Return a map as a grid text."""
+    """Return a map as a text grid."""
     return printed("r.out.ascii input=map", {"map": source})
 
 
@@ -254,7 +254,7 @@ def _frames(
     wanted: Sequence[str] = (),
     program: Path | None = None,
 ) -> list[protocol.Frame]:
-    """Return the frames of outputs, then of requested maps, then of questions."""
+    """Run a script, and return frames of its outputs, the requested maps, and the questions."""
     check_size(maps)
     lines = [script, *(f"r.out.ascii input={name}" for name in wanted)]
     _tell_host("\n".join([script, *(question.text() for question in questions)]), maps)
@@ -270,7 +270,7 @@ def _tell_host(script: str, maps: Mapping[str, Source]) -> None:
 
 
 def check_size(maps: Mapping[str, Source]) -> None:
-    """Raise BadMap if maps are too large for one run, for calls that cannot use tiles."""
+    """Raise BadMap if maps are too large for a call that cannot use tiles."""
     source = next(iter(maps.values()))
     if not fits_one_run(source.region.shape):
         rows, cols = source.region.shape
@@ -280,7 +280,7 @@ def check_size(maps: Mapping[str, Source]) -> None:
 
 
 def _sent(maps: Mapping[str, Source]) -> list[protocol.Map]:
-    """Convert maps for the program; their blocks are sent unchanged, one after another."""
+    """Convert maps to the program's input maps, whose blocks are sent one after another."""
     progress = _Progress(sum(source.region.rows * source.region.cols for source in maps.values()))
     return [
         protocol.Map(
@@ -304,14 +304,14 @@ def _pieces(name: str, source: Source, progress: _Progress) -> Iterator[protocol
 
 
 class _Progress:
-    """Reports to the host the share of cells that have been sent."""
+    """Reports to the host the fraction of cells sent to the program."""
 
     def __init__(self, cells: int) -> None:
         self._cells = cells
         self._sent = 0
 
     def add(self, cells: int) -> None:
-        """Count cells that were sent."""
+        """Add to the number of sent cells, and report the fraction to the host."""
         self._sent += cells
         report = host().progress
         if report is not None:
@@ -319,7 +319,7 @@ class _Progress:
 
 
 def _numbered(outputs: list[Output], wanted: int) -> list[Output]:
-    """Return outputs, in which requested maps have line 0."""
+    """Return the outputs, with the line of each requested map set to 0."""
     first = len(outputs) - wanted
     return outputs[:first] + [replace(output, line=0) for output in outputs[first:]]
 
@@ -340,7 +340,7 @@ def _output(frame: protocol.Frame) -> Output:
 
 
 def entries_of(frame: protocol.TableFrame) -> NDArray[np.int64]:
-    """Return a table's entries and counts as an array that is stored by column."""
+    """Return a table's entries and counts as an array in column-major order."""
     width = len(frame.names)
     columns = np.empty((width + (frame.counts is not None), frame.entries), np.int64)
     columns[:width] = np.asarray(frame.cells).reshape(frame.entries, width).T
@@ -350,5 +350,5 @@ def entries_of(frame: protocol.TableFrame) -> NDArray[np.int64]:
 
 
 def _cells(frame: protocol.GridFrame) -> NDArray[Any]:
-    """Return the cells of a map: bytes with `NULL_BYTE` for null, or int32 with `NULL`."""
+    """Return a map's cells as bytes with `NULL_BYTE` for null, or as int32 with `NULL` for null."""
     return np.asarray(frame.cells).reshape(frame.rows, frame.cols)

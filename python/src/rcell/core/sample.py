@@ -52,10 +52,10 @@ def sample(
     Parameters
     ----------
     map : path, array, or any map that `run` accepts
-        The strata, one for each class.
+        A map whose classes are the strata.
     n : int, or dict of int by class
-        The number of cells in total, or of each class. Also accepted as a text, such as `500` or
-        `11:50,31:100`.
+        The number of cells in total, or of each class. A string such as `500` or `11:50,31:100` is
+        also accepted.
     seed : int or str
     allocation : {"equal", "proportional"}
         How to divide a total among classes. The remainder goes to the first classes ("equal") or to
@@ -76,7 +76,7 @@ def sample(
     Refused
         See `run`; also raised for invalid legends.
     BadArgument
-        An argument is out of range, or `n` contains a class that does not occur.
+        An argument is out of range, or `n` contains a class that does not occur in the map.
 
     Examples
     --------
@@ -123,7 +123,7 @@ def sample(
 
 
 def _columns(maps: Maps, picked: Sequence[tuple[int, int, int]]) -> Integers:
-    """Return the columns of the selected cells, by listing their rows in blocks."""
+    """Return the column number of each selected cell, listing the selected rows in blocks."""
     rows = sorted({row for _, row, _ in picked})
     step = max(1, _MOST_LISTED // maps.first.region.cols)
     columns: dict[tuple[int, ...], Integers] = {}
@@ -138,10 +138,10 @@ def _columns(maps: Maps, picked: Sequence[tuple[int, int, int]]) -> Integers:
 
 
 def drawn(key: str, size: int, count: int) -> list[int]:
-    """Draw distinct numbers from 0 to size - 1 with Floyd's algorithm, and sort them.
+    """Draw distinct numbers from 0 to `size - 1` with Floyd's algorithm, and return them sorted.
 
-    Random numbers are the first 48 bits of the SHA-256 of `KEY:COUNTER`, whose counter begins at 1
-    and grows with each hash. Numbers that would make some values more likely are rejected.
+    Random numbers are the first 48 bits of the SHA-256 of `KEY:COUNTER`. The counter begins at 1
+    and grows by 1 with each hash. Numbers that would make some values more likely are rejected.
 
     Examples
     --------

@@ -1,5 +1,5 @@
 # SPDX-License-Identifier: Apache-2.0 OR GPL-2.0-or-later
-"""Define the calls that run scripts: run, table and grid."""
+"""Define the calls that run scripts: `run`, `table` and `grid`."""
 
 from __future__ import annotations
 
@@ -27,7 +27,7 @@ WORDS = ("area", "percent", "pivot", "crs")
 
 @dataclass(frozen=True)
 class Stats:
-    """The result of an r.stats in a script.
+    """The result of an `r.stats` statement in a script.
 
     Attributes
     ----------
@@ -91,7 +91,7 @@ class Stats:
 
 
 class Run:
-    """A script over maps, with the properties of the maps that its results need.
+    """A script and its input maps, whose grid, labels and colours the results inherit.
 
     Parameters
     ----------
@@ -111,7 +111,7 @@ class Run:
 
     @cached_property
     def made(self) -> dict[str, Statement]:
-        """The statement that creates each map, by the name of the map."""
+        """The statement that creates each map, by map name."""
         plan = planned(self.script, self.sources)
         return {statement.made: statement for statement in plan if statement.made}
 
@@ -128,12 +128,12 @@ class Run:
         ]
 
     def maps(self, names: Sequence[str]) -> list[ArrayMap]:
-        """Return maps that the script creates or reads, by name."""
+        """Run the script, and return the named maps, which the script creates or reads."""
         outputs = self.outputs(names)
         return [output for output in outputs[-len(names) :] if isinstance(output, ArrayMap)]
 
     def labels(self, name: str) -> Mapping[int, str]:
-        """Return the labels of a map, from its rules or from its input map."""
+        """Return the labels of an input map, or of a map that the script creates."""
         if name in self.sources:
             return self.sources[name].labels
         return self.made[name].labels
@@ -194,7 +194,8 @@ def run(
     Returns
     -------
     Result
-        A DataFrame for each r.stats and a Raster for each r.out.ascii, in the order of the script.
+        A DataFrame for each `r.stats` statement and a Raster for each `r.out.ascii` statement, in
+        the order of the script.
 
     Raises
     ------
@@ -239,9 +240,9 @@ def table(
     maps : mapping, optional
         See `run`.
     area : {"m2", "ha", "km2"}, optional
-        Add a column of areas. Maps without a reference system or in degrees are an error, because
-        in degrees the area of a cell differs from row to row. `composition` and `cross` weight the
-        rows.
+        Add a column of areas. Maps in degrees or without a reference system raise an error. In
+        degrees, the area of a cell differs from row to row; `composition` and `cross` weight each
+        row by its cell area.
     percent : bool
         Add a column with percentages of all cells in the table.
     pivot : bool
@@ -313,12 +314,12 @@ def grid(
     Returns
     -------
     Raster
-        The map, with the labels of its rules or of the given map.
+        The map, with labels from its rules or from the given map.
 
     Raises
     ------
     Refused
-        As `run`.
+        See `run`.
     BadArgument
         The script has no map with this name.
 

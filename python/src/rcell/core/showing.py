@@ -16,7 +16,7 @@ SECONDS = 2.0
 
 
 class Bar:
-    """A tqdm bar on a terminal or in a notebook, unless the host shows progress itself.
+    """A tqdm progress bar for terminals and notebooks, unless the host shows progress itself.
 
     Parameters
     ----------

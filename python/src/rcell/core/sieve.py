@@ -35,7 +35,7 @@ Integers = NDArray[np.int64]
 
 
 class Sieved(NamedTuple):
-    """The effect of `rcell.sieve` on a map, as counted in the result.
+    """Counts that describe the effect of `rcell.sieve` on a map.
 
     Parameters
     ----------
@@ -44,8 +44,8 @@ class Sieved(NamedTuple):
     cells_changed : int
         The number of cells whose class changed, or that became null.
     patches_below : int
-        The number of remaining patches below the smallest size, which share no side with another
-        class.
+        The number of patches that remain below the smallest size because they share no side with
+        another class.
 
     Examples
     --------
@@ -71,10 +71,10 @@ def sieve(
 ) -> tuple[ArrayMap, Sieved]:
     """Merge patches below a size into their neighbours, or set them to null.
 
-    As long as a patch below the size shares a side with another class, the smallest of these
-    patches gets the class of the neighbour with which it shares most sides. It is then joined to
-    all patches of this class that it touches. In a tie, the patch whose first cell comes first is
-    used.
+    As long as a patch below the smallest size shares a side with another class, the smallest of
+    these patches gets the class of the neighbour with which it shares most sides. It is then joined
+    to all patches of this class that it touches. In a tie, the patch whose first cell comes first
+    is used.
 
     Parameters
     ----------
@@ -93,8 +93,9 @@ def sieve(
     Returns
     -------
     Raster
-        The new map, with the labels and colours of the map. Its attribute `sieved` is a `Sieved`,
-        which counts patches and changed cells. A map without small patches is returned unchanged.
+        The new map, with the labels and colours of the input map. Its attribute `sieved` is a
+        `Sieved`, which counts patches and changed cells. A map without small patches is returned
+        unchanged.
 
     Raises
     ------
@@ -142,7 +143,7 @@ def sieve(
 
 
 def _fewest(min_cells: Any, min_ha: Any, source: Source, crs: Any) -> int:
-    """Return the smallest number of cells in a patch, from either argument."""
+    """Return the smallest patch size in cells, from `min_cells` or `min_ha`."""
     if (min_cells is None) == (min_ha is None):
         outcome = "neither" if min_cells is None else "both"
         raise BadArgument(
@@ -164,7 +165,7 @@ def cells_of_hectares(name: str, hectares: Any, source: Source, crs: Any) -> int
 
 
 def _script(name: str, connectivity: int, tables: Sequence[str], steps: Mapping[str, str]) -> str:
-    """Return a script that counts patches, and pairs of patches that are one step apart."""
+    """Return a script that counts patches, and pairs of patches one step apart."""
     lines = [clump_line(connectivity, name), *(f"r.stats -c -n input={maps}" for maps in tables)]
     for title, step in steps.items():
         other = f"if(patch != patch[{step}], patch[{step}], null())"
@@ -173,9 +174,9 @@ def _script(name: str, connectivity: int, tables: Sequence[str], steps: Mapping[
 
 
 class _Touching(NamedTuple):
-    """The patches that each patch touches, and how often.
+    """The neighbours of each patch, and how often the patch touches each neighbour.
 
-    Entries `starts[n]` up to `starts[n + 1]` belong to patch `n`.
+    Entries from `starts[n]` to `starts[n + 1] - 1` belong to patch `n`.
     """
 
     starts: list[int]
@@ -184,7 +185,7 @@ class _Touching(NamedTuple):
 
     @classmethod
     def of(cls, patches: int, tables: Sequence[Any]) -> _Touching:
-        """Return the pairs of patches in tables, in both directions, numbered from 0."""
+        """Collect the pairs of patches in tables, in both directions, numbered from 0."""
         pairs = [table.categories - 1 for table in tables] or [np.empty((0, 2), np.int64)]
         both = np.concatenate([*pairs, *(pair[:, ::-1] for pair in pairs)])
         order = np.argsort(both[:, 0], kind="stable")
@@ -195,12 +196,14 @@ class _Touching(NamedTuple):
 
 
 class _Merging:
-    """Merges the patches of a map; a merged patch keeps the smallest number of its parts.
+    """Merges the small patches of a map.
+
+    A merged patch gets the smallest number of its parts.
 
     Parameters
     ----------
     classes, cells : array of int64
-        For each patch, in the order of first cells.
+        The class and the size of each patch, in the order of the patches' first cells.
     sides, corners : _Touching
     """
 
@@ -214,7 +217,7 @@ class _Merging:
         self._parts: dict[int, list[int]] = {}
 
     def run(self, fewest: int) -> Integers:
-        """Return the final class of each patch."""
+        """Merge patches below `fewest` cells, and return the final class of each patch."""
         classes, cells, into = self._classes, self._cells, self._into
         waiting: defaultdict[int, list[int]] = defaultdict(list)
         for patch in np.flatnonzero(np.array(cells) < fewest).tolist():
@@ -243,7 +246,7 @@ class _Merging:
         return np.array(self._classes, np.int64)[roots]
 
     def _shared(self, patch: int, touching: _Touching) -> dict[int, int]:
-        """Count how often a small patch touches each other patch."""
+        """Return how often a small patch touches each of its neighbours."""
         shared: dict[int, int] = {}
         starts, into = touching.starts, self._into
         for part in self._parts.get(patch, (patch,)):
@@ -255,7 +258,10 @@ class _Merging:
         return shared
 
     def _join(self, joined: list[int], fewest: int) -> int:
-        """Merge patches and return the new patch; its parts are kept only while it is small."""
+        """Merge patches, and return the number of the merged patch.
+
+        The parts are stored only while the merged patch is small.
+        """
         grown = min(joined)
         cells = sum(self._cells[part] for part in joined)
         parts = (self._parts.pop(part, [part]) for part in joined)
@@ -275,7 +281,7 @@ class _Merging:
 
 
 def _counted(run: Run, fewest: int, before: int) -> Sieved:
-    """Count the result, and check that no remaining small patch borders another class."""
+    """Return counts of the result, after checking that no small patch borders another class."""
     sizes, changes, *pairs = (part for part in run.outputs() if isinstance(part, Stats))
     assert sizes.cells is not None and changes.cells is not None
     small = sizes.categories[sizes.cells < fewest, 0]

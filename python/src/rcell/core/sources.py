@@ -72,14 +72,14 @@ MapLike = Union[str, "os.PathLike[str]", "list[str]", ArrayLike, tuple[Any, Any]
 
 @dataclass(frozen=True)
 class Block:
-    """Complete rows of a map, or a window of it.
+    """Complete rows of a map, or a window of the map.
 
     Attributes
     ----------
     cells : array of the type of its source, rows x cols, C-contiguous
     null : array of bool or None
-        True if a cell is null for a reason other than the source's nodata value; None if the source
-        is not masked.
+        A mask of cells that are null for a reason other than the source's nodata value, or None if
+        the source is not masked.
     """
 
     cells: Cells
@@ -97,11 +97,11 @@ class Source(Protocol):
 
     @property
     def name(self) -> str:
-        """Its name in messages."""
+        """The map's name in messages."""
 
     @property
     def region(self) -> Region:
-        """Its edges and its shape."""
+        """The map's edges and shape."""
 
     @property
     def transform(self) -> Transform:
@@ -109,31 +109,31 @@ class Source(Protocol):
 
     @property
     def dtype(self) -> np.dtype[Any]:
-        """The data type of its blocks: any integer of 8, 16 or 32 bits, or int64."""
+        """The data type of the map's blocks: an integer of 8, 16 or 32 bits, or int64."""
 
     @property
     def nodata(self) -> int | None:
-        """The value of this type that marks null, or None."""
+        """The value that marks null in the map's blocks, or None."""
 
     @property
     def is_masked(self) -> bool:
-        """Whether its blocks have masks of null cells."""
+        """Whether the map's blocks have masks of null cells."""
 
     @property
     def labels(self) -> Mapping[int, str]:
-        """The labels of its categories."""
+        """The labels of the map's categories."""
 
     @property
     def colors(self) -> Mapping[int, str]:
-        """The colours of its categories, as `#rrggbb`."""
+        """The colours of the map's categories, as `#rrggbb`."""
 
     @property
     def crs(self) -> Any:
-        """Its coordinate reference system, or None."""
+        """The map's coordinate reference system, or None."""
 
     @property
     def files(self) -> tuple[str, ...]:
-        """The files from which it is read or was created."""
+        """The files from which the map is read or was created."""
 
     def blocks(self) -> Iterator[Block]:
         """Yield the rows from north to south."""
@@ -143,7 +143,9 @@ class Source(Protocol):
 
 
 def as_bools(array: NDArray[Any]) -> Mask:
-    """Return booleans in which True is always the byte 1, unlike in views of other arrays.
+    """Return a boolean array in which True is always stored as the byte 1.
+
+    In boolean views of other arrays, True may be any nonzero byte.
 
     Examples
     --------
@@ -155,7 +157,7 @@ def as_bools(array: NDArray[Any]) -> Mask:
 
 
 def unmasked(cells: Any) -> tuple[Cells, Mask | None]:
-    """Return the cells and the mask of an array; the mask is None for a plain array.
+    """Return an array's cells and its mask, which is None for a plain array.
 
     Examples
     --------
@@ -168,15 +170,15 @@ def unmasked(cells: Any) -> tuple[Cells, Mask | None]:
 
 
 def is_converted(dtype: np.dtype[Any]) -> bool:
-    """Return whether cells of a type are converted to int32: floats and uint64.
+    """Return whether cells of a type are converted to int32, as floats and uint64 are.
 
-    -2147483648 is then null. The program accepts all other types unchanged.
+    In converted cells, -2147483648 is null. The program accepts all other types unchanged.
     """
     return dtype.kind == "f" or (dtype.kind == "u" and dtype.itemsize == 8)
 
 
 def type_of(dtype: np.dtype[Any]) -> np.dtype[Any]:
-    """Return the type in which cells of a type are sent.
+    """Return the type in which cells of `dtype` are sent to the program.
 
     Examples
     --------
@@ -191,7 +193,7 @@ def type_of(dtype: np.dtype[Any]) -> np.dtype[Any]:
 
 
 def nodata_of(dtype: np.dtype[Any], value: float | None) -> int | None:
-    """Return the nodata value in the type in which cells are sent, or None.
+    """Return the nodata value of the cells as sent, or None if no cell can equal the value.
 
     Examples
     --------
@@ -209,7 +211,7 @@ def nodata_of(dtype: np.dtype[Any], value: float | None) -> int | None:
 
 
 def check_computed(name: str, cells: Cells, dtype: np.dtype[Any], shape: tuple[int, ...]) -> None:
-    """Raise BadMap if Dask computed another type or shape than it announced.
+    """Raise BadMap if cells computed by Dask differ from the expected type or shape.
 
     Examples
     --------
@@ -241,7 +243,7 @@ def checked(
     first_row: int = 0,
     first_col: int = 0,
 ) -> Block:
-    """Convert cells to a block of the type in which they are sent, and check their values.
+    """Convert cells to a block of the type that is sent to the program, and check their values.
 
     Parameters
     ----------
@@ -305,7 +307,7 @@ def null_cells(cells: Cells, null: Mask | None, nodata: float | None) -> Mask:
 
 
 def _value_of(dtype: np.dtype[Any], nodata: float | None) -> Any:
-    """Convert nodata to a type, or return None if no cell of this type can equal it."""
+    """Convert nodata to a type, or return None if no cell of this type can equal nodata."""
     if nodata is None or nodata != nodata or sys.float_info.max < abs(nodata) < math.inf:
         return None
     if dtype.kind == "f":
@@ -387,7 +389,7 @@ class Scaled:
             yield block
 
     def window(self, row: int, col: int, rows: int, cols: int) -> Block:
-        """Return a window of cells; rows and columns are counted from the north-west."""
+        """Return a window of cells, with rows and columns counted from the north-west corner."""
         source: Any = self.source
         token = _scale.set(self.scale)
         try:
@@ -398,7 +400,10 @@ class Scaled:
 
 
 def has_windows(source: Any) -> bool:
-    """Return whether a map can be read in windows; text grids cannot."""
+    """Return whether a map can be read in windows.
+
+    Text grids can only be read from the beginning.
+    """
     return hasattr(source.source if isinstance(source, Scaled) else source, "window")
 
 
@@ -407,7 +412,7 @@ def has_windows(source: Any) -> bool:
 
 @dataclass(frozen=True)
 class ArrayMap:
-    """An array in memory as a map.
+    """A map whose cells are an array in memory.
 
     Parameters
     ----------
@@ -425,12 +430,12 @@ class ArrayMap:
     exact_transform : tuple of six float, optional
         The transform for results; by default, the region's transform.
     is_narrow : bool
-        Whether the array contains bytes to save memory, and users get its cells as int32.
+        Whether the array stores cells as bytes to save memory. Users still get int32 cells.
 
     Raises
     ------
     BadMap
-        The array is not a map. Invalid cells are only found when they are sent.
+        The array cannot be a map. Invalid cells are found only when they are sent.
     """
 
     name: str
@@ -464,21 +469,21 @@ class ArrayMap:
 
     @property
     def dtype(self) -> np.dtype[Any]:
-        """The data type of its blocks."""
+        """The data type of the map's blocks."""
         return type_of(self.array.dtype)
 
     @property
     def nodata(self) -> int | None:
-        """The value that marks null in its blocks."""
+        """The value that marks null in the map's blocks."""
         return nodata_of(self.array.dtype, self.nodata_value)
 
     @property
     def is_masked(self) -> bool:
-        """Whether its blocks have masks."""
+        """Whether the map's blocks have masks."""
         return self.null is not None and not is_converted(self.array.dtype)
 
     def filled(self, null: int) -> Cells:
-        """Return all cells of a map of whole numbers, with this number for null."""
+        """Return all cells of a map of whole numbers, with the given number for null."""
         is_null = null_cells(self.array, self.null, self.nodata_value)
         wide = np.promote_types(self.array.dtype, np.int32)
         return np.where(is_null, wide.type(null), self.array)
@@ -491,7 +496,7 @@ class ArrayMap:
             yield self.window(row, 0, min(step, rows - row), cols)
 
     def window(self, row: int, col: int, rows: int, cols: int) -> Block:
-        """Return a window of cells; rows and columns are counted from the north-west."""
+        """Return a window of cells, with rows and columns counted from the north-west corner."""
         part = np.s_[row : row + rows, col : col + cols]
         null = None if self.null is None else self.null[part]
         return checked(self.name, self.array[part], null, self.nodata_value, row, col)
@@ -556,7 +561,7 @@ def array_map(
 def _placed(
     name: str, array: Cells, null: Mask | None, place: Any
 ) -> tuple[Cells, Mask | None, Region, Transform]:
-    """Return an array with rows from north to south, its region and its transform."""
+    """Return the cells and mask with rows from north to south, and their region and transform."""
     rows, cols = array.shape
     if isinstance(place, Region):
         return array, null, place, place.transform
@@ -575,7 +580,7 @@ def _placed(
 
 
 def in_region(name: str, make: Any, *words: Any) -> Region:
-    """Call a function that returns a region, and name the map in its errors."""
+    """Call a function that returns a region, and add the map's name to its errors."""
     try:
         region: Region = make(*words)
     except BadMap as refusal:
@@ -636,7 +641,7 @@ def source_of(name: str, map: Any) -> Source:
 
 
 def _are_paths(map: Any) -> bool:
-    """Return whether a map is given as a list of files."""
+    """Return whether a map is given as a list of paths."""
     return (
         isinstance(map, (list, tuple))
         and bool(map)
@@ -648,7 +653,7 @@ _NAME = re.compile(r"[A-Za-z_][A-Za-z0-9_.]{0,63}")
 
 
 def check_names(names: Iterable[str]) -> None:
-    """Raise BadArgument for the first invalid name of a map."""
+    """Raise BadArgument for the first invalid map name."""
     for name in names:
         if not (isinstance(name, str) and _NAME.fullmatch(name)):
             better = re.sub(r"[^A-Za-z0-9_.]", "_", str(name))[:64]
@@ -661,9 +666,9 @@ def check_names(names: Iterable[str]) -> None:
 
 
 def named_once(maps: Any, named: Mapping[str, Any]) -> dict[str, Any]:
-    """Merge maps from a mapping or a Dataset with keyword maps.
+    """Merge the maps of a mapping or Dataset with maps passed as keywords.
 
-    Raises BadArgument if a name is in both.
+    Raises BadArgument if both contain the same name.
     """
     if type(maps).__module__.partition(".")[0] == "xarray":
         from ..readers.xarray import variables_of
@@ -678,7 +683,7 @@ def named_once(maps: Any, named: Mapping[str, Any]) -> dict[str, Any]:
 def sources_of(
     maps: Mapping[str, Any], crs: Any = None, written: Mapping[str, Any] | None = None
 ) -> tuple[dict[str, Source], Any]:
-    """Convert the maps of a call, and return them with their common reference system.
+    """Convert a call's maps to sources, and return the sources and their reference system.
 
     Parameters
     ----------
@@ -686,15 +691,15 @@ def sources_of(
     crs : any
         The reference system to assume for maps that have none.
     written : mapping of str to any, optional
-        The maps as the caller gave them, for use in advice.
+        The maps as the caller passed them, for the advice in errors.
 
     Raises
     ------
     OtherCrs
         Reference systems differ, or only some maps have one and `crs` is not given.
     OtherRegion
-        A map's region differs from the first map's; the message lists the differences and the call
-        that aligns the map.
+        A map's region differs from the first map's region. The message lists the differences and
+        the call that aligns the map.
     """
     if not maps:
         raise BadArgument("maps", 'must be given by name, for example a="a.tif"; got none')
@@ -714,7 +719,7 @@ def sources_of(
 
 
 def _other_region(first: Source, source: Source) -> OtherRegion:
-    """Return the error for a map whose region differs from the first map's."""
+    """Return the error for a map whose region differs from the first map's region."""
     differences = "; ".join(first.region.differences(source.region))
     text = f"its grid differs from `{first.name}`, and rcell does not resample: {differences}"
     regions = f"  {first.name}: {first.region}\n  {source.name}: {source.region}"
@@ -731,7 +736,7 @@ def _alignment(name: str, mine: str, its: str, is_whole: bool) -> str:
 
 
 def _written(name: str, map: Any) -> str:
-    """Return a map in the caller's notation: its path or its name."""
+    """Return the caller's notation for a map: its path or its name."""
     if host().words == "qgis":
         return f'"{map.name}"'
     return (

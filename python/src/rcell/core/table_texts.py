@@ -15,7 +15,8 @@ __all__ = ["table_text"]
 def table_text(form: str, columns: Sequence[str], rows: Sequence[Sequence[Any]]) -> str:
     """Format a table as text.
 
-    Numbers have the shortest form that reads back unchanged; missing values are empty or null.
+    Numbers are written in the shortest form that reads back unchanged. Missing values are empty or
+    null.
     """
     if form == "json":
         objects = (json.dumps(dict(zip(columns, row)), ensure_ascii=False) for row in rows)
@@ -34,7 +35,7 @@ def _shortest(value: Any) -> Any:
 
 
 def _markdown(columns: Sequence[str], rows: Sequence[Sequence[Any]]) -> str:
-    """Format a table in Markdown, with right-aligned columns of numbers."""
+    """Format a table in Markdown, with numeric columns aligned to the right."""
     sides = []
     for index in range(len(columns)):
         has_texts = any(isinstance(row[index], str) for row in rows)

@@ -36,7 +36,7 @@ _VIRTUAL = re.compile(r"/vsi|[A-Za-z][A-Za-z0-9+.-]+:")
 
 @dataclass(frozen=True)
 class TextMap:
-    """A file that contains a text grid; created by `open_path`.
+    """A map that is read from a text grid, created by `open_path`.
 
     Attributes
     ----------
@@ -63,7 +63,7 @@ class TextMap:
     is_masked: bool = False
 
     def with_labels(self, labels: Mapping[int, str]) -> TextMap:
-        """Return the map with these labels."""
+        """Return a copy of the map with these labels."""
         return replace(self, labels=labels)
 
     @property
@@ -101,7 +101,7 @@ def is_grid(path: str) -> bool:
 
 
 def open_path(name: str, path: str | os.PathLike[str]) -> Source:
-    """Open a path as a map: a text grid, or a file that rasterio can open.
+    """Open a text grid, or a file that rasterio can open, as a map.
 
     Raises
     ------
@@ -152,7 +152,7 @@ def _raster(name: str, path: str) -> Source:
 
 
 def _head_of(stream: io.FileIO, is_file: bool) -> bytes:
-    """Read the first bytes: a fixed number from a file, the complete header from a pipe."""
+    """Read a fixed number of bytes from a file, or the complete header from a pipe."""
     head = b""
     while len(head) < HEADER_BYTES:
         piece = stream.read(HEADER_BYTES - len(head))
@@ -176,7 +176,10 @@ def _fields(head: bytes) -> tuple[dict[str, str], bool]:
 
 
 def _region_of(name: str, head: bytes) -> Region | None:
-    """Return the region in a header, or None if the header is invalid, which rcell reports."""
+    """Return the region in a header, or None if the header is invalid.
+
+    The program later reports the error in an invalid header.
+    """
     fields = _fields(head + b"\n")[0]
     try:
         edges = [_edge_of(fields[key]) for key in ("north", "south", "east", "west")]
@@ -192,7 +195,7 @@ def _region_of(name: str, head: bytes) -> Region | None:
 
 
 def _edge_of(text: str) -> float | Fraction:
-    """Return an edge as a float if that is exact enough for the program, or as a Fraction."""
+    """Return an edge as a float, or as a Fraction if a float is too inexact for the program."""
     exact = Fraction(text) if _EDGE.fullmatch(text) else Fraction(float(text))
     return float(exact) if units_of(float(exact)) == units_of(exact) else exact
 

@@ -34,17 +34,17 @@ PIECE = 2**18
 
 @dataclass(frozen=True, eq=False)
 class TileNumbers:
-    """The full map's numbers of a tile's clumps, as runs of consecutive numbers.
+    """The numbers of a tile's clumps in the full map, stored as runs of consecutive numbers.
 
     Attributes
     ----------
     clumps : int
         The number of clumps in the tile.
     firsts : ndarray of int64, shape (n,)
-        The tile's number of each run's first clump, ascending.
+        The number of each run's first clump in the tile, ascending.
     numbers : ndarray of int64, shape (n,)
-        The full map's number of each run's first clump. The following clumps, up to the next run,
-        have the following numbers.
+        The number of each run's first clump in the full map. The clumps up to the next run have
+        consecutive numbers.
     """
 
     clumps: int
@@ -52,7 +52,7 @@ class TileNumbers:
     numbers: Integers
 
     def looked_up(self, numbers: Integers) -> Integers:
-        """Replace the tile's numbers with the full map's numbers; 0 is null."""
+        """Convert clump numbers of the tile to clump numbers of the full map, with 0 for null."""
         if not self.clumps:
             return np.zeros(numbers.shape, dtype=np.int64)
         run = np.maximum(np.searchsorted(self.firsts, numbers, side="right") - 1, 0)
@@ -61,7 +61,7 @@ class TileNumbers:
 
 @dataclass(frozen=True, eq=False)
 class Joined:
-    """The number of clumps in the full map, and the numbers of each tile in the given order."""
+    """The number of clumps in the full map, and the `TileNumbers` of each tile in order."""
 
     clumps: int
     tiles: Sequence[TileNumbers]
@@ -70,7 +70,7 @@ class Joined:
 def border_text(
     place: Rectangle, cells: Integers, numbers: Integers, diagonal: bool = False
 ) -> bytes:
-    """Return the border of a tile, with the same bytes that `rcell-join border` writes.
+    """Return a tile's border, in the bytes that `rcell-join border` writes.
 
     Parameters
     ----------
@@ -102,7 +102,7 @@ def sides_text(
     begun: Integers,
     diagonal: bool,
 ) -> bytes:
-    """Return the border of a tile from its outermost cells and their clump numbers.
+    """Return a tile's border, built from its outermost cells and their clump numbers.
 
     `sides` contains the first and last row and column; `begun` counts the clumps that begin up to
     each row.
@@ -154,7 +154,7 @@ def join(borders: Sequence[bytes], diagonal: bool = False) -> Joined:
 
 
 def renumber(numbers: Integers, tile: TileNumbers, out: Optional[Integers] = None) -> Integers:
-    """Replace the clump numbers of a tile with the numbers of the full map.
+    """Replace the clump numbers of a tile with clump numbers of the full map.
 
     Parameters
     ----------

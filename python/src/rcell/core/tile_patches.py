@@ -1,5 +1,5 @@
 # SPDX-License-Identifier: Apache-2.0 OR GPL-2.0-or-later
-"""Measure patches in tiles: the program measures each tile, and cells on borders are corrected."""
+"""Measure patches tile by tile, and correct the program's measures along tile borders."""
 
 from __future__ import annotations
 
@@ -61,9 +61,9 @@ Bools = NDArray[np.bool_]
 
 
 def measures_of(work: TileWork, frames: Sequence[Frame]) -> list[Integers]:
-    """Return a tile's border, its patch measures, its open patches, and its tables.
+    """Return a tile's border, patch measures, open patches and tables.
 
-    The border is a text. Open patches may continue outside the tile.
+    The border is text, stored as bytes. Open patches may continue outside the tile.
     """
     [question] = work.questions
     grid, *tables, patches = frames
@@ -107,7 +107,7 @@ class _Tile:
         return wide(place.part_of(self.place, self.cells), NO_CLUMP)
 
     def sides(self) -> list[tuple[Rectangle, Rectangle, str]]:
-        """Return each side of the tile, the cells beyond it, and the measure of its cell sides."""
+        """Return each side's cells, the cells beyond the side, and the measure of cell sides."""
         top, left, rows, cols = self.place
         low, right = top + rows - 1, left + cols - 1
         return [
@@ -118,7 +118,7 @@ class _Tile:
         ]
 
     def leave_out_inner_sides(self, rows: Integers) -> None:
-        """Subtract sides to cells of the same class in other tiles, which are in the same patch."""
+        """Subtract cell sides between this tile and cells of the same patch in other tiles."""
         for side, beyond, name in self.sides():
             if beyond.is_within(self.outer):
                 classes = self.classes(side)
@@ -126,7 +126,7 @@ class _Tile:
                 _add(rows[name], self.numbers(side)[is_inner], -1)
 
     def add_core_cells(self, rows: Integers, question: Question) -> None:
-        """Add core cells near the border of the tile, which only the halo can identify."""
+        """Add the core cells near the tile's border, which are known only with the halo."""
         for band in _bands(self.place, question.depth):
             around = band.with_halo(question.reach, self.shape)
             is_core = band.part_of(around, _core(self.classes(around), question.depth))
@@ -147,7 +147,7 @@ def _bands(place: Rectangle, depth: int) -> list[Rectangle]:
 
 
 def _core(classes: Integers, depth: int) -> Bools:
-    """Return which cells have only cells of their class within `depth` steps, across edges.
+    """Return a mask of cells that have only cells of their class within `depth` steps across edges.
 
     Examples
     --------
@@ -166,7 +166,10 @@ def _core(classes: Integers, depth: int) -> Bools:
 
 
 def _add(counts: Integers, numbers: Integers, step: int) -> None:
-    """Add a step to the count of each number, for each occurrence; numbers begin at 1."""
+    """Add `step` to a patch's count for each occurrence of the patch in `numbers`.
+
+    Patch numbers begin at 1.
+    """
     found, times = np.unique(numbers, return_counts=True)
     counts[found - 1] += step * times
 
@@ -182,9 +185,9 @@ class PatchSum:
     Parameters
     ----------
     classes : list of int, optional
-        Only patches of these classes.
+        The classes whose patches are kept; by default, all classes.
     fewest : int
-        Only patches with at least this many cells.
+        The smallest number of cells in a kept patch.
     """
 
     def __init__(self, classes: Optional[list[int]], fewest: int) -> None:
@@ -197,7 +200,7 @@ class PatchSum:
     def add(
         self, tile: int, place: Rectangle, rows: Integers, waiting: Integers, tables: list[Integers]
     ) -> None:
-        """Add the patches of a tile, its open patches, and tables that begin with the patch."""
+        """Add a tile's patches, its open patches, and its tables, which begin with the patch."""
         is_open = np.zeros(len(rows), np.bool_)
         is_open[waiting - 1] = True
         kept = is_open | (rows["cells"] >= self._fewest)
@@ -210,7 +213,7 @@ class PatchSum:
         self._tiles[tile] = np.flatnonzero(kept) + 1, rows, tables
 
     def join(self, numbers_of: Callable[[int, Integers], Integers]) -> None:
-        """Join the patches, using their numbers in the full map."""
+        """Join the patches of all tiles, using their numbers in the full map."""
         found = [(tile, *self._tiles.pop(tile)) for tile in sorted(self._tiles)]
         numbers = np.concatenate([numbers_of(tile, own) for tile, own, _, _ in found])
         order = np.argsort(numbers, kind="stable")

@@ -3,7 +3,7 @@
 
 Tables are added up, and maps are assembled. Each r.clump is processed first, tile by tile: its
 clumps are joined, and its map is then treated as a given map. The crate `cell_parts` of this
-project proves that tiles have the same results; each step names its law.
+project proves that tiles have the same results as one run. Each step names its law.
 """
 
 from __future__ import annotations
@@ -44,7 +44,7 @@ Put = Callable[[Rectangle, list[Integers]], list[Integers]]
 
 
 def demand_of(plan: Sequence[Statement], maps: Mapping[str, Source]) -> Demand:
-    """Return the memory that a script needs per cell of a tile."""
+    """Return the memory per cell and the halo that a script needs for a tile."""
     script = TileScript.of(plan, outputs_in(plan), maps)
     grids = sum(output.command == "r.out.ascii" for output in script.outputs)
     clumps = sum(statement.command == "r.clump" for statement in plan)
@@ -62,12 +62,12 @@ def run_tiles(
     demand: Demand,
     fold: Fold | None = None,
 ) -> list[Output]:
-    """Run a script over maps of one region in tiles, and return its outputs.
+    """Run a script in tiles over maps of one region, and return the script's outputs.
 
     Parameters
     ----------
     plan : sequence of Statement
-        Of the script.
+        The plan of the script.
     maps : mapping of str to Source
         The maps, all of which must define `window`.
     demand : Demand
@@ -79,7 +79,7 @@ def run_tiles(
     OutOfMemory, WriteFailed
         There is not enough memory for a tile, or disk space for the cells of a map.
     Refused, BadMap, Killed, MissingProgram, WrongProgram
-        As in one run.
+        See `execute`.
     """
     crew_cluster = cluster()
     size, workers = tile_size(maps, demand, crew_cluster)
@@ -120,7 +120,7 @@ def ask_tiles(
     demand: Demand,
     fold: PatchFold,
 ) -> None:
-    """Give the patches of a map to a fold, tile by tile.
+    """Measure the patches of a map tile by tile, and pass them to a fold.
 
     Parameters
     ----------
@@ -146,7 +146,7 @@ def ask_tiles(
 
 
 def _states(maps: Mapping[str, Source]) -> dict[str, str]:
-    """Return the states of the files of these maps."""
+    """Return the state of each map file, by path."""
     states = {}
     for source in maps.values():
         if is_file(source):
@@ -162,7 +162,7 @@ def _check_states(states: Mapping[str, str]) -> None:
 
 @contextmanager
 def _first_bad_cell(maps: Mapping[str, Source]) -> Iterator[None]:
-    """Raise the error of the first invalid cell in reading order, as one run does."""
+    """Raise the error for the first invalid cell in reading order, as one run would."""
     try:
         yield
     except BadMap as error:
@@ -174,12 +174,12 @@ def _first_bad_cell(maps: Mapping[str, Source]) -> Iterator[None]:
 
 
 def _is_map_of(output: Statement, names: set[str]) -> bool:
-    """Return whether an output is one of the named maps, unchanged."""
+    """Return whether a statement writes one of the named maps."""
     return output.command == "r.out.ascii" and output.inputs[0] in names
 
 
 class _Tiles:
-    """The tiles of a call, and the maps known so far.
+    """The tiles of a call, with its input maps and the clump maps computed so far.
 
     Parameters
     ----------
@@ -208,7 +208,7 @@ class _Tiles:
             watch.finish()
 
     def outputs(self, plan: Sequence[Statement], outputs: Sequence[Statement]) -> list[Output]:
-        """Return the outputs of statements; all maps of clumps must be known."""
+        """Return the outputs of statements, whose clump maps must already be known."""
         script = self._script(plan, outputs)
         kinds_of_results = outputs_of([is_counted(statement) for statement in outputs])
         sums: list[TableSum | _Grid] = [
@@ -228,9 +228,9 @@ class _Tiles:
     def fold(
         self, plan: Sequence[Statement], clump: Statement, stats: Statement, fold: Fold
     ) -> None:
-        """Give the table of an r.stats over clumps to a fold, tile by tile.
+        """Pass the table of an `r.stats` statement over clumps to a fold, tile by tile.
 
-        The map of the clumps is never created.
+        The clump map is never created.
         """
         script = self._script(plan, [clump, stats])
         diagonal = is_diagonal(clump)
@@ -244,7 +244,10 @@ class _Tiles:
         fold.join(lambda index, numbers: tiles[index].looked_up(numbers))
 
     def measure(self, plan: Sequence[Statement], question: Question, fold: PatchFold) -> None:
-        """Give patch measures, and tables whose first column is the patch, to a fold by tile."""
+        """Pass each tile's patch measures and tables to a fold.
+
+        The first column of each table is the patch number.
+        """
         script = self._script(plan, outputs_in(plan))
         borders = [b""] * len(self._places)
 
@@ -259,10 +262,10 @@ class _Tiles:
         fold.join(lambda index, numbers: tiles[index].looked_up(numbers))
 
     def add_clumps(self, plan: Sequence[Statement], clump: Statement, is_last: bool) -> None:
-        """Compute the map of an r.clump, and add it to the known maps.
+        """Compute the map of an `r.clump` statement, and add the map to the known maps.
 
-        Each tile's numbers are kept until the clumps are joined. They are then replaced with the
-        full map's numbers.
+        Each tile's clump numbers are kept until the clumps are joined, and then replaced with the
+        full map's clump numbers.
         """
         script = self._script(plan, [clump])
         diagonal = is_diagonal(clump)
@@ -304,8 +307,8 @@ class _Tiles:
         """Yield the index and the results of each tile as tiles complete.
 
         A run reads the maps that the script needs. The last run also reads all maps that no run has
-        read, to check their cells. Results that are stored elsewhere immediately are too large to
-        be kept for resuming.
+        read, to check their cells. Results that `keep` stores are not kept for resuming, because
+        they are too large.
         """
         read = script.reads
         if is_last:
@@ -338,7 +341,7 @@ class _Tiles:
             del self._unread[name]
 
     def clumps(self, output: Statement) -> Output:
-        """Return the map of clumps that a statement writes, after its last use."""
+        """Return the clump map that a statement writes, after the map's last use."""
         source = self._maps[output.inputs[0]]
         assert isinstance(source, ArrayMap)
         for place in self._places if source.nodata_value == NO_CLUMP else ():
@@ -352,7 +355,7 @@ class _Tiles:
         return Rectangle(0, 0, *self._shape)
 
     def _numbered(self, numbers: Integers, whole: Joined) -> Integers:
-        """Replace the tiles' numbers with the full map's numbers, in place if they fit."""
+        """Replace the clump numbers of tiles with those in the full map, in place if they fit."""
         is_wide = whole.clumps > MAX_CATEGORY
         target = cells_for(self._shape, np.int64) if is_wide else numbers
         tiles = dict(zip(self._places, whole.tiles))
@@ -369,7 +372,7 @@ class _Tiles:
 
 @dataclass
 class _Grid:
-    """A map assembled from tiles; it contains bytes until a tile's cells do not fit in bytes."""
+    """A map assembled from tiles, stored as bytes until a tile's cells do not fit in bytes."""
 
     shape: tuple[int, int]
 
@@ -397,7 +400,7 @@ def _output(statement: Statement, total: TableSum | _Grid) -> Output:
 
 
 def table_output(statement: Statement, values: Any) -> Output:
-    """Return the output of an r.stats, without counts if the statement has no flag `-c`."""
+    """Return the output of an `r.stats` statement, with counts only if the flag `-c` is given."""
     inputs, options = statement.inputs, statement.options
     has_counts = "c" in options
     values = values if has_counts else values[:, : len(inputs)]

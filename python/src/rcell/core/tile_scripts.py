@@ -1,5 +1,5 @@
 # SPDX-License-Identifier: Apache-2.0 OR GPL-2.0-or-later
-"""Write the scripts for tiles, from the program's plan of a script."""
+"""Write the scripts that tiles run, from the program's plan of the full script."""
 
 from __future__ import annotations
 
@@ -24,7 +24,7 @@ def _short_names(taken: Iterable[str]) -> Iterator[str]:
 
 
 def _with_calls(statement: Statement, written: Mapping[str, str]) -> str:
-    """Return the text of a statement with each call replaced as `written` specifies."""
+    """Return a statement's text, with each function call replaced by its text in `written`."""
     text = statement.text.encode("utf-8", "surrogateescape")
     for call in reversed(statement.calls):
         text = text[: call.start] + written[call.function].encode() + text[call.end :]
@@ -32,7 +32,7 @@ def _with_calls(statement: Statement, written: Mapping[str, str]) -> str:
 
 
 def _counting(stats: Statement, inputs: Sequence[str]) -> str:
-    """Return the line of an r.stats over these maps, without labels.
+    """Return the `r.stats` line that tiles run over these maps, without labels.
 
     Cells are counted if the statement or the correction for the halo needs counts.
     """
@@ -47,9 +47,10 @@ def _counting(stats: Statement, inputs: Sequence[str]) -> str:
 
 
 def is_counted(stats: Statement) -> bool:
-    """Return whether tiles count the cells of a table.
+    """Return whether tiles must count cells for an `r.stats` statement.
 
-    They do if the table has counts, or may have an entry of nulls, which includes the halo's cells.
+    Counts are needed if the statement has the flag `-c`, or if its table may contain an entry of
+    nulls, from which the halo's cells are subtracted.
     """
     return "c" in stats.options or not {"n", "N"} & {*stats.options}
 
@@ -73,7 +74,7 @@ class TileScript:
     statements : tuple of Statement
         The statements that create the maps for the outputs, in order.
     outputs : tuple of Statement
-        The statements that write, each an r.stats or an r.out.ascii, in order.
+        The `r.stats` and `r.out.ascii` statements, in order.
     spare : tuple of str
         Names that the script does not use.
     """
@@ -105,7 +106,7 @@ class TileScript:
 
     @property
     def reach(self) -> Margin:
-        """The halo that a tile needs for all reads.
+        """The halo that a tile needs for all maps that the script reads.
 
         Even maps that depend on no file need a halo, because all maps are null outside the tile.
         """
@@ -123,7 +124,7 @@ class TileScript:
 
     @property
     def reads(self) -> set[str]:
-        """The maps that are read, both given and created."""
+        """The names of all maps that the statements read, whether given or created."""
         names: set[str] = set()
         for statement in (*self.statements, *self.outputs):
             names.update(statement.reads)
@@ -136,7 +137,7 @@ class TileScript:
 
     @property
     def calls(self) -> set[str]:
-        """The position functions that its statements call."""
+        """The position functions that the script's statements call."""
         return {call.function for statement in self.statements for call in statement.calls}
 
     def text(self, place: Rectangle, outer: Rectangle, shape: tuple[int, int]) -> str:
@@ -161,7 +162,7 @@ class TileScript:
         shape: tuple[int, int],
         stats: Optional[Statement] = None,
     ) -> str:
-        """Return a script that writes a tile's clump numbers and the map that they number.
+        """Return a script that writes a tile's clump numbers and the classes of its cells.
 
         If an r.stats over the clumps is given, its table is written first.
         """
@@ -186,7 +187,7 @@ class TileScript:
         shape: tuple[int, int],
         names: Sequence[str],
     ) -> tuple[list[str], dict[str, str]]:
-        """Return the statements for a tile, and a masked map for each name.
+        """Return a tile's statements, and the name of a masked map for each map in `names`.
 
         A masked map is null in the halo.
         """
@@ -217,7 +218,7 @@ def _widest(margin: Margin, other: Margin) -> Margin:
 
 
 def is_diagonal(clump: Statement) -> bool:
-    """Return whether an r.clump also connects cells that share a corner."""
+    """Return whether an `r.clump` statement also connects cells that share only a corner."""
     return "-d" in clump.text.partition("#")[0].split()
 
 

@@ -1,5 +1,5 @@
 # SPDX-License-Identifier: Apache-2.0 OR GPL-2.0-or-later
-"""Add up the tables of tiles to the table of the full map."""
+"""Add up the tables of tiles, to get the table of the full map."""
 
 from __future__ import annotations
 
@@ -23,7 +23,7 @@ _SHRUNK = 0.8
 
 
 class TableSum:
-    """The sum of tables, whose rows are sorted combinations of categories, with or without cells.
+    """Adds up tables whose rows are sorted combinations of categories, with or without counts.
 
     Parameters
     ----------
@@ -53,7 +53,7 @@ class TableSum:
             self._sum()
 
     def table(self) -> Integers:
-        """Return the sum, with each combination once in ascending order, null last."""
+        """Return the sum, with each combination once, in ascending order and with null last."""
         self._sum()
         return self._parts[0]
 
@@ -69,7 +69,7 @@ class TableSum:
 
 
 def _added(rows: Integers, is_counted: bool) -> Integers:
-    """Sort rows and add up equal combinations."""
+    """Sort rows, and add up the cells of equal combinations."""
     columns = np.ascontiguousarray(rows.T)
     maps = len(columns) - is_counted
     if not columns.shape[1]:
@@ -90,13 +90,13 @@ def _added(rows: Integers, is_counted: bool) -> Integers:
 
 
 def in_order(table: Integers) -> Integers:
-    """Sort the rows of a table in ascending order, null last."""
+    """Sort the rows of a table in ascending order, with null last."""
     ordered: Integers = table[order_of(table)]
     return ordered
 
 
 def order_of(classes: Integers) -> NDArray[np.intp]:
-    """Return indices that sort the rows of `classes`, null last; equal rows keep their order."""
+    """Return indices that sort the rows of `classes` in a stable order, with null last."""
     columns = np.ascontiguousarray(classes.T)
     return _order_of_columns(columns, _keys_of(columns))
 

@@ -39,7 +39,7 @@ Integers = NDArray[Any]
 
 @dataclass(frozen=True)
 class TileWork:
-    """A script over a tile and its halo.
+    """A script to run over a tile and its halo.
 
     Attributes
     ----------
@@ -47,7 +47,7 @@ class TileWork:
     place, outer : Rectangle
         The tile, and the tile with its halo.
     shape : tuple of two ints
-        Of the full map.
+        The rows and columns of the full map.
     maps : mapping of str to any
         Maps that contain at least the cells of the tile and its halo.
     watched : tuple of str
@@ -90,7 +90,7 @@ class TileDone:
 
 
 def run_work(work: TileWork) -> TileDone:
-    """Run the script of a tile, unless its results are already known.
+    """Run a tile's script, or return its results if they are already known.
 
     Raises
     ------
@@ -125,12 +125,12 @@ def _frames(work: TileWork, watches: Mapping[str, Watch]) -> list[protocol.Frame
 
 
 def _read(source: Any, outer: Rectangle) -> Piece:
-    """Read the cells of a tile with its halo."""
+    """Read the cells of a tile and its halo, unless they have already been read."""
     return source if isinstance(source, Piece) else Piece.of(source, outer)
 
 
 def _sent(work: TileWork, name: str, source: Piece, watches: Mapping[str, Watch]) -> protocol.Map:
-    """Convert a map of the tile with its halo, and count nodata along the full map's border."""
+    """Convert a tile's map for the program, and count nodata values along the full map's border."""
     place, outer, block = work.place, work.outer, source.block
     null = None if block.null is None else place.part_of(outer, block.null)
     own = replace(block, cells=place.part_of(outer, block.cells), null=null)
@@ -163,7 +163,7 @@ def _contiguous(block: Block) -> Block:
 def outputs_of(counted: Sequence[bool]) -> partial[list[Integers]]:
     """Return a function that extracts a tile's tables and maps without the halo.
 
-    `counted` contains whether each table counts cells.
+    For each output, `counted` contains whether tiles count cells.
     """
     return partial(_outputs, tuple(counted))
 
@@ -171,7 +171,7 @@ def outputs_of(counted: Sequence[bool]) -> partial[list[Integers]]:
 def _outputs(
     counted: Sequence[bool], work: TileWork, frames: Sequence[protocol.Frame]
 ) -> list[Integers]:
-    """Return the tables and the cells of maps of a tile."""
+    """Return a tile's tables and the cells of its maps."""
     results = []
     for frame, is_counted in zip(frames, counted):
         if isinstance(frame, GridFrame):
@@ -182,12 +182,12 @@ def _outputs(
 
 
 def clumps_of(diagonal: bool) -> partial[list[Integers]]:
-    """Return a function that extracts a tile's border, as a text, and its clump numbers."""
+    """Return a function that extracts a tile's border text and its clump numbers."""
     return partial(_clumps, diagonal)
 
 
 def _clumps(diagonal: bool, work: TileWork, frames: Sequence[protocol.Frame]) -> list[Integers]:
-    """Return the border text and the clump numbers of a tile, from its clumps and classes."""
+    """Return a tile's border text and clump numbers, from the frames of clumps and classes."""
     numbers, cells = frames
     assert isinstance(numbers, GridFrame) and isinstance(cells, GridFrame)
     clumps = wide(_cells_of(numbers, work), NO_CLUMP)
@@ -198,7 +198,7 @@ def _clumps(diagonal: bool, work: TileWork, frames: Sequence[protocol.Frame]) ->
 def patches_of(diagonal: bool, is_counted: bool) -> partial[list[Integers]]:
     """Return a function that extracts a tile's border, clump table and open clumps.
 
-    The border is a text. Open clumps may continue outside the tile.
+    The border is text, stored as bytes. Open clumps may continue outside the tile.
     """
     return partial(_patches, diagonal, is_counted)
 
@@ -216,8 +216,8 @@ def _patches(
 def _cells_of(frame: GridFrame, work: TileWork) -> Integers:
     """Return the tile's cells from a map of the tile and its halo.
 
-    By the law `halo_is_enough` (or `reach_is_enough`, if the script uses rows and columns), they
-    are the full map's cells.
+    By the law `halo_is_enough` (or `reach_is_enough`, if the script uses rows and columns), these
+    cells equal the full map's cells.
     """
     cells = np.asarray(frame.cells).reshape(frame.rows, frame.cols)
     if work.place == work.outer:
@@ -226,7 +226,7 @@ def _cells_of(frame: GridFrame, work: TileWork) -> Integers:
 
 
 def wide(cells: Integers, null: int) -> Integers:
-    """Convert cells to int32, with this number for null."""
+    """Convert cells to int32, with the given number for null."""
     own = protocol.NULL_BYTE if cells.dtype == np.uint8 else NULL
     wide_cells: Integers = cells.astype(np.int32)
     np.copyto(wide_cells, null, where=cells == own)
@@ -234,7 +234,7 @@ def wide(cells: Integers, null: int) -> Integers:
 
 
 def _table_of(frame: protocol.Frame, work: TileWork, is_counted: bool) -> Integers:
-    """Return a tile's table without its halo, whose cells are null in all maps.
+    """Return a tile's table without the halo's cells, which are null in all maps.
 
     The halo's cells are subtracted from the entry of nulls (law `tables_add_up`).
     """

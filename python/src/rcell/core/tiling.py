@@ -53,7 +53,7 @@ class Work:
     Attributes
     ----------
     workers : int or None
-        The number of tiles to process at a time; None for one tile per processor, or for the
+        The number of tiles to process at a time, or None for one tile per processor or for the
         current Dask client.
     client : distributed.Client or None
         The client whose workers process tiles.
@@ -97,7 +97,7 @@ def working(
     is_dry: bool = False,
     engine: Optional[Callable[..., Any]] = None,
 ) -> Iterator[None]:
-    """Change settings for the calls in this block; other settings stay unchanged."""
+    """Change the given settings for the calls in a `with` block."""
     before = _work.get()
     count, client = before.workers, before.client
     if workers is not None:
@@ -123,7 +123,7 @@ def working(
 def cluster() -> Optional[Cluster]:
     """Return the cluster of the current call, or None.
 
-    It is the given client's cluster or, unless `workers` is a number, the current client's.
+    The cluster belongs to the given client or, unless `workers` is a number, to the current client.
     """
     current = work()
     client = current.client
@@ -133,7 +133,7 @@ def cluster() -> Optional[Cluster]:
 
 
 class DryRun(Exception):
-    """Raised instead of a result to report the plan of a call; the argument is the plan."""
+    """Raised in place of a dry run's result, with the plan of the call as the argument."""
 
 
 def describe(
@@ -196,7 +196,7 @@ class Demand:
         return cls(read + program + 8 * grids, reach)
 
     def of_tile(self, rows: int, cols: int) -> int:
-        """Return the memory of a tile and its program in bytes."""
+        """Return the bytes of memory that a tile needs, including the program."""
         up, down, left, right = self.reach
         cells = (rows + up + down) * (cols + left + right)
         return PROGRAM_BYTES + math.ceil(self.bytes * cells)
@@ -207,7 +207,7 @@ _CHECKING_BYTES = 3
 
 
 def _read_bytes(source: Source) -> int:
-    """Return the bytes per cell while reading.
+    """Return the bytes of memory per cell while a map is read.
 
     Cells of more than two bytes are checked and copied.
     """
@@ -218,13 +218,13 @@ def _read_bytes(source: Source) -> int:
 
 
 def is_small(maps: Mapping[str, Source]) -> bool:
-    """Return whether maps are so small that one run is fastest."""
+    """Return whether maps are small enough that one run is fastest."""
     rows, cols = shape = next(iter(maps.values())).region.shape
     return work().size is None and rows * cols <= SMALL_CELLS and fits_one_run(shape)
 
 
 def takes_one_run(plan: Sequence[Statement], maps: Mapping[str, Source], demand: Demand) -> bool:
-    """Return whether maps that are not small are nevertheless processed in one run.
+    """Return whether maps are processed in one run even if they are not small.
 
     A table with `-1` lists cells, which tiles cannot do. Text grids cannot be read in windows. With
     one processor, tiles are not faster.
@@ -246,8 +246,8 @@ def tile_size(
 ) -> tuple[tuple[int, int], int]:
     """Return the rows and columns of tiles, and the number of tiles to process at a time.
 
-    Tiles are squares, or bands of complete rows if the first map stores complete rows, because each
-    tile would have to read them completely.
+    Tiles are squares. If the first map stores complete rows, tiles are bands of complete rows,
+    because square tiles would have to read the rows completely.
 
     Raises
     ------
@@ -282,7 +282,7 @@ def _multiple(side: int, block: int) -> int:
 
 
 def _even_side(length: int, most: int, block: int) -> int:
-    """Return the side of tiles of about equal size.
+    """Return the side length that cuts a map into tiles of about equal size.
 
     A narrow last tile would cost the program as much per row as a wide tile.
 

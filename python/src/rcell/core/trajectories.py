@@ -74,7 +74,7 @@ def trajectories(
     include_maps: bool = False,
     crs: Any = None,
 ) -> Trajectories:
-    """Count each sequence of classes over the years, for cells that are null in no year.
+    """Count each sequence of classes over the years, using cells that are not null in any year.
 
     Parameters
     ----------
@@ -138,7 +138,7 @@ def trajectories(
 
 
 def _labels_of(series: Maps, counts: Counts, legend: Any) -> list[Mapping[int, str]]:
-    """Return each map's labels: from a legend, its own labels, or the first labelled map's."""
+    """Return each map's labels, from the legend, the map itself, or the first map with labels."""
     own = [source.labels for source in series.sources.values()]
     shared: Mapping[int, str] = next(filter(None, own), {})
     if legend is not None:
@@ -203,7 +203,10 @@ class _Sequences:
 
 
 def _counts(series: Maps, measure: Measure) -> Counts:
-    """Count each sequence of classes; the classes of many maps are packed into fewer numbers."""
+    """Count each sequence of classes.
+
+    If there are many maps, their classes are packed into fewer maps.
+    """
     names = list(series.sources)
     rows = [] if measure.by_row is None else ["row"]
     if len(names) + len(rows) <= MOST_MAPS:
@@ -231,7 +234,7 @@ def _counts(series: Maps, measure: Measure) -> Counts:
 
 
 def _packing(packs: Sequence[Sequence[str]], classes: Sequence[int], base: int) -> Iterator[str]:
-    """Yield script lines that pack the class ranks of several maps into one number."""
+    """Yield script lines that pack the class ranks of several maps into one map."""
     rules = "\n".join(f"{code} = {rank}" for rank, code in enumerate(classes))
     for number, pack in enumerate(packs):
         yield from (f"r.reclass input={name} output={name}_rank\n{rules}\nend" for name in pack)

@@ -1,5 +1,5 @@
 # SPDX-License-Identifier: Apache-2.0 OR GPL-2.0-or-later
-"""Find the cells within a distance of classes (buffers)."""
+"""Find the cells within a distance of given classes (buffers)."""
 
 from __future__ import annotations
 
@@ -40,7 +40,7 @@ def within(
     Parameters
     ----------
     map : path, array, or any map that `run` accepts
-        The map, in metres or feet, not in degrees.
+        A map in metres or feet. Maps in degrees are not accepted.
     classes : int or iterable of int
         The classes from which distances are measured.
     distances : float or iterable of float
@@ -51,9 +51,9 @@ def within(
     Returns
     -------
     Raster
-        A map with 0 in the classes, 1 up to the first distance, 2 from there up to the second
-        distance, and so on; beyond the last distance, null. Null cells of the map are treated like
-        other cells. The labels name the distances. As `zones=` of `composition`, the map yields the
+        A map that is 0 in the classes, 1 up to the first distance, 2 up to the second distance, and
+        so on, and null beyond the last distance. Null cells of the map are treated like other
+        cells. The labels name the distances. Passed as `zones` to `composition`, the map yields the
         classes in each ring.
 
     Raises
@@ -114,7 +114,7 @@ def _ascending(distances: Any) -> list[float]:
 
 
 def reaches(distance: float, width: float, height: float) -> list[int]:
-    """Return exactly how many rows away a cell may be, for 0, 1, 2, .. columns.
+    """Return how many rows away a cell within the distance may be, for 0, 1, 2, .. columns.
 
     Examples
     --------
@@ -158,7 +158,7 @@ def _ring_of(cells: Any, rings: Sequence[Sequence[int]], null: int) -> Any:
 
 
 def _rows_away(cells: Any, most: int) -> Any:
-    """Return how many rows away the nearest 0 in each column is, at most `most`."""
+    """Return each cell's distance in rows, up to `most`, to the nearest 0 in its column."""
     far = cells_for(cells.shape, np.min_scalar_type(most + 1))
     before: Any = np.full(cells.shape[1], most, far.dtype)
     for line, row in zip(cells, far):

@@ -21,7 +21,7 @@ FULL_BELOW = 1 << 18
 
 @contextlib.contextmanager
 def write_errors(path: str, *kinds: type[Exception]) -> Iterator[None]:
-    """Convert OSError, and other given exceptions, to WriteFailed with this path.
+    """Convert OSError and other given exceptions to WriteFailed, which names the path.
 
     Raster libraries report a full disk only on standard error, if at all, and fail later for
     another reason. This function therefore checks the free space.

@@ -68,7 +68,7 @@ def zonal(
     Refused
         See `run`; also raised if a value is too large for `scale`.
     BadArgument
-        A quantile is not from 0 to 1.
+        A quantile is not between 0 and 1.
 
     Examples
     --------
@@ -105,7 +105,7 @@ def zonal(
 
 
 def _title(quantile: Any) -> str:
-    """Return the column name of a quantile: q and its percentage, with _ for the point."""
+    """Return a quantile's column name: `q` and the percentage, with `_` for the decimal point."""
     try:
         number = float(quantile)
     except (TypeError, ValueError):

@@ -44,10 +44,10 @@ class Feature:
     Attributes
     ----------
     id : any
-        Its id in the layer: the fid, or the index of a GeoDataFrame.
+        The feature's id in the layer: the fid, or the index of a GeoDataFrame.
     value : any
-        The field's value as a Python object (int, float, str, bool, date, ..); None if it is
-        missing, NaN, or no field is named.
+        The field's value as a Python object (int, float, str, bool, date, ..), or None if the value
+        is missing or NaN, or if no field is named.
     kind : str
         The OGC name of its geometry type, for example `MultiPolygon`; empty without a geometry.
     geometry : any
@@ -65,18 +65,18 @@ class Layer(Protocol):
 
     @property
     def name(self) -> str:
-        """Its name in messages."""
+        """The layer's name in messages."""
 
     @property
     def crs(self) -> Any:
-        """Its coordinate reference system, or None."""
+        """The layer's coordinate reference system, or None."""
 
     @property
     def fields(self) -> Sequence[str]:
-        """The names of its fields."""
+        """The names of the layer's fields."""
 
     def features(self, field: Optional[str]) -> Iterable[Feature]:
-        """Yield the features in order, with their values of a field; curves become lines."""
+        """Yield the features in order, with their values of a field, and with curves as lines."""
 
     def burn(
         self, shapes: Sequence[tuple[Any, int]], transform: Transform, shape: tuple[int, int]
@@ -84,12 +84,12 @@ class Layer(Protocol):
         """Return, for each cell, the number of the last geometry that contains its centre, or 0."""
 
     def bounds(self, geometry: Any) -> tuple[float, float, float, float]:
-        """Return west, south, east and north of a geometry."""
+        """Return the west, south, east and north bounds of a geometry."""
 
 
 @dataclass(frozen=True)
 class Zones:
-    """Polygons as maps.
+    """Zones from polygons, as maps of categories.
 
     Attributes
     ----------
@@ -99,7 +99,7 @@ class Zones:
     ids : array of int64
         The zone of each category, ascending.
     labels : dict of int to str
-        By zone.
+        The labels by zone.
     """
 
     maps: list[ArrayMap]
@@ -153,7 +153,7 @@ def zones_of(
 
 
 def _with_a_zone(layer: Layer, field: Optional[str]) -> list[Feature]:
-    """Return the features with a geometry and a zone, with the zone as their value."""
+    """Return the features that have a geometry and a zone, with the zone as `value`."""
     features = []
     for feature in layer.features(field):
         if not feature.kind or feature.geometry is None:
@@ -205,13 +205,13 @@ def _text(value: Any) -> str:
 
 
 def _name(feature: Feature, zone: int, labels: Mapping[int, str]) -> str:
-    """Return a feature's name for messages: its id, and its zone if that differs."""
+    """Return a feature's name for messages: its id, and its zone if the two differ."""
     label = labels.get(zone, str(zone))
     return f"feature {feature.id}" + ("" if label == str(feature.id) else f" ({label})")
 
 
 class _Losses:
-    """Counts the cells in more than one polygon, and the features that lost them."""
+    """Counts the cells in more than one polygon, and collects the features that lose cells."""
 
     def __init__(self) -> None:
         self.cells = 0
@@ -220,7 +220,7 @@ class _Losses:
         self._lock = threading.Lock()
 
     def add(self, place: Rectangle, first: NDArray[np.int32], lost: NDArray[np.bool_]) -> None:
-        """Record the cells of a block that their first feature lost."""
+        """Record the cells of a block that the first feature loses to a later feature."""
         if not lost.any():
             return
         row, col = np.unravel_index(int(np.argmax(lost)), lost.shape)
@@ -237,7 +237,7 @@ class _Grid:
     Attributes
     ----------
     categories : array of int
-        The category of the zone of each feature.
+        The category of each feature's zone.
     names : list of str
     """
 
@@ -277,7 +277,7 @@ class _Grid:
         return ArrayMap(name, cells, like.region, None, 0, {}, like.crs, like.transform)
 
     def _over_blocks(self, burn: Callable[[Rectangle], NDArray[np.bool_]]) -> None:
-        """Burn features in all blocks, and record which of them contain the centre of a cell."""
+        """Burn features in all blocks, and record which features contain the centre of a cell."""
         places = rectangles_of(self.like.region.shape, (_BLOCK, _BLOCK))
         if len(places) == 1:
             self._has_centre |= burn(places[0])
@@ -289,7 +289,7 @@ class _Grid:
     def _burnt(
         self, part: Sequence[int], place: Rectangle
     ) -> tuple[NDArray[np.int32], NDArray[np.bool_]]:
-        """Return each cell's last feature, and which features occur.
+        """Return the last feature that contains each cell, and a mask of the features that occur.
 
         Features are numbered from 1. A cell that no feature contains is 0.
         """
@@ -323,7 +323,7 @@ class _Grid:
         )
 
     def check_centres(self) -> None:
-        """Warn of features that contain no centre of a cell, or raise BadMap if no feature does."""
+        """Warn about features without a cell centre, or raise BadMap if no feature contains one."""
         without = [self.names[index] for index in np.flatnonzero(~self._has_centre[1:]).tolist()]
         if len(without) == len(self.features):
             raise BadMap(self.layer.name, "no polygon contains the centre of a cell")

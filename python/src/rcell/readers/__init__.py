@@ -28,14 +28,14 @@ _LAYER = "|layername="
 def open_raster(name: str, path: str, band: int | None = None) -> Source:
     """Open a band of a file as a map, with rasterio or with GDAL's Python bindings.
 
-    Without a band, the file must have only one.
+    If `band` is None, the file must have only one band.
 
     Raises
     ------
     ReadFailed
-        It cannot be opened.
+        The file cannot be opened.
     BadMap
-        It cannot be a map.
+        The band cannot be a map.
     MissingLibrary
     """
     reader = _reader("rasterio", "gdal", "gis", "to read a raster")
@@ -44,7 +44,7 @@ def open_raster(name: str, path: str, band: int | None = None) -> Source:
 
 
 def open_features(name: str, source: Any, layer: Optional[str] = None) -> Optional[Layer]:
-    """Open polygons or points as a layer; return None for other objects.
+    """Open polygons or points as a layer, or return None for another object.
 
     Parameters
     ----------
@@ -93,7 +93,7 @@ def crs_of(text: str) -> Crs:
     Raises
     ------
     ValueError
-        The text is not understood.
+        The text does not describe a reference system.
     MissingLibrary
     """
     purpose = f"to understand the coordinate reference system {text[:60]!r}"
@@ -102,7 +102,7 @@ def crs_of(text: str) -> Crs:
 
 
 def _reader(library: str, other: str, extra: str, purpose: str) -> Any:
-    """Return the reader for a library or, without it, the reader for GDAL's Python bindings.
+    """Return the reader for a library or, if the library is missing, for GDAL's Python bindings.
 
     The QGIS plugin contains only readers for GDAL's bindings.
     """

@@ -69,13 +69,15 @@ def open_raster(
     uses_nodata: bool = True,
     uses_style: bool = True,
 ) -> RasterMap:
-    """Open a band of a raster as a map. Without a band, the raster must have only one.
+    """Open a band of a raster as a map.
+
+    If `band` is None, the raster must have only one band.
 
     Parameters
     ----------
     name, path, band
     null_ranges : sequence of pairs of float
-        Additional ranges of values that are null, each from its first to its last value.
+        Additional ranges of null values, each given by its first and its last value.
     uses_nodata : bool
         Whether the file's nodata value is null.
     uses_style : bool
@@ -156,11 +158,11 @@ class RasterMap:
     alpha : int or None
         The band that marks transparent cells, which are null.
     is_upside_down : bool
-        Whether its rows go from south to north in the file.
+        Whether the rows in the file run from south to north.
     block_shape : tuple of two ints
     files : tuple of str
     style_path : str
-        The path of the raster next to which a style may be; empty to ignore styles.
+        The path of the raster next to which a QGIS style may exist, or empty to ignore styles.
     legend : Legend, optional
         Labels and colours that replace the file's own.
     """
@@ -184,38 +186,38 @@ class RasterMap:
     legend: Legend = field(default_factory=lambda: Legend({}, {}))
 
     def sent(self, _: Any) -> RasterMap | None:
-        """Return the map if another process can open it by path."""
+        """Return the map if another process can open its raster by path, otherwise None."""
         is_here = self.path.startswith("/vsimem/")
         return None if is_here else replace(self, path=shared_path(self.path))
 
     def with_labels(self, labels: Mapping[int, str]) -> RasterMap:
-        """Return the map with these labels."""
+        """Return a copy of the map with these labels."""
         return replace(self, legend=Legend(dict(labels), self.legend.colors))
 
     @property
     def dtype(self) -> np.dtype[Any]:
-        """The data type of its blocks."""
+        """The data type of the map's blocks."""
         return type_of(self.file_type)
 
     @property
     def nodata(self) -> int | None:
-        """The value that marks null in its blocks."""
+        """The value that marks null in the map's blocks."""
         return nodata_of(self.file_type, self.file_nodata)
 
     @property
     def is_masked(self) -> bool:
-        """Whether its blocks have masks."""
+        """Whether the map's blocks have masks."""
         is_masked = self.has_mask or self.alpha is not None or bool(self.null_ranges)
         return is_masked and not is_converted(self.file_type)
 
     @property
     def labels(self) -> Mapping[int, str]:
-        """The labels of its categories."""
+        """The labels of the map's categories."""
         return self.legend.labels or self._legend_of_file.labels
 
     @property
     def colors(self) -> Mapping[int, str]:
-        """The colours of its categories."""
+        """The colours of the map's categories."""
         return self.legend.colors or self._legend_of_file.colors
 
     @functools.cached_property
@@ -248,7 +250,7 @@ class RasterMap:
             yield checked(self.name, cells, null, self.file_nodata, row)
 
     def window(self, row: int, col: int, rows: int, cols: int) -> Block:
-        """Return a window of cells; rows and columns are counted from the north-west.
+        """Return a window of cells, with rows and columns counted from the north-west corner.
 
         Raises the same errors as `blocks`.
         """
@@ -259,7 +261,7 @@ class RasterMap:
     def _read(
         self, dataset: Any, row: int, col: int, rows: int, cols: int
     ) -> tuple[Cells, Optional[Mask]]:
-        """Return a window of cells, and which of them are null by mask, transparency or range."""
+        """Return a window of cells, and a mask of cells null by mask, transparency or range."""
         top = self.region.rows - row - rows if self.is_upside_down else row
         bands = [dataset.GetRasterBand(self.band)]
         if self.has_mask:
@@ -285,7 +287,7 @@ class RasterMap:
 
 
 def _within(cells: Cells, low: float, high: float) -> Mask:
-    """Return which cells are in a range.
+    """Return a mask of the cells in a range.
 
     Integers are compared as integers, because floats are not exact for all 64-bit integers.
     """
@@ -311,7 +313,7 @@ def _alphas(dataset: Any) -> list[int]:
 
 
 def _only_band(name: str, dataset: Any) -> int:
-    """Return the only band that is not an alpha band."""
+    """Return the only band that is not an alpha band, or raise BadMap."""
     alphas = _alphas(dataset)
     bands = [band for band in range(1, dataset.RasterCount + 1) if band not in alphas]
     if len(bands) != 1:
@@ -320,7 +322,7 @@ def _only_band(name: str, dataset: Any) -> int:
 
 
 def _check_values(name: str, band: Any) -> None:
-    """Raise BadMap if the values of a band are scaled, or complex."""
+    """Raise BadMap if the values of a band are scaled or complex."""
     scale, offset = band.GetScale(), band.GetOffset()
     if scale not in (None, 1.0) or offset not in (None, 0.0):
         scaling = f"each cell times {1.0 if scale is None else scale:g}, plus {offset or 0.0:g}"
@@ -340,7 +342,7 @@ def _dtype_of(band: Any) -> np.dtype[Any]:
 
 
 def _upright(name: str, dataset: Any) -> tuple[Transform, bool]:
-    """Return the transform with rows from north to south, and whether the file has them reversed.
+    """Return the transform for rows from north to south, and whether the file reverses the rows.
 
     Without a transform, cells have size 1 and the bottom left corner is at 0, 0.
     """

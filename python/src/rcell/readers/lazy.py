@@ -40,12 +40,12 @@ _NOTHING: Integers = np.empty(0, np.int64)
 def lazy_map(make: Callable[[], Any]) -> Any:
     """Return the map of a call as a DataArray that Dask computes.
 
-    It has the chunks of the first Dask map.
+    The DataArray has the chunks of the first Dask map.
 
     Parameters
     ----------
     make : callable
-        Returns a map of the core.
+        A function that returns a map of the core.
 
     Raises
     ------
@@ -72,7 +72,7 @@ def lazy_map(make: Callable[[], Any]) -> Any:
 
 
 def lazy_table(name: str, words: Sequence[Any], named: Mapping[str, Any]) -> Any:
-    """Return the result of a call that depends on tables as a Delayed.
+    """Return a Dask Delayed for the result of a call that depends on tables.
 
     The call runs twice: now, until it requests its tables, and again when the tables are computed.
     """
@@ -101,7 +101,7 @@ class _TablesRequested(Exception):
 
 
 class _Hidden:
-    """A wrapper that hides arrays from Dask, so that it does not compute them."""
+    """Hides arrays from Dask, so that Dask does not compute them."""
 
     def __init__(self, content: Any) -> None:
         self.content = content
@@ -110,7 +110,7 @@ class _Hidden:
 def _hollow(argument: Any) -> Any:
     """Replace a Dask argument's cells with zeros.
 
-    Only its position, type and labels are still needed.
+    Only the argument's position, type and labels are still needed.
     """
     if isinstance(argument, (list, tuple)):
         return type(argument)(map(_hollow, argument))
@@ -164,7 +164,7 @@ def _graph_of(script: str, maps: Mapping[str, Source], wanted: Sequence[str]) ->
 
 
 def _chunks_of(plan: Sequence[Statement], maps: Mapping[str, Any]) -> Any:
-    """Return the rows and columns of result chunks: the first Dask map's chunks, or tiles."""
+    """Return the chunk sizes of results: the chunks of the first Dask map, or tiles."""
     for source in maps.values():
         array: Any = getattr(source, "array", None)
         if is_lazy(array) and not isinstance(source, ArrayMap):
@@ -179,7 +179,7 @@ def _chunks_of(plan: Sequence[Statement], maps: Mapping[str, Any]) -> Any:
 
 
 class _Known:
-    """A map that the graph computes, as a Dask map."""
+    """A map that the graph computes, held as a Dask array."""
 
     def __init__(self, name: str, array: Any, nodata: int) -> None:
         self._name, self._array, self._nodata = name, array, nodata
@@ -213,7 +213,7 @@ class _Graph:
         self._dask = need("dask.array", "xarray", "for arrays of Dask")
 
     def outputs(self, plan: Sequence[Statement]) -> list[Output]:
-        """Return the outputs of a plan; all maps of clumps must be known."""
+        """Return the outputs of a plan, whose clump maps must already be known."""
         statements = outputs_in(plan)
         script = self._script(plan, statements)
         results = outputs_of([is_counted(statement) for statement in statements])
@@ -230,7 +230,7 @@ class _Graph:
         return outputs
 
     def add_clumps(self, plan: Sequence[Statement], clump: Statement) -> None:
-        """Add the map of an r.clump to the known maps."""
+        """Add the map of an `r.clump` statement to the known maps."""
         script, diagonal = self._script(plan, [clump]), is_diagonal(clump)
         tiles = self._run(script, partial(script.clump_text, clump), clumps_of(diagonal))
         whole = self._delayed(_joined)(tiles, diagonal)
@@ -248,7 +248,7 @@ class _Graph:
     def _run(
         self, script: TileScript, text: Callable[[Rectangle, Rectangle, Any], str], results: Any
     ) -> list[Any]:
-        """Return the work on all chunks."""
+        """Return the delayed work on each chunk."""
         maps = {name: source for name, source in self._maps.items() if name in script.reads}
         maps = maps or dict([next(iter(self._maps.items()))])
         run = self._delayed(run_on_worker)
@@ -273,7 +273,7 @@ class _Graph:
 
 
 def _added(statement: Statement, index: int, tiles: Sequence[TileDone]) -> Integers:
-    """Add up the tables of chunks to the table of the full map."""
+    """Add up the tables of all chunks, and return the table of the full map."""
     total = TableSum(len(statement.inputs), is_counted(statement))
     for tile in tiles:
         total.add(tile.results[index])
@@ -281,7 +281,7 @@ def _added(statement: Statement, index: int, tiles: Sequence[TileDone]) -> Integ
 
 
 def _cells_of(index: int, tile: TileDone) -> Integers:
-    """Return a map of a chunk as int32."""
+    """Return the cells of a chunk's map as int32."""
     cells: Integers = tile.results[index]
     return cells if cells.dtype == np.int32 else wide(cells, NULL)
 
@@ -295,5 +295,5 @@ def _joined(tiles: Sequence[TileDone], diagonal: bool) -> Joined:
 
 
 def _renumbered(index: int, tile: TileDone, whole: Joined) -> Integers:
-    """Return the clumps of a chunk with the full map's numbers."""
+    """Return a chunk's cells with the clump numbers of the full map."""
     return renumber(tile.results[1], whole.tiles[index], np.empty(tile.results[1].shape, np.int32))

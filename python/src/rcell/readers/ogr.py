@@ -26,7 +26,9 @@ _INTEGERS = (ogr.OFTInteger, ogr.OFTInteger64)
 
 
 def open_layer(name: str, path: str, layer: Optional[str] = None) -> OgrLayer:
-    """Open a layer of a vector file. Without a name, the file must have only one.
+    """Open a layer of a vector file.
+
+    Without a layer name, the file must have only one layer.
 
     Raises
     ------
@@ -67,13 +69,13 @@ class OgrLayer:
 
     @property
     def crs(self) -> Optional[str]:
-        """Its reference system as well-known text, or None."""
+        """The layer's reference system as well-known text, or None."""
         system = self.source.GetLayerByName(self.layer).GetSpatialRef()
         return None if system is None else str(system.ExportToWkt(["FORMAT=WKT2_2019"]))
 
     @property
     def fields(self) -> list[str]:
-        """The names of its fields."""
+        """The names of the layer's fields."""
         definition = self.source.GetLayerByName(self.layer).GetLayerDefn()
         places = range(definition.GetFieldCount())
         return [definition.GetFieldDefn(place).GetName() for place in places]
@@ -96,12 +98,12 @@ class OgrLayer:
         return burn(shapes, transform, shape)
 
     def bounds(self, geometry: Any) -> tuple[float, float, float, float]:
-        """Return west, south, east and north of a geometry."""
+        """Return the west, south, east and north bounds of a geometry."""
         return bounds_of(geometry)
 
 
 def _value_of(feature: Any, place: int) -> Any:
-    """Return the value of a field as a Python object, or None if it is missing."""
+    """Return the value of a field as a Python object, or None if the value is missing."""
     if not feature.IsFieldSetAndNotNull(place):
         return None
     definition = feature.GetFieldDefnRef(place)
@@ -119,7 +121,7 @@ def _value_of(feature: Any, place: int) -> Any:
 
 
 def feature_of(name: str, number: Any, value: Any, wkb: bytes) -> Feature:
-    """Convert a well-known binary geometry to a feature; curves become lines.
+    """Convert a well-known binary geometry to a feature, with curves as lines.
 
     An empty geometry is allowed.
 
@@ -143,7 +145,7 @@ def feature_of(name: str, number: Any, value: Any, wkb: bytes) -> Feature:
 
 
 def bounds_of(geometry: Any) -> tuple[float, float, float, float]:
-    """Return west, south, east and north of a geometry."""
+    """Return the west, south, east and north bounds of a geometry."""
     west, east, south, north = geometry.GetEnvelope()
     return west, south, east, north
 

@@ -36,7 +36,7 @@ _EXCEPT_AXES = [
 
 @dataclass(frozen=True, eq=False)
 class OsrCrs(Crs):
-    """A reference system of osr."""
+    """A reference system from osr."""
 
     system: Any
 
@@ -52,7 +52,10 @@ class OsrCrs(Crs):
     def points(
         self, to: Crs, x: NDArray[Any], y: NDArray[Any]
     ) -> tuple[NDArray[Any], NDArray[Any]]:
-        """Transform points to another system; points outside it become infinite or NaN."""
+        """Transform points to another system.
+
+        Points outside the other system become infinite or NaN.
+        """
         assert isinstance(to, OsrCrs)
         with quiet():
             change = osr.CoordinateTransformation(self.system, to.system)
@@ -66,7 +69,7 @@ def crs_of(text: str) -> OsrCrs:
     Raises
     ------
     ValueError
-        The text is not understood.
+        The text does not describe a reference system.
     """
     system = osr.SpatialReference()
     with quiet():
@@ -111,7 +114,7 @@ def _kind_of(system: Any) -> str:
 
 
 def _codes_of(system: Any) -> tuple[str, ...]:
-    """Return the codes that identify a system with certainty, beginning with its own."""
+    """Return the codes that certainly identify a system, beginning with the system's own code."""
     codes = [(system.GetAuthorityName(None), system.GetAuthorityCode(None))]
     with quiet():
         try:

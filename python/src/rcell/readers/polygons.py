@@ -59,7 +59,7 @@ class Polygons:
         return burnt
 
     def bounds(self, geometry: Any) -> tuple[float, float, float, float]:
-        """Return west, south, east and north of a geometry."""
+        """Return the west, south, east and north bounds of a geometry."""
         # rasterio cannot compute bounds of points, nor of fiona's geometries.
         is_shape = hasattr(geometry, "bounds")
         corners = () if is_shape else zip(*_places(geometry["coordinates"]))
@@ -77,7 +77,7 @@ def _places(coordinates: Any) -> Iterator[Sequence[float]]:
 
 
 def _kind(geometry: Any) -> str:
-    """Return the type of a geometry, or an empty text for an empty geometry."""
+    """Return the type of a geometry, or an empty string for an empty geometry."""
     if hasattr(geometry, "is_empty"):
         return "" if geometry.is_empty else str(geometry.geom_type)
     is_empty = not geometry.get("coordinates") and not geometry.get("geometries")
@@ -85,7 +85,7 @@ def _kind(geometry: Any) -> str:
 
 
 def layer_of(name: str, source: Any) -> Optional[Polygons]:
-    """Convert a GeoDataFrame, GeoSeries or GeoJSON to a layer; return None for other objects."""
+    """Convert a GeoDataFrame, GeoSeries or GeoJSON to a layer, or return None for other types."""
     if hasattr(source, "geom_type") and hasattr(source, "crs"):
         shapes = source.geometry
         properties: Sequence[Mapping[str, Any]] = [{}] * len(shapes)

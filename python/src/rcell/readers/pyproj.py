@@ -17,7 +17,7 @@ __all__ = ["PyprojCrs", "crs_of"]
 
 @dataclass(frozen=True, eq=False)
 class PyprojCrs(Crs):
-    """A reference system of pyproj."""
+    """A reference system from pyproj."""
 
     system: Any
 
@@ -30,7 +30,10 @@ class PyprojCrs(Crs):
     def points(
         self, to: Crs, x: NDArray[Any], y: NDArray[Any]
     ) -> tuple[NDArray[Any], NDArray[Any]]:
-        """Transform points to another system; points outside it become infinite or NaN."""
+        """Transform points to another system.
+
+        Points outside the other system become infinite or NaN.
+        """
         assert isinstance(to, PyprojCrs)
         change = pyproj.Transformer.from_crs(self.system, to.system, always_xy=True)
         moved: tuple[NDArray[Any], NDArray[Any]] = change.transform(x, y)
@@ -43,7 +46,7 @@ def crs_of(text: str) -> PyprojCrs:
     Raises
     ------
     ValueError
-        The text is not understood.
+        The text does not describe a reference system.
 
     Examples
     --------
@@ -87,7 +90,7 @@ def _kind_of(system: Any) -> str:
 
 
 def _codes_of(system: Any) -> tuple[str, ...]:
-    """Return the codes that identify a system with certainty, beginning with its own."""
+    """Return the codes that certainly identify a system, beginning with the system's own code."""
     own = system.to_authority(min_confidence=100)
     codes = [own] if own else []
     codes += [

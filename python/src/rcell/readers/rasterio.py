@@ -85,7 +85,7 @@ def open_raster(name: str, source: Any, band: int | None = None) -> RasterMap:
 
 @contextlib.contextmanager
 def read_errors(name: str, problem: str) -> Iterator[None]:
-    """Convert errors of rasterio and the system about a broken raster to ReadFailed."""
+    """Convert errors from rasterio and the operating system to ReadFailed."""
     rasterio = need("rasterio", "gis", _PURPOSE)
     gdal_error = need(
         "rasterio._err", "gis", _PURPOSE
@@ -140,7 +140,7 @@ class Layer:
 
     @classmethod
     def of(cls, name: str, dataset: Any, band: int, enums: Any) -> Layer:
-        """Describe a band of a dataset; raise BadMap unless it contains unscaled integers."""
+        """Describe a band, or raise BadMap if its values are scaled or not real numbers."""
         check_scale(name, dataset, band)
         dtype, nodata = dataset.dtypes[band - 1], dataset.nodatavals[band - 1]
         if dtype.startswith("complex") or dtype not in np.sctypeDict:
@@ -158,7 +158,7 @@ class Layer:
     def read(
         self, name: str, dataset: Any, place: tuple[int, int, int, int], title: str
     ) -> tuple[Cells, Mask | None]:
-        """Return the cells of a window, and which of them are null by mask or transparency.
+        """Return the cells of a window, and a mask of cells null by mask or transparency.
 
         Raises
         ------
@@ -223,7 +223,7 @@ class RasterMap:
         The transform with rows from north to south.
     crs : rasterio.crs.CRS or None
     is_upside_down : bool
-        Whether its rows go from south to north in the file.
+        Whether the rows in the file run from south to north.
     block_shape : tuple of two ints
     files : tuple of str
         The files that GDAL lists.
@@ -250,7 +250,7 @@ class RasterMap:
     def of_dataset(cls, name: str, dataset: Any, band: int | None) -> RasterMap:
         """Convert a band of an open dataset to a map.
 
-        Without a band, the dataset must have only one.
+        If `band` is None, the dataset must have only one band.
         """
         enums = need("rasterio.enums", "gis", _PURPOSE)
         band = only_band(name, dataset, enums) if band is None else band
@@ -275,12 +275,12 @@ class RasterMap:
         )
 
     def sent(self, _: Any) -> RasterMap | None:
-        """Return the map if another process can open it by path."""
+        """Return the map if another process can open its raster by path, otherwise None."""
         return self if self._has_path else None
 
     @property
     def _has_path(self) -> bool:
-        """Return whether the raster can be opened again by path.
+        """Whether the raster can be opened again by path.
 
         A warped raster has no path, and a file in memory exists only in this process.
         """
@@ -293,29 +293,29 @@ class RasterMap:
 
     @property
     def dtype(self) -> np.dtype[Any]:
-        """The data type of its blocks."""
+        """The data type of the map's blocks."""
         return type_of(np.dtype(self.layer.dtype))
 
     @property
     def nodata(self) -> int | None:
-        """The value that marks null in its blocks."""
+        """The value that marks null in the map's blocks."""
         return nodata_of(np.dtype(self.layer.dtype), self.layer.nodata)
 
     @property
     def is_masked(self) -> bool:
-        """Whether its blocks have masks."""
+        """Whether the map's blocks have masks."""
         return (self.layer.has_mask or self.layer.alpha is not None) and not is_converted(
             np.dtype(self.layer.dtype)
         )
 
     @property
     def labels(self) -> Mapping[int, str]:
-        """The labels of its categories."""
+        """The labels of the map's categories."""
         return self._legend.labels
 
     @property
     def colors(self) -> Mapping[int, str]:
-        """The colours of its categories."""
+        """The colours of the map's categories."""
         return self._legend.colors
 
     @functools.cached_property
@@ -332,7 +332,7 @@ class RasterMap:
             yield self.window(row, 0, min(step, rows - row), cols)
 
     def window(self, row: int, col: int, rows: int, cols: int) -> Block:
-        """Return a window of cells; rows and columns are counted from the north-west.
+        """Return a window of cells, with rows and columns counted from the north-west corner.
 
         Raises
         ------
@@ -371,7 +371,7 @@ def alphas(dataset: Any, enums: Any) -> list[int]:
 
 
 def only_band(name: str, dataset: Any, enums: Any) -> int:
-    """Return the only band that is not an alpha band; raise BadMap if there are several."""
+    """Return the only band that is not an alpha band, or raise BadMap if there are several."""
     bands = sorted({*dataset.indexes} - {*alphas(dataset, enums)})
     if len(bands) != 1:
         is_python = host().words == "python"
@@ -392,7 +392,7 @@ def check_scale(name: str, dataset: Any, band: int) -> None:
 
 
 def upright(name: str, dataset: Any) -> tuple[Transform, bool]:
-    """Return the transform with rows from north to south, and whether the file has them reversed.
+    """Return the transform for rows from north to south, and whether the file reverses the rows.
 
     Without a transform, cells have size 1 and the bottom left corner is at 0, 0.
 

@@ -79,7 +79,10 @@ _TOLERANCE = 1e-4
 
 @dataclass(frozen=True)
 class DataArrayMap:
-    """A two-dimensional DataArray as a map; blocks of a Dask array are computed one at a time."""
+    """A two-dimensional DataArray as a map.
+
+    Blocks of a Dask array are computed one at a time.
+    """
 
     name: str
     array: Any
@@ -92,23 +95,23 @@ class DataArrayMap:
 
     @property
     def files(self) -> tuple[str, ...]:
-        """The file from which it was opened, if it is known."""
+        """The file from which the DataArray was opened, if known."""
         source = self.array.encoding.get("source")
         return (source,) if isinstance(source, str) else ()
 
     @property
     def dtype(self) -> np.dtype[Any]:
-        """The data type of its blocks."""
+        """The data type of the map's blocks."""
         return type_of(self.array.dtype)
 
     @property
     def nodata(self) -> int | None:
-        """The value that marks null in its blocks."""
+        """The value that marks null in the map's blocks."""
         return nodata_of(self.array.dtype, self.nodata_value)
 
     @property
     def is_masked(self) -> bool:
-        """Whether its blocks have masks, because each Dask chunk may have a mask."""
+        """Whether the map's blocks have masks, which any Dask chunk may have."""
         return not is_converted(self.array.dtype) and (
             is_lazy(self.array) or isinstance(self.array.data, np.ma.MaskedArray)
         )
@@ -137,7 +140,7 @@ class DataArrayMap:
         return replace(part, cells=cells).window(row, col, rows, cols)
 
     def sent(self, outer: Rectangle) -> Chunks | None:
-        """Return the chunks with the cells of a window, if they are in a Dask array."""
+        """Return the Dask chunks that contain a window, or None if the array is not in Dask."""
         return self._part(*outer) if is_lazy(self.array) else None
 
     def _part(self, row: int, col: int, rows: int, cols: int) -> Chunks:
@@ -198,12 +201,12 @@ def flat_of(name: str, array: Any) -> Flat:
 
 
 def source_of_data_array(name: str, array: Any) -> DataArrayMap:
-    """Convert a DataArray to a map; `flat_of` describes the arrays that are accepted.
+    """Convert a DataArray that `flat_of` accepts to a map.
 
     Raises
     ------
     BadMap
-        It can't be a map.
+        The array cannot be a map.
     """
     flat, transform, crs, nodata, labels = flat_of(name, array)
     if transform is None:
@@ -299,7 +302,7 @@ def _flat(name: str, array: Any) -> Any:
 
 
 def _axis_of(array: Any, dim: Any) -> str | None:
-    """Return X or Y for a dimension, from its CF attributes or a usual name, or None."""
+    """Return a dimension's axis, `X` or `Y`, from its CF attributes or its name, or None."""
     attributes = array.coords[dim].attrs if dim in array.coords else {}
     hints = {*(attributes.get(key) for key in ("axis", "standard_name", "units")), str(dim).lower()}
     return next((axis for axis, names in _AXES.items() if hints & names), None)
@@ -334,7 +337,7 @@ def _check_scale(name: str, array: Any) -> None:
 
 
 def _transform_of(name: str, array: Any) -> Transform | None:
-    """Return the transform of the coordinates, or None without coordinates."""
+    """Return the transform that the coordinates define, or None if there are no coordinates."""
     y, x = array.dims
     if y not in array.coords or x not in array.coords:
         return None
