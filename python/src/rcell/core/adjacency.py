@@ -36,15 +36,15 @@ def adjacency(map: MapLike, *, labels: Any = None, crs: Any = None) -> Table:
     -------
     pandas.DataFrame
         The columns are `class`, `label`, `neighbour`, `neighbour_label`, `sides` and `border_m`.
-        Each pair of classes is listed once, with the smaller class first. A pair of equal classes
-        counts the sides between cells of that class. Sides next to null cells and along the map's
-        edge are left out. `border_m` is NaN if the map has no reference system or, with a warning,
-        if its coordinates are in degrees.
+        Each pair of classes is listed once, with the smaller class first. A class is also paired
+        with itself, which counts the sides between the class's own cells. Sides next to null cells
+        and along the map's edge are left out. `border_m` is NaN if the map has no reference system
+        or, with a warning, if the map is in degrees.
 
     Raises
     ------
     Refused
-        A legend is invalid, or for a reason listed in `run`.
+        A legend is invalid. See `run` for other reasons.
 
     Examples
     --------
@@ -70,7 +70,7 @@ def adjacency(map: MapLike, *, labels: Any = None, crs: Any = None) -> Table:
 def sides_of(
     right: NDArray[np.int64], below: NDArray[np.int64]
 ) -> tuple[NDArray[np.int64], NDArray[np.int64], NDArray[np.int64]]:
-    """Return each pair of classes once, with its numbers of shared sides.
+    """Return each pair of classes once, and the numbers of cell sides that the pair shares.
 
     The two arrays of numbers count the sides from west to east, and the sides from north to south.
     """

@@ -36,7 +36,7 @@ _SIDE = 1024
 
 
 class Aligned(NamedTuple):
-    """How `rcell.align` moved a map, and how many cells it used, repeated and lost.
+    """The shift that `rcell.align` applied, and the numbers of cells used, repeated and lost.
 
     Parameters
     ----------
@@ -65,7 +65,7 @@ class Aligned(NamedTuple):
 def align(
     map: MapLike, to: MapLike, resample: Optional[str] = None, *, crs: Any = None
 ) -> tuple[ArrayMap, Aligned]:
-    """Align a map with another map's grid, by whole cells or with the nearest cells.
+    """Align a map with another map's grid, by shifting whole cells or using the nearest cells.
 
     Parameters
     ----------
@@ -191,7 +191,7 @@ class _Axis(NamedTuple):
 
     @classmethod
     def of(cls, centres: NDArray[np.float64], size: int) -> _Axis:
-        """Return the rows (or columns) of a map that a grid uses.
+        """Find the rows (or columns) of a map that a grid uses.
 
         `centres` contains the centres of the grid's rows, in units of the map's cells.
         """

@@ -94,7 +94,7 @@ class Measure:
     metres: float | None
 
     def length(self) -> float:
-        """Return the length of the map's unit in metres, or NaN if it is unknown or in degrees.
+        """Return the length of the map's unit in metres, or NaN if the unit is unknown or degrees.
 
         Warns if the map is in degrees.
         """
@@ -110,7 +110,7 @@ class Measure:
         return self.unit or "cells"
 
     def area(self, weights: NDArray[Any]) -> NDArray[np.float64]:
-        """Convert sizes to areas in the unit.
+        """Convert sizes to areas in the requested unit.
 
         Sizes are numbers of cells if the map is projected, and square metres if it is in degrees.
         """
@@ -151,7 +151,7 @@ def flat_measure(area: str, transform: Transform, crs: Any) -> Measure:
     Raises
     ------
     BadArgument
-        The map is in degrees, or for a reason listed in `measure_of`.
+        The map is in degrees. See `measure_of` for other reasons.
     """
     unit = unit_of(area, crs)
     metres = _metres(crs, True)

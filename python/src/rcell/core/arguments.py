@@ -78,7 +78,7 @@ def classes_of(classes: Any) -> Optional[List[int]]:
 
 
 def first_of(values: Iterable[Any], most: int = _SHOWN) -> str:
-    """Join the first few values to a string that ends with the number of omitted values.
+    """Return a string that lists the first values and the number of omitted values.
 
     Examples
     --------

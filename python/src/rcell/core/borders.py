@@ -44,7 +44,7 @@ class Watch:
         self._lock = threading.Lock()
 
     def add(self, block: Block, row: int, col: int) -> None:
-        """Count the cells of a block that begins at the given row and column."""
+        """Count the usual nodata values in a block that begins at the given row and column."""
         if self._values:
             cells, null = _border(block, row, col, self._shape)
             counts = [

@@ -1,5 +1,5 @@
 # SPDX-License-Identifier: Apache-2.0 OR GPL-2.0-or-later
-"""Find the calls that return tables by the names that are used in records."""
+"""Look up the calls that return tables, using the names in records."""
 
 from __future__ import annotations
 

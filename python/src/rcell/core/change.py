@@ -68,7 +68,7 @@ def change(
     labels: Any = None,
     crs: Any = None,
 ) -> Change:
-    """Compare maps of two or more years class by class, in the cells that are null in neither.
+    """Count the changes between classes in maps of two or more years, ignoring null cells.
 
     Parameters
     ----------
@@ -218,7 +218,7 @@ class _Changes:
         return Matrix(keys, "to", titles, values, not any(self.labels))
 
     def summary(self) -> Table:
-        """Return a table with a row for each class."""
+        """Return a table of each class's areas, gain, loss, net change, swap and persistence."""
         classes, parts = [], []
         for pair in self.pairs:
             codes, sums = _summary_of(pair, pair.weights())
@@ -265,9 +265,9 @@ class _Changes:
 def _matrix_of(
     pair: Counts, measured: NDArray[Any], after: NDArray[np.int64]
 ) -> tuple[NDArray[np.int64], NDArray[Any]]:
-    """Return the classes before, and a matrix of the values.
+    """Return the classes before a change, and the values by class before and class after.
 
-    The matrix has a row for each class before and a column for each class after.
+    The values are a matrix with a row for each class before and a column for each class after.
     """
     before, down = np.unique(pair.classes[:, 0], return_inverse=True)
     values = np.zeros((before.size, after.size), measured.dtype)
@@ -276,7 +276,7 @@ def _matrix_of(
 
 
 def _summary_of(pair: Counts, measured: NDArray[Any]) -> tuple[NDArray[np.int64], NDArray[Any]]:
-    """Return the classes of two years, and each class's seven measures for the summary."""
+    """Return the classes that occur in two years, and seven measures of change for each class."""
     classes, indices = np.unique(pair.classes, return_inverse=True)
     before, after = indices.reshape(-1, 2).T
     persists = before == after

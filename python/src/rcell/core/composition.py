@@ -43,7 +43,7 @@ def composition(
         areas are computed on the reference system's ellipsoid.
     labels, zone_labels : path, dict, Series or DataFrame, optional
         A legend that replaces the map's or the zones' labels: a CSV or TSV file with the columns
-        `value` and `label`, a QGIS style (`.qml`), or the label of each value.
+        `value` and `label`, a QGIS style (`.qml`), or a dict or Series of labels by value.
     zone_field : str, optional
         The polygon field that contains the ids or names of the zones. By default, a zone is
         identified by the id of its feature, which is the index of a GeoDataFrame.
@@ -68,7 +68,7 @@ def composition(
     Raises
     ------
     Refused
-        A legend or a polygon is invalid, or for a reason listed in `run`.
+        A legend or a polygon is invalid. See `run` for other reasons.
 
     Examples
     --------
@@ -130,7 +130,7 @@ def cross(
     Raises
     ------
     Refused
-        A legend is invalid, or for a reason listed in `run`.
+        A legend is invalid. See `run` for other reasons.
 
     Examples
     --------

@@ -207,9 +207,9 @@ class Maps:
 
 
 def counts_of(values: Integers, measure: Measure) -> Counts:
-    """Convert a table to the counts of its combinations.
+    """Return the counts of the combinations in a table.
 
-    In degrees, the first column is the row, and the counts are summed over all rows.
+    In degrees, the table's first column is the row of the map, and counts are summed over all rows.
     """
     if measure.by_row is None:
         return Counts(values[:, :-1], values[:, -1].copy(), None)

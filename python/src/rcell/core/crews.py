@@ -29,7 +29,7 @@ Made = TypeVar("Made")
 
 
 def _ready(done: TileDone) -> Future[TileDone]:
-    """Return a finished future for a tile whose results an earlier run has kept."""
+    """Return a finished future for a tile whose results an earlier run has saved."""
     future: Future[TileDone] = Future()
     future.set_result(done)
     return future
@@ -42,7 +42,7 @@ class _Stopped(Exception):
 class Crew:
     """The threads that process the tiles of a call.
 
-    A crew is a context manager, which stops all of its programs on exit.
+    An instance is a context manager, which stops the programs of all threads on exit.
 
     Parameters
     ----------
@@ -130,7 +130,7 @@ class Crew:
     def _in_turn(
         self, submit: Callable[[Rectangle], Future[Made]], places: Sequence[Rectangle]
     ) -> Iterator[tuple[int, Made]]:
-        """Submit places, a few ahead of the workers, and yield results as the tiles finish."""
+        """Submit places, staying a few ahead of the workers, and yield results as tiles finish."""
         running: dict[Future[Any], int] = {}
         waiting = iter(enumerate(places))
         while True:

@@ -107,7 +107,9 @@ def eastward(projjson: str) -> str:
 
 
 def known(crs: Any) -> Crs | None:
-    """Convert a library's reference system, a code or a string to a `Crs`, and None to None.
+    """Convert a reference system to a `Crs`, or return None for None.
+
+    The reference system may be a library's object, a code or well-known text.
 
     Raises
     ------
@@ -252,7 +254,7 @@ def are_same_crs(crs: Any, other: Any) -> bool:
 
 
 def is_geographic(crs: Any) -> bool:
-    """Return whether a reference system is in degrees. None is not in degrees.
+    """Return whether a reference system is in degrees, which is False for None.
 
     Examples
     --------

@@ -56,7 +56,7 @@ def dominant(
     Raises
     ------
     Refused
-        A legend or a polygon is invalid, or for a reason listed in `run`.
+        A legend or a polygon is invalid. See `run` for other reasons.
 
     Examples
     --------

@@ -1,5 +1,5 @@
 # SPDX-License-Identifier: Apache-2.0 OR GPL-2.0-or-later
-"""Handle the edges of maps as the program does, in whole units of 10^-8."""
+"""Print and compare the edges of maps as the program does, in whole units of 10^-8."""
 
 from __future__ import annotations
 

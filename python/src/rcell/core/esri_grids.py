@@ -85,7 +85,7 @@ class _Header:
         return int(text)
 
     def value(self, *keys: bytes) -> tuple[Fraction, bytes]:
-        """Return the value, as a number and as text, of the first of these keys that is present."""
+        """Return the value of the first given key that is present, as a number and as text."""
         key = next((key for key in keys if key in self.values), None)
         if key is None:
             raise Refused(f"the header has no {keys[0].decode()}", "map")

@@ -191,12 +191,12 @@ def read_some(descriptor: int, most: int) -> bytes:
 
 
 def read_all(descriptor: int) -> bytes:
-    """Read a descriptor to the end of its file, waiting whenever no bytes are available."""
+    """Read all remaining bytes from a descriptor, waiting whenever no bytes are available."""
     return b"".join(iter(lambda: read_some(descriptor, PIECE), b""))
 
 
 def write_all(descriptor: int, data: bytes | memoryview) -> None:
-    """Write all bytes to a descriptor, waiting whenever it is not ready."""
+    """Write all bytes to a descriptor, waiting whenever the descriptor is not ready."""
     rest = memoryview(data).cast("B")
     while rest:
         try:

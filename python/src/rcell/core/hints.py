@@ -1,8 +1,8 @@
 # SPDX-License-Identifier: Apache-2.0 OR GPL-2.0-or-later
-"""Correct script lines that rcell rejects, with a line that rcell accepts or a sentence.
+"""Suggest a correction, or give advice, for a script line that rcell rejects.
 
 The corrections cover common mistakes. At most two corrected lines are tested with rcell-pipe, and a
-line is proposed only if rcell-pipe accepts it. No result of a run depends on this module. Lines
+line is suggested only if rcell-pipe accepts it. No result of a run depends on this module. Lines
 contain one character per byte, because columns are counted in bytes.
 """
 
@@ -294,7 +294,8 @@ def advice(
 ) -> tuple[Optional[int], Optional[str]]:
     """Return the column of the invalid word, and a corrected line or advice.
 
-    The column is None if the message already contains it. The advice is None if none is known.
+    The column is None if the message contains a column or no word is invalid. The second value is
+    None if no advice is known.
 
     Parameters
     ----------
@@ -339,7 +340,7 @@ def _is_accepted(program: str, names: Sequence[str], script: str, line: int) -> 
 
 
 def near(word: str, known: Iterable[str], cutoff: float = 0.6) -> list[str]:
-    """Return a list of the known word that is most similar to a word, or an empty list.
+    """Return a list that contains the known word most similar to a word, or an empty list.
 
     Examples
     --------

@@ -32,7 +32,7 @@ class Host:
     Attributes
     ----------
     words : {"python", "shell", "qgis"}
-        The language in which messages write options.
+        The syntax in which messages write options.
     warn : callable
         A function that is called with the text of each warning.
     find : callable, optional
@@ -79,7 +79,7 @@ def warn(text: str) -> None:
 
 
 def option(name: str, value: Any = None) -> str:
-    """Return an option, with its value if a value is given, as the current host writes options.
+    """Return an option, followed by the value if one is given, in the host's syntax.
 
     Examples
     --------

@@ -39,7 +39,7 @@ OTHER_FILES = 256
 
 
 def find_joiner(program: str | os.PathLike[str] | None = None) -> str:
-    """Find rcell-join with `find_beside` or RCELL_JOIN, and return its path.
+    """Return the path of rcell-join, found with `find_beside` and the variable RCELL_JOIN.
 
     Examples
     --------

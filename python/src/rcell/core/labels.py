@@ -129,7 +129,7 @@ def flags_of(values: Any, meanings: Any) -> dict[int, str]:
 def _color_table(band: ElementTree.Element, labels: Mapping[int, str]) -> dict[int, str]:
     """Return the colours by category from a band's colour table.
 
-    Black means that a category without a label has no colour.
+    A category that is black and has no label is left out.
     """
     colors = {}
     for code, entry in enumerate(band.findall("ColorTable/Entry")):

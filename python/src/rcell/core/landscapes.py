@@ -1,5 +1,5 @@
 # SPDX-License-Identifier: Apache-2.0 OR GPL-2.0-or-later
-"""Count the patches, classes and borders of landscapes, which are a map or a map's zones."""
+"""Count the patches, classes and borders of landscapes: the full map, or each zone of a map."""
 
 from __future__ import annotations
 

@@ -76,9 +76,9 @@ def legend_of(source: Any) -> Legend:
     Parameters
     ----------
     source : path, dict, Series or DataFrame
-        A path of a CSV or TSV file with the columns `value`, `label` and optionally `colour`, of a
-        QGIS style (`.qml`), or of a raster with labels. Alternatively, the label of each value, or
-        a DataFrame with the columns of a CSV file.
+        The path of a CSV or TSV file with the columns `value`, `label` and optionally `colour`, of
+        a QGIS style (`.qml`), or of a raster with labels. Alternatively, a dict or Series of labels
+        by value, or a DataFrame with the same columns as a CSV file.
 
     Raises
     ------

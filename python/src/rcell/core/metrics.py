@@ -87,7 +87,7 @@ def metrics(
     Raises
     ------
     Refused
-        A legend or a polygon is invalid, or for a reason listed in `run`.
+        A legend or a polygon is invalid. See `run` for other reasons.
     BadArgument
         An argument is out of range.
 

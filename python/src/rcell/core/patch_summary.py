@@ -61,7 +61,7 @@ class Numbers(NamedTuple):
     largest_area: float = 0.0
 
     def plus(self, more: Numbers) -> Numbers:
-        """Return the totals of two disjoint sets of patches together."""
+        """Return the combined totals of two disjoint sets of patches."""
         return Numbers(
             self.patches + more.patches,
             self.cells + more.cells,
@@ -122,7 +122,7 @@ class _Summary:
         return _added(table[:, [0, 1, 3]], area)
 
     def _counted(self, patches: Integers, area: Floats) -> dict[int, Numbers]:
-        """Return the totals by class of patches that have enough cells."""
+        """Return the totals by class, counting only patches with enough cells."""
         is_large = patches[:, 2] >= self._fewest
         patches, area = patches[is_large], area[is_large]
         first = places_of(patches[:, 0])
@@ -174,7 +174,7 @@ class _Summary:
 
 
 def _added(patches: Integers, area: Floats) -> tuple[Integers, Floats]:
-    """Return the cells and areas, summed over entries with the same class and patch number."""
+    """Merge entries with the same class and patch number, adding up their cells and areas."""
     order = np.lexsort([patches[:, 1], patches[:, 0]])
     patches, area = patches[order], area[order]
     first = places_of(patches[:, :2])

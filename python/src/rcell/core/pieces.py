@@ -49,7 +49,7 @@ class Piece:
         return cls(source.name, source.dtype, source.nodata, source.is_masked, scale, block)
 
     def window(self, row: int, col: int, rows: int, cols: int) -> Block:
-        """Return all cells of the piece, whose shape must be the requested shape."""
+        """Return all cells of the piece. The requested window must have the same shape."""
         assert self.block.cells.shape == (rows, cols)
         return self.block
 
@@ -87,7 +87,7 @@ class Chunks:
         return nodata_of(self.announced, self.nodata_value)
 
     def window(self, row: int, col: int, rows: int, cols: int) -> Block:
-        """Return all cells of the window, whose shape must be the requested shape."""
+        """Return all cells of this window. The requested window must have the same shape."""
         cells, null = unmasked(self.cells)
         check_computed(self.name, cells, self.announced, (rows, cols))
         if self.is_masked and null is None:
@@ -130,7 +130,7 @@ def filled(source: Any, cells: Any) -> Any:
 
 
 def shared_path(path: str) -> str:
-    """Return the absolute path of a file, and any other name that GDAL accepts unchanged."""
+    """Return a file's absolute path, or any other name that GDAL accepts unchanged."""
     return os.path.abspath(path) if os.path.exists(path) else path
 
 
@@ -145,7 +145,7 @@ def states_of(paths: Iterable[str]) -> dict[str, State]:
 
 
 def check_files_are(states: Mapping[str, State]) -> None:
-    """Raise ReadFailed if a file's state differs from the state recorded on another machine."""
+    """Raise ReadFailed if a file's current state differs from its recorded state."""
     for path, state in states.items():
         own = states_of([path]).get(path)
         if own is None:

@@ -131,7 +131,10 @@ def points_of(layer: Layer, field: Optional[str], like: Source, crs: Any = None)
 
 
 def _field_of(layer: Layer, field: Optional[str]) -> str:
-    """Return the field that contains the classes: the given field, or the only usual field."""
+    """Return the name of the field that contains the classes.
+
+    If no field is given, this is the only field with a usual name.
+    """
     usual = [name for name in _FIELDS if name in layer.fields]
     if field is None and len(usual) == 1:
         return usual[0]
@@ -148,7 +151,7 @@ def _field_of(layer: Layer, field: Optional[str]) -> str:
 
 
 def _points(layer: Layer, field: str) -> Iterator[Optional[tuple[float, float, int]]]:
-    """Yield the coordinates and class of each point, with None if either is missing."""
+    """Yield each point's coordinates and class, or None if the geometry or class is missing."""
     for feature in layer.features(field):
         value = feature.value
         if feature.geometry is None or is_missing(value) or value == "":

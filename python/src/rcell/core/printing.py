@@ -38,7 +38,9 @@ def is_text_grid(start: bytes) -> bool:
 
 @contextlib.contextmanager
 def spooled(pieces: Iterable[bytes]) -> Iterator[str]:
-    """Keep a text in a temporary file during the block, because programs open only paths.
+    """Write a text to a temporary file, and yield the file's path until the block ends.
+
+    The file is needed because programs open only paths.
 
     Examples
     --------

@@ -46,7 +46,7 @@ _lock = threading.RLock()
 
 
 def _let_go() -> None:
-    """Close all pipes in a forked child, because the parent would wait for their end."""
+    """Close the pipes in a forked child, so that the child's copies do not block the parent."""
     while _held:
         os.close(_held.pop())
     _lock.release()
@@ -84,7 +84,7 @@ def found_on_path(name: str) -> str | None:
 
 
 def above_standard(descriptor: int) -> int:
-    """Return a descriptor of the same file whose number is above 2.
+    """Return a descriptor above 2 that refers to the same file.
 
     A descriptor from 0 to 2 is duplicated and closed, because these numbers belong to the standard
     streams.
@@ -120,7 +120,7 @@ def close(descriptor: int) -> None:
 class Started:
     """A running program.
 
-    The program is a context manager, which stops the program on exit.
+    An instance is a context manager, which stops the program on exit.
 
     Parameters
     ----------

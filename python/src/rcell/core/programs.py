@@ -50,7 +50,7 @@ _known: dict[str, tuple[int, int, int]] = {}
 
 
 def find_program(program: Optional[Path] = None) -> str:
-    """Find rcell with `find_beside` or RCELL, and return its path.
+    """Return the path of rcell, found with `find_beside` and the variable RCELL.
 
     Only text grids need rcell.
     """
@@ -58,7 +58,7 @@ def find_program(program: Optional[Path] = None) -> str:
 
 
 def find_pipe(program: Optional[Path] = None) -> str:
-    """Find rcell-pipe with `find_beside` or RCELL_PIPE, and return its path."""
+    """Return the path of rcell-pipe, found with `find_beside` and the variable RCELL_PIPE."""
     return find_beside("rcell-pipe", "RCELL_PIPE", _probe_pipe, program)
 
 
@@ -76,7 +76,7 @@ def find_beside(
     MissingProgram
         The program was not found.
     WrongProgram
-        The program does not pass the test of this package.
+        The program does not pass this package's test.
     """
     find = host().find
     if program is None and find is not None:

@@ -608,7 +608,7 @@ _PROBE_CELLS = [struct.pack("<4i", 12, 2, NULL, NULL), struct.pack("<3i", 1, NUL
 
 
 def is_known(program: str, seconds: float) -> bool:
-    """Test with a grid of three cells whether a program is this version's rcell-pipe.
+    """Return whether a program is this version's rcell-pipe, using a test run over three cells.
 
     Raises
     ------
@@ -632,7 +632,7 @@ def plan(
     seconds: Optional[float] = None,
     watch: Optional[Callable[[], None]] = None,
 ) -> list[Statement]:
-    """Return the statements of a script that is to run over maps with the given names.
+    """Return the statements of a script for maps with the given names, as the program plans them.
 
     The maps are not read. The errors are the same as for `run`.
     """
