@@ -1,5 +1,5 @@
 # SPDX-License-Identifier: Apache-2.0 OR GPL-2.0-or-later
-"""Define the provider of the algorithms, and its setting."""
+"""Define the provider of the algorithms, and the provider's setting."""
 
 from __future__ import annotations
 
@@ -22,15 +22,15 @@ class RcellProvider(QgsProcessingProvider):
         return "rcell"
 
     def name(self) -> str:
-        """Return the name in the toolbox."""
+        """Return the provider's name in the toolbox."""
         return "rcell"
 
     def longName(self) -> str:
-        """Return the name in lists of providers."""
+        """Return the provider's name in lists of providers."""
         return "rcell (tables and maps of categories)"
 
     def icon(self) -> QIcon:
-        """Return the icon next to the name."""
+        """Return the icon next to the provider's name."""
         return QIcon(ICON)
 
     def load(self) -> bool:
@@ -45,7 +45,7 @@ class RcellProvider(QgsProcessingProvider):
         return True
 
     def unload(self) -> None:
-        """Remove the setting."""
+        """Remove the provider's setting."""
         ProcessingConfig.removeSetting("RCELL_PROGRAM")
 
     def loadAlgorithms(self) -> None:

@@ -184,7 +184,7 @@ def types_of_fields(version: int, core: Any = QtCore) -> dict[str, Any]:
 
 
 def fields_of(table: Table) -> QgsFields:
-    """Return the fields of a table."""
+    """Return the QGIS fields of a table."""
     fields = QgsFields()
     types = types_of_fields(Qgis.QGIS_VERSION_INT)
     for column in distinct(table):

@@ -41,7 +41,7 @@ Check = Callable[[], None]
 
 
 def no_check() -> None:
-    """Do nothing, as the check for writing that cannot be interrupted."""
+    """Do nothing; for writing that nothing can interrupt."""
 
 
 def check_target(path: str, inputs: Sequence[str] = ()) -> None:

@@ -75,7 +75,7 @@ class _Parser(argparse.ArgumentParser):
         super().__init__(allow_abbrev=False, formatter_class=formatter, **words)
 
     def error(self, message: str) -> NoReturn:
-        """Print a message of one line, and exit with status 2."""
+        """Print a one-line message, and exit with status 2."""
         sys.stderr.write(f"{self.prog}: {message}; see {self.prog} --help\n")
         sys.exit(COMMAND_LINE)
 

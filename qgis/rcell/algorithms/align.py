@@ -1,5 +1,5 @@
 # SPDX-License-Identifier: Apache-2.0 OR GPL-2.0-or-later
-"""Define rcell:align, which puts a raster on the grid of another raster."""
+"""Define rcell:align, which aligns a raster to the grid of another raster."""
 
 from __future__ import annotations
 
@@ -27,7 +27,7 @@ FACTS = {
 
 
 class AlignAlgorithm(RcellAlgorithm):
-    """Puts a raster on the grid of another raster."""
+    """Aligns a raster to the grid of another raster."""
 
     NAME = "align"
     TITLE = noop("Align")

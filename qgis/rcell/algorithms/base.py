@@ -97,15 +97,15 @@ class RcellAlgorithm(QgsProcessingAlgorithm):
         return self.NAME
 
     def displayName(self) -> str:
-        """Return the name in the toolbox."""
+        """Return the algorithm's name in the toolbox."""
         return tr(self.TITLE)
 
     def shortDescription(self) -> str:
-        """Return the tooltip."""
+        """Return the algorithm's tooltip."""
         return tr(self.SHORT)
 
     def shortHelpString(self) -> str:
-        """Return the text next to the dialog."""
+        """Return the help text that QGIS shows next to the dialog."""
         return "".join(tr(part) for part in self.HELP)
 
     def helpUrl(self) -> str:
@@ -122,7 +122,7 @@ class RcellAlgorithm(QgsProcessingAlgorithm):
         return self.TAGS.split(", ")
 
     def icon(self) -> QIcon:
-        """Return the icon in the toolbox."""
+        """Return the algorithm's icon in the toolbox."""
         return QIcon(_ICON)
 
     def canExecute(self) -> tuple[bool, str]:

@@ -20,7 +20,7 @@ OTHERS = ["error", "keep", "null"]
 
 
 class ReclassAlgorithm(RcellAlgorithm):
-    """Gives classes new numbers and labels using rules."""
+    """Assigns classes new numbers and labels, using rules."""
 
     NAME = "reclass"
     TITLE = noop("Reclassify by rules")

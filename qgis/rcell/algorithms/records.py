@@ -51,7 +51,7 @@ class VerifyAlgorithm(RcellAlgorithm):
         """Read nothing: the record names the files."""
 
     def answer(self) -> dict[str, Any]:
-        """Return the differences."""
+        """Return the differences between the record and the repeated call."""
         path = str(self.path("INPUT"))
         lines = list(differences(path, version()))
         for line in lines:
@@ -62,7 +62,7 @@ class VerifyAlgorithm(RcellAlgorithm):
 
 
 class ReportAlgorithm(RcellAlgorithm):
-    """Writes a page about recorded tables."""
+    """Writes an HTML page about recorded tables."""
 
     NAME = "report"
     TITLE = noop("Report of recorded tables")

@@ -118,7 +118,7 @@ class CrossAlgorithm(RcellAlgorithm):
         self.add_table()
 
     def read(self) -> None:
-        """Read the rasters, and check that they fit each other."""
+        """Read the rasters, and check that they have the same grid."""
         layers = self.raster_layers()
         self.rasters = [raster_of(layer, layer.name()) for layer in layers]
         self.fit(self.rasters)
@@ -175,7 +175,7 @@ class ChangeAlgorithm(RcellAlgorithm):
         self.add_table(tr("Summary"), "SUMMARY", True)
 
     def read(self) -> None:
-        """Read the rasters, and check that they fit each other."""
+        """Read the rasters, and check that they have the same grid."""
         layers = self.raster_layers()
         self.rasters = [raster_of(layer, layer.name()) for layer in layers]
         self.fit(self.rasters)
@@ -238,7 +238,7 @@ class TrajectoriesAlgorithm(RcellAlgorithm):
         self.add_map(tr("Map of the year of the last change"), "LAST_CHANGE", True)
 
     def read(self) -> None:
-        """Read the rasters, and check that they fit each other."""
+        """Read the rasters, and check that they have the same grid."""
         layers = self.raster_layers(most=MOST_DATES)
         self.rasters = [raster_of(layer, layer.name()) for layer in layers]
         self.fit(self.rasters)

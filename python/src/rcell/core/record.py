@@ -393,7 +393,7 @@ def _sum_of_program() -> str:
 def sum_of_cells(source: Source) -> str:
     """Return the checksum of a map's region and cells.
 
-    Cells are 32-bit integers, with -2147483648 for null, regardless of the file's format.
+    Cells are hashed as 32-bit integers, with -2147483648 for null, in every file format.
     """
     region = source.region
     state = hashlib.sha256(f"{' '.join(region.edges)} {region.rows} {region.cols}\n".encode())

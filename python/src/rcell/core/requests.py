@@ -22,7 +22,7 @@ Buffer = Union[bytes, bytearray, memoryview]
 
 
 class Block(NamedTuple):
-    """Complete rows of a map, as C-contiguous bytes in the byte order of x86.
+    """Complete rows of a map, as C-contiguous bytes in little-endian byte order.
 
     Attributes
     ----------

@@ -178,7 +178,7 @@ def _fields(head: bytes) -> tuple[dict[str, str], bool]:
 def _region_of(name: str, head: bytes) -> Region | None:
     """Return the region in a header, or None if the header is invalid.
 
-    The program later reports the error in an invalid header.
+    The caller then raises the program's error about the invalid header.
     """
     fields = _fields(head + b"\n")[0]
     try:

@@ -49,7 +49,7 @@ def _counting(stats: Statement, inputs: Sequence[str]) -> str:
 def is_counted(stats: Statement) -> bool:
     """Return whether tiles must count cells for an `r.stats` statement.
 
-    Counts are needed if the statement has the flag `-c`, or if its table may contain an entry of
+    Counts are needed if the statement has the flag `-c`, or if the table may contain an entry of
     nulls, from which the halo's cells are subtracted.
     """
     return "c" in stats.options or not {"n", "N"} & {*stats.options}

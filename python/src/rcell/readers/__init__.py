@@ -60,7 +60,7 @@ def open_features(name: str, source: Any, layer: Optional[str] = None) -> Option
     ReadFailed
         The file cannot be opened.
     Refused
-        The file has several layers and none is named, or it has no layer with this name.
+        The file has several layers and none is named, or no layer has this name.
     MissingLibrary
     """
     if hasattr(source, "burn"):

@@ -17,14 +17,14 @@ __all__ = ["open_layer"]
 
 
 def open_layer(name: str, path: str, layer: Optional[str] = None) -> Polygons:
-    """Open a layer of a file.
+    """Open a layer of a vector file.
 
     Raises
     ------
     ReadFailed
         The file cannot be opened.
     Refused
-        The file has several layers and none is named, or it has no layer with this name.
+        The file has several layers and none is named, or no layer has this name.
     """
     opened(path)
     try:

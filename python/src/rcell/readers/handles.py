@@ -1,5 +1,5 @@
 # SPDX-License-Identifier: Apache-2.0 OR GPL-2.0-or-later
-"""Keep rasters open per thread, because GDAL threads may only read their own datasets."""
+"""Keep rasters open per thread, because a thread may read only its own GDAL datasets."""
 
 from __future__ import annotations
 

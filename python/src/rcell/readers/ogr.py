@@ -35,7 +35,7 @@ def open_layer(name: str, path: str, layer: Optional[str] = None) -> OgrLayer:
     ReadFailed
         The file cannot be opened.
     Refused
-        The file has several layers and none is named, or it has no layer with this name.
+        The file has several layers and none is named, or no layer has this name.
     """
     try:
         with quiet():

@@ -140,7 +140,7 @@ class DataArrayMap:
         return replace(part, cells=cells).window(row, col, rows, cols)
 
     def sent(self, outer: Rectangle) -> Chunks | None:
-        """Return the Dask chunks that contain a window, or None if the array is not in Dask."""
+        """Return the Dask chunks that contain a window, or None if the array is not a Dask array."""
         return self._part(*outer) if is_lazy(self.array) else None
 
     def _part(self, row: int, col: int, rows: int, cols: int) -> Chunks:
@@ -149,7 +149,7 @@ class DataArrayMap:
 
 
 class Flat(NamedTuple):
-    """A DataArray of rows, from north to south, and columns, with the properties of its cells."""
+    """A DataArray with rows first, from north to south, and with the properties of its cells."""
 
     array: Any
     transform: Transform | None
