@@ -201,7 +201,7 @@ def unit_of(area: Any, crs: Any) -> str | None:
 
 
 def _metres(crs: Any, is_needed: bool) -> float | None:
-    """Return the length of a map's unit in metres, NaN for degrees, or None if it is unknown."""
+    """Return the unit's length in metres, NaN for degrees, or None if the length is unknown."""
     system = known(crs) if is_needed or crs is None else _understood(crs)
     if system is None:
         return None

@@ -191,7 +191,7 @@ def _number(code: int) -> str:
 
 
 def unique_names(names: Iterable[str]) -> list[str]:
-    """Return the names, appending to each repeated name the first number that makes it unique.
+    """Make names unique by appending the first unused number to each repeated name.
 
     Examples
     --------

@@ -219,7 +219,7 @@ def _own_descriptor(path: str) -> int | None:
 
 
 def _opened_for_writing(descriptor: int) -> int:
-    """Duplicate a descriptor, or raise OSError if it is open only for reading."""
+    """Duplicate a descriptor, or raise OSError if the descriptor is open only for reading."""
     if fcntl.fcntl(descriptor, fcntl.F_GETFL) & os.O_ACCMODE == os.O_RDONLY:
         name = "standard output" if descriptor == 1 else f"descriptor {descriptor}"
         raise OSError(errno.EBADF, "is closed", name)

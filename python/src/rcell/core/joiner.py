@@ -1,5 +1,5 @@
 # SPDX-License-Identifier: Apache-2.0 OR GPL-2.0-or-later
-"""Find the program rcell-join, and use it to join the clumps of tiles.
+"""Find the program rcell-join, and join the clumps of tiles with rcell-join.
 
 `rcell-join` is proved to compute, from the borders of tiles, the numbering of the tiles' clumps in
 the full map.

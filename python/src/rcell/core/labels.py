@@ -209,7 +209,7 @@ def _labels_of_rows(rows: Iterable[Sequence[Any]]) -> dict[int, str]:
 
 
 def _category_of(number: Any) -> Optional[int]:
-    """Convert a number or a string to a category, or return None if it is not a category."""
+    """Convert a number or a string to a category, or return None for an invalid category."""
     with contextlib.suppress(TypeError, ValueError, OverflowError):
         if float(number).is_integer() and abs(float(number)) < -NULL:
             return int(float(number))

@@ -59,7 +59,7 @@ class PrivateFolder:
         self._lock: int | None = lock
 
     def rename(self, path: str) -> None:
-        """Move the folder to another path and keep it there.
+        """Move the folder to another path, where the folder is kept.
 
         The path must not exist, or must be an empty folder.
         """

@@ -190,7 +190,7 @@ class Started:
         end_work()
 
     def pieces(self) -> Iterator[bytes]:
-        """Yield the standard output as it arrives, until both output streams end."""
+        """Yield standard output as it arrives, until both standard output and error end."""
         while self._has_output():
             if piece := os.read(self._output, READ_BYTES):
                 yield piece

@@ -469,7 +469,7 @@ class _Response:
         )
 
     def options(self) -> str:
-        """Read the flags of a statement, which are stored as bits, and return them as letters."""
+        """Read the flags of a statement, which are stored as bits, and return a string of letters."""
         [bits] = self.take(1)
         flags = ""
         for place, letter in enumerate(_OPTIONS):
@@ -632,9 +632,9 @@ def plan(
     seconds: Optional[float] = None,
     watch: Optional[Callable[[], None]] = None,
 ) -> list[Statement]:
-    """Return the statements of a script for maps with the given names, as the program plans them.
+    """Return the program's plan for a script: its statements, and the maps that each one needs.
 
-    The maps are not read. The errors are the same as for `run`.
+    No map is read. The errors are the same as for `run`.
     """
     statements = [
         frame
@@ -696,7 +696,10 @@ def asked(
     watch: Optional[Callable[[], None]],
     inherited: Sequence[int] = (),
 ) -> Iterator[Started]:
-    """Start a program, write a request to its standard input, and stop it after the block."""
+    """Start a program and write a request to its standard input.
+
+    The program is stopped at the end of the block.
+    """
     try:
         reader, writer = pipe()
         try:
