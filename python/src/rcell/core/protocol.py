@@ -469,7 +469,7 @@ class _Response:
         )
 
     def options(self) -> str:
-        """Read the flags of a statement, which are stored as bits, and return a string of letters."""
+        """Read a statement's flags, which are stored as bits, and return a string of letters."""
         [bits] = self.take(1)
         flags = ""
         for place, letter in enumerate(_OPTIONS):
