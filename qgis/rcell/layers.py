@@ -167,7 +167,7 @@ def plain(value: Any) -> Any:
 
 
 def wkt_of(crs: QgsCoordinateReferenceSystem) -> str:
-    """Return the well-known text of a QGIS reference system, or an empty string if it is invalid."""
+    """Return a QGIS reference system's well-known text, or an empty string if it is invalid."""
     return str(crs.toWkt(QgsCoordinateReferenceSystem.WKT2_2019)) if crs.isValid() else ""
 
 

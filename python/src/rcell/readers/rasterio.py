@@ -158,7 +158,7 @@ class Layer:
     def read(
         self, name: str, dataset: Any, place: tuple[int, int, int, int], title: str
     ) -> tuple[Cells, Mask | None]:
-        """Return the cells of a window, and a mask of cells that the file masks or makes transparent.
+        """Return the cells of a window, and a mask of masked and transparent cells.
 
         Raises
         ------

@@ -140,7 +140,7 @@ class DataArrayMap:
         return replace(part, cells=cells).window(row, col, rows, cols)
 
     def sent(self, outer: Rectangle) -> Chunks | None:
-        """Return the Dask chunks that contain a window, or None if the array is not a Dask array."""
+        """Return the Dask chunks that contain a window, or None if the array is a numpy array."""
         return self._part(*outer) if is_lazy(self.array) else None
 
     def _part(self, row: int, col: int, rows: int, cols: int) -> Chunks:
