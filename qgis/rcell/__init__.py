@@ -7,7 +7,7 @@ from typing import Any
 
 
 def classFactory(iface: Any) -> Any:
-    """Create the plugin; QGIS calls this function."""
+    """Create the plugin when QGIS loads it."""
     from .plugin import RcellPlugin
 
     return RcellPlugin()

@@ -48,7 +48,7 @@ def raster_of(layer: QgsRasterLayer, name: str, band: int | None = None) -> Sour
     Raises
     ------
     BadMap
-        GDAL cannot open the layer, or it is not a map of categories.
+        GDAL cannot open the layer, or the layer is not a map of categories.
     """
     if layer.providerType() != "gdal":
         reason = (

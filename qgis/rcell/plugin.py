@@ -28,7 +28,7 @@ class RcellPlugin:
         QgsApplication.processingRegistry().addProvider(self._provider)
 
     def initGui(self) -> None:
-        """Add the provider; called by QGIS with a window."""
+        """Add the provider when QGIS runs with a window."""
         self.initProcessing()
 
     def unload(self) -> None:

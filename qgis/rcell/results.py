@@ -123,7 +123,7 @@ class _Style(QgsProcessingLayerPostProcessorInterface):
         self._path = path
 
     def postProcessLayer(self, layer: Any, context: Any, feedback: Any) -> None:
-        """Load the style; QGIS calls this method in the main thread."""
+        """Load the style when QGIS calls this method in the main thread."""
         layer.loadNamedStyle(self._path)
         layer.triggerRepaint()
 

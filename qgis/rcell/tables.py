@@ -41,7 +41,7 @@ Check = Callable[[], None]
 
 
 def no_check() -> None:
-    """Do nothing; for writing that nothing can interrupt."""
+    """Do nothing, for writing that nothing interrupts."""
 
 
 def check_target(path: str, inputs: Sequence[str] = ()) -> None:

@@ -21,7 +21,7 @@ def tr(text: str) -> str:
 
 
 def noop(text: str) -> str:
-    """Mark a text that `tr` translates later; pylupdate finds it with -tr-function noop."""
+    """Mark a text for later translation with `tr`; pylupdate finds it with -tr-function noop."""
     return text
 
 

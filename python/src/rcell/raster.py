@@ -105,7 +105,7 @@ class Raster:
 
     @cached_property
     def array(self) -> Any:
-        """The cells as a masked array with rows from north to south; null cells are masked.
+        """The cells as a masked array with rows from north to south and with null cells masked.
 
         Examples
         --------

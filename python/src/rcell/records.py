@@ -39,8 +39,8 @@ def record(
     call : callable
         A call of this package that returns tables, for example `rcell.composition`.
     *words, **named
-        The arguments of the call: paths, numbers, texts, and lists and dicts of them. Paths are
-        recorded relative to the CSV.
+        The arguments of the call: paths, numbers, strings, and lists and dicts of these types.
+        Paths are recorded relative to the CSV.
     table : str, optional
         The table to write if the call returns several tables, for example `summary` of
         `rcell.change`; by default, the first table.
@@ -90,8 +90,8 @@ def verify(path: str | os.PathLike[str]) -> list[str]:
     Returns
     -------
     list of str
-        A text for each difference in the CSV, the cells of a map, a legend, a script, the program,
-        or the result. An empty list means that the table is verified.
+        A description of each difference in the CSV, the cells of a map, a legend, a script, the
+        program, or the result. An empty list means that the table is verified.
 
     Raises
     ------

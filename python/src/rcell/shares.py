@@ -19,7 +19,7 @@ __all__ = ["Shares"]
 
 
 class Shares:
-    """The percentage of each class in each block of cells; returned by `rcell.aggregate`.
+    """The percentage of each class in each block of cells, returned by `rcell.aggregate`.
 
     `classes` contains the classes, `names` their labels or numbers, and `percent` the percentages,
     classes x rows x columns, with NaN in null blocks. `shares[31]` is the map of class 31.

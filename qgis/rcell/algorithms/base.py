@@ -289,13 +289,13 @@ class RcellAlgorithm(QgsProcessingAlgorithm):
         self.addParameter(QgsProcessingParameterString(name, title, default, True))
 
     def add_choice(self, name: str, title: str, words: Sequence[str]) -> None:
-        """Add a parameter for a choice of words; the default is the first word."""
+        """Add a parameter for a choice of words, with the first word as the default."""
         self.addParameter(
             QgsProcessingParameterEnum(name, title, words, False, words[0], False, True)
         )
 
     def add_flag(self, name: str, title: str) -> None:
-        """Add a yes-or-no parameter; the default is no."""
+        """Add a yes-or-no parameter, with no as the default."""
         self.addParameter(QgsProcessingParameterBoolean(name, title, False))
 
     def add_map(self, title: str, name: str = "OUTPUT", is_optional: bool = False) -> None:
@@ -489,7 +489,7 @@ class RcellAlgorithm(QgsProcessingAlgorithm):
         like: Optional[Source] = None,
         null: int = NULL,
     ) -> str:
-        """Write a map with its legend and return its path."""
+        """Write a map with its legend, and return the map's path."""
         path: str = self.parameterAsOutputLayer(self.parameter_values, name, self.context)
         put_raster(path, map, like or self.rasters[0], self.check, null)
         if not put_legend(path, classes, self.colours, self.context):

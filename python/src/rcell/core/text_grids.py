@@ -46,7 +46,7 @@ class TextMap:
     held : bytes
         The bytes that have already been read from a pipe.
     stream : io.FileIO or None
-        The rest of the pipe; None for a file, which can be read again.
+        The rest of the pipe, or None for a file, which can be read again.
     """
 
     name: str

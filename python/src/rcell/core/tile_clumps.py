@@ -104,7 +104,7 @@ def sides_text(
 ) -> bytes:
     """Return a tile's border, built from its outermost cells and their clump numbers.
 
-    `sides` contains the first and last row and column; `begun` counts the clumps that begin up to
+    `sides` contains the first and last row and column. `begun` counts the clumps that begin up to
     each row.
     """
     lines = [

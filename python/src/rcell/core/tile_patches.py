@@ -200,7 +200,7 @@ class PatchSum:
     def add(
         self, tile: int, place: Rectangle, rows: Integers, waiting: Integers, tables: list[Integers]
     ) -> None:
-        """Add a tile's patches, its open patches, and its tables, which begin with the patch."""
+        """Add a tile's patches, its open patches, and its tables of patches."""
         is_open = np.zeros(len(rows), np.bool_)
         is_open[waiting - 1] = True
         kept = is_open | (rows["cells"] >= self._fewest)

@@ -1,5 +1,5 @@
 # SPDX-License-Identifier: Apache-2.0 OR GPL-2.0-or-later
-"""Add up the tables of tiles, to get the table of the full map."""
+"""Add up the tables of tiles to get the table of the full map."""
 
 from __future__ import annotations
 

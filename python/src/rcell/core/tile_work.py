@@ -57,7 +57,7 @@ class TileWork:
     words : str
         The form in which the caller writes options.
     call : str
-        A unique text for each call.
+        A unique string for each call.
     path : str
         The path for keeping the results, or empty.
     known : TileDone, optional

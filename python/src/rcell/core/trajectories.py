@@ -31,7 +31,7 @@ Integers = NDArray[np.int64]
 
 
 class Trajectories(NamedTuple):
-    """The classes of cells over the years; the result of `trajectories`.
+    """The result of `trajectories`: the classes of cells over the years.
 
     Parameters
     ----------

@@ -141,7 +141,7 @@ def _map_of(
 
 @dataclass(frozen=True)
 class RasterMap:
-    """A band of a raster as a map; created by `open_raster`.
+    """A band of a raster as a map, created by `open_raster`.
 
     Attributes
     ----------
@@ -261,7 +261,7 @@ class RasterMap:
     def _read(
         self, dataset: Any, row: int, col: int, rows: int, cols: int
     ) -> tuple[Cells, Optional[Mask]]:
-        """Return a window of cells, and a mask of masked, transparent and null-range cells."""
+        """Return a window of cells, and a mask of cells null by mask, transparency or value range."""
         top = self.region.rows - row - rows if self.is_upside_down else row
         bands = [dataset.GetRasterBand(self.band)]
         if self.has_mask:

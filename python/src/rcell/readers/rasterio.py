@@ -209,7 +209,7 @@ def legend_of_file(path: str, band: int) -> Legend:
 
 @dataclass(frozen=True)
 class RasterMap:
-    """A band of a raster as a map; created by `open_raster`.
+    """A band of a raster as a map, created by `open_raster`.
 
     Attributes
     ----------
