@@ -326,7 +326,7 @@ def _trajectories(words: argparse.Namespace) -> None:
 
 
 def _run(words: argparse.Namespace) -> None:
-    """Run a script, write the requested maps, and print its tables."""
+    """Run a script, write the requested maps, and print the tables."""
     words.map_paths, paths = _pairs(words.maps), _pairs(words.outs)
     if words.each is not None:
         _run_each(words)
@@ -345,7 +345,7 @@ def _run(words: argparse.Namespace) -> None:
 
 
 def _outputs(words: argparse.Namespace, wanted: Sequence[str] = ()) -> list[Any]:
-    """Run a script, and return its outputs, followed by the requested maps."""
+    """Run a script, and return the outputs, followed by the requested maps."""
     maps = {name: _map(words, path, name) for name, path in words.map_paths.items()}
     scripts = importlib.import_module("rcell.core.scripts")
     run = scripts.Run(script_of(words.script), maps, {}, words.crs)
@@ -464,7 +464,7 @@ def _explain(words: argparse.Namespace) -> int:
 def _write_table(
     words: argparse.Namespace, columns: Sequence[str], rows: Sequence[Sequence[Any]]
 ) -> None:
-    """Write a table to its file or to standard output."""
+    """Write a table to the file given by `--out`, or to standard output."""
     out = words.__dict__.get("out")
     ending = os.path.splitext(out or "")[1].lower()
     text = table_text(words.format or ENDINGS[ending], columns, rows)
@@ -701,7 +701,7 @@ COMMANDS = {
 
 
 def main(words: Optional[Sequence[str]] = None) -> int:
-    """Run a command line and return its exit status.
+    """Run a command line, and return the exit status.
 
     Examples
     --------
@@ -780,7 +780,7 @@ def _working(settings: argparse.Namespace) -> contextlib.AbstractContextManager[
 
 
 def _run_command(settings: argparse.Namespace) -> int:
-    """Run a command or, with --dry-run, print its plan."""
+    """Run a command or, with `--dry-run`, print the command's plan."""
     if not settings.__dict__.get("dry_run"):
         return settings.run(settings) or 0
     dry_run = importlib.import_module("rcell.core.tiling").DryRun

@@ -25,7 +25,7 @@ _PAGES = "Pages (*.html)"
 
 
 class VerifyAlgorithm(RcellAlgorithm):
-    """Runs the call of a recorded table again, and compares the results."""
+    """Runs the call of a recorded table again, and compares the result with the table."""
 
     NAME = "verify"
     TITLE = noop("Verify a recorded table")

@@ -132,7 +132,7 @@ class ScriptAlgorithm(RcellAlgorithm):
         return results
 
     def _measured(self, run: Run, wanted: list[str]) -> list[Any]:
-        """Run the script and return its outputs with their lines.
+        """Run the script, and return each output with its line number.
 
         Tables contain areas and percentages if they are requested. Maps have line 0, and the
         requested map is the last output.
@@ -182,7 +182,7 @@ class ScriptAlgorithm(RcellAlgorithm):
         return name or maps[0]
 
     def _put_all(self, folder: str, outputs: list[tuple[int, Any]], run: Run) -> str:
-        """Write a file for each output of the script and return the folder."""
+        """Write a file for each output of the script, and return the folder."""
         try:
             os.makedirs(folder, exist_ok=True)
         except OSError as error:

@@ -116,7 +116,7 @@ class Run:
         return {statement.made: statement for statement in plan if statement.made}
 
     def outputs(self, wanted: Sequence[str] = ()) -> list[Union[Stats, ArrayMap]]:
-        """Run the script and return its outputs, followed by the requested maps."""
+        """Run the script, and return the outputs, followed by the requested maps."""
         for name in wanted:
             if name not in self.sources and name not in self.made:
                 known = ", ".join([*self.sources, *self.made])

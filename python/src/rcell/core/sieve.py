@@ -69,7 +69,7 @@ def sieve(
     *,
     crs: Any = None,
 ) -> tuple[ArrayMap, Sieved]:
-    """Merge patches below a size into their neighbours, or set them to null.
+    """Merge patches below a given size into their neighbours, or set the patches to null.
 
     As long as a patch below the smallest size shares a side with another class, the smallest of
     these patches gets the class of the neighbour with which it shares most sides. It is then joined

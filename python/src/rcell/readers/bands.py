@@ -26,7 +26,7 @@ def bands(raster: Any, /, **numbers: int) -> dict[str, Any]:
     Returns
     -------
     dict
-        A mapping of maps, as `run`, `table` and `grid` accept it.
+        Maps by name, as accepted by `run`, `table` and `grid`.
 
     Raises
     ------

@@ -261,7 +261,7 @@ class RasterMap:
     def _read(
         self, dataset: Any, row: int, col: int, rows: int, cols: int
     ) -> tuple[Cells, Optional[Mask]]:
-        """Return a window of cells, and a mask of cells null by mask, transparency or value range."""
+        """Return a window of cells, and a mask of null cells other than nodata, or None."""
         top = self.region.rows - row - rows if self.is_upside_down else row
         bands = [dataset.GetRasterBand(self.band)]
         if self.has_mask:

@@ -158,7 +158,7 @@ class Layer:
     def read(
         self, name: str, dataset: Any, place: tuple[int, int, int, int], title: str
     ) -> tuple[Cells, Mask | None]:
-        """Return the cells of a window, and a mask of masked and transparent cells.
+        """Return the cells of a window, and a mask of masked and transparent cells, or None.
 
         Raises
         ------
