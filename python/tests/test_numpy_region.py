@@ -41,7 +41,7 @@ class RegionsOfTheProgram(unittest.TestCase):
             ((float("inf"), 0, 1, 0, 1, 1), "must have at most ten digits"),
             ((1e-9, 0, 1, 0, 1, 1), "north is not above south once they are rounded"),
             ((1, 0, 0, 1, 1, 1), "east is not above west"),
-            ((1, 0, 1, 0, 0, 1), "0 rows"),
+            ((1, 0, 1, 0, 0, 1), "got rows = 0, columns = 1"),
         ):
             with self.subTest(words=words), self.assertRaises(BadMap) as caught:
                 Region(*words)
