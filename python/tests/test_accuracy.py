@@ -208,7 +208,10 @@ def test_each_cell_of_a_class_is_as_likely() -> None:
             {"n": {1: 1}, "allocation": "proportional"},
             "allocation must be left out if n has a number for each class",
         ),
-        ({"n": 5, "allocation": "odd"}, "allocation must be equal or proportional; got 'odd'"),
+        (
+            {"n": 5, "allocation": "odd"},
+            'allocation must be "equal" or "proportional"; got \'odd\'',
+        ),
         ({"n": 5, "seed": 1.5}, "seed must be a whole number or a text; got 1.5"),
     ],
 )

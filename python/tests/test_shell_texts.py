@@ -251,7 +251,7 @@ def test_each_output_of_a_script_in_a_file(raster: Write, room: pathlib.Path, ca
             "r.stats -c input=lc\n",
             GRID.replace("1 2 2 2", "1 2.5 2 2"),
             1,
-            "rcell: lc:8: bad cell\n  1 2.5 2 2\n    ^\n  try: whole numbers, and `*` for null: another text for null "
+            "rcell: lc:8: bad cell\n  1 2.5 2 2\n    ^\n  try: whole numbers, and `*` for null; any other null text "
             "needs a line `null: TEXT` in the header\n",
         ),
         (

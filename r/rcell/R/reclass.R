@@ -64,7 +64,7 @@ checked_rules <- function(table) {
   order <- order(low)
   again <- which(low[order][-1] <= high[order][-length(low)])
   if (length(again)) {
-    refuse(sprintf("two rules for the class %.0f", low[order][[again[[1]] + 1L]]), "rules")
+    refuse(sprintf("two rules for class %.0f", low[order][[again[[1]] + 1L]]), "rules")
   }
   labels <- if (is.null(table$labels)) rep("", length(low)) else trimmed(table$labels)
   labels[is.na(labels)] <- ""

@@ -276,7 +276,7 @@ def _matrix_of(
 
 
 def _summary_of(pair: Counts, measured: NDArray[Any]) -> tuple[NDArray[np.int64], NDArray[Any]]:
-    """Return the classes that occur in two years, and seven measures of change for each class."""
+    """Return the classes of either of two years, and seven measures of change for each class."""
     classes, indices = np.unique(pair.classes, return_inverse=True)
     before, after = indices.reshape(-1, 2).T
     persists = before == after

@@ -164,7 +164,7 @@ def drawn(key: str, size: int, count: int) -> list[int]:
 def _requested(n: Any, allocation: Any) -> int | dict[int, int]:
     """Return the requested number of cells, in total or for each class."""
     if allocation not in ALLOCATIONS:
-        raise BadArgument("allocation", f"must be equal or proportional; got {allocation!r}")
+        raise BadArgument("allocation", f'must be "equal" or "proportional"; got {allocation!r}')
     if isinstance(n, str) and _OF_CLASSES.fullmatch(n):
         pairs = [word.split(":") for word in n.split(",")]
         n = {int(code): int(count) for code, count in pairs}

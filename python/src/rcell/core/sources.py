@@ -332,7 +332,7 @@ def _good(cells: Cells) -> Mask:
 
 
 def _bad_cell(name: str, row: int, col: int, value: float, scale: int | None) -> BadMap:
-    """Return the error for a cell that is not a whole number in range, with advice."""
+    """Return the error for a cell that is not a whole number in the valid range."""
     number = f"{value:.15g}" if isinstance(value, float) else str(value)
     if scale is not None:
         problem = (

@@ -18,7 +18,7 @@ expect_equal(as_rows(rcell_reclass(land, c("1" = 7), other = "keep")), replace(a
 expect_identical(levels(rcell_reclass(land, c("1" = 7), other = "keep"))[[1]]$new, c("wood", "water", "town", "moor"))
 expect_equal(as_rows(rcell_reclass(land, c("1" = 7), other = "null")), matrix(c(7, 7, NA, NA, NA, NA, NA, NA), 2, byrow = TRUE))
 fault <- function(...) refusal(rcell_reclass(land, ...))$text
-expect_identical(fault(c("1" = 1, "0-3" = 2)), "two rules for the class 1")
+expect_identical(fault(c("1" = 1, "0-3" = 2)), "two rules for class 1")
 expect_identical(fault(c("x" = 1)), "element 1: x is not a class or a range of classes such as 31-39")
 expect_identical(fault(c("1" = 1.5)), "element 1: 1.5 is not a class: a whole number, or empty for null")
 expect_identical(fault(data.frame(value = 1)), "a data frame must have the columns value and new; got value")
