@@ -237,7 +237,7 @@ def write_raster(
     elif way == "alpha":
         options += ["ALPHA=YES", "PHOTOMETRIC=MINISBLACK"]
     elif way == "mask":
-        refused["r"] = "a mask of its own"
+        refused["r"] = "its own mask"
     if nodata is not None and not is_real and abs(nodata) >= 2**53:
         refused["r"] = "nodata of 64 bits"
     form.null = null

@@ -89,7 +89,7 @@ class Made:
     def reason_in(self, front: str) -> str:
         """Return why a package rejects the raster. R rejects masks, and nulls that a float cannot
         distinguish from nearby numbers."""
-        own = ["mask of its own"] * self.has_mask + ["64 bits"] * self.has_wide_null
+        own = ["its own mask"] * self.has_mask + ["64 bits"] * self.has_wide_null
         return "|".join(filter(None, [self.reason, *(own if front == "r" else [])]))
 
 
