@@ -87,10 +87,10 @@ READING_ROW = re.compile(
     r"(`make reading(?: COMMAND=(?P<command>\S+))?` \| )(\d+)( \| )(\d+)( \| )(\d+)( \|)"
 )
 READING_SENTENCE = re.compile(
-    r"(for a table of (?P<command>r\.\w+) )(\d+)( lines, )(\d+)( with comments)"
+    r"(for a table of (?P<command>r\.\w+), )(\d+)( lines, or )(\d+)( with comments)"
 )
 # The sentence in README.md about the sizes of code and proofs, in thousands of lines.
-SIZES_SENTENCE = re.compile(r"(?<=cover )(\d+)(,000 lines of code, and take )(\d+)(?=,000 lines)")
+SIZES_SENTENCE = re.compile(r"(\d+)(,000 lines, for )(\d+)(?=,000 lines of code)")
 SIZES_DIFFER_BY = 0.05  # a larger difference requires new numbers
 LANGUAGES = {"console", "pycon", "text", "python", "sh", "antt", "rust"}
 PACKAGES = {
@@ -355,12 +355,12 @@ def check_sizes(write):
     path = pathlib.Path(ROOT, "README.md")
     document = path.read_text(encoding="utf-8")
     told = [1000 * int(number) for number in SIZES_SENTENCE.search(document).group(1, 3)]
-    if all(abs(one - own) <= SIZES_DIFFER_BY * own for one, own in zip(told, (code, proofs))):
+    if all(abs(one - own) <= SIZES_DIFFER_BY * own for one, own in zip(told, (proofs, code))):
         return 1, []
     if write:
-        right = rf"{round(code / 1000)}\2{round(proofs / 1000)}"
+        right = rf"{round(proofs / 1000)}\2{round(code / 1000)}"
         path.write_text(SIZES_SENTENCE.sub(right, document), encoding="utf-8")
-    return 0, [f"README.md: the proofs cover {code} lines of code, and take {proofs}"]
+    return 0, [f"README.md: definitions and proofs have {proofs} lines, for {code} lines of code"]
 
 
 def check_reading(write):
@@ -476,7 +476,7 @@ def main():
         ("the manual pages", check_pages),
         ("the numbers of lines", lambda: check_reading(settings.write)),
         ("the sizes", lambda: check_sizes(settings.write)),
-        ("the figures", lambda: figures.check(settings.write)),
+        ("the figures", figures.check),
     ]
     runs = [
         (name, lambda name=name: run_document(name, programs, settings.write))

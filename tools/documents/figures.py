@@ -10,10 +10,9 @@ bench/RESULTS.md, marked with their program.
 - Each mark in README.md, docs/speed.md and bench/RESULTS.md has a table below it, and is of this
   version. Each section of bench/RESULTS.md with a table has a mark, and so has each table of
   docs/speed.md.
+- The figures of each row below a mark are together on a line of bench/RESULTS.md.
 - A mark in README.md or docs/speed.md is also in bench/RESULTS.md. A mark in the older form, a
   commit, is replaced when its section is measured again.
-
-With `write`, the figures of bench/RESULTS.md are copied to README.md.
 """
 import hashlib
 import pathlib
@@ -29,7 +28,6 @@ MARK = re.compile(rf"<!-- figures: (?:(\S+) sha256:[0-9a-f]{{{DIGITS}}}|[0-9a-f]
 TABLE = re.compile(r"^\|[ -]*-[-| ]*\|$", re.MULTILINE)
 HEADING = re.compile(r"^(?=##+ )", re.MULTILINE)
 FIGURE = re.compile(r"\d+(?:\.\d+)?")
-SPEED_ROW = re.compile(r"^\| ([^|]+) \| ([^|]+ cells) \| (.*?) \|$", re.MULTILINE)
 NO_FIGURES = {"2", "3", "4", "25"}  # sizes of grids, in millions of cells, and of windows
 
 
@@ -70,52 +68,30 @@ def tables_of_results():
     return found
 
 
-def check_readme(write):
-    """Return the number of rows in README.md with the figures of bench/RESULTS.md. `write` corrects
-    the others."""
-    document, tables, faults = text_of(README), tables_of_results(), []
-
-    def with_figures(found):
-        cells = tables.get((found[1], found[2]))
-        figures = " | ".join([cells[1], cells[2], cells[-2], cells[-1]]) if cells else ""
-        if figures != found[3]:
-            faults.append(
-                f"{README}: {found[1]}, {found[2]}: {figures} in {RESULTS}, and not {found[3]} (--write mends it)"
-            )
-        return f"| {found[1]} | {found[2]} | {figures} |"
-
-    right = SPEED_ROW.sub(with_figures, document)
-    if write:
-        (ROOT / README).write_text(right, encoding="utf-8")
-    return len(SPEED_ROW.findall(document)) - len(faults), faults
-
-
-def check_page():
-    """Return the number of rows in docs/speed.md whose figures are together on a line of
-    bench/RESULTS.md."""
-    lines = [
-        set(FIGURE.findall(line)) for line in text_of(RESULTS).splitlines() if line.startswith("|")
-    ]
-    passed, faults = 0, []
-    for number, line in enumerate(text_of(PAGE).splitlines(), 1):
-        figures = (
-            set(FIGURE.findall("|".join(line.split("|")[2:]))) if line.startswith("|") else set()
-        )
-        if figures - NO_FIGURES:
-            is_there = any(figures - NO_FIGURES <= known for known in lines)
-            passed += is_there
-            faults += (
-                []
-                if is_there
-                else [f"{PAGE}:{number}: no line of {RESULTS} has {', '.join(sorted(figures))}"]
-            )
-    return passed, faults
-
-
 def marks_of(name):
     """Return the marks of a page, each with the text up to the next mark or heading."""
     parts = re.split(r"(?=<!-- figures: )|^(?=##+ )", text_of(name), flags=re.MULTILINE)
     return [(found, part) for part in parts if (found := MARK.match(part))]
+
+
+def check_rows():
+    """Return the number of rows in README.md and docs/speed.md whose figures are together on a line
+    of bench/RESULTS.md."""
+    known = [
+        set(FIGURE.findall(line)) for line in text_of(RESULTS).splitlines() if line.startswith("|")
+    ]
+    passed, faults = 0, []
+    for name in (README, PAGE):
+        rows = [
+            line for _, part in marks_of(name) for line in part.splitlines() if line.startswith("|")
+        ]
+        for row in rows:
+            figures = set(FIGURE.findall("|".join(row.split("|")[2:]))) - NO_FIGURES
+            if figures and any(figures <= line for line in known):
+                passed += 1
+            elif figures:
+                faults.append(f"{name}: no line of {RESULTS} has {', '.join(sorted(figures))}")
+    return passed, faults
 
 
 def unmarked(name):
@@ -152,12 +128,12 @@ def check_marks():
     return passed, faults
 
 
-def check(write=False):
+def check():
     """Return the number of right figures and marks, and the errors of the others. A release
     contains no bench/RESULTS.md."""
     if not (ROOT / RESULTS).exists():
         return 0, []
-    counted = [check_readme(write), check_page(), check_marks()]
+    counted = [check_rows(), check_marks()]
     return sum(passed for passed, _ in counted), [
         fault for _, faults in counted for fault in faults
     ]
